@@ -1,0 +1,6 @@
+//! The values of a JSON text as a list of nodes in preorder, and the look-ups over it.
+#![tactic(auto)]
+
+mod node;
+
+pub use node::{Node, Place};

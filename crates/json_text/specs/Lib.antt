@@ -1,0 +1,9 @@
+pub mod Bare
+pub mod Computes
+pub mod Faults
+pub mod Json
+pub mod Number
+pub mod Read
+pub mod Replace
+pub mod String
+pub mod Tree

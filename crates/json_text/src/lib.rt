@@ -1,0 +1,10 @@
+//! What a JSON text is (RFC 8259), and the plain types that every layer above shares: a body, a span, want of memory.
+#![tactic(auto)]
+
+mod body;
+mod kind;
+mod span;
+
+pub use body::{Body, Memory};
+pub use kind::{Kind, Word};
+pub use span::Span;

@@ -1,0 +1,54 @@
+-- The fixed texts, byte for byte. ID, R and items are bytes as they came.
+use Rattle.std.specs.Prelude.{ℕ, ◌-◌, List, [], ◌∷◌, ◌++◌, codes, decimal}
+use Rattle.std.specs.Prelude.{Option, Some, None}
+use Rattle.json_text.specs.declared.span.Span.{Span}
+use Rattle.json_text.specs.Replace.{replace}
+use Rattle.json_text.specs.Tree.{tree_of}
+use Rattle.rpc_message.specs.Message.{place_in}
+
+-- a result: `ok ID R`
+abbrev pub ok_text : List ℕ → List ℕ → List ℕ
+ok_text id r = codes "{\"jsonrpc\":\"2.0\",\"id\":" ++ id ++ codes ",\"result\":" ++ r ++ codes "}"
+
+-- the error codes of JSON-RPC 2.0, section 5.1, and LSP 3.17, and their messages
+pub data Code : Type 0 where
+  parse_error : Code
+  invalid_request : Code
+  method_not_found : Code
+  invalid_params : Code
+  server_not_initialized : Code
+  content_modified : Code
+  request_failed : Code
+
+abbrev pub code_text : Code → List ℕ
+code_text parse_error = codes "-32700"
+code_text invalid_request = codes "-32600"
+code_text method_not_found = codes "-32601"
+code_text invalid_params = codes "-32602"
+code_text server_not_initialized = codes "-32002"
+code_text content_modified = codes "-32801"
+code_text request_failed = codes "-32803"
+
+abbrev pub code_message : Code → List ℕ
+code_message parse_error = codes "Parse error"
+code_message invalid_request = codes "Invalid Request"
+code_message method_not_found = codes "Method not found"
+code_message invalid_params = codes "Invalid params"
+code_message server_not_initialized = codes "Server not initialized"
+code_message content_modified = codes "Content modified"
+code_message request_failed = codes "Request failed"
+
+-- an error: `error ID C`
+abbrev pub error_text : List ℕ → Code → List ℕ
+error_text id c = codes "{\"jsonrpc\":\"2.0\",\"id\":" ++ id ++ codes ",\"error\":{\"code\":" ++ code_text c ++ codes ",\"message\":\"" ++ code_message c ++ codes "\"}}"
+
+abbrev pub initialized_text : List ℕ
+initialized_text = codes "{\"jsonrpc\":\"2.0\",\"method\":\"initialized\",\"params\":{}}"
+
+-- a body with other bytes as its id, and all else as it came
+abbrev pub with_id_at : List ℕ → List ℕ → Option Span → List ℕ
+with_id_at bytes id (Some s) = replace bytes (record { span = s; text = id } ∷ [])
+with_id_at bytes id None = bytes
+
+unfoldable pub with_id_text : List ℕ → List ℕ → List ℕ
+with_id_text bytes id = with_id_at bytes id (place_in (codes "id") (tree_of bytes))
