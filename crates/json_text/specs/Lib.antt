@@ -2,6 +2,7 @@ pub mod Bare
 pub mod Computes
 pub mod Faults
 pub mod Json
+pub mod Named
 pub mod Number
 pub mod Read
 pub mod Replace

@@ -6,6 +6,7 @@ use Rattle.json_text.specs.declared.kind.Word.TheVariants.{Null, False, True}
 use Rattle.json_text.specs.Json.{Json, word, number, string, array, object, Members, no_members, member, span_of}
 use Rattle.json_text.specs.Bare.{bare, nowhere}
 use Rattle.json_text.specs.Number.{is_digit}
+use Rattle.json_text.specs.Named.{named}
 use Rattle.json_text.specs.Tree.{tree_of}
 
 -- two ids are the same if both are integers of the same text, or both are strings of the same characters
@@ -21,19 +22,6 @@ pub data Message : Type 0 where
   notification : List ℕ → Option Json → Message
   result : Option Id → Json → Message
   error : Option Id → Json → Message
-
-abbrev pub if_named : Bool → Json → Option Json
-if_named true j = Some j
-if_named false j = None
-
-abbrev pub or_else : Option Json → Option Json → Option Json
-or_else (Some j) other = Some j
-or_else None other = other
-
--- the value of the last member of this name
-unfoldable pub named : List ℕ → Members → Option Json
-named cs no_members = None
-named cs (member s ds j ms) = or_else (named cs ms) (if_named (bytes_eq cs ds) j)
 
 unfoldable pub no_name_twice : Members → Bool
 no_name_twice no_members = true
