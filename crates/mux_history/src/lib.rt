@@ -1,13 +1,21 @@
-// A library with one function.
+//! What the multiplexer is told and what it says: causes, outs, entries, and the journal that keeps them.
 #![tactic(auto)]
 
-ghost use Rattle.std.specs.Prelude.{◌≡◌};
-ghost use Rattle.mux_history.specs.Echo.{echo_of};
+mod cause;
+mod drop_journal;
+mod entry;
+mod journal;
+mod memory_journal;
+mod out;
+mod outs;
 
-// The `ensures` clause is the contract: what `echo` returns is `echo_of` of its argument, a definition
-// in `specs/Echo.antt`, which a caller's clause can cite too.
-pub fn echo(x: usize) -> usize
-    ensures { result ≡ echo_of x }
-{
-    x
-}
+pub use cause::{Cause, Why};
+pub use drop_journal::DropJournal;
+pub use entry::Entry;
+pub use journal::{Journal, JournalFault};
+pub use memory_journal::MemJournal;
+pub use out::Out;
+pub use outs::Outs;
+
+#[cfg(test)]
+mod tests;
