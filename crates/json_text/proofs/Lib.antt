@@ -1,1 +1,4 @@
+mod Front
+mod NumbersSound
+mod StringsSound
 mod Worked
