@@ -44,7 +44,7 @@ joined {P} {Q} at bs mid cs end rest f g = record {
 pub weaken : {P Q : Rule} {at : ℕ} {bs : List ℕ} {to : ℕ} {rest : List ℕ} → ((i : ℕ) (xs : List ℕ) → P i xs → Q i xs) → Front P at bs to rest → Front Q at bs to rest
 weaken k f = record { front = f.front; whole = f.whole; is_to = f.is_to; rule = k _ _ f.rule }
 
-ends_at : (P : Rule) (at : ℕ) (bs : List ℕ) (to end : ℕ) (rest last : List ℕ) → to ≡ end → rest ≡ last → Front P at bs to rest → Front P at bs end last
+pub ends_at : (P : Rule) (at : ℕ) (bs : List ℕ) (to end : ℕ) (rest last : List ℕ) → to ≡ end → rest ≡ last → Front P at bs to rest → Front P at bs end last
 ends_at P at bs to end rest last e l f = rw (← e, ← l) f
 
 -- what was read is what is given

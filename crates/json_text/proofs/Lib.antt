@@ -1,4 +1,5 @@
 mod Front
+mod ListsSound
 mod NumbersSound
 mod StringsSound
 mod Worked
