@@ -1,5 +1,6 @@
 mod Front
 mod ListsSound
 mod NumbersSound
+mod Sound
 mod StringsSound
 mod Worked
