@@ -1,5 +1,6 @@
 mod Front
 mod ListsSound
+mod NumbersRead
 mod NumbersSound
 mod Sound
 mod StringsSound
