@@ -3,5 +3,6 @@ mod ListsSound
 mod NumbersRead
 mod NumbersSound
 mod Sound
+mod StringsRead
 mod StringsSound
 mod Worked
