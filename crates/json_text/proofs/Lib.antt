@@ -1,4 +1,5 @@
 mod Front
+mod ListsRead
 mod ListsSound
 mod NumbersRead
 mod NumbersSound
