@@ -1,3 +1,4 @@
+mod Complete
 mod Front
 mod ListsRead
 mod ListsSound

@@ -1,7 +1,7 @@
 -- A list of entries is read: stated once, for items and for members.
 use Rattle.std.proofs.Common.{◌≡◌, ℕ, zero, suc, ◌+◌, ◌<◌, ◌≤◌, Bool, true, false, ◌||◌, List, [], ◌∷◌, ◌++◌, length, ◌⊎◌, inl, inr, ◌==◌, if◌then◌else◌, refl, sym, ap, ◌∙◌, arith, append_assoc, length-append}
 use Rattle.std.proofs.lemmas.Bool.{eq-eqb, cases_Bool, or_parts, or_cases, or_from, ne_eqb, eqb-true}
-use Rattle.json_text.specs.Json.{Rule, ◌then◌, byte, space, is_space}
+use Rattle.json_text.specs.Json.{Rule, ◌then◌, byte, nothing, space, is_space}
 use Rattle.json_text.specs.Read.{Left, fails, reads, Reader, ◌>>=◌, gives, skip, expect, is_number_byte, read_more, read_first, read_list}
 use Rattle.json_text.proofs.NumbersRead.{NotNumber}
 
@@ -47,7 +47,7 @@ MoreStarts M = (at : ℕ) (bs : List ℕ) → M at bs → (bs ≡ []) ⊎ ((cs :
 abbrev pub MoreRead : {A L : Type 0} → ℕ → Reader A → L → (A → L → L) → Rule → L → Type 0
 MoreRead close entry nil cons M l = (m at n : ℕ) (bs rest : List ℕ) → M at bs → length bs < m → n ≡ at + length bs + 1 → read_more close entry nil cons m at (bs ++ close ∷ rest) ≡ reads l n rest
 
-starts_no_space : (close : ℕ) (bs rest : List ℕ) → Starts close bs → NotSpace (bs ++ rest)
+pub starts_no_space : (close : ℕ) (bs rest : List ℕ) → Starts close bs → NotSpace (bs ++ rest)
 starts_no_space close bs rest s = rw s.is s.no_space
 
 more_no_space : (close : ℕ) (bs rest : List ℕ) → Closes close → (bs ≡ []) ⊎ ((cs : List ℕ) × (bs ≡ 44 ∷ cs)) → NotSpace (bs ++ close ∷ rest)
@@ -103,6 +103,13 @@ whole_4 bs g c v d h m rest r s t = rw (r, s, t) (regrouped g v h m rest)
 
 length_4 : (bs g c v d h m : List ℕ) → bs ≡ g ++ c → c ≡ v ++ d → d ≡ h ++ m → length bs ≡ length g + length v + length h + length m
 length_4 bs g c v d h m r s t = rw (r, s, t) (omega (arith, length-append g (v ++ (h ++ m)), length-append v (h ++ m), length-append h m))
+
+pub no_more_read : {A L : Type 0} (close : ℕ) (entry : Reader A) (nil : L) (cons : A → L → L) → MoreRead close entry nil cons nothing nil
+unfolding read_more
+no_more_read close entry nil cons zero at n bs rest h less e = absurd (omega arith)
+no_more_read close entry nil cons (suc m) at n bs rest h less e =
+    let place : at + 1 ≡ n = omega (arith, e, ap length h) in
+    rw h (rw (eq-eqb close close refl) (ap (λ i. reads nil i rest) place))
 
 pub more_read : {A L : Type 0} (close : ℕ) (entry : Reader A) (nil : L) (cons : A → L → L) (E M : Rule) (x : A) (l : L) → Closes close → EntryStarts close E → EntryRead entry E x → MoreStarts M → MoreRead close entry nil cons M l
     → MoreRead close entry nil cons (byte 44 then (space then (E then (space then M)))) (cons x l)

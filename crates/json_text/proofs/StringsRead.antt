@@ -138,15 +138,16 @@ between ps at n bs rest h e k =
     let size : length (flat_map spelled ps ++ 34 ∷ rest) ≡ length (flat_map spelled ps) + suc (length rest) = length-append (flat_map spelled ps) (34 ∷ rest) in
     rw e (rw (pieces_read ps (length (flat_map spelled ps ++ 34 ∷ rest)) (at + 1) n rest h (omega (arith, size)) (omega (arith, ap length e))) refl)
 
-quoted_whole : (bs a b c d rest : List ℕ) → bs ≡ a ++ b → a ≡ 34 ∷ [] → b ≡ c ++ d → d ≡ 34 ∷ [] → bs ++ rest ≡ 34 ∷ (c ++ 34 ∷ rest)
-quoted_whole bs a b c d rest p q r s = rw (p, q, r, s) (ap (λ l. 34 ∷ l) (append_assoc c (34 ∷ []) rest))
+-- what stands between two bytes
+pub enclosed : (x y : ℕ) (bs a b c d rest : List ℕ) → bs ≡ a ++ b → a ≡ x ∷ [] → b ≡ c ++ d → d ≡ y ∷ [] → bs ++ rest ≡ x ∷ (c ++ y ∷ rest)
+enclosed x y bs a b c d rest p q r s = rw (p, q, r, s) (ap (λ l. x ∷ l) (append_assoc c (y ∷ []) rest))
 
-quoted_length : (bs a b c d : List ℕ) → bs ≡ a ++ b → a ≡ 34 ∷ [] → b ≡ c ++ d → d ≡ 34 ∷ [] → length bs ≡ length c + 2
-quoted_length bs a b c d p q r s = rw (p, q, r, s) (omega (arith, length-append c (34 ∷ [])))
+pub length-enclosed : (x y : ℕ) (bs a b c d : List ℕ) → bs ≡ a ++ b → a ≡ x ∷ [] → b ≡ c ++ d → d ≡ y ∷ [] → length bs ≡ length c + 2
+length-enclosed x y bs a b c d p q r s = rw (p, q, r, s) (omega (arith, length-append c (y ∷ [])))
 
 pub string_read : (at n : ℕ) (cs bs rest : List ℕ) → quoted cs at bs → n ≡ at + length bs → read_string at (bs ++ rest) ≡ reads cs n rest
 string_read at n cs bs rest h e =
     let k = h.4 in
     let s = k.3 in
-    let size : length bs ≡ length k.0 + 2 = quoted_length bs h.0 h.1 k.0 k.1 h.2 h.3 k.2 k.4 in
-    ap (read_string at) (quoted_whole bs h.0 h.1 k.0 k.1 rest h.2 h.3 k.2 k.4) ∙ between s.0 at n k.0 rest s.1 s.2 (omega (arith, size, e)) ∙ ap (λ l. reads l n rest) (sym s.3)
+    let size : length bs ≡ length k.0 + 2 = length-enclosed 34 34 bs h.0 h.1 k.0 k.1 h.2 h.3 k.2 k.4 in
+    ap (read_string at) (enclosed 34 34 bs h.0 h.1 k.0 k.1 rest h.2 h.3 k.2 k.4) ∙ between s.0 at n k.0 rest s.1 s.2 (omega (arith, size, e)) ∙ ap (λ l. reads l n rest) (sym s.3)
