@@ -1,15 +1,15 @@
 -- A value of RFC 8259, section 3, is read, by induction on its tree.
-use Rattle.std.proofs.Common.{◌≡◌, ℕ, zero, suc, ◌+◌, ◌<◌, ◌≤◌, max, Bool, true, false, ◌||◌, List, [], ◌∷◌, ◌++◌, length, ◌⊎◌, inl, inr, ◌==◌, codes, nat_le, if◌then◌else◌, refl, sym, ap, ◌∙◌, arith, append_assoc, length-append}
+use Rattle.std.proofs.Common.{◌≡◌, ℕ, zero, suc, ◌+◌, ◌<◌, ◌≤◌, false, List, [], ◌∷◌, ◌++◌, length, ◌⊎◌, inl, inr, ◌==◌, codes, nat_le, refl, sym, ap, ◌∙◌, arith, append_assoc, length-append}
 use Rattle.std.proofs.lemmas.Bool.{and_parts, or_from, ne_eqb, leb-true}
 use Rattle.json_text.specs.declared.span.Span.{Span}
 use Rattle.json_text.specs.declared.kind.Word.{Word}
 use Rattle.json_text.specs.declared.kind.Word.TheVariants.{Null, False, True}
-use Rattle.json_text.specs.Json.{Json, word, number, string, array, object, Items, no_items, item, Members, no_members, member, Rule, ◌then◌, byte, space, is_space, spans, quoted, pair, letters, value, items, more_items, members, more_members, depth, items_depth, members_depth}
-use Rattle.json_text.specs.Number.{is_digit, IsNumber, IsWhole, IsMinus}
-use Rattle.json_text.specs.Read.{Left, fails, reads, Reader, ◌>>=◌, gives, spanned, skip, expect, expect_all, read_number, read_string, read_more, read_list}
-use Rattle.json_text.specs.Tree.{Entry, member_of, Name, read_name, read_member, read_leaf, read_value}
-use Rattle.json_text.proofs.ListsRead.{NotSpace, starts_no_space, skip_read, Closes, Starts, EntryRead, EntryStarts, MoreStarts, MoreRead, no_more_read, more_read, nil_read, cons_read}
-use Rattle.json_text.proofs.NumbersRead.{NotNumber, number_read}
+use Rattle.json_text.specs.Json.{Json, word, number, string, array, object, Items, no_items, item, Members, no_members, member, Rule, is_space, pair, letters, value, items, more_items, members, more_members, depth, items_depth, members_depth}
+use Rattle.json_text.specs.Number.{IsNumber, IsWhole, IsMinus}
+use Rattle.json_text.specs.Read.{reads, Reader, spanned, skip, expect_all, read_number, read_string, read_list}
+use Rattle.json_text.specs.Tree.{member_of, Name, read_name, read_member, read_leaf, read_value}
+use Rattle.json_text.proofs.ListsRead.{starts_no_space, skip_read, Closes, EntryRead, EntryStarts, MoreStarts, MoreRead, no_more_read, more_read, nil_read, cons_read}
+use Rattle.json_text.proofs.NumbersRead.{number_read}
 use Rattle.json_text.proofs.StringsRead.{expect_all_read, string_read, enclosed, length-enclosed}
 
 abbrev inner : ℕ → Reader Json
@@ -68,7 +68,7 @@ regrouped : (q g b h v rest : List ℕ) → (q ++ (g ++ (b ++ (h ++ v)))) ++ res
 regrouped q g b h v rest = simp append_assoc
 
 -- the first byte of a value
-value_starts : (j : Json) → EntryStarts 93 (value j)
+pub value_starts : (j : Json) → EntryStarts 93 (value j)
 value_starts (word s Null) at bs h = record { first = 110; after = codes "ull"; is = h.0; no_space = refl; no_close = refl }
 value_starts (word s False) at bs h = record { first = 102; after = codes "alse"; is = h.0; no_space = refl; no_close = refl }
 value_starts (word s True) at bs h = record { first = 116; after = codes "rue"; is = h.0; no_space = refl; no_close = refl }
@@ -80,7 +80,7 @@ value_starts (array s js) at bs h = record { first = 91; after = h.0.1; is = h.0
 value_starts (object s ms) at bs h = record { first = 123; after = h.0.1; is = h.0.2 ∙ ap (λ l. l ++ h.0.1) h.0.3; no_space = refl; no_close = refl }
 
 pair_starts : (s : Span) (cs : List ℕ) (P : Rule) → EntryStarts 125 (pair s cs P)
-pair_starts s cs P at bs h = 
+pair_starts s cs P at bs h =
     let q = h.3.0 in
     record { first = 34; after = q.1 ++ h.1; is = h.2 ∙ ap (λ l. l ++ h.1) (q.2 ∙ ap (λ l. l ++ q.1) q.3); no_space = refl; no_close = refl }
 
@@ -115,21 +115,21 @@ word_case s w d small at n bs rest h k e = ap (λ l. read_value d at (l ++ rest)
 number_goes : (d b at : ℕ) (us : List ℕ) → (b ≡ 45) ⊎ ((48 ≤ b) × (b ≤ 57)) → read_value d at (b ∷ us) ≡ spanned number read_number at (b ∷ us)
 number_goes d b at us h =
     leaf_goes d b at us (no_digit b 91 h (inr (omega arith))) (no_digit b 123 h (inr (omega arith)))
-        ∙ rw (no_digit b 34 h (inl (omega arith)), no_digit b 110 h (inr (omega arith)), no_digit b 102 h (inr (omega arith)), no_digit b 116 h (inr (omega arith))) refl
+    ∙ rw (no_digit b 34 h (inl (omega arith)), no_digit b 110 h (inr (omega arith)), no_digit b 102 h (inr (omega arith)), no_digit b 116 h (inr (omega arith))) refl
 
 number_case : (s : Span) (ds : List ℕ) → ValueRead (number s ds)
 number_case s ds d small at n bs rest h k e =
     let f = number_starts ds h.0.1 in
     let whole : ds ++ rest ≡ f.first ∷ (f.after ++ rest) = ap (λ l. l ++ rest) f.is in
     ap (λ l. read_value d at (l ++ rest)) h.0.0 ∙ ap (read_value d at) whole ∙ number_goes d f.first at (f.after ++ rest) f.is_first ∙ ap (λ l. spanned number read_number at l) (sym whole)
-        ∙ spanned_read number read_number s ds at n (ds ++ rest) rest (number_read at n ds rest h.0.1 k (omega (arith, e, ap length h.0.0))) (ends s at n bs h.1 e)
+    ∙ spanned_read number read_number s ds at n (ds ++ rest) rest (number_read at n ds rest h.0.1 k (omega (arith, e, ap length h.0.0))) (ends s at n bs h.1 e)
 
 string_case : (s : Span) (cs : List ℕ) → ValueRead (string s cs)
 string_case s cs d small at n bs rest h k e =
     let q = h.0 in
     let whole : bs ++ rest ≡ 34 ∷ (q.1 ++ rest) = ap (λ l. l ++ rest) (q.2 ∙ ap (λ l. l ++ q.1) q.3) in
     ap (read_value d at) whole ∙ leaf_goes d 34 at (q.1 ++ rest) refl refl ∙ ap (λ l. spanned string (λ at bs. read_string at bs) at l) (sym whole)
-        ∙ spanned_read string (λ at bs. read_string at bs) s cs at n (bs ++ rest) rest (string_read at n cs bs rest q e) (ends s at n bs h.1 e)
+    ∙ spanned_read string (λ at bs. read_string at bs) s cs at n (bs ++ rest) rest (string_read at n cs bs rest q e) (ends s at n bs h.1 e)
 
 array_goes : (d at : ℕ) (us : List ℕ) → read_value (suc d) at (91 ∷ us) ≡ spanned array (read_list 91 93 (inner d) no_items item) at (91 ∷ us)
 unfolding read_value
@@ -145,7 +145,7 @@ array_case s js rec (suc d) small at n bs rest h k e =
     let g = h.0 in let m = g.4 in
     let size : length bs ≡ length m.0 + 2 = length-enclosed 91 93 bs g.0 g.1 m.0 m.1 g.2 g.3 m.2 m.4 in
     ap (read_value (suc d) at) (enclosed 91 93 bs g.0 g.1 m.0 m.1 rest g.2 g.3 m.2 m.4) ∙ array_goes d at (m.0 ++ 93 ∷ rest)
-        ∙ spanned_read array (read_list 91 93 (inner d) no_items item) s js at n (91 ∷ (m.0 ++ 93 ∷ rest)) rest (rec d (omega arith) at (at + length g.0) n m.0 rest m.3 (omega (arith, ap length g.3)) (omega (arith, size, e))) (ends s at n bs h.1 e)
+    ∙ spanned_read array (read_list 91 93 (inner d) no_items item) s js at n (91 ∷ (m.0 ++ 93 ∷ rest)) rest (rec d (omega arith) at (at + length g.0) n m.0 rest m.3 (omega (arith, ap length g.3)) (omega (arith, size, e))) (ends s at n bs h.1 e)
 
 object_case : (s : Span) (ms : Members) → MembersRead ms → ValueRead (object s ms)
 object_case s ms rec zero small at n bs rest h k e = absurd (omega arith)
@@ -153,7 +153,7 @@ object_case s ms rec (suc d) small at n bs rest h k e =
     let g = h.0 in let m = g.4 in
     let size : length bs ≡ length m.0 + 2 = length-enclosed 123 125 bs g.0 g.1 m.0 m.1 g.2 g.3 m.2 m.4 in
     ap (read_value (suc d) at) (enclosed 123 125 bs g.0 g.1 m.0 m.1 rest g.2 g.3 m.2 m.4) ∙ object_goes d at (m.0 ++ 125 ∷ rest)
-        ∙ spanned_read object (read_list 123 125 (read_member (inner d)) no_members member_of) s ms at n (123 ∷ (m.0 ++ 125 ∷ rest)) rest (rec d (omega arith) at (at + length g.0) n m.0 rest m.3 (omega (arith, ap length g.3)) (omega (arith, size, e))) (ends s at n bs h.1 e)
+    ∙ spanned_read object (read_list 123 125 (read_member (inner d)) no_members member_of) s ms at n (123 ∷ (m.0 ++ 125 ∷ rest)) rest (rec d (omega arith) at (at + length g.0) n m.0 rest m.3 (omega (arith, ap length g.3)) (omega (arith, size, e))) (ends s at n bs h.1 e)
 
 item_case : (j : Json) (js : Items) → ValueRead j → MoreItemsRead js → ItemsRead (item j js)
 item_case j js rec more d small at i n bs rest h e k = cons_read 91 93 (inner d) no_items item (value j) (more_items js) j js bracket (value_starts j) (rec d (omega arith)) (items_start js) (more d (omega arith)) at i n bs rest h e k
@@ -177,13 +177,13 @@ pair_case s cs j rec d small at n bs rest h k e =
     let size : length bs ≡ length h.0 + length f.0 + 1 + length m.0 + length m.1 = paired_length bs h.0 h.1 f.0 f.1 g.0 g.1 m.0 m.1 h.2 f.2 g.2 g.3 m.2 in
     let one : length g.0 ≡ 1 = ap length g.3 in
     ap (read_member (inner d) at) (paired_whole bs h.0 h.1 f.0 f.1 g.0 g.1 m.0 m.1 rest h.2 f.2 g.2 g.3 m.2)
-        ∙ pair_goes (inner d) (record { place = s; characters = cs }) j at (at + length h.0) (at + length h.0 + length f.0) (at + length h.0 + length f.0 + length g.0 + length m.0) n
-            (h.0 ++ (f.0 ++ (58 ∷ (m.0 ++ (m.1 ++ rest))))) (f.0 ++ (58 ∷ (m.0 ++ (m.1 ++ rest)))) (m.0 ++ (m.1 ++ rest)) (m.1 ++ rest) rest
-            (spanned_read (λ s cs. record { place = s; characters = cs }) (λ at bs. read_string at bs) s cs at (at + length h.0) (h.0 ++ (f.0 ++ (58 ∷ (m.0 ++ (m.1 ++ rest))))) (f.0 ++ (58 ∷ (m.0 ++ (m.1 ++ rest))))
-                (string_read at (at + length h.0) cs h.0 (f.0 ++ (58 ∷ (m.0 ++ (m.1 ++ rest)))) h.3.0 refl) h.3.1)
-            (skip_read (at + length h.0) 0 (at + length h.0 + length f.0) f.0 (58 ∷ (m.0 ++ (m.1 ++ rest))) f.3 refl refl)
-            (skip_read (at + length h.0 + length f.0 + 1) 0 (at + length h.0 + length f.0 + length g.0 + length m.0) m.0 (m.1 ++ rest) m.3 (starts_no_space 93 m.1 rest (value_starts j _ m.1 m.4)) (omega (arith, one)))
-            (rec d small (at + length h.0 + length f.0 + length g.0 + length m.0) n m.1 rest m.4 k (omega (arith, one, size, e)))
+    ∙ pair_goes (inner d) (record { place = s; characters = cs }) j at (at + length h.0) (at + length h.0 + length f.0) (at + length h.0 + length f.0 + length g.0 + length m.0) n
+    (h.0 ++ (f.0 ++ (58 ∷ (m.0 ++ (m.1 ++ rest))))) (f.0 ++ (58 ∷ (m.0 ++ (m.1 ++ rest)))) (m.0 ++ (m.1 ++ rest)) (m.1 ++ rest) rest
+    (spanned_read (λ s cs. record { place = s; characters = cs }) (λ at bs. read_string at bs) s cs at (at + length h.0) (h.0 ++ (f.0 ++ (58 ∷ (m.0 ++ (m.1 ++ rest))))) (f.0 ++ (58 ∷ (m.0 ++ (m.1 ++ rest))))
+    (string_read at (at + length h.0) cs h.0 (f.0 ++ (58 ∷ (m.0 ++ (m.1 ++ rest)))) h.3.0 refl) h.3.1)
+    (skip_read (at + length h.0) 0 (at + length h.0 + length f.0) f.0 (58 ∷ (m.0 ++ (m.1 ++ rest))) f.3 refl refl)
+    (skip_read (at + length h.0 + length f.0 + 1) 0 (at + length h.0 + length f.0 + length g.0 + length m.0) m.0 (m.1 ++ rest) m.3 (starts_no_space 93 m.1 rest (value_starts j _ m.1 m.4)) (omega (arith, one)))
+    (rec d small (at + length h.0 + length f.0 + length g.0 + length m.0) n m.1 rest m.4 k (omega (arith, one, size, e)))
 
 member_case : (s : Span) (cs : List ℕ) (j : Json) (ms : Members) → ValueRead j → MoreMembersRead ms → MembersRead (member s cs j ms)
 member_case s cs j ms rec more d small at i n bs rest h e k = cons_read 123 125 (read_member (inner d)) no_members member_of (pair s cs (value j)) (more_members ms) (record { name = s; characters = cs; content = j }) ms brace (pair_starts s cs (value j)) (pair_case s cs j rec d (omega arith)) (members_start ms) (more d (omega arith)) at i n bs rest h e k

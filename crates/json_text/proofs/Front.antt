@@ -1,8 +1,8 @@
 -- A reader that is sound: where it reads something, a front of the bytes is what its rule says.
-use Rattle.std.proofs.Common.{◌≡◌, ℕ, ◌+◌, Bool, true, false, List, [], ◌∷◌, ◌++◌, length, ◌⊎◌, inl, inr, if◌then◌else◌, refl, sym, ap, ◌∙◌, arith, append_assoc, append-nil, length-append, eqb-true, ◌==◌}
+use Rattle.std.proofs.Common.{◌≡◌, ℕ, ◌+◌, Bool, true, false, List, [], ◌∷◌, ◌++◌, length, ◌⊎◌, inl, inr, if◌then◌else◌, refl, sym, ap, ◌∙◌, arith, append_assoc, length-append, eqb-true, ◌==◌}
 use Rattle.json_text.specs.declared.span.Span.{Span}
-use Rattle.json_text.specs.Json.{Rule, ◌then◌, byte, nothing, spans}
-use Rattle.json_text.specs.Read.{Left, fails, reads, Reader, ◌>>=◌, gives, spanned, expect}
+use Rattle.json_text.specs.Json.{Rule, ◌then◌, byte, spans}
+use Rattle.json_text.specs.Read.{Left, fails, reads, Reader, ◌>>=◌, spanned, expect}
 
 -- the bytes begin with what the rule says, and go on at `to` with `rest`
 pub record Front (P : Rule) (at : ℕ) (bs : List ℕ) (to : ℕ) (rest : List ℕ) : Type 0 where
@@ -38,7 +38,7 @@ joined {P} {Q} at bs mid cs end rest f g = record {
   front = f.front ++ g.front;
   whole = f.whole ∙ ap (λ l. f.front ++ l) g.whole ∙ sym (append_assoc f.front g.front rest);
   is_to = omega (arith, f.is_to, g.is_to, length-append f.front g.front);
-  rule = (f.front, g.front, refl, f.rule, at_place Q mid (at + length f.front) g.front f.is_to g.rule)
+  rule = (f.front, g.front, refl, f.rule, at_place Q mid (at + length f.front) g.front f.is_to g.rule);
 }
 
 pub weaken : {P Q : Rule} {at : ℕ} {bs : List ℕ} {to : ℕ} {rest : List ℕ} → ((i : ℕ) (xs : List ℕ) → P i xs → Q i xs) → Front P at bs to rest → Front Q at bs to rest

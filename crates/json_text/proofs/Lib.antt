@@ -1,5 +1,6 @@
 mod Complete
 mod Front
+pub mod Laws
 mod ListsRead
 mod ListsSound
 mod NumbersRead

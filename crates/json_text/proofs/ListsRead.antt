@@ -1,8 +1,8 @@
 -- A list of entries is read: stated once, for items and for members.
-use Rattle.std.proofs.Common.{◌≡◌, ℕ, zero, suc, ◌+◌, ◌<◌, ◌≤◌, Bool, true, false, ◌||◌, List, [], ◌∷◌, ◌++◌, length, ◌⊎◌, inl, inr, ◌==◌, if◌then◌else◌, refl, sym, ap, ◌∙◌, arith, append_assoc, length-append}
-use Rattle.std.proofs.lemmas.Bool.{eq-eqb, cases_Bool, or_parts, or_cases, or_from, ne_eqb, eqb-true}
+use Rattle.std.proofs.Common.{◌≡◌, ℕ, zero, suc, ◌+◌, ◌<◌, true, false, ◌||◌, List, [], ◌∷◌, ◌++◌, length, ◌⊎◌, inl, inr, ◌==◌, if◌then◌else◌, refl, sym, ap, ◌∙◌, arith, append_assoc, length-append}
+use Rattle.std.proofs.lemmas.Bool.{eq-eqb, or_cases, eqb-true}
 use Rattle.json_text.specs.Json.{Rule, ◌then◌, byte, nothing, space, is_space}
-use Rattle.json_text.specs.Read.{Left, fails, reads, Reader, ◌>>=◌, gives, skip, expect, is_number_byte, read_more, read_first, read_list}
+use Rattle.json_text.specs.Read.{reads, Reader, skip, is_number_byte, read_more, read_first, read_list}
 use Rattle.json_text.proofs.NumbersRead.{NotNumber}
 
 -- no whitespace follows
@@ -62,9 +62,9 @@ space_byte : (b : ℕ) → is_space b ≡ true → is_number_byte b ≡ false
 space_byte b h = elim (or_cases (b == 32) ((b == 9) || ((b == 10) || (b == 13))) h) [
   | inl k ↦ rw (eqb-true b 32 k) refl
   | inr k ↦ elim (or_cases (b == 9) ((b == 10) || (b == 13)) k) [
-      | inl l ↦ rw (eqb-true b 9 l) refl
-      | inr l ↦ elim (or_cases (b == 10) (b == 13) l) [ inl m ↦ rw (eqb-true b 10 m) refl | inr m ↦ rw (eqb-true b 13 m) refl ]
-    ]
+    | inl l ↦ rw (eqb-true b 9 l) refl
+    | inr l ↦ elim (or_cases (b == 10) (b == 13) l) [ inl m ↦ rw (eqb-true b 10 m) refl | inr m ↦ rw (eqb-true b 13 m) refl ]
+  ]
 ]
 
 pub gap_no_number : (at : ℕ) (gap rest : List ℕ) → space at gap → NotNumber rest → NotNumber (gap ++ rest)
@@ -119,12 +119,12 @@ more_read close entry nil cons E M x l c starts reads_entry more reads_more (suc
     let one : length f.0 ≡ 1 = ap length f.3 in
     let size : length bs ≡ 1 + length g.0 + length h.0 + length k.0 + length k.1 = length_5 bs f.0 f.1 g.0 g.1 h.0 h.1 k.0 k.1 f.2 f.3 g.2 h.2 k.2 in
     rw (whole_5 bs f.0 f.1 g.0 g.1 h.0 h.1 k.0 k.1 (close ∷ rest) f.2 f.3 g.2 h.2 k.2)
-        (more_goes close entry nil cons x l m at (at + length f.0 + length g.0) (at + length f.0 + length g.0 + length h.0) (at + length f.0 + length g.0 + length h.0 + length k.0) n
-            (g.0 ++ (h.0 ++ (k.0 ++ (k.1 ++ close ∷ rest)))) (h.0 ++ (k.0 ++ (k.1 ++ close ∷ rest))) (k.0 ++ (k.1 ++ close ∷ rest)) (k.1 ++ close ∷ rest) rest c.no_comma
-            (skip_read (at + 1) (at + length f.0) (at + length f.0 + length g.0) g.0 _ g.3 (starts_no_space close h.0 _ (starts _ h.0 h.3)) (omega (arith, one)))
-            (reads_entry (at + length f.0 + length g.0) _ h.0 _ h.3 (gap_no_number 0 k.0 _ k.3 (more_no_number close k.1 rest c (more _ k.1 k.4))) refl)
-            (skip_read _ (at + length f.0 + length g.0 + length h.0) _ k.0 _ k.3 (more_no_space close k.1 rest c (more _ k.1 k.4)) refl)
-            (reads_more m _ n k.1 rest k.4 (omega (arith, size, less)) (omega (arith, one, size, e))))
+    (more_goes close entry nil cons x l m at (at + length f.0 + length g.0) (at + length f.0 + length g.0 + length h.0) (at + length f.0 + length g.0 + length h.0 + length k.0) n
+    (g.0 ++ (h.0 ++ (k.0 ++ (k.1 ++ close ∷ rest)))) (h.0 ++ (k.0 ++ (k.1 ++ close ∷ rest))) (k.0 ++ (k.1 ++ close ∷ rest)) (k.1 ++ close ∷ rest) rest c.no_comma
+    (skip_read (at + 1) (at + length f.0) (at + length f.0 + length g.0) g.0 _ g.3 (starts_no_space close h.0 _ (starts _ h.0 h.3)) (omega (arith, one)))
+    (reads_entry (at + length f.0 + length g.0) _ h.0 _ h.3 (gap_no_number 0 k.0 _ k.3 (more_no_number close k.1 rest c (more _ k.1 k.4))) refl)
+    (skip_read _ (at + length f.0 + length g.0 + length h.0) _ k.0 _ k.3 (more_no_space close k.1 rest c (more _ k.1 k.4)) refl)
+    (reads_more m _ n k.1 rest k.4 (omega (arith, size, less)) (omega (arith, one, size, e))))
 
 -- behind the opening bracket and whitespace, which ends at p
 first_read : {A L : Type 0} (close : ℕ) (entry : Reader A) (nil : L) (cons : A → L → L) (E M : Rule) (x : A) (l : L) → Closes close → EntryStarts close E → EntryRead entry E x → MoreStarts M → MoreRead close entry nil cons M l
@@ -132,9 +132,9 @@ first_read : {A L : Type 0} (close : ℕ) (entry : Reader A) (nil : L) (cons : A
 first_read close entry nil cons E M x l c starts reads_entry more reads_more p n v h m rest is_entry is_gap is_more e =
     let less : length m < length (m ++ close ∷ rest) = omega (arith, length-append m (close ∷ rest)) in
     first_goes close entry nil cons x l p (p + length v) (p + length v + length h) n v (h ++ (m ++ close ∷ rest)) (h ++ (m ++ close ∷ rest)) (m ++ close ∷ rest) rest (starts p v is_entry)
-        (reads_entry p (p + length v) v _ is_entry (gap_no_number 0 h _ is_gap (more_no_number close m rest c (more _ m is_more))) refl)
-        (skip_read _ 0 _ h _ is_gap (more_no_space close m rest c (more _ m is_more)) refl)
-        (reads_more (length (m ++ close ∷ rest)) _ n m rest is_more less e)
+    (reads_entry p (p + length v) v _ is_entry (gap_no_number 0 h _ is_gap (more_no_number close m rest c (more _ m is_more))) refl)
+    (skip_read _ 0 _ h _ is_gap (more_no_space close m rest c (more _ m is_more)) refl)
+    (reads_more (length (m ++ close ∷ rest)) _ n m rest is_more less e)
 
 open_goes : {A L : Type 0} (open_byte close : ℕ) (entry : Reader A) (nil : L) (cons : A → L → L) (l : L) (at p n : ℕ) (us vs rest : List ℕ)
     → skip (at + 1) us ≡ reads tt p vs → read_first close entry nil cons p vs ≡ reads l n rest → read_list open_byte close entry nil cons at (open_byte ∷ us) ≡ reads l n rest
@@ -154,6 +154,6 @@ cons_read open_byte close entry nil cons E M x l c starts reads_entry more reads
     let h = g.4 in let k = h.4 in
     let size : length bs ≡ length g.0 + length h.0 + length k.0 + length k.1 = length_4 bs g.0 g.1 h.0 h.1 k.0 k.1 g.2 h.2 k.2 in
     ap (λ us. read_list open_byte close entry nil cons at (open_byte ∷ us)) (whole_4 bs g.0 g.1 h.0 h.1 k.0 k.1 (close ∷ rest) g.2 h.2 k.2)
-        ∙ open_goes open_byte close entry nil cons (cons x l) at (i + length g.0) n (g.0 ++ (h.0 ++ (k.0 ++ (k.1 ++ close ∷ rest)))) (h.0 ++ (k.0 ++ (k.1 ++ close ∷ rest))) rest
-            (skip_read (at + 1) 0 (i + length g.0) g.0 _ g.3 (starts_no_space close h.0 _ (starts _ h.0 h.3)) (omega arith))
-            (first_read close entry nil cons E M x l c starts reads_entry more reads_more (i + length g.0) n h.0 k.0 k.1 rest h.3 k.3 k.4 (omega (arith, size, e, d)))
+    ∙ open_goes open_byte close entry nil cons (cons x l) at (i + length g.0) n (g.0 ++ (h.0 ++ (k.0 ++ (k.1 ++ close ∷ rest)))) (h.0 ++ (k.0 ++ (k.1 ++ close ∷ rest))) rest
+    (skip_read (at + 1) 0 (i + length g.0) g.0 _ g.3 (starts_no_space close h.0 _ (starts _ h.0 h.3)) (omega arith))
+    (first_read close entry nil cons E M x l c starts reads_entry more reads_more (i + length g.0) n h.0 k.0 k.1 rest h.3 k.3 k.4 (omega (arith, size, e, d)))

@@ -1,7 +1,7 @@
 -- What is read as a list of entries is one: stated once, for items and for members.
-use Rattle.std.proofs.Common.{◌≡◌, ℕ, zero, suc, ◌+◌, Bool, true, false, List, [], ◌∷◌, length, ◌⊎◌, inl, inr, ◌==◌, if◌then◌else◌, refl, sym, ap, eqb-true}
+use Rattle.std.proofs.Common.{◌≡◌, ℕ, zero, suc, ◌+◌, true, false, List, [], ◌∷◌, length, ◌⊎◌, inl, inr, ◌==◌, if◌then◌else◌, refl, sym, ap, eqb-true}
 use Rattle.json_text.specs.Json.{Rule, ◌then◌, byte, space, is_space}
-use Rattle.json_text.specs.Read.{Left, fails, reads, Reader, ◌>>=◌, gives, skip, expect, read_more, read_first, read_list}
+use Rattle.json_text.specs.Read.{reads, Reader, ◌>>=◌, gives, skip, expect, read_more, read_first, read_list}
 use Rattle.json_text.proofs.Front.{Front, Sound, bound, picked, gave, one_taken, none_taken, more_taken, joined, weaken, grouped, on_first, on_second, ends_at, expect_sound}
 
 pub skip_sound : Sound skip (λ done. space)
@@ -49,11 +49,11 @@ module _ {A L : Type 0} (close : ℕ) (entry : Reader A) (nil : L) (cons : A →
       let m = bound (skip k.to k.rest) (λ done at bs. read_more close entry nil cons n at bs >>= λ xs. gives (cons k.read xs)) l to rest k.goes in
       let r = bound (read_more close entry nil cons n m.to m.rest) (λ xs. gives (cons k.read xs)) l to rest m.goes in
       gave Closed at bs (cons k.read r.read) l r.to to r.rest rest r.goes
-          (weaken (cons_closed k.read r.read)
-              (joined at bs f.to f.rest r.to r.rest (expect_sound 44 at bs f.read f.to f.rest f.is)
-                  (joined f.to f.rest g.to g.rest r.to r.rest (skip_sound f.to f.rest g.read g.to g.rest g.is)
-                      (joined g.to g.rest k.to k.rest r.to r.rest (entry_sound g.to g.rest k.read k.to k.rest k.is)
-                          (joined k.to k.rest m.to m.rest r.to r.rest (skip_sound k.to k.rest m.read m.to m.rest m.is) (rec m.to m.rest r.read r.to r.rest r.is))))))
+      (weaken (cons_closed k.read r.read)
+      (joined at bs f.to f.rest r.to r.rest (expect_sound 44 at bs f.read f.to f.rest f.is)
+      (joined f.to f.rest g.to g.rest r.to r.rest (skip_sound f.to f.rest g.read g.to g.rest g.is)
+      (joined g.to g.rest k.to k.rest r.to r.rest (entry_sound g.to g.rest k.read k.to k.rest k.is)
+      (joined k.to k.rest m.to m.rest r.to r.rest (skip_sound k.to k.rest m.read m.to m.rest m.is) (rec m.to m.rest r.read r.to r.rest r.is))))))
 
   more_sound : (n : ℕ) → Sound (read_more close entry nil cons n) Closed
   unfolding read_more

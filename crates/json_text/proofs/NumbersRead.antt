@@ -1,10 +1,9 @@
 -- A number of RFC 8259, section 6, is read, where no byte of a number follows.
-use Rattle.std.proofs.Common.{◌≡◌, ℕ, ◌+◌, ◌<◌, ◌≤◌, Bool, true, false, ◌&&◌, ◌||◌, List, [], ◌∷◌, ◌++◌, length, ◌⊎◌, inl, inr, IsTrue, nat_le, ◌==◌, if◌then◌else◌, refl, sym, ap, ◌∙◌, arith, append_assoc, append-nil}
-use Rattle.std.proofs.lemmas.Bool.{and_parts, and_from, or_cases, or_left, or_right, or_from, le-leb, leb-true, eqb-true, eqb-false, eq-eqb, ne_eqb, cases_Bool}
-use Rattle.std.proofs.lemmas.Bool.Decides.{nat_tests}
+use Rattle.std.proofs.Common.{◌≡◌, ℕ, ◌+◌, ◌<◌, true, false, ◌&&◌, ◌||◌, List, [], ◌∷◌, ◌++◌, length, ◌⊎◌, inl, inr, IsTrue, nat_le, ◌==◌, refl, ap, arith}
+use Rattle.std.proofs.lemmas.Bool.{and_parts, and_from, or_left, or_from, le-leb, leb-true, eqb-true, ne_eqb, cases_Bool}
 use Rattle.std.specs.List.{AllByRecursion}
 use Rattle.json_text.specs.Number.{is_digit, Digits, SomeDigits, IsMinus, IsWhole, IsFraction, IsExponent, IsNumber}
-use Rattle.json_text.specs.Read.{Left, fails, reads, ◌>>=◌, gives, is_number_byte, all_digits, some_digits, signed_digits, is_exponent, decimals, some_decimals, is_fraction, whole_digits, is_whole, is_number, number_bytes, number_if, read_number}
+use Rattle.json_text.specs.Read.{reads, is_number_byte, all_digits, some_digits, signed_digits, is_exponent, decimals, some_decimals, is_fraction, whole_digits, is_whole, is_number, number_bytes, read_number}
 
 -- no byte of a number follows
 abbrev pub NotNumber : List ℕ → Type 0

@@ -1,9 +1,9 @@
 -- What the tests of a number pass is a number of RFC 8259, section 6.
-use Rattle.std.proofs.Common.{◌≡◌, ℕ, ◌+◌, ◌≤◌, Bool, true, false, ◌&&◌, ◌||◌, List, [], ◌∷◌, ◌++◌, length, ◌⊎◌, inl, inr, IsTrue, nat_le, ◌==◌, if◌then◌else◌, refl, sym, ap, ◌∙◌, arith, append_assoc, append-nil, eqb-true}
+use Rattle.std.proofs.Common.{◌≡◌, ℕ, ◌+◌, Bool, true, false, ◌&&◌, ◌||◌, List, [], ◌∷◌, ◌++◌, ◌⊎◌, inl, inr, IsTrue, nat_le, ◌==◌, refl, ap, ◌∙◌, arith, eqb-true}
 use Rattle.std.proofs.lemmas.Bool.{and_parts, and_from, or_cases, le-leb, leb-true, eqb-false}
 use Rattle.json_text.specs.Json.{Rule}
 use Rattle.json_text.specs.Number.{is_digit, Digits, SomeDigits, IsMinus, IsWhole, IsFraction, IsExponent, IsNumber}
-use Rattle.json_text.specs.Read.{Left, fails, reads, ◌>>=◌, gives, is_number_byte, all_digits, some_digits, signed_digits, is_exponent, decimals, some_decimals, is_fraction, whole_digits, is_whole, is_number, number_bytes, number_if, read_number}
+use Rattle.json_text.specs.Read.{reads, ◌>>=◌, gives, is_number_byte, all_digits, some_digits, signed_digits, is_exponent, decimals, some_decimals, is_fraction, whole_digits, is_whole, is_number, number_bytes, number_if, read_number}
 use Rattle.json_text.proofs.Front.{Front, Sound, bound, picked, gave, none_taken, more_taken, weaken}
 
 digits_found : (bs : List ℕ) → all_digits bs ≡ true → Digits bs
@@ -26,9 +26,9 @@ signed_found : (bs : List ℕ) → signed_digits bs ≡ true → Signed bs
 signed_found [] h = cc
 signed_found (b ∷ bs) h = elim (picked ((b == 43) || (b == 45)) (some_digits bs) (some_digits (b ∷ bs)) true h) [
   | inl k ↦ elim (or_cases (b == 43) (b == 45) k.0) [
-      | inl e ↦ record { sign = 43 ∷ []; digits = bs; is_sign = inr (inl refl); are = some_digits_found bs k.1; whole = ap (λ i. i ∷ bs) (eqb-true b 43 e) }
-      | inr e ↦ record { sign = 45 ∷ []; digits = bs; is_sign = inr (inr refl); are = some_digits_found bs k.1; whole = ap (λ i. i ∷ bs) (eqb-true b 45 e) }
-    ]
+    | inl e ↦ record { sign = 43 ∷ []; digits = bs; is_sign = inr (inl refl); are = some_digits_found bs k.1; whole = ap (λ i. i ∷ bs) (eqb-true b 43 e) }
+    | inr e ↦ record { sign = 45 ∷ []; digits = bs; is_sign = inr (inr refl); are = some_digits_found bs k.1; whole = ap (λ i. i ∷ bs) (eqb-true b 45 e) }
+  ]
   | inr k ↦ record { sign = []; digits = b ∷ bs; is_sign = inl refl; are = some_digits_found (b ∷ bs) k.1; whole = refl }
 ]
 

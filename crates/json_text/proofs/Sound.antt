@@ -1,10 +1,10 @@
 -- What is read as a value is one of RFC 8259, section 3.
-use Rattle.std.proofs.Common.{◌≡◌, ℕ, zero, suc, ◌+◌, ◌≤◌, max, Bool, true, false, List, [], ◌∷◌, length, ◌⊎◌, inl, inr, ◌==◌, codes, if◌then◌else◌, refl, sym, ap, arith}
+use Rattle.std.proofs.Common.{◌≡◌, ℕ, zero, suc, ◌+◌, ◌≤◌, max, Bool, true, false, List, [], ◌∷◌, ◌⊎◌, inl, inr, ◌==◌, if◌then◌else◌, refl, arith}
 use Rattle.json_text.specs.declared.span.Span.{Span}
 use Rattle.json_text.specs.declared.kind.Word.{Word}
 use Rattle.json_text.specs.declared.kind.Word.TheVariants.{Null, False, True}
-use Rattle.json_text.specs.Json.{Json, word, number, string, array, object, Items, no_items, item, Members, no_members, member, Rule, ◌then◌, byte, space, spans, quoted, pair, letters, value, items, more_items, members, more_members, depth, items_depth, members_depth}
-use Rattle.json_text.specs.Read.{Left, fails, reads, Reader, ◌>>=◌, gives, spanned, skip, expect, expect_all, read_number, read_string, read_list}
+use Rattle.json_text.specs.Json.{Json, word, number, string, array, object, Items, no_items, item, Members, no_members, Rule, ◌then◌, byte, space, spans, quoted, pair, letters, value, items, more_items, members, more_members, depth, items_depth, members_depth}
+use Rattle.json_text.specs.Read.{reads, Reader, ◌>>=◌, gives, spanned, skip, expect, expect_all, read_number, read_string, read_list}
 use Rattle.json_text.specs.Tree.{Entry, member_of, Name, read_name, read_member, read_leaf, read_value}
 use Rattle.json_text.proofs.Front.{Front, Sound, bound, picked, gave, joined, weaken, expect_sound, spanned_sound}
 use Rattle.json_text.proofs.ListsSound.{skip_sound, ListRules, list_sound}
@@ -32,7 +32,7 @@ item_rules d = record {
   cons_first = λ j js i xs k.
       let m = k.4 in let n = m.4 in
       let small : max (depth j) (items_depth js) ≤ d = omega (arith, m.3.1, n.4.1) in
-      ((k.0, k.1, k.2, k.3, (m.0, m.1, m.2, m.3.0, (n.0, n.1, n.2, n.3, n.4.0))), small)
+      ((k.0, k.1, k.2, k.3, (m.0, m.1, m.2, m.3.0, (n.0, n.1, n.2, n.3, n.4.0))), small);
 }
 
 abbrev entry_fits : ℕ → Entry → Rule
@@ -55,7 +55,7 @@ member_rules d = record {
   cons_first = λ e ms i xs k.
       let m = k.4 in let n = m.4 in
       let small : max (depth e.content) (members_depth ms) ≤ d = omega (arith, m.3.1, n.4.1) in
-      ((k.0, k.1, k.2, k.3, (m.0, m.1, m.2, m.3.0, (n.0, n.1, n.2, n.3, n.4.0))), small)
+      ((k.0, k.1, k.2, k.3, (m.0, m.1, m.2, m.3.0, (n.0, n.1, n.2, n.3, n.4.0))), small);
 }
 
 abbrev named_at : Name → Rule
@@ -79,11 +79,11 @@ member_sound d inner rec at bs e to rest h =
     let m = bound (skip k.to k.rest) (λ done at bs. inner at bs >>= λ j. gives (record { name = f.read.place; characters = f.read.characters; content = j })) e to rest k.goes in
     let r = bound (inner m.to m.rest) (λ j. gives (record { name = f.read.place; characters = f.read.characters; content = j })) e to rest m.goes in
     gave (entry_fits d) at bs (record { name = f.read.place; characters = f.read.characters; content = r.read }) e r.to to r.rest rest r.goes
-        (weaken (paired f.read d r.read)
-            (joined at bs f.to f.rest r.to r.rest (name_sound at bs f.read f.to f.rest f.is)
-                (joined f.to f.rest g.to g.rest r.to r.rest (skip_sound f.to f.rest g.read g.to g.rest g.is)
-                    (joined g.to g.rest k.to k.rest r.to r.rest (expect_sound 58 g.to g.rest k.read k.to k.rest k.is)
-                        (joined k.to k.rest m.to m.rest r.to r.rest (skip_sound k.to k.rest m.read m.to m.rest m.is) (rec m.to m.rest r.read r.to r.rest r.is))))))
+    (weaken (paired f.read d r.read)
+    (joined at bs f.to f.rest r.to r.rest (name_sound at bs f.read f.to f.rest f.is)
+    (joined f.to f.rest g.to g.rest r.to r.rest (skip_sound f.to f.rest g.read g.to g.rest g.is)
+    (joined g.to g.rest k.to k.rest r.to r.rest (expect_sound 58 g.to g.rest k.read k.to k.rest k.is)
+    (joined k.to k.rest m.to m.rest r.to r.rest (skip_sound k.to k.rest m.read m.to m.rest m.is) (rec m.to m.rest r.read r.to r.rest r.is))))))
 
 word_sound : (d : ℕ) (w : Word) → Sound (spanned (λ s done. word s w) (expect_all (letters w))) (fits d)
 word_sound d w at bs j to rest h =
@@ -107,9 +107,9 @@ either_sound false r s P k l = l
 leaf_sound : (d b : ℕ) → Sound (read_leaf b) (fits d)
 leaf_sound d b =
     either_sound (b == 34) (spanned string (λ at bs. read_string at bs)) _ (fits d) (text_sound d)
-        (either_sound (b == 110) (spanned (λ s done. word s Null) (expect_all (letters Null))) _ (fits d) (word_sound d Null)
-            (either_sound (b == 102) (spanned (λ s done. word s False) (expect_all (letters False))) _ (fits d) (word_sound d False)
-                (either_sound (b == 116) (spanned (λ s done. word s True) (expect_all (letters True))) (spanned number read_number) (fits d) (word_sound d True) (numeral_sound d))))
+    (either_sound (b == 110) (spanned (λ s done. word s Null) (expect_all (letters Null))) _ (fits d) (word_sound d Null)
+    (either_sound (b == 102) (spanned (λ s done. word s False) (expect_all (letters False))) _ (fits d) (word_sound d False)
+    (either_sound (b == 116) (spanned (λ s done. word s True) (expect_all (letters True))) (spanned number read_number) (fits d) (word_sound d True) (numeral_sound d))))
 
 array_fits : (d : ℕ) (s : Span) (js : Items) (i : ℕ) (xs : List ℕ) → spans s (byte 91 then (items_fit d js then byte 93)) i xs → fits (suc d) (array s js) i xs
 array_fits d s js i xs e =

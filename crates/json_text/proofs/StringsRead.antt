@@ -1,11 +1,11 @@
 -- A string of RFC 8259, section 7, is read.
-use Rattle.std.proofs.Common.{◌≡◌, ℕ, zero, suc, ◌+◌, ◌-◌, ◌*◌, ◌/◌, ◌%◌, ◌<◌, ◌≤◌, Bool, true, false, ◌&&◌, not, List, [], ◌∷◌, ◌++◌, length, flat_map, ◌⊎◌, inl, inr, IsTrue, nat_le, nat_lt, ◌==◌, if◌then◌else◌, refl, sym, ap, ◌∙◌, arith, append_assoc, append-nil, length-append}
-use Rattle.std.proofs.lemmas.Bool.{and_parts, and_from, lt-ltb, le-ltb, leb-true, eqb-true, eqb-false, eq-eqb, ne_eqb, cases_Bool, cases_lt, not-true}
+use Rattle.std.proofs.Common.{◌≡◌, ℕ, zero, suc, ◌+◌, ◌-◌, ◌*◌, ◌/◌, ◌%◌, ◌<◌, ◌≤◌, true, false, ◌&&◌, not, List, [], ◌∷◌, ◌++◌, length, flat_map, inl, inr, nat_le, ◌==◌, refl, sym, ap, ◌∙◌, arith, append_assoc, length-append}
+use Rattle.std.proofs.lemmas.Bool.{and_parts, lt-ltb, le-ltb, eq-eqb, ne_eqb, cases_lt, not-true}
 use Rattle.std.specs.List.{AllByRecursion}
-use lib.Utf8.{encode, scalar, scalar_cases}
+use lib.Utf8.{encode, scalar}
 use Rattle.json_text.specs.Json.{quoted}
 use Rattle.json_text.specs.String.{Piece, plain, short, unit, is_plain, is_short, is_hex, IsPiece, spelled, characters}
-use Rattle.json_text.specs.Read.{Left, fails, reads, ◌>>=◌, gives, expect, expect_all, code_two, code_three, code_four, code_in_front, plain_if, read_plain, unit_if, read_unit, read_escape, read_piece, read_pieces, read_string}
+use Rattle.json_text.specs.Read.{reads, expect_all, code_in_front, read_plain, read_piece, read_pieces, read_string}
 
 pub expect_all_read : (at n : ℕ) (cs rest : List ℕ) → n ≡ at + length cs → expect_all cs at (cs ++ rest) ≡ reads tt n rest
 unfolding expect_all
@@ -75,12 +75,12 @@ character_begun : (c : ℕ) → scalar c ≡ true → is_plain c ≡ true → Be
 character_begun c s p = elim (cases_lt c 128) [
   | inl h ↦ ascii_begun c s p h
   | inr h ↦ elim (cases_lt c 2048) [
-      | inl k ↦ plain_begun c (192 + c / 64) ((128 + c % 64) ∷ []) s p (two c h k) (high _ 92 (omega arith) (omega arith)) (high _ 34 (omega arith) (omega arith)) (two_back c h k)
-      | inr k ↦ elim (cases_lt c 65536) [
-          | inl m ↦ plain_begun c (224 + c / 4096) ((128 + c / 64 % 64) ∷ (128 + c % 64) ∷ []) s p (three c k m) (high _ 92 (omega arith) (omega arith)) (high _ 34 (omega arith) (omega arith)) (three_back c k m)
-          | inr m ↦ plain_begun c (240 + c / 262144) ((128 + c / 4096 % 64) ∷ (128 + c / 64 % 64) ∷ (128 + c % 64) ∷ []) s p (four c m) (high _ 92 (omega arith) (omega arith)) (high _ 34 (omega arith) (omega arith)) (four_back c m)
-        ]
+    | inl k ↦ plain_begun c (192 + c / 64) ((128 + c % 64) ∷ []) s p (two c h k) (high _ 92 (omega arith) (omega arith)) (high _ 34 (omega arith) (omega arith)) (two_back c h k)
+    | inr k ↦ elim (cases_lt c 65536) [
+      | inl m ↦ plain_begun c (224 + c / 4096) ((128 + c / 64 % 64) ∷ (128 + c % 64) ∷ []) s p (three c k m) (high _ 92 (omega arith) (omega arith)) (high _ 34 (omega arith) (omega arith)) (three_back c k m)
+      | inr m ↦ plain_begun c (240 + c / 262144) ((128 + c / 4096 % 64) ∷ (128 + c / 64 % 64) ∷ (128 + c % 64) ∷ []) s p (four c m) (high _ 92 (omega arith) (omega arith)) (high _ 34 (omega arith) (omega arith)) (four_back c m)
     ]
+  ]
 ]
 
 short_is_no_u : (b : ℕ) → is_short b ≡ true → (b == 117) ≡ false
@@ -94,7 +94,7 @@ short_begun b h = record {
   no_quote = refl;
   is_read = λ at rest.
       let e : at + 1 + 1 ≡ at + 2 = omega arith in
-      rw (short_is_no_u b h, h) (ap (λ i. reads (short b) i rest) e)
+      rw (short_is_no_u b h, h) (ap (λ i. reads (short b) i rest) e);
 }
 
 unit_begun : (a b c d : ℕ) → is_hex a ≡ true → is_hex b ≡ true → is_hex c ≡ true → is_hex d ≡ true → Begun (unit a b c d)
@@ -105,7 +105,7 @@ unit_begun a b c d h k l m = record {
   no_quote = refl;
   is_read = λ at rest.
       let e : at + 1 + 1 + 4 ≡ at + 6 = omega arith in
-      rw (h, k, l, m) (ap (λ i. reads (unit a b c d) i rest) e)
+      rw (h, k, l, m) (ap (λ i. reads (unit a b c d) i rest) e);
 }
 
 begun : (p : Piece) → IsPiece p → Begun p
@@ -129,7 +129,7 @@ pieces_read (p ∷ ps) (suc m) at n rest h l e =
     let fits : length (flat_map spelled ps) < m = omega (arith, some, both, l) in
     let place : n ≡ at + length (spelled p) + length (flat_map spelled ps) + 1 = omega (arith, both, e) in
     ap (read_pieces (suc m) at) (append_assoc (spelled p) (flat_map spelled ps) (34 ∷ rest))
-        ∙ piece_goes p ps m at n (flat_map spelled ps ++ 34 ∷ rest) rest b (pieces_read ps m (at + length (spelled p)) n rest h.1 fits place)
+    ∙ piece_goes p ps m at n (flat_map spelled ps ++ 34 ∷ rest) rest b (pieces_read ps m (at + length (spelled p)) n rest h.1 fits place)
 
 -- between two quotation marks
 between : (ps : List Piece) (at n : ℕ) (bs rest : List ℕ) → AllByRecursion IsPiece ps → bs ≡ flat_map spelled ps → n ≡ at + length bs + 2 → read_string at (34 ∷ (bs ++ 34 ∷ rest)) ≡ reads (characters ps) n rest

@@ -1,11 +1,11 @@
 -- What is read as a string is one of RFC 8259, section 7.
-use Rattle.std.proofs.Common.{◌≡◌, ℕ, zero, suc, ◌+◌, Bool, true, false, ◌&&◌, List, [], ◌∷◌, ◌++◌, length, flat_map, ◌⊎◌, inl, inr, ◌==◌, if◌then◌else◌, refl, sym, ap, ◌∙◌, arith, append_assoc, append-nil, eqb-true}
+use Rattle.std.proofs.Common.{◌≡◌, ℕ, zero, suc, ◌+◌, Bool, true, false, ◌&&◌, List, [], ◌∷◌, ◌++◌, length, flat_map, ◌⊎◌, inl, inr, ◌==◌, if◌then◌else◌, refl, sym, ap, ◌∙◌, arith, append_assoc, eqb-true}
 use Rattle.std.proofs.lemmas.Bool.{and_parts}
 use Rattle.std.specs.List.{AllByRecursion}
 use lib.Utf8.{encode, scalar}
-use Rattle.json_text.specs.Json.{Rule, ◌then◌, byte, spells, quoted}
+use Rattle.json_text.specs.Json.{Rule, ◌then◌, byte, quoted}
 use Rattle.json_text.specs.String.{Piece, plain, short, unit, is_plain, is_short, is_hex, IsPiece, spelled, characters}
-use Rattle.json_text.specs.Read.{Left, fails, reads, ◌>>=◌, gives, expect, expect_all, code_in_front, plain_if, read_plain, unit_if, read_unit, read_escape, read_piece, read_pieces, read_string}
+use Rattle.json_text.specs.Read.{fails, reads, ◌>>=◌, gives, expect, expect_all, code_in_front, plain_if, read_plain, unit_if, read_unit, read_escape, read_piece, read_pieces, read_string}
 use Rattle.json_text.proofs.Front.{Front, Sound, bound, picked, gave, one_taken, none_taken, more_taken, joined, weaken, expect_sound}
 
 pub expect_all_sound : (cs : List ℕ) → Sound (expect_all cs) (λ done at bs. bs ≡ cs)
@@ -57,9 +57,9 @@ escape_sound at [] p to rest h = cc
 escape_sound at (b ∷ bs) p to rest h = elim (picked (b == 117) (read_unit (at + 1) bs) (if is_short b then reads (short b) (at + 1) bs else fails) (reads p to rest) h) [
   | inl k ↦ rw (eqb-true b 117 k.0) (read_unit_sound at bs p to rest k.1)
   | inr k ↦ elim (picked (is_short b) (reads (short b) (at + 1) bs) fails (reads p to rest) k.1) [
-      | inl l ↦ one_taken escape_rule at b bs (short b) p to rest l.1 (l.0, refl)
-      | inr l ↦ let i = l.1 in cc
-    ]
+    | inl l ↦ one_taken escape_rule at b bs (short b) p to rest l.1 (l.0, refl)
+    | inr l ↦ let i = l.1 in cc
+  ]
 ]
 
 piece_sound : Sound read_piece piece_rule
@@ -93,7 +93,7 @@ pieces_sound (suc n) at (b ∷ bs) ps to rest h = pick (picked (b == 34) (reads 
         let f = bound (read_piece at (b ∷ bs)) (λ p at bs. read_pieces n at bs >>= λ ps. gives (p ∷ ps)) ps to rest k.1 in
         let g = bound (read_pieces n f.to f.rest) (λ ps. gives (f.read ∷ ps)) ps to rest f.goes in
         gave (λ ps. pieces ps then byte 34) at (b ∷ bs) (f.read ∷ g.read) ps g.to to g.rest rest g.goes
-            (weaken (more_pieces f.read g.read) (joined at (b ∷ bs) f.to f.rest g.to g.rest (piece_sound at (b ∷ bs) f.read f.to f.rest f.is) (rec f.to f.rest g.read g.to g.rest g.is)))
+        (weaken (more_pieces f.read g.read) (joined at (b ∷ bs) f.to f.rest g.to g.rest (piece_sound at (b ∷ bs) f.read f.to f.rest f.is) (rec f.to f.rest g.read g.to g.rest g.is)))
 
 spelt : (ps : List Piece) (at : ℕ) (xs : List ℕ) → (byte 34 then (pieces ps then byte 34)) at xs → quoted (characters ps) at xs
 spelt ps at xs h = let k = h.4 in (h.0, h.1, h.2, h.3, (k.0, k.1, k.2, (ps, k.3.0, k.3.1, refl), k.4))
@@ -104,4 +104,4 @@ string_sound at bs cs to rest h =
     let f = bound (expect 34 at bs) (λ done at bs. read_pieces (length bs) at bs >>= λ ps. gives (characters ps)) cs to rest h in
     let g = bound (read_pieces (length f.rest) f.to f.rest) (λ ps. gives (characters ps)) cs to rest f.goes in
     gave quoted at bs (characters g.read) cs g.to to g.rest rest g.goes
-        (weaken (spelt g.read) (joined at bs f.to f.rest g.to g.rest (expect_sound 34 at bs f.read f.to f.rest f.is) (pieces_sound (length f.rest) f.to f.rest g.read g.to g.rest g.is)))
+    (weaken (spelt g.read) (joined at bs f.to f.rest g.to g.rest (expect_sound 34 at bs f.read f.to f.rest f.is) (pieces_sound (length f.rest) f.to f.rest g.read g.to g.rest g.is)))
