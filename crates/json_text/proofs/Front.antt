@@ -74,6 +74,12 @@ expect_sound c at (b ∷ bs) x to rest h = elim (picked (b == c) (reads tt (at +
   | inr k ↦ let i = k.1 in cc
 ]
 
+span_is : {A B : Type 0} (f : Span → A → B) (x : A) (y : B) (at to end : ℕ) → f (record { from = at; to = to }) x ≡ y → to ≡ end → y ≡ f (record { from = at; to = end }) x
+span_is f x y at to end e t = sym e ∙ ap (λ i. f (record { from = at; to = i }) x) t
+
+in_span : (P : Rule) (at : ℕ) (bs : List ℕ) (to : ℕ) (rest : List ℕ) → Front P at bs to rest → Front (spans (record { from = at; to = to }) P) at bs to rest
+in_span P at bs to rest k = record { front = k.front; whole = k.whole; is_to = k.is_to; rule = (k.rule, ap (λ i. record { from = at; to = i }) k.is_to) }
+
 pub spanned_sound : {A B : Type 0} (f : Span → A → B) (r : Reader A) (P : A → Rule) → Sound r P → (at : ℕ) (bs : List ℕ) (y : B) (to : ℕ) (rest : List ℕ) → spanned f r at bs ≡ reads y to rest
     → (s : Span) × (x : A) × (y ≡ f s x) × Front (spans s (P x)) at bs to rest
 spanned_sound f r P sound at bs y to rest h =
@@ -82,8 +88,7 @@ spanned_sound f r P sound at bs y to rest h =
     let e : f (record { from = at; to = b.to }) b.read ≡ y = cc in
     let t : b.to ≡ to = cc in
     let l : b.rest ≡ rest = cc in
-    let k : Front (P b.read) at bs to rest = ends_at (P b.read) at bs b.to to b.rest rest t l (sound at bs b.read b.to b.rest b.is) in
-    (record { from = at; to = to }, b.read, sym e ∙ ap (λ i. f (record { from = at; to = i }) b.read) t, record { front = k.front; whole = k.whole; is_to = k.is_to; rule = (k.rule, ap (λ i. record { from = at; to = i }) k.is_to) })
+    (record { from = at; to = to }, b.read, span_is f b.read y at b.to to e t, in_span (P b.read) at bs to rest (ends_at (P b.read) at bs b.to to b.rest rest t l (sound at bs b.read b.to b.rest b.is)))
 
 -- a sequence may be grouped anew
 pub grouped : (P Q R : Rule) (at : ℕ) (bs : List ℕ) → (P then (Q then R)) at bs → ((P then Q) then R) at bs
