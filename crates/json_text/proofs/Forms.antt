@@ -66,16 +66,16 @@ Unplaced P F = (at : ℕ) (bs : List ℕ) → P at bs → F bs
 along_of : (P Q : Rule) (F G : Form) → Unplaced P F → Unplaced Q G → Unplaced (P then Q) (F along G)
 along_of P Q F G f g at bs h = (h.0, h.1, h.2, f at h.0 h.3, g (at + length h.0) h.1 h.4)
 
-byte_of : (c : ℕ) → Unplaced (byte c) (one c)
+pub byte_of : (c : ℕ) → Unplaced (byte c) (one c)
 byte_of c at bs h = h
 
-space_of : Unplaced space blank
+pub space_of : Unplaced space blank
 space_of at bs h = h
 
-nothing_of : Unplaced nothing no_bytes
+pub nothing_of : Unplaced nothing no_bytes
 nothing_of at bs h = h
 
-quotes_of : (cs : List ℕ) → Unplaced (quoted cs) (quotes cs)
+pub quotes_of : (cs : List ℕ) → Unplaced (quoted cs) (quotes cs)
 quotes_of cs = along_of (byte 34) _ _ _ (byte_of 34) (along_of (λ at bs. SpellsCharacters cs bs) (byte 34) (λ bs. SpellsCharacters cs bs) (one 34) (λ at bs h. h) (byte_of 34))
 
 module _ (P : Rule) (F : Form) (f : Unplaced P F) where

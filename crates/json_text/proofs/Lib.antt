@@ -1,4 +1,5 @@
 pub mod Edits
 pub mod Forms
 pub mod Moves
+pub mod Swaps
 mod Worked
