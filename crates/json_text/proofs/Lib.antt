@@ -2,5 +2,6 @@ pub mod Edits
 pub mod Forms
 pub mod Moves
 pub mod Paths
+pub mod Put
 pub mod Swaps
 mod Worked
