@@ -1,3 +1,4 @@
+pub mod Depths
 pub mod Edits
 pub mod Forms
 pub mod Moves
