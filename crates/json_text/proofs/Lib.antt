@@ -1,6 +1,7 @@
 pub mod Depths
 pub mod Edits
 pub mod Forms
+pub mod Inside
 pub mod Moves
 pub mod Paths
 pub mod Put
