@@ -1,10 +1,10 @@
 -- How deep a tree nests in which one value gave way to another, and what it says without places.
-use Rattle.std.proofs.Common.{◌≡◌, ℕ, zero, suc, ◌+◌, ◌≤◌, max, Bool, true, false, List, [], ◌∷◌, length, bytes_eq, is_some, if◌then◌else◌, Option, Some, None, option_map, refl, sym, ◌∙◌, ap, ap₂, subst, arith}
+use Rattle.std.proofs.Common.{◌≡◌, ℕ, zero, suc, ◌+◌, ◌≤◌, max, Bool, true, false, List, [], ◌∷◌, length, bytes_eq, is_some, if◌then◌else◌, Option, Some, None, option_map, refl, sym, ◌∙◌, ap, arith}
 use Rattle.std.specs.Option.{option_and_then}
 use Rattle.json_text.specs.declared.span.Span.{Span}
 use Rattle.json_text.specs.Json.{Json, word, number, string, array, object, Items, no_items, item, Members, no_members, member, depth, items_depth, members_depth}
 use Rattle.json_text.specs.Bare.{bare, bare_items, bare_members, nowhere}
-use Rattle.json_text.specs.Named.{named, named_in, or_else, if_named}
+use Rattle.json_text.specs.Named.{named, or_else, if_named}
 use Rattle.json_text.specs.Paths.{Step, key, index, item_at, step_to, value_at, put_named, put_item, put_step, put_at}
 use Rattle.json_text.proofs.Put.{named_bare, named_put}
 
@@ -124,7 +124,7 @@ value_put (s ∷ path) j t u e = go (step_to s j) refl (λ k d. value_put path k
 
 bare_choice : (s : Span) (ds : List ℕ) (j u : Json) (ms rest other : Members) (a c b : Bool) → a ≡ c → bare_members rest ≡ other
     → bare_members (if a then member s ds j rest else member s ds (if b then u else j) ms)
-      ≡ (if c then member nowhere ds (bare j) other else member nowhere ds (if b then bare u else bare j) (bare_members ms))
+    ≡ (if c then member nowhere ds (bare j) other else member nowhere ds (if b then bare u else bare j) (bare_members ms))
 bare_choice s ds j u ms rest other true true b d e = ap (λ z. member nowhere ds (bare j) z) e
 bare_choice s ds j u ms rest other true false b d e = absurd (cc)
 bare_choice s ds j u ms rest other false true b d e = absurd (cc)

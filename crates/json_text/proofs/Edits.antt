@@ -1,7 +1,7 @@
 -- Edits of a piece of bytes that stands at a place, part by part, and what they come to as `replace`.
-use Rattle.std.proofs.Common.{◌≡◌, ℕ, ◌+◌, ◌-◌, ◌≤◌, List, [], ◌∷◌, ◌++◌, length, take, drop, refl, sym, ◌∙◌, ap, ap₂, subst, append_assoc, append-nil, length-append, add-zero, add_assoc, arith}
+use Rattle.std.proofs.Common.{◌≡◌, ℕ, ◌+◌, ◌-◌, List, [], ◌∷◌, ◌++◌, length, take, drop, refl, sym, ◌∙◌, ap, ap₂, subst, append_assoc, length-append, arith}
 use Rattle.json_text.specs.declared.span.Span.{Span}
-use Rattle.json_text.specs.Replace.{Edit, replace_from, replace, RiseFrom, Rise}
+use Rattle.json_text.specs.Replace.{Edit, replace_from, replace, RiseFrom}
 
 abbrev pub between : ℕ → ℕ → Span
 between at n = record { from = at; to = at + n }
@@ -26,18 +26,31 @@ place_last at a b c = omega (arith, length-append a (b ++ c), length-append b c)
 
 behind : (fs : List Edit) (at : ℕ) (a b y : List ℕ) → EditsTo (at + length a) b fs y → EditsTo at (a ++ b) fs (a ++ y)
 behind [] at a b y h = ap (λ z. a ++ z) h
-behind (f ∷ fs) at a b y h = (a ++ h.0, h.1, h.2, h.3, ap (λ z. a ++ z) h.4 ∙ regroup a h.0 h.1 h.2,
-    h.5 ∙ ap (λ i. between i (length h.1)) (place_first at a h.0),
-    subst (λ i. EditsTo (i + length h.1) h.2 fs h.3) (place_first at a h.0) h.6,
-    ap (λ z. a ++ z) h.7 ∙ regroup a h.0 f.text h.3)
+behind (f ∷ fs) at a b y h = (
+  a ++ h.0,
+  h.1,
+  h.2,
+  h.3,
+  ap (λ z. a ++ z) h.4 ∙ regroup a h.0 h.1 h.2,
+  h.5 ∙ ap (λ i. between i (length h.1)) (place_first at a h.0),
+  subst (λ i. EditsTo (i + length h.1) h.2 fs h.3) (place_first at a h.0) h.6,
+  ap (λ z. a ++ z) h.7 ∙ regroup a h.0 f.text h.3,
+)
 
 -- edits of the one, then of the other
 pub edits_then : (es fs : List Edit) (at : ℕ) (a b x y : List ℕ) → EditsTo at a es x → EditsTo (at + length a) b fs y → EditsTo at (a ++ b) (es ++ fs) (x ++ y)
 edits_then [] fs at a b x y h g = subst (λ z. EditsTo at (a ++ b) fs (z ++ y)) h (behind fs at a b y g)
-edits_then (e ∷ es) fs at a b x y h g = (h.0, h.1, h.2 ++ b, h.3 ++ y, ap (λ z. z ++ b) h.4 ∙ regroup_end h.0 h.1 h.2 b, h.5,
-    edits_then es fs (at + length h.0 + length h.1) h.2 b h.3 y h.6
+edits_then (e ∷ es) fs at a b x y h g = (
+  h.0,
+  h.1,
+  h.2 ++ b,
+  h.3 ++ y,
+  ap (λ z. z ++ b) h.4 ∙ regroup_end h.0 h.1 h.2 b,
+  h.5,
+  edits_then es fs (at + length h.0 + length h.1) h.2 b h.3 y h.6
       (subst (λ i. EditsTo i b fs y) (ap (λ z. at + length z) h.4 ∙ place_last at h.0 h.1 h.2) g),
-    ap (λ z. z ++ y) h.7 ∙ regroup_end h.0 e.text h.3 y)
+  ap (λ z. z ++ y) h.7 ∙ regroup_end h.0 e.text h.3 y,
+)
 
 rise_step : (at from to : ℕ) (s : Span) (a b c bs : List ℕ) → bs ≡ a ++ (b ++ c) → s ≡ between (at + length a) (length b) → at + length bs ≡ at + length a + length b + length c
 rise_step at from to s a b c bs whole place = ap (λ z. at + length z) whole ∙ place_last at a b c
@@ -72,12 +85,13 @@ edits_from (f ∷ es) at pre bs out len h =
     let to : f.span.to ≡ at + length h.0 + length h.1 = ap (λ (s : Span). s.to) h.5 in
     let whole : pre ++ bs ≡ (pre ++ (h.0 ++ h.1)) ++ h.2 = ap (λ z. pre ++ z) h.4 ∙ shift pre h.0 h.1 h.2 in
     let rest : replace_from (at + length h.0 + length h.1) ((pre ++ (h.0 ++ h.1)) ++ h.2) es ≡ h.3 =
-      edits_from es (at + length h.0 + length h.1) (pre ++ (h.0 ++ h.1)) h.2 h.3 (lengths pre h.0 h.1 at len) h.6 in
+    edits_from es (at + length h.0 + length h.1) (pre ++ (h.0 ++ h.1)) h.2 h.3 (lengths pre h.0 h.1 at len) h.6 in
     ap₂ (λ z w. z ++ (f.text ++ w)) (middle at f.span.from pre bs h.0 (h.1 ++ h.2) len h.4 from)
-      (ap₂ (λ i z. replace_from i z es) to whole ∙ rest) ∙ sym h.7
+    (ap₂ (λ i z. replace_from i z es) to whole ∙ rest) ∙ sym h.7
   where
     shift : (p a b c : List ℕ) → p ++ (a ++ (b ++ c)) ≡ (p ++ (a ++ b)) ++ c
     shift p a b c = simp append_assoc
+
     lengths : (p a b : List ℕ) (at : ℕ) → length p ≡ at → length (p ++ (a ++ b)) ≡ at + length a + length b
     lengths p a b at e = omega (arith, length-append p (a ++ b), length-append a b)
 

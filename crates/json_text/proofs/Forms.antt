@@ -123,7 +123,7 @@ mutual
   more_members_of no_members at bs h = h
   more_members_of (member s cs j ms) at bs h = one_first (space then pair s cs (value j) then space then more_members ms) (blank along name_and cs (says j) along blank along says_more_members ms)
       (two_of (pair s cs (value j)) (more_members ms) (name_and cs (says j)) (says_more_members ms)
-        (pair_of s cs (value j) (says j) (λ at bs h. says_of j at bs h)) (λ at bs h. more_members_of ms at bs h)) 44 at bs h
+      (pair_of s cs (value j) (says j) (λ at bs h. says_of j at bs h)) (λ at bs h. more_members_of ms at bs h)) 44 at bs h
 
 pub text_of : (j : Json) → Unplaced (space then value j then space) (SaysText j)
 text_of j = blank_first (value j then space) (says j along blank) (along_of (value j) space (says j) blank (says_of j) space_of)

@@ -1,9 +1,9 @@
 -- Each value of a text stands in the text's bytes, at its span.
-use Rattle.std.proofs.Common.{◌≡◌, ℕ, zero, suc, ◌+◌, ◌-◌, ◌≤◌, Bool, true, false, List, [], ◌∷◌, ◌++◌, length, take, drop, bytes_eq, Option, Some, None, refl, sym, ◌∙◌, ap, ap₂, subst, subst₂, append_assoc, append-nil, length-append, add-zero, arith}
+use Rattle.std.proofs.Common.{◌≡◌, ℕ, zero, suc, ◌+◌, ◌-◌, ◌≤◌, Bool, true, false, List, [], ◌∷◌, ◌++◌, length, take, drop, bytes_eq, Option, Some, None, refl, sym, ◌∙◌, ap, subst, subst₂, append_assoc, append-nil, length-append, add-zero, arith}
 use Rattle.std.specs.Option.{option_and_then}
 use Rattle.json_text.specs.declared.span.Span.{Span}
 use Rattle.json_text.specs.Json.{Json, word, number, string, array, object, Items, no_items, item, Members, no_members, member, Rule, ◌then◌, byte, space, spans, quoted, pair, value, items, more_items, members, more_members, span_of, IsText}
-use Rattle.json_text.specs.Named.{named, named_in, or_else, if_named}
+use Rattle.json_text.specs.Named.{named, or_else, if_named}
 use Rattle.json_text.specs.Paths.{Step, key, index, item_at, step_to, value_at}
 use Rattle.json_text.proofs.Edits.{between, middle}
 use Rattle.json_text.proofs.Swaps.{span_is}
@@ -30,8 +30,13 @@ regroup_end : (a b c d : List ℕ) → (a ++ (b ++ c)) ++ d ≡ a ++ (b ++ (c ++
 regroup_end a b c d = simp append_assoc
 
 later : (at : ℕ) (a b bs : List ℕ) (t : Json) → bs ≡ a ++ b → Inside (at + length a) b t → Inside at bs t
-later at a b bs t e h = record { before = a ++ h.before; bytes = h.bytes; after = h.after; whole = e ∙ ap (λ z. a ++ z) h.whole ∙ regroup a h.before h.bytes h.after;
-  stands = subst (λ i. value t i h.bytes) (place at a h.before) h.stands }
+later at a b bs t e h = record {
+  before = a ++ h.before;
+  bytes = h.bytes;
+  after = h.after;
+  whole = e ∙ ap (λ z. a ++ z) h.whole ∙ regroup a h.before h.bytes h.after;
+  stands = subst (λ i. value t i h.bytes) (place at a h.before) h.stands;
+}
   where
     place : (at : ℕ) (a b : List ℕ) → at + length a + length b ≡ at + length (a ++ b)
     place at a b = omega (arith, length-append a b)
@@ -137,8 +142,11 @@ in_span bytes t h =
     let begin : (span_of t).from ≡ 0 + length h.before = ap (λ (s : Span). s.from) place in
     let end : (span_of t).to ≡ 0 + length h.before + length h.bytes = ap (λ (s : Span). s.to) place in
     let long : length bytes ≡ length h.before + length h.bytes + length h.after = size h.before h.bytes h.after bytes h.whole in
-    record { ordered = omega (arith, begin, end); fits = omega (arith, end, long);
-      stands = subst₂ (λ i z. value t i z) (sym begin) (sym (cut (span_of t).from (span_of t).to h.before h.bytes h.after bytes h.whole (omega (arith, begin)) (omega (arith, end)))) h.stands }
+    record {
+      ordered = omega (arith, begin, end);
+      fits = omega (arith, end, long);
+      stands = subst₂ (λ i z. value t i z) (sym begin) (sym (cut (span_of t).from (span_of t).to h.before h.bytes h.after bytes h.whole (omega (arith, begin)) (omega (arith, end)))) h.stands;
+    }
 
 pub value_in_span : (bytes : List ℕ) (path : List Step) (j t : Json) → IsText bytes j → value_at path j ≡ Some t → InSpan bytes t
 value_in_span bytes path j t text e = in_span bytes t (text_inside j t (path_inside path j t e) 0 bytes text)

@@ -1,13 +1,13 @@
 -- Putting another value at the end of a path: its edit, its depth, what else stays.
-use Rattle.std.proofs.Common.{◌≡◌, ℕ, zero, suc, ◌+◌, ◌≤◌, max, Bool, true, false, List, [], ◌∷◌, ◌++◌, length, bytes_eq, is_some, if◌then◌else◌, Option, Some, None, refl, sym, ◌∙◌, ap, ap₂, subst, append-nil, arith}
+use Rattle.std.proofs.Common.{◌≡◌, ℕ, zero, suc, Bool, true, false, List, [], ◌∷◌, bytes_eq, is_some, if◌then◌else◌, Option, Some, None, refl, subst, append-nil}
 use Rattle.std.specs.Option.{option_and_then}
 use Rattle.json_text.specs.declared.span.Span.{Span}
-use Rattle.json_text.specs.Json.{Json, word, number, string, array, object, Items, no_items, item, Members, no_members, member, span_of, IsText, depth, items_depth, members_depth}
-use Rattle.json_text.specs.Named.{named, named_in, or_else, if_named}
+use Rattle.json_text.specs.Json.{Json, word, number, string, array, object, Items, no_items, item, Members, no_members, member, span_of, IsText}
+use Rattle.json_text.specs.Named.{named, or_else, if_named}
 use Rattle.json_text.specs.Paths.{Step, key, index, item_at, step_to, value_at, put_named, put_item, put_step, put_at}
-use Rattle.json_text.specs.Replace.{Edit, replace, Rise}
+use Rattle.json_text.specs.Replace.{Edit}
 use Rattle.json_text.proofs.Forms.{says}
-use Rattle.json_text.proofs.Swaps.{Swaps, kept, swapped, in_array, in_object, SwapsItems, no_swaps, item_swaps, SwapsMembers, no_member_swaps, member_swaps}
+use Rattle.json_text.proofs.Swaps.{Swaps, kept, swapped, in_array, in_object, SwapsItems, no_swaps, item_swaps, SwapsMembers, no_member_swaps, member_swaps, Replaced, replaced}
 
 items_kept : (js : Items) → SwapsItems js [] js
 items_kept no_items = no_swaps
@@ -67,3 +67,8 @@ path_swaps (s ∷ path) j t u es e h = go (step_to s j) refl (λ k d. path_swaps
 -- the value at the end of the path gives way to another
 pub put_swaps : (path : List Step) (j t u : Json) (w : List ℕ) → value_at path j ≡ Some t → says u w → Swaps j (record { span = span_of t; text = w } ∷ []) (put_at path u j)
 put_swaps path j t u w e h = path_swaps path j t u (record { span = span_of t; text = w } ∷ []) e (swapped t u w h)
+
+-- the text with the new value's bytes in place of the old one's
+pub text_put : (bytes : List ℕ) (path : List Step) (j t u : Json) (w : List ℕ) → IsText bytes j → value_at path j ≡ Some t → says u w
+    → Replaced bytes (record { span = span_of t; text = w } ∷ []) (put_at path u j)
+text_put bytes path j t u w text e h = replaced bytes (record { span = span_of t; text = w } ∷ []) j (put_at path u j) text (put_swaps path j t u w e h)

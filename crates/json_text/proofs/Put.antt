@@ -1,12 +1,11 @@
 -- What a tree says in which one value gave way to another: its names, its depth, its meaning.
-use Rattle.std.proofs.Common.{◌≡◌, ℕ, zero, suc, ◌+◌, ◌≤◌, max, Bool, true, false, List, [], ◌∷◌, length, bytes_eq, is_some, if◌then◌else◌, Option, Some, None, option_map, refl, sym, ◌∙◌, ap, ap₂, subst, arith}
-use Rattle.std.specs.Option.{option_and_then}
+use Rattle.std.proofs.Common.{◌≡◌, ℕ, ◌+◌, max, Bool, true, false, List, bytes_eq, is_some, if◌then◌else◌, Option, Some, None, option_map, refl, sym, ◌∙◌, ap, ap₂}
 use Rattle.std.proofs.lemmas.Slice.Eq.{bytes_eq-Decides}
 use Rattle.json_text.specs.declared.span.Span.{Span}
 use Rattle.json_text.specs.Json.{Json, word, number, string, array, object, Items, no_items, item, Members, no_members, member, depth, items_depth, members_depth}
 use Rattle.json_text.specs.Bare.{bare, bare_items, bare_members, nowhere}
-use Rattle.json_text.specs.Named.{named, named_in, or_else, if_named}
-use Rattle.json_text.specs.Paths.{Step, key, index, item_at, step_to, value_at, put_named, put_item, put_step, put_at}
+use Rattle.json_text.specs.Named.{named, or_else, if_named}
+use Rattle.json_text.specs.Paths.{put_named}
 
 -- a name equals itself, and a name that equals two others makes them equal
 pub same_name : (cs : List ℕ) → bytes_eq cs cs ≡ true

@@ -1,10 +1,10 @@
 -- Some values of a tree replaced by others: what the edits of their places come to.
-use Rattle.std.proofs.Common.{◌≡◌, ℕ, ◌+◌, ◌≤◌, List, [], ◌∷◌, ◌++◌, length, refl, sym, ◌∙◌, ap, ap₂, subst, append-nil, add-zero, arith}
+use Rattle.std.proofs.Common.{◌≡◌, ℕ, ◌+◌, List, [], ◌∷◌, ◌++◌, length, refl, sym, ◌∙◌, ap, subst, append-nil, add-zero, arith}
 use Rattle.json_text.specs.declared.span.Span.{Span}
-use Rattle.json_text.specs.Json.{Json, word, number, string, array, object, Items, no_items, item, Members, no_members, member, Rule, ◌then◌, byte, nothing, space, spans, quoted, pair, value, items, more_items, members, more_members, span_of, IsText}
+use Rattle.json_text.specs.Json.{Json, word, number, string, array, object, Items, no_items, item, Members, no_members, member, Rule, ◌then◌, byte, space, spans, quoted, pair, value, items, more_items, members, more_members, span_of, IsText}
 use Rattle.json_text.specs.Replace.{Edit, replace, Rise}
 use Rattle.json_text.proofs.Edits.{between, EditsTo, edits_then, edits_rise, edits_replace}
-use Rattle.json_text.proofs.Forms.{Form, ◌along◌, one, no_bytes, blank, quotes, name_and, says, says_items, says_more_items, says_members, says_more_members, SaysText, Unplaced, byte_of, space_of, nothing_of, quotes_of, says_of, items_of, members_of, more_members_of, more_items_of}
+use Rattle.json_text.proofs.Forms.{Form, ◌along◌, one, blank, quotes, name_and, says, says_items, says_more_items, says_members, says_more_members, SaysText, Unplaced, byte_of, space_of, quotes_of, says_of, items_of, members_of, more_members_of, more_items_of}
 
 mutual
   -- these edits, in a text of the first tree, make a text of the second
@@ -40,8 +40,11 @@ then_makes : (P Q : Rule) (F G : Form) (es fs : List Edit) → Makes P F es → 
 then_makes P Q F G es fs f g at bs h =
     let p : Out F at h.0 es = f at h.0 h.3 in
     let q : Out G (at + length h.0) h.1 fs = g (at + length h.0) h.1 h.4 in
-    record { out = p.out ++ q.out; form = (p.out, q.out, refl, p.form, q.form);
-      edits = subst (λ z. EditsTo at z (es ++ fs) (p.out ++ q.out)) (sym h.2) (edits_then es fs at h.0 h.1 p.out q.out p.edits q.edits) }
+    record {
+      out = p.out ++ q.out;
+      form = (p.out, q.out, refl, p.form, q.form);
+      edits = subst (λ z. EditsTo at z (es ++ fs) (p.out ++ q.out)) (sym h.2) (edits_then es fs at h.0 h.1 p.out q.out p.edits q.edits);
+    }
 
 blank_makes : (P : Rule) (F : Form) (es : List Edit) → Makes P F es → Makes (space then P) (blank along F) es
 blank_makes P F es f = then_makes space P blank F [] es (keeps space blank space_of) f
@@ -73,8 +76,11 @@ span_is (array s js) at bs h = h.1
 span_is (object s ms) at bs h = h.1
 
 swapped_makes : (j u : Json) (w : List ℕ) → says u w → Makes (value j) (says u) (record { span = span_of j; text = w } ∷ [])
-swapped_makes j u w h at bs stands = record { out = w; form = h;
-  edits = ([], bs, [], [], sym (append-nil bs), span_is j at bs stands ∙ ap (λ i. between i (length bs)) (sym (add-zero at)), refl, sym (append-nil w)) }
+swapped_makes j u w h at bs stands = record {
+  out = w;
+  form = h;
+  edits = ([], bs, [], [], sym (append-nil bs), span_is j at bs stands ∙ ap (λ i. between i (length bs)) (sym (add-zero at)), refl, sym (append-nil w));
+}
 
 mutual
   -- the edits make a text of the other tree
@@ -114,5 +120,7 @@ pub record Replaced (bytes : List ℕ) (es : List Edit) (k : Json) : Type 0 wher
 pub replaced : (bytes : List ℕ) (es : List Edit) (j k : Json) → IsText bytes j → Swaps j es k → Replaced bytes es k
 replaced bytes es j k text h =
     let made : Out (SaysText k) 0 bytes es = text_makes j k es h 0 bytes text in
-    record { rise = edits_rise es 0 (length bytes) bytes made.out made.edits (omega arith);
-      says = subst (SaysText k) (sym (edits_replace es bytes made.out made.edits)) made.form }
+    record {
+      rise = edits_rise es 0 (length bytes) bytes made.out made.edits (omega arith);
+      says = subst (SaysText k) (sym (edits_replace es bytes made.out made.edits)) made.form;
+    }
