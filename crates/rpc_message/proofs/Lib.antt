@@ -1,1 +1,3 @@
+pub mod Meaning
+mod TreeLaws
 mod Worked
