@@ -1,3 +1,4 @@
+pub mod Compact
 pub mod Depths
 pub mod Edits
 pub mod Forms
