@@ -1,3 +1,4 @@
+pub mod Fixed
 pub mod Meaning
 mod TreeLaws
 mod Worked
