@@ -2,6 +2,7 @@
 use Rattle.std.proofs.Common.{◌≡◌, ℕ, ◌+◌, List, [], ◌∷◌, ◌++◌, length, IsTrue}
 use Rattle.std.specs.List.{AllByRecursion}
 use Rattle.json_text.specs.String.{SpellsCharacters}
+use Rattle.json_text.specs.Bare.{bare, bare_items, bare_members}
 use Rattle.json_text.specs.declared.span.Span.{Span}
 use Rattle.json_text.specs.Number.{IsNumber}
 use Rattle.json_text.specs.Json.{Json, word, number, string, array, object, Items, no_items, item, Members, no_members, member, Rule, ◌then◌, byte, nothing, space, is_space, letters, spans, quoted, pair, value, items, more_items, members, more_members}
@@ -127,3 +128,52 @@ mutual
 
 pub text_of : (j : Json) → Unplaced (space then value j then space) (SaysText j)
 text_of j = blank_first (value j then space) (says j along blank) (along_of (value j) space (says j) blank (says_of j) space_of)
+
+-- from the one form to the other, at all bytes
+abbrev pub To : Form → Form → Type 0
+To F G = (bs : List ℕ) → F bs → G bs
+
+along_to : (F G P Q : Form) → To F P → To G Q → To (F along G) (P along Q)
+along_to F G P Q f g bs h = (h.0, h.1, h.2, f h.0 h.3, g h.1 h.4)
+
+second_to : (E F G : Form) → To F G → To (E along F) (E along G)
+second_to E F G f bs h = (h.0, h.1, h.2, h.3, f h.1 h.4)
+
+closed_to : (a b : ℕ) (F G : Form) → To F G → To (one a along F along one b) (one a along G along one b)
+closed_to a b F G f = second_to (one a) (F along one b) (G along one b) (along_to F (one b) G (one b) f (λ bs h. h))
+
+two_to : (F G P Q : Form) → To F P → To G Q → To (blank along F along blank along G) (blank along P along blank along Q)
+two_to F G P Q f g = second_to blank (F along blank along G) (P along blank along Q) (along_to F (blank along G) P (blank along Q) f (second_to blank G Q g))
+
+name_to : (cs : List ℕ) (F G : Form) → To F G → To (name_and cs F) (name_and cs G)
+name_to cs F G f = second_to (quotes cs) (blank along one 58 along blank along F) (blank along one 58 along blank along G)
+    (second_to blank (one 58 along blank along F) (one 58 along blank along G) (second_to (one 58) (blank along F) (blank along G) (second_to blank F G f)))
+
+mutual
+  -- places say nothing
+  pub says_bare : (j : Json) → To (says j) (says (bare j))
+  says_bare (word s w) bs h = h
+  says_bare (number s ds) bs h = h
+  says_bare (string s cs) bs h = h
+  says_bare (array s js) bs h = closed_to 91 93 (says_items js) (says_items (bare_items js)) (λ bs h. says_items_bare js bs h) bs h
+  says_bare (object s ms) bs h = closed_to 123 125 (says_members ms) (says_members (bare_members ms)) (λ bs h. says_members_bare ms bs h) bs h
+
+  says_items_bare : (js : Items) → To (says_items js) (says_items (bare_items js))
+  says_items_bare no_items bs h = h
+  says_items_bare (item j js) bs h = two_to (says j) (says_more_items js) (says (bare j)) (says_more_items (bare_items js)) (λ bs h. says_bare j bs h) (λ bs h. says_more_items_bare js bs h) bs h
+
+  says_more_items_bare : (js : Items) → To (says_more_items js) (says_more_items (bare_items js))
+  says_more_items_bare no_items bs h = h
+  says_more_items_bare (item j js) bs h = second_to (one 44) (blank along says j along blank along says_more_items js) (blank along says (bare j) along blank along says_more_items (bare_items js))
+      (two_to (says j) (says_more_items js) (says (bare j)) (says_more_items (bare_items js)) (λ bs h. says_bare j bs h) (λ bs h. says_more_items_bare js bs h)) bs h
+
+  says_members_bare : (ms : Members) → To (says_members ms) (says_members (bare_members ms))
+  says_members_bare no_members bs h = h
+  says_members_bare (member s cs j ms) bs h = two_to (name_and cs (says j)) (says_more_members ms) (name_and cs (says (bare j))) (says_more_members (bare_members ms))
+      (name_to cs (says j) (says (bare j)) (λ bs h. says_bare j bs h)) (λ bs h. says_more_members_bare ms bs h) bs h
+
+  says_more_members_bare : (ms : Members) → To (says_more_members ms) (says_more_members (bare_members ms))
+  says_more_members_bare no_members bs h = h
+  says_more_members_bare (member s cs j ms) bs h = second_to (one 44) (blank along name_and cs (says j) along blank along says_more_members ms) (blank along name_and cs (says (bare j)) along blank along says_more_members (bare_members ms))
+      (two_to (name_and cs (says j)) (says_more_members ms) (name_and cs (says (bare j))) (says_more_members (bare_members ms))
+        (name_to cs (says j) (says (bare j)) (λ bs h. says_bare j bs h)) (λ bs h. says_more_members_bare ms bs h)) bs h
