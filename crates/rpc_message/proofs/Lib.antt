@@ -1,4 +1,5 @@
 pub mod Fixed
+pub mod Initialize
 pub mod Meaning
 mod TreeLaws
 mod Worked
