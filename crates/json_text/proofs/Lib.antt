@@ -7,4 +7,14 @@ pub mod Moves
 pub mod Paths
 pub mod Put
 pub mod Swaps
+mod Complete
+mod Front
+pub mod Laws
+mod ListsRead
+mod ListsSound
+mod NumbersRead
+mod NumbersSound
+mod Sound
+mod StringsRead
+mod StringsSound
 mod Worked

@@ -1,8 +1,8 @@
 -- Readings worked out by the checker.
-use Rattle.std.proofs.Common.{◌≡◌, List, [], ◌∷◌, refl}
-use Rattle.std.specs.Prelude.{Option, Some, None, codes, ℕ}
+use Rattle.std.proofs.Common.{◌≡◌, [], ◌∷◌, refl}
+use Rattle.std.specs.Prelude.{Some, None, codes}
 use Rattle.json_text.specs.Computes.{computes}
-use Rattle.json_text.specs.Json.{Json, word, number, string, array, object, no_items, item, no_members, member}
+use Rattle.json_text.specs.Json.{number, string, array, object, no_items, item, no_members, member}
 use Rattle.json_text.specs.Tree.{tree_of}
 
 number_read : tree_of (codes " -1.50e+7 ") ≡ Some (number (record { from = 1; to = 9 }) (codes "-1.50e+7"))

@@ -1,5 +1,4 @@
 -- A tree without its places: what a text says, and not where.
-use Rattle.std.specs.Prelude.{List, ℕ}
 use Rattle.json_text.specs.declared.span.Span.{Span}
 use Rattle.json_text.specs.Json.{Json, word, number, string, array, object, Items, no_items, item, Members, no_members, member}
 

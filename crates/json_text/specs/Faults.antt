@@ -1,5 +1,5 @@
 -- Where bytes that are no JSON text go wrong, and where they nest too deep.
-use Rattle.std.specs.Prelude.{◌≡◌, ℕ, ◌+◌, ◌<◌, ◌≤◌, List, ◌++◌, length, take}
+use Rattle.std.specs.Prelude.{ℕ, ◌+◌, ◌<◌, ◌≤◌, List, ◌++◌, length, take}
 use Rattle.json_text.specs.Json.{Json, IsText, depth}
 
 -- these bytes begin a JSON text, or are one

@@ -1,5 +1,5 @@
 -- Bytes in which some places are replaced.
-use Rattle.std.specs.Prelude.{ℕ, ◌+◌, ◌-◌, ◌≤◌, List, [], ◌∷◌, ◌++◌, length, take, drop}
+use Rattle.std.specs.Prelude.{ℕ, ◌-◌, ◌≤◌, List, [], ◌∷◌, ◌++◌, length, take, drop}
 use Rattle.json_text.specs.declared.span.Span.{Span}
 
 -- a place, and the bytes that come there

@@ -3,7 +3,7 @@ use Rattle.std.specs.Prelude.{ℕ, zero, suc, List, [], ◌∷◌, ◌==◌, cod
 use Rattle.std.specs.Prelude.{Option, Some, None}
 use Rattle.json_text.specs.declared.span.Span.{Span}
 use Rattle.json_text.specs.declared.kind.Word.TheVariants.{Null, False, True}
-use Rattle.json_text.specs.Json.{Json, word, number, string, array, object, Items, no_items, item, Members, no_members, member}
+use Rattle.json_text.specs.Json.{Json, word, number, string, array, object, no_items, item, Members, no_members, member}
 use Rattle.json_text.specs.Read.{Left, fails, reads, Reader, ◌>>=◌, gives, spanned, skip, expect, expect_all, read_number, read_string, read_list}
 
 -- a member: its name's span and characters, and its value

@@ -4,7 +4,9 @@
 mod body;
 mod kind;
 mod span;
+mod tree;
 
 pub use body::{Body, Memory};
 pub use kind::{Kind, Word};
 pub use span::Span;
+pub use tree::tree_of_law;
