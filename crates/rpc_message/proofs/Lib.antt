@@ -1,5 +1,4 @@
 pub mod Fixed
 pub mod Initialize
 pub mod Meaning
-mod TreeLaws
 mod Worked

@@ -9,7 +9,7 @@ use Rattle.json_text.proofs.Forms.{SaysText}
 use Rattle.json_text.proofs.Moves.{PlacedText, placed_text}
 use Rattle.json_text.proofs.Put.{named_bare, bare_bare}
 use Rattle.rpc_message.specs.Message.{Id, Message, request, notification, result, error, not_message, no_name_twice, is_integer, integer_if, id_of, is_two, is_null, are_params, given, result_tree, is_integer_value, is_string_value, is_error, request_if, notification_if, called, response_id, error_if, outcome, response_with, answered, by_method, message_in, message_of}
-use Rattle.rpc_message.proofs.TreeLaws.{tree_sound, tree_complete}
+use Rattle.json_text.proofs.Laws.{tree_sound, tree_complete}
 
 some_bare : (o : Option Json) → is_some (option_map bare o) ≡ is_some o
 some_bare (Some j) = refl
