@@ -1,3 +1,12 @@
+pub mod Compact
+pub mod Depths
+pub mod Edits
+pub mod Forms
+pub mod Inside
+pub mod Moves
+pub mod Paths
+pub mod Put
+pub mod Swaps
 mod Complete
 mod Front
 pub mod Laws

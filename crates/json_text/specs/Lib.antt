@@ -4,6 +4,7 @@ pub mod Faults
 pub mod Json
 pub mod Named
 pub mod Number
+pub mod Paths
 pub mod Read
 pub mod Replace
 pub mod String

@@ -1,1 +1,4 @@
+pub mod Fixed
+pub mod Initialize
+pub mod Meaning
 mod Worked

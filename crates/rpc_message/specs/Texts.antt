@@ -2,6 +2,9 @@
 use Rattle.std.specs.Prelude.{ℕ, ◌-◌, List, [], ◌∷◌, ◌++◌, codes, decimal}
 use Rattle.std.specs.Prelude.{Option, Some, None}
 use Rattle.json_text.specs.declared.span.Span.{Span}
+use Rattle.json_text.specs.declared.kind.Word.TheVariants.{Null}
+use Rattle.json_text.specs.Bare.{nowhere}
+use Rattle.json_text.specs.Json.{Json, word, number, string, object, Members, no_members, member}
 use Rattle.json_text.specs.Replace.{replace}
 use Rattle.json_text.specs.Tree.{tree_of}
 use Rattle.rpc_message.specs.Message.{place_in}
@@ -44,6 +47,33 @@ error_text id c = codes "{\"jsonrpc\":\"2.0\",\"id\":" ++ id ++ codes ",\"error\
 
 abbrev pub initialized_text : List ℕ
 initialized_text = codes "{\"jsonrpc\":\"2.0\",\"method\":\"initialized\",\"params\":{}}"
+
+-- the tree of an error
+abbrev pub error_tree : Code → Json
+error_tree c = object nowhere (member nowhere (codes "code") (number nowhere (code_text c)) (member nowhere (codes "message") (string nowhere (code_message c)) no_members))
+
+-- a member that may be there or not
+abbrev pub optional_text : List ℕ → Option (List ℕ) → List ℕ
+optional_text name None = []
+optional_text name (Some bytes) = name ++ bytes
+
+abbrev pub optional_member : List ℕ → Option Json → Members → Members
+optional_member name None ms = ms
+optional_member name (Some j) ms = member nowhere name j ms
+
+-- LSP 3.17, Initialize Request: with the root (null or a URI), the client's options, its capabilities and its workspace folders
+abbrev pub initialize_text : List ℕ → Option (List ℕ) → List ℕ → Option (List ℕ) → List ℕ
+initialize_text root options capabilities folders = codes "{\"jsonrpc\":\"2.0\",\"id\":1,\"method\":\"initialize\",\"params\":{\"processId\":null,\"clientInfo\":{\"name\":\"lspmux\"},\"rootUri\":" ++ root
+    ++ optional_text (codes ",\"initializationOptions\":") options ++ codes ",\"capabilities\":" ++ capabilities ++ codes ",\"trace\":\"off\""
+    ++ optional_text (codes ",\"workspaceFolders\":") folders ++ codes "}}"
+
+-- its params
+abbrev pub initialize_params : Json → Option Json → Json → Option Json → Json
+initialize_params root options capabilities folders = object nowhere (member nowhere (codes "processId") (word nowhere Null)
+    (member nowhere (codes "clientInfo") (object nowhere (member nowhere (codes "name") (string nowhere (codes "lspmux")) no_members))
+    (member nowhere (codes "rootUri") root (optional_member (codes "initializationOptions") options
+    (member nowhere (codes "capabilities") capabilities (member nowhere (codes "trace") (string nowhere (codes "off"))
+    (optional_member (codes "workspaceFolders") folders no_members)))))))
 
 -- a body with other bytes as its id, and all else as it came
 abbrev pub with_id_at : List ℕ → List ℕ → Option Span → List ℕ
