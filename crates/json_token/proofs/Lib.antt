@@ -1,0 +1,7 @@
+pub mod Decoding
+pub mod Encoded
+pub mod NumberBytes
+pub mod Numbers
+pub mod Pieces
+pub mod TextBytes
+pub mod Walks
