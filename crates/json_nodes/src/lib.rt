@@ -2,5 +2,6 @@
 #![tactic(auto)]
 
 mod node;
+mod steps;
 
 pub use node::{Node, Place};
