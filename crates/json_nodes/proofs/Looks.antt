@@ -1,16 +1,17 @@
 -- What the look-ups over the nodes find is the tree's.
-use Rattle.std.proofs.Common.{◌≡◌, ℕ, zero, suc, ◌+◌, ◌<◌, ◌≤◌, Bool, true, false, ◌&&◌, ◌==◌, nat_lt, List, [], ◌∷◌, ◌++◌, length, refl, sym, ◌∙◌, ap, subst, arith, append_assoc, length-append, zero-add, append-nil, add-one}
+use Rattle.std.proofs.Common.{◌≡◌, ℕ, zero, suc, ◌+◌, ◌<◌, ◌≤◌, Bool, true, false, ◌&&◌, ◌==◌, nat_lt, List, [], ◌∷◌, ◌++◌, length, get_or, refl, sym, ◌∙◌, ap, subst, arith, append_assoc, length-append, zero-add, append-nil, add-one}
 use Rattle.std.specs.Prelude.{Option, Some, None, MatchOption}
 use Rattle.std.specs.List.{slice_get}
-use Rattle.std.proofs.lemmas.Option.{slice_get_within}
+use Rattle.std.proofs.lemmas.Option.{slice_get_within, get_or_from_slice_get}
 use Rattle.std.proofs.lemmas.Bool.Decides.{nat_tests}
-use Rattle.json_text.specs.Json.{Json}
+use Rattle.json_text.specs.declared.span.Span.{Span}
+use Rattle.json_text.specs.Json.{Json, span_of}
 use Rattle.json_text.specs.Named.{children}
 use Rattle.json_nodes.specs.declared.node.Node.{Node}
 use Rattle.json_nodes.specs.declared.node.Place.{Place}
 use Rattle.json_nodes.specs.At.{At, ChildAt, FoundChild, found_child, preorder, tree_at, sizes}
 use Rattle.json_nodes.specs.Doc.{Doc, Holds}
-use Rattle.json_nodes.specs.Nodes.{size, nodes_of, head_node, unnamed}
+use Rattle.json_nodes.specs.Nodes.{size, kind_of, nodes_of, head_node, unnamed}
 use Rattle.json_nodes.specs.Steps.{some_if, first_inside, first_number, same_level, next_behind, next_number}
 use Rattle.json_nodes.proofs.Numbers.{get_front, get_behind, child_at}
 use Rattle.json_nodes.proofs.Places.{Placed, placed_child, Low}
@@ -132,6 +133,7 @@ first_inside_all ns k = by (slice_get ns k)
     by_test true true e = grind (arith, nat_tests)
     by_test true false e = tt
     by_test false y e = tt
+
     by : (o : Option Node) → MatchOption (first_inside (length ns) k o) (Unit {0}) (λ m. m < length ns)
     by None = tt
     by (Some x) = by_test (nat_lt (k + 1) x.after) (nat_lt (k + 1) (length ns)) refl
@@ -142,9 +144,26 @@ next_inside_all ns k = by (slice_get ns k)
     by_test : (x : Bool) (m : ℕ) → m < length ns → MatchOption (some_if x m) (Unit {0}) (λ m. m < length ns)
     by_test true m h = h
     by_test false m h = tt
+
     behind : (x : Node) (o : Option Node) → slice_get ns x.after ≡ o → MatchOption (same_level x o) (Unit {0}) (λ m. m < length ns)
     behind x None e = tt
     behind x (Some y) e = by_test (y.level == x.level) x.after (slice_get_within ns x.after y e)
+
     by : (o : Option Node) → MatchOption (next_behind ns o) (Unit {0}) (λ m. m < length ns)
     by None = tt
     by (Some x) = behind x (slice_get ns x.after) refl
+
+-- what the first node of a value says
+
+pub head_law : (doc : Doc) (k : ℕ) (t : Json) (d : Node) → At doc k t → (l : ℕ) × (name : Place) × (get_or doc.nodes k d ≡ head_node l k name t)
+head_law doc k t d a = let h : Here doc.nodes k t = here_at a in
+    (h.level, h.placed.name, get_or_from_slice_get doc.nodes k (head_node h.level k h.placed.name t) d (head_at doc.nodes h.level k t h.placed))
+
+pub kind_law : (doc : Doc) (k : ℕ) (t : Json) (d : Node) → At doc k t → (get_or doc.nodes k d).kind ≡ kind_of t
+kind_law doc k t d a = ap (λ (y : Node). y.kind) (head_law doc k t d a).2
+
+abbrev pub node_span : Node → Span
+node_span x = record { from = x.from; to = x.to }
+
+pub span_law : (doc : Doc) (k : ℕ) (t : Json) (d : Node) → At doc k t → node_span (get_or doc.nodes k d) ≡ span_of t
+span_law doc k t d a = ap node_span (head_law doc k t d a).2

@@ -70,10 +70,10 @@ tree_child j t c k n h e = stands_there (preorder j) (k + 1 + sizes n (children 
 -- a child is the value of its number
 pub child_at : {doc : Doc} {k n m : ℕ} {t u : Json} → ChildAt doc k t n m u → At doc m u
 child_at {doc} {k} {n} {m} {t} {u} c = record {
-    tree = c.parent.tree;
-    holds = c.parent.holds;
-    there = subst (λ i. tree_at c.parent.tree i ≡ Some u) (sym c.place) (tree_child c.parent.tree t u k n c.parent.there c.child);
-  }
+  tree = c.parent.tree;
+  holds = c.parent.holds;
+  there = subst (λ i. tree_at c.parent.tree i ≡ Some u) (sym c.place) (tree_child c.parent.tree t u k n c.parent.there c.child);
+}
 
 -- value 0 is the whole
 pub root_at : (doc : Doc) (j : Json) → Holds doc j → At doc 0 j

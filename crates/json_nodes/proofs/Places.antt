@@ -42,28 +42,28 @@ low_children l i (c ∷ cs) tail h = rw append_assoc (low_nodes l i c.name c.con
 
 among_first : (l i : ℕ) (c : Child) (cs : List Child) (d : Json) (tail : List Node) → Low l tail → c.content ≡ d → Among l i 0 (c ∷ cs) d tail
 among_first l i c cs d tail low e = record {
-    front = [];
-    name = c.name;
-    later = children_nodes l (i + size c.content) cs ++ tail;
-    whole = append_assoc (nodes_of l i c.name c.content) (children_nodes l (i + size c.content) cs) tail ∙ (let same : nodes_of l i c.name c.content ≡ nodes_of l (i + 0) c.name d = rw (add-zero i, e) refl in ap (λ ns. ns ++ (children_nodes l (i + size c.content) cs ++ tail)) same);
-    behind = refl;
-    low = low_children l (i + size c.content) cs tail low;
-  }
+  front = [];
+  name = c.name;
+  later = children_nodes l (i + size c.content) cs ++ tail;
+  whole = append_assoc (nodes_of l i c.name c.content) (children_nodes l (i + size c.content) cs) tail ∙ (let same : nodes_of l i c.name c.content ≡ nodes_of l (i + 0) c.name d = rw (add-zero i, e) refl in ap (λ ns. ns ++ (children_nodes l (i + size c.content) cs ++ tail)) same);
+  behind = refl;
+  low = low_children l (i + size c.content) cs tail low;
+}
 
 later_whole : (xs ys tail front mid later : List Node) → ys ++ tail ≡ front ++ (mid ++ later) → (xs ++ ys) ++ tail ≡ (xs ++ front) ++ (mid ++ later)
 later_whole xs ys tail front mid later e = append_assoc xs ys tail ∙ ap (λ ns. xs ++ ns) e ∙ sym (append_assoc xs front (mid ++ later))
 
 among_later : (l i n : ℕ) (c : Child) (cs : List Child) (d : Json) (tail : List Node) → Among l (i + size c.content) n cs d tail → Among l i (suc n) (c ∷ cs) d tail
 among_later l i n c cs d tail h = record {
-    front = nodes_of l i c.name c.content ++ h.front;
-    name = h.name;
-    later = h.later;
-    whole = (let e : i + size c.content + sizes n (contents cs) ≡ i + (size c.content + sizes n (contents cs)) = omega arith in
+  front = nodes_of l i c.name c.content ++ h.front;
+  name = h.name;
+  later = h.later;
+  whole = (let e : i + size c.content + sizes n (contents cs) ≡ i + (size c.content + sizes n (contents cs)) = omega arith in
       let w : children_nodes l (i + size c.content) cs ++ tail ≡ h.front ++ (nodes_of l (i + (size c.content + sizes n (contents cs))) h.name d ++ h.later) = h.whole ∙ ap (λ m. h.front ++ (nodes_of l m h.name d ++ h.later)) e in
       later_whole (nodes_of l i c.name c.content) (children_nodes l (i + size c.content) cs) tail h.front (nodes_of l (i + (size c.content + sizes n (contents cs))) h.name d) h.later w);
-    behind = omega (arith, length-append (nodes_of l i c.name c.content) h.front, nodes_length c.content l i c.name, h.behind);
-    low = h.low;
-  }
+  behind = omega (arith, length-append (nodes_of l i c.name c.content) h.front, nodes_length c.content l i c.name, h.behind);
+  low = h.low;
+}
 
 among : (n l i : ℕ) (cs : List Child) (d : Json) (tail : List Node) → Low l tail → slice_get (contents cs) n ≡ Some d → Among l i n cs d tail
 among n l i [] d tail low h = cc

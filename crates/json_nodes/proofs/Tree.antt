@@ -154,20 +154,20 @@ record InChild (js : List Json) (m : ℕ) (t : Json) : Type 0 where
 
 in_later : (c : Json) (js : List Json) (m k : ℕ) (t : Json) → m ≡ length (preorder c) + k → InChild js k t → InChild (c ∷ js) m t
 in_later c js m k t e h = record {
-    which = suc h.which;
-    child = h.child;
-    rest = h.rest;
-    is_child = h.is_child;
-    is_inside = h.is_inside;
-    place = omega (arith, preorder_length c);
-  }
+  which = suc h.which;
+  child = h.child;
+  rest = h.rest;
+  is_child = h.is_child;
+  is_inside = h.is_inside;
+  place = omega (arith, preorder_length c);
+}
 
 in_child : (js : List Json) (m : ℕ) (t : Json) → slice_get (flat_map preorder js) m ≡ Some t → InChild js m t
 in_child [] m t h = cc
 in_child (c ∷ js) m t h = elim (get_append_cases (preorder c) (flat_map preorder js) m t h) [
-    inl e ↦ record { which = 0; child = c; rest = m; is_child = refl; is_inside = e; place = omega arith }
+  | inl e ↦ record { which = 0; child = c; rest = m; is_child = refl; is_inside = e; place = omega arith }
   | inr q ↦ in_later c js m q.0 t q.1 (in_child js q.0 t q.2)
-  ]
+]
 
 pub child_sizes : (js : List Json) (n : ℕ) (c : Json) → slice_get js n ≡ Some c → sizes n js + size c ≤ all_sizes js
 child_sizes [] n c h = cc

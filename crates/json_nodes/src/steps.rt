@@ -10,7 +10,11 @@ pub fn first_number(nodes: &[Node], node: u32) -> Option<u32>
 {
     let here = nodes[node as usize];
     let next = node as usize + 1;
-    if next < here.after as usize && next < nodes.len() { Some(next as u32) } else { None }
+    if next < here.after as usize && next < nodes.len() {
+        Some(next as u32)
+    } else {
+        None
+    }
 }
 
 // The value that follows a value in the same array or object.
@@ -20,5 +24,9 @@ pub fn next_number(nodes: &[Node], node: u32) -> Option<u32>
 {
     let here = nodes[node as usize];
     let next = nodes.get(here.after as usize)?;
-    if next.level == here.level { Some(here.after) } else { None }
+    if next.level == here.level {
+        Some(here.after)
+    } else {
+        None
+    }
 }
