@@ -14,7 +14,7 @@ use Rattle.json_nodes.specs.Doc.{Doc, Holds}
 use Rattle.json_nodes.specs.Nodes.{size, kind_of, nodes_of, head_node, unnamed}
 use Rattle.json_nodes.specs.Steps.{some_if, first_inside, first_number, same_level, next_behind, next_number}
 use Rattle.json_nodes.proofs.Numbers.{get_front, get_behind, child_at}
-use Rattle.json_nodes.proofs.Places.{Placed, placed_child, Low}
+use Rattle.json_nodes.proofs.Places.{Placed, PlacedChild, placed_child, placed_named, Low}
 use Rattle.json_nodes.proofs.Tree.{children_nodes, named_children, nodes_shape, nodes_length, size_shape, all_sizes, child_sizes, everywhere}
 
 -- the nodes of value k stand at some level

@@ -33,6 +33,10 @@ abbrev pub contents : List Child → List Json
 contents [] = []
 contents (c ∷ cs) = c.content ∷ contents cs
 
+abbrev pub child_places : List Child → List Place
+child_places [] = []
+child_places (c ∷ cs) = c.name ∷ child_places cs
+
 abbrev pub children_nodes : ℕ → ℕ → List Child → List Node
 children_nodes l i [] = []
 children_nodes l i (c ∷ cs) = nodes_of l i c.name c.content ++ children_nodes l (i + size c.content) cs
