@@ -5,6 +5,7 @@ use Rattle.std.specs.Prelude.{Option, Some, None}
 use Rattle.std.specs.List.{slice_get}
 use Rattle.json_text.specs.declared.span.Span.{Span}
 use Rattle.json_text.specs.Json.{Json, word, number, string, array, object, Items, no_items, item, Members, no_members, member, Rule, ◌then◌, byte, spans, space, quoted, pair, value, items, more_items, members, more_members, IsText, span_of}
+use Rattle.json_nodes.specs.Texts.{between}
 use Rattle.json_text.specs.Named.{children, items_list, values_list}
 
 -- a part of the bytes, at its place, is by this rule
@@ -31,10 +32,10 @@ part_in P R at bs p f = let q : Part R (at + length p.front) p.text = f (at + le
     is = subst (λ i. R i q.text) (omega (arith, length-append p.front q.front)) q.is;
   }
 
-in_first : (P Q R : Rule) (at : ℕ) (bs : List ℕ) → (P then Q) at bs → ((i : ℕ) (xs : List ℕ) → P i xs → Part R i xs) → Part R at bs
+pub in_first : (P Q R : Rule) (at : ℕ) (bs : List ℕ) → (P then Q) at bs → ((i : ℕ) (xs : List ℕ) → P i xs → Part R i xs) → Part R at bs
 in_first P Q R at bs h f = part_in P R at bs (record { front = []; text = h.0; back = h.1; whole = h.2; is = subst (λ i. P i h.0) (omega arith) h.3 }) f
 
-in_second : (P Q R : Rule) (at : ℕ) (bs : List ℕ) → (P then Q) at bs → ((i : ℕ) (xs : List ℕ) → Q i xs → Part R i xs) → Part R at bs
+pub in_second : (P Q R : Rule) (at : ℕ) (bs : List ℕ) → (P then Q) at bs → ((i : ℕ) (xs : List ℕ) → Q i xs → Part R i xs) → Part R at bs
 in_second P Q R at bs h f = part_in Q R at bs (record { front = h.0; text = h.1; back = []; whole = h.2 ∙ ap (λ xs. h.0 ++ xs) (sym (append-nil h.1)); is = h.4 }) f
 
 same_value : (i j : Json) (at : ℕ) (bs : List ℕ) → i ≡ j → value i at bs → Part (value j) at bs
@@ -125,7 +126,7 @@ entry_value e at bs h = in_second (spans e.place (quoted e.characters)) (space t
     (λ i xs h. in_second space (value e.content) (value e.content) i xs h
     (λ i xs h. all_part (value e.content) i xs h))))
 
-entry_name : (e : Entry) (at : ℕ) (bs : List ℕ) → entry e at bs → Part (spans e.place (quoted e.characters)) at bs
+pub entry_name : (e : Entry) (at : ℕ) (bs : List ℕ) → entry e at bs → Part (spans e.place (quoted e.characters)) at bs
 entry_name e at bs h = in_first (spans e.place (quoted e.characters)) (space then byte 58 then space then value e.content) (spans e.place (quoted e.characters)) at bs h
     (λ i xs h. all_part (spans e.place (quoted e.characters)) i xs h)
 
@@ -134,13 +135,13 @@ entry_of no_members n c h = cc
 entry_of (member s cs j ms) zero c h = let same : j ≡ c = cc in (record { place = s; characters = cs; content = j }, refl, same)
 entry_of (member s cs j ms) (suc n) c h = entry_of ms n c h
 
-entry_part : (s : Span) (ms : Members) (n : ℕ) (e : Entry) (at : ℕ) (bs : List ℕ) → value (object s ms) at bs → slice_get (entries ms) n ≡ Some e → Part (entry e) at bs
+pub entry_part : (s : Span) (ms : Members) (n : ℕ) (e : Entry) (at : ℕ) (bs : List ℕ) → value (object s ms) at bs → slice_get (entries ms) n ≡ Some e → Part (entry e) at bs
 entry_part s ms n e at bs h g = in_second (byte 123) (members ms then byte 125) (entry e) at bs h.0
     (λ i xs h. in_first (members ms) (byte 125) (entry e) i xs h
     (λ i xs h. members_part n ms e i xs h g))
 
 -- the children of a value stand in it
-child_part : (t : Json) (n : ℕ) (c : Json) (at : ℕ) (bs : List ℕ) → value t at bs → slice_get (children t) n ≡ Some c → Part (value c) at bs
+pub child_part : (t : Json) (n : ℕ) (c : Json) (at : ℕ) (bs : List ℕ) → value t at bs → slice_get (children t) n ≡ Some c → Part (value c) at bs
 child_part (word s w) n c at bs h e = cc
 child_part (number s ds) n c at bs h e = cc
 child_part (string s cs) n c at bs h e = cc
@@ -152,16 +153,12 @@ child_part (object s ms) n c at bs h e = let f : (d : Entry) × (slice_get (entr
       (λ i xs h. subst (λ k. Part (value k) i xs) f.2 (entry_value f.0 i xs h))
 
 -- a value's span is where its bytes stand
-value_span : (t : Json) (at : ℕ) (bs : List ℕ) → value t at bs → span_of t ≡ record { from = at; to = at + length bs }
+pub value_span : (t : Json) (at : ℕ) (bs : List ℕ) → value t at bs → span_of t ≡ record { from = at; to = at + length bs }
 value_span (word s w) at bs h = h.1
 value_span (number s ds) at bs h = h.1
 value_span (string s cs) at bs h = h.1
 value_span (array s js) at bs h = h.1
 value_span (object s ms) at bs h = h.1
-
--- these bytes from one place to another
-abbrev pub between : ℕ → ℕ → List ℕ → List ℕ
-between from to bytes = take (to - from) (drop from bytes)
 
 pub between_is : (front text back bs : List ℕ) (from to : ℕ) → bs ≡ front ++ (text ++ back) → from ≡ length front → to ≡ from + length text → between from to bs ≡ text
 between_is front text back bs from to e f g =
