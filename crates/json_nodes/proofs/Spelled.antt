@@ -13,7 +13,7 @@ use Rattle.json_nodes.specs.At.{At, ChildAt, sizes}
 use Rattle.json_nodes.specs.Doc.{Doc, Holds}
 use Rattle.json_nodes.specs.Nodes.{size, place_of, head_node}
 use Rattle.json_nodes.specs.Texts.{IsSpelledAt, IsStringAt, between, names, member_names}
-use Rattle.json_nodes.proofs.Looks.{Here, here_at, head_at}
+use Rattle.json_nodes.proofs.Looks.{Here, here_at, head_at, node_span, span_law}
 use Rattle.json_nodes.proofs.Parts.{Part, all_part, part_in, child_part, value_span, between_is, Entry, entries, entry, entry_of, entry_part, entry_name, in_first, in_second}
 use Rattle.json_nodes.proofs.Places.{Placed, PlacedChild, placed_named}
 use Rattle.json_nodes.proofs.Tree.{everywhere, child_places, members_children, named_children}
@@ -105,3 +105,16 @@ name_text doc k n m (object s ms) u cs d c h =
       named = name_place doc.nodes x.level k n m (object s ms) u d (place_of e.0.place) (placed_named doc.nodes x.level k n (object s ms) u m x.placed c.child c.place) (entry_places ms n e.0 e.1);
       text = rw (← same) (string_part doc.bytes e.0.place e.0.characters q);
     }
+
+-- the same by what the node says
+
+pub string_inside : (doc : Doc) (k : ℕ) (s : Span) (cs : List ℕ) (d : Node) → At doc k (string s cs) → IsStringAt doc.bytes (node_span (get_or doc.nodes k d)) cs
+string_inside doc k s cs d a = subst (λ (p : Span). IsStringAt doc.bytes p cs) (sym (span_law doc k (string s cs) d a)) (string_text doc k s cs a)
+
+abbrev place_span : Place → Span
+place_span p = record { from = p.from; to = p.to }
+
+pub name_inside : (doc : Doc) (k n m : ℕ) (t u : Json) (cs : List ℕ) (d : Node) → ChildAt doc k t n m u → slice_get (names t) n ≡ Some cs → IsStringAt doc.bytes (place_span (get_or doc.nodes m d).name) cs
+name_inside doc k n m t u cs d c h = let a : NameAt doc m d cs = name_text doc k n m t u cs d c h in
+    let same : place_span (get_or doc.nodes m d).name ≡ a.place = ap place_span a.named in
+    subst (λ (p : Span). IsStringAt doc.bytes p cs) (sym same) a.text

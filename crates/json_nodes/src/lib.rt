@@ -5,5 +5,5 @@ mod look;
 mod node;
 mod steps;
 
-pub use look::{first_in, kind_in, next_in, span_in};
+pub use look::{first_in, kind_in, name_in, next_in, span_in, string_in};
 pub use node::{Node, Place};
