@@ -1,0 +1,10 @@
+//! The reader of JSON texts (RFC 8259): bytes in, their values as nodes out, or the place of the first fault.
+#![tactic(auto)]
+
+mod class;
+mod fault;
+mod state;
+mod word;
+
+pub use fault::JsonFault;
+pub use json_text::{Body, Kind, Memory, Span};
