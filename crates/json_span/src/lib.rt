@@ -3,6 +3,8 @@
 
 mod class;
 mod fault;
+mod nodes;
+mod reader;
 mod state;
 mod word;
 
