@@ -6,7 +6,9 @@ mod fault;
 mod nodes;
 mod reader;
 mod state;
+mod tape;
 mod word;
 
 pub use fault::JsonFault;
+pub use tape::Tape;
 pub use json_text::{Body, Kind, Memory, Span};
