@@ -9,6 +9,9 @@ mod state;
 mod tape;
 mod word;
 
+#[cfg(test)]
+mod tests;
+
 pub use fault::JsonFault;
 pub use tape::Tape;
 pub use json_text::{Body, Kind, Memory, Span};
