@@ -22,9 +22,10 @@ abbrev pub Gives : {A : Type 0} → Result A JsonFault → State → Result Stat
 Gives (Ok x) s m = m ≡ Ok s
 Gives (Err e) s m = Fails e m
 
-abbrev pub Reads : Result (List Node) JsonFault → Result (List Node) Fault → Type 0
-Reads (Ok ns) m = m ≡ Ok ns
-Reads (Err e) m = Fails e m
+-- the nodes in the answer are the machine's
+abbrev pub Reads : {A : Type 0} → Result A JsonFault → (A → List Node) → Result (List Node) Fault → Type 0
+Reads (Ok x) nodes m = m ≡ Ok (nodes x)
+Reads (Err e) nodes m = Fails e m
 
 -- what the reader holds fits its numbers: at most as many nodes as bytes, and at most 1,024 open brackets
 pub record Fits (at : ℕ) (r : Reader) : Type 0 where

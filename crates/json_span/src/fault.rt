@@ -1,4 +1,5 @@
 ghost use Rattle.std.specs.Prelude.{◌≡◌};
+ghost use Rattle.json_span.specs.declared.fault.JsonFault.TheVariants.{Memory};
 
 use std::alloc::{AllocError, AllocFailed};
 
@@ -14,17 +15,17 @@ pub enum JsonFault {
 }
 
 impl From<AllocError> for JsonFault {
-    fn from(_: AllocError) -> Self
-        ensures { result ≡ JsonFault.Memory }
-    {
+    ghost from_gives = { λ _ e. e ≡ Memory };
+
+    fn from(_: AllocError) -> Self {
         JsonFault::Memory
     }
 }
 
 impl<T: Drop> From<AllocFailed<T>> for JsonFault {
-    fn from(_: AllocFailed<T>) -> Self
-        ensures { result ≡ JsonFault.Memory }
-    {
+    ghost from_gives = { λ _ e. e ≡ Memory };
+
+    fn from(_: AllocFailed<T>) -> Self {
         JsonFault::Memory
     }
 }

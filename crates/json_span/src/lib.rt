@@ -3,8 +3,15 @@
 
 mod class;
 mod fault;
+mod nodes;
+mod reader;
 mod state;
+mod tape;
 mod word;
 
+#[cfg(test)]
+mod tests;
+
 pub use fault::JsonFault;
+pub use tape::Tape;
 pub use json_text::{Body, Kind, Memory, Span};
