@@ -18,7 +18,8 @@ use Rattle.json_span.specs.declared.word.Begun.TheVariants.{N, F, T}
 use Rattle.json_span.specs.declared.class.Class.{Class}
 use Rattle.json_span.specs.declared.class.Class.TheVariants as class
 use Rattle.json_span.specs.Classes.{class_of}
-use Rattle.json_span.proofs.Stub.{walk, rem, found_pieces, number_found}
+use Rattle.json_token.proofs.Numbers.{number_found}
+use Rattle.json_token.proofs.Pieces.{string_found}
 use Rattle.json_span.proofs.Shape.{Point, value, first_item, first_name, name, colon, after, word, number, quoted, goes, too_deep, OnGoes, Accepts, first_in, begins, begins_item, begins_name, begins_first_name, at_colon, behind, opens, closes}
 use Rattle.json_span.proofs.ClassBytes.{space_is, quote_is, colon_is, comma_is, open_array_is, close_array_is, open_object_is, close_object_is, begins_is, number_is}
 use Rattle.json_span.proofs.FoundTokens.{NoSpace, Stripped, strip, value_waits, name_waits, colon_waits, after_waits, left_of, PastLetters, past_word, PastNumber, past_number, PastString, past_string}
@@ -50,14 +51,13 @@ quotes b bs inner rest e h = ap (λ x. x ∷ bs) e ∙ ap (λ xs. 34 ∷ xs) (h 
 
 string_of : (d at b : ℕ) (bs : List ℕ) (p : Point) (ks : List Bool) → b ≡ 34 → PastString d bs p Plain ks → FoundString d at (b ∷ bs) p ks
 string_of d at b bs p ks e s =
-    let ps = found_pieces bs s.rest s.walked in
-    let inner = flat_map spelled ps.0 in
+    let f = string_found bs s.rest s.walked in
     record {
-      chars = characters ps.0;
-      text = 34 ∷ (inner ++ 34 ∷ []);
+      chars = f.1;
+      text = 34 ∷ (f.0 ++ 34 ∷ []);
       rest = s.rest;
-      whole = quotes b bs inner s.rest e ps.2;
-      is = (34 ∷ [], inner ++ 34 ∷ [], refl, refl, (inner, 34 ∷ [], refl, (ps.0, ps.1, refl, refl), refl));
+      whole = quotes b bs f.0 s.rest e f.3;
+      is = (34 ∷ [], f.0 ++ 34 ∷ [], refl, refl, (f.0, 34 ∷ [], refl, f.2, refl));
       next = s.next;
     }
 

@@ -48,9 +48,11 @@ nothing_found = record { a_value = no_value; more = no_items_left; more_pairs = 
     no_value : (d at : ℕ) (bs : List ℕ) (ks : List Bool) → length bs ≤ 0 → NoSpace bs → length ks ≤ d → Accepts d bs value ks → FoundValue d at bs ks
     no_value d at [] ks few bare room h = absurd h
     no_value d at (b ∷ bs) ks few bare room h = absurd (omega arith)
+
     no_items_left : (d at : ℕ) (bs : List ℕ) (ks : List Bool) → length bs ≤ 0 → length ks < d → Accepts d bs after (false ∷ ks) → FoundItems d at bs ks
     no_items_left d at [] ks few room h = absurd h
     no_items_left d at (b ∷ bs) ks few room h = absurd (omega arith)
+
     no_members_left : (d at : ℕ) (bs : List ℕ) (ks : List Bool) → length bs ≤ 0 → length ks < d → Accepts d bs after (true ∷ ks) → FoundMembers d at bs ks
     no_members_left d at [] ks few room h = absurd h
     no_members_left d at (b ∷ bs) ks few room h = absurd (omega arith)

@@ -26,7 +26,8 @@ use Rattle.json_span.specs.declared.class.Class.{Class}
 use Rattle.json_span.specs.declared.class.Class.TheVariants as class
 use Rattle.json_span.specs.Classes.{class_of}
 use Rattle.json_span.proofs.ClassBytes.{space_is}
-use Rattle.json_span.proofs.Stub.{walk, walk_move, rem, found_pieces, number_found}
+use Rattle.json_token.proofs.Numbers.{rem}
+use Rattle.json_token.proofs.Walks.{walk}
 use Rattle.json_span.specs.declared.word.Begun.{Begun}
 use Rattle.json_span.specs.declared.word.Begun.TheVariants.{N, Nu, Nul, F, Fa, Fal, Fals, T, Tr, Tru}
 use Rattle.json_span.specs.Words.{word_move, goes_at, ends_at}

@@ -5,4 +5,5 @@ pub mod FoundObjects
 pub mod FoundTexts
 pub mod FoundTokens
 pub mod Shape
-pub mod Stub
+pub mod ShapeOf
+pub mod Sound

@@ -29,7 +29,7 @@ pub data Point : Type 0 where
   after : Point
   word : Begun → Point
   number : NumberPart → Point
-  quoted : Point → Part → Point         -- of a string, behind which this point comes
+  quoted : Point → Part → Point  -- of a string, behind which this point comes
 
 -- what a byte does; of the brackets that are open, the innermost first, each says whether it is an object's
 pub data Next : Type 0 where
