@@ -1,9 +1,11 @@
 pub mod ClassBytes
+pub mod Completed
 pub mod Found
 pub mod FoundArrays
 pub mod FoundObjects
 pub mod FoundTexts
 pub mod FoundTokens
+pub mod Limits
 pub mod Shape
 pub mod ShapeOf
 pub mod Sound

@@ -142,3 +142,13 @@ OnGoes too_deep P = ⊥
 abbrev pub Accepts : ℕ → List ℕ → Point → List Bool → Type 0
 Accepts d [] p ks = MayEnd p ks
 Accepts d (b ∷ bs) p ks = OnGoes (next d b p ks) (λ q os. Accepts d bs q os)
+
+-- these bytes lead from here to there
+abbrev pub Passes : ℕ → List ℕ → Point → List Bool → Point → List Bool → Type 0
+Passes d [] p ks q os = (p ≡ q) × (ks ≡ os)
+Passes d (b ∷ bs) p ks q os = OnGoes (next d b p ks) (λ r ls. Passes d bs r ls q os)
+
+pub on_goes : (n : Next) (P Q : Point → List Bool → Type 0) → ((p : Point) (ks : List Bool) → P p ks → Q p ks) → OnGoes n P → OnGoes n Q
+on_goes (goes p ks) P Q f h = f p ks h
+on_goes stops P Q f h = h
+on_goes too_deep P Q f h = h
