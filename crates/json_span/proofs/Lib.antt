@@ -1,5 +1,6 @@
 pub mod ClassBytes
 pub mod Completed
+pub mod Faults
 pub mod Found
 pub mod FoundArrays
 pub mod FoundObjects
@@ -9,3 +10,4 @@ pub mod Limits
 pub mod Shape
 pub mod ShapeOf
 pub mod Sound
+pub mod Stuck
