@@ -40,10 +40,6 @@ NotNumber (b ∷ bs) = IsTrue (is_number_byte b) → ⊥
 
 -- literal names
 
-u_step : (d at from : ℕ) (name : Place) (os : List Open) (ns : List Node) → step d at 117 (state (mode.InWord from N) name os ns) ≡ Ok (state (mode.InWord from Nu) name os ns)
-unfolding step
-u_step d at from name os ns = refl
-
 null_passes : (d at : ℕ) (rest : List ℕ) (m : Mode) (name : Place) (os : List Open) (ns : List Node) → starts m ≡ true →
     read d at (110 ∷ 117 ∷ 108 ∷ 108 ∷ rest) (state m name os ns) ≡ read d (at + 1 + 1 + 1 + 1) rest (leaf kind.Null at (at + 1 + 1 + 1 + 1) (state m name os ns))
 unfolding step read
