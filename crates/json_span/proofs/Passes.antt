@@ -297,3 +297,173 @@ more_case j js vp mp d at n i bs rest os ns h e fits = go (after_byte 44 (entry 
     go q = ap (λ bs. read d at (bs ++ 93 ∷ rest) (state mode.After unnamed (opened false i ∷ os) ns)) q.whole ∙
         (one d at 44 (q.tail ++ 93 ∷ rest) (state mode.After unnamed (opened false i ∷ os) ns) (state mode.Value unnamed (opened false i ∷ os) ns) (array_goes d at i os ns) ∙
         item_passes j js vp mp d (at + 1) n i q.tail rest mode.Value os ns refl q.is (omega (arith, ap length q.whole)) fits)
+
+-- members
+
+colon_step : (d at : ℕ) (name : Place) (os : List Open) (ns : List Node) → step d at 58 (state mode.Colon name os ns) ≡ Ok (state mode.Value name os ns)
+unfolding step class_of
+colon_step d at name os ns = refl
+
+pair_parts : (s : Span) (cs : List ℕ) (j : Json) → ValuePasses j → (d at p n : ℕ) (raw a c v rest : List ℕ) (m : Mode) (os : List Open) (ns : List Node) → names m ≡ true → SpellsCharacters cs raw → p ≡ at + length raw + 2 →
+    space p a → space (p + length a + 1) c → value j (p + length a + 1 + length c) v → n ≡ p + length a + 1 + length c + length v → s ≡ record { from = at; to = p } → depth j + length os ≤ d → NotNumber rest →
+    read d at (34 ∷ (raw ++ 34 ∷ (a ++ 58 ∷ (c ++ (v ++ rest))))) (state m unnamed os ns) ≡ read d n rest (state mode.After unnamed os (ns ++ nodes_of (length os) (length ns) (place_of s) j))
+pair_parts s cs j vp d at p n raw a c v rest m os ns r key e sa sc vj place is fits ends =
+    key_passes d at p cs raw (a ++ 58 ∷ (c ++ (v ++ rest))) m unnamed os ns r key e ∙
+    (space_passes d p (p + length a) a (58 ∷ (c ++ (v ++ rest))) mode.Colon (record { from = at; to = p }) os ns refl sa refl ∙
+    (one d (p + length a) 58 (c ++ (v ++ rest)) (state mode.Colon (record { from = at; to = p }) os ns) (state mode.Value (record { from = at; to = p }) os ns) (colon_step d (p + length a) (record { from = at; to = p }) os ns) ∙
+    (space_passes d (p + length a + 1) (p + length a + 1 + length c) c (v ++ rest) mode.Value (record { from = at; to = p }) os ns refl sc refl ∙
+    (vp d (p + length a + 1 + length c) n v rest mode.Value (record { from = at; to = p }) os ns refl vj place fits ends ∙
+    ap (λ (s : Span). read d n rest (state mode.After unnamed os (ns ++ nodes_of (length os) (length ns) (place_of s) j))) (sym is)))))
+
+record Pair (s : Span) (cs : List ℕ) (j : Json) (at : ℕ) (bs : List ℕ) : Type 0 where
+  raw : List ℕ
+  before : List ℕ
+  behind : List ℕ
+  inner : List ℕ
+  place : ℕ
+  is_place : place ≡ at + length raw + 2
+  whole : bs ≡ 34 ∷ (raw ++ 34 ∷ (before ++ 58 ∷ (behind ++ inner)))
+  is_key : SpellsCharacters cs raw
+  is_before : space place before
+  is_behind : space (place + length before + 1) behind
+  is : value j (place + length before + 1 + length behind) inner
+  is_span : s ≡ record { from = at; to = place }
+
+pair_whole : (bs key rest raw a t tail c v : List ℕ) → bs ≡ key ++ rest → key ≡ 34 ∷ (raw ++ 34 ∷ []) → rest ≡ a ++ t → t ≡ 58 ∷ tail → tail ≡ c ++ v → bs ≡ 34 ∷ (raw ++ 34 ∷ (a ++ 58 ∷ (c ++ v)))
+pair_whole bs key rest raw a t tail c v h k r e f =
+    h ∙ (framed 34 34 raw key rest k ∙ (ap (λ rest. 34 ∷ (raw ++ 34 ∷ rest)) r ∙ (ap (λ t. 34 ∷ (raw ++ 34 ∷ (a ++ t))) e ∙ ap (λ tail. 34 ∷ (raw ++ 34 ∷ (a ++ 58 ∷ tail))) f)))
+
+-- the key's parts, and the colon's
+pair_of : (s : Span) (cs : List ℕ) (j : Json) (at : ℕ) (bs : List ℕ) (h : pair s cs (value j) at bs) → Between 34 34 (spells cs) at h.0 → Behind 58 (space then value j) (at + length h.0 + length h.4.0) h.4.1 → Pair s cs j at bs
+pair_of s cs j at bs h k q = record {
+  raw = k.inner;
+  before = h.4.0;
+  behind = q.is.0;
+  inner = q.is.1;
+  place = at + length h.0;
+  is_place = omega (arith, framed_length 34 34 k.inner h.0 k.whole);
+  whole = pair_whole bs h.0 h.1 k.inner h.4.0 h.4.1 q.tail q.is.0 q.is.1 h.2 k.whole h.4.2 q.whole q.is.2;
+  is_key = k.is;
+  is_before = h.4.3;
+  is_behind = q.is.3;
+  is = q.is.4;
+  is_span = h.3.1;
+}
+
+pair_split : (s : Span) (cs : List ℕ) (j : Json) (at : ℕ) (bs : List ℕ) → pair s cs (value j) at bs → Pair s cs j at bs
+pair_split s cs j at bs h = pair_of s cs j at bs h (between_bytes 34 34 (spells cs) at h.0 h.3.0) (after_byte 58 (space then value j) (at + length h.0 + length h.4.0) h.4.1 h.4.4)
+
+pair_grouped : (raw a c v rest : List ℕ) → (34 ∷ (raw ++ 34 ∷ (a ++ 58 ∷ (c ++ v)))) ++ rest ≡ 34 ∷ (raw ++ 34 ∷ (a ++ 58 ∷ (c ++ (v ++ rest))))
+pair_grouped raw a c v rest =
+    ap (λ xs. 34 ∷ xs) (append_assoc raw (34 ∷ (a ++ 58 ∷ (c ++ v))) rest) ∙
+    (ap (λ xs. 34 ∷ (raw ++ 34 ∷ xs)) (append_assoc a (58 ∷ (c ++ v)) rest) ∙
+    ap (λ xs. 34 ∷ (raw ++ 34 ∷ (a ++ 58 ∷ xs))) (append_assoc c v rest))
+
+pair_length : (raw a c v : List ℕ) → length (34 ∷ (raw ++ 34 ∷ (a ++ 58 ∷ (c ++ v)))) ≡ length raw + 2 + length a + 1 + length c + length v
+pair_length raw a c v = omega (arith, length-append raw (34 ∷ (a ++ 58 ∷ (c ++ v))), length-append a (58 ∷ (c ++ v)), length-append c v)
+
+pair_passes : (s : Span) (cs : List ℕ) (j : Json) → ValuePasses j → (d at n : ℕ) (bs rest : List ℕ) (m : Mode) (os : List Open) (ns : List Node) → names m ≡ true → pair s cs (value j) at bs → n ≡ at + length bs → depth j + length os ≤ d → NotNumber rest →
+    read d at (bs ++ rest) (state m unnamed os ns) ≡ read d n rest (state mode.After unnamed os (ns ++ nodes_of (length os) (length ns) (place_of s) j))
+pair_passes s cs j vp d at n bs rest m os ns r h e fits ends = go (pair_split s cs j at bs h)
+  where
+    go : Pair s cs j at bs → read d at (bs ++ rest) (state m unnamed os ns) ≡ read d n rest (state mode.After unnamed os (ns ++ nodes_of (length os) (length ns) (place_of s) j))
+    go q = ap (λ bs. read d at (bs ++ rest) (state m unnamed os ns)) q.whole ∙
+        (ap (λ bs. read d at bs (state m unnamed os ns)) (pair_grouped q.raw q.before q.behind q.inner rest) ∙
+        pair_parts s cs j vp d at q.place n q.raw q.before q.behind q.inner rest m os ns r q.is_key q.is_place q.is_before q.is_behind q.is (omega (arith, q.is_place, ap length q.whole, pair_length q.raw q.before q.behind q.inner)) q.is_span fits ends)
+
+names_rest : (m : Mode) → names m ≡ true → rests m ≡ true
+names_rest mode.FirstKey h = refl
+names_rest mode.NextKey h = refl
+names_rest _ h = absurd cc
+
+member_nodes : (l : ℕ) (s : Span) (cs : List ℕ) (j : Json) (ms : Members) (ns : List Node) → (ns ++ nodes_of l (length ns) (place_of s) j) ++ members_nodes l (length (ns ++ nodes_of l (length ns) (place_of s) j)) ms ≡ ns ++ members_nodes l (length ns) (member s cs j ms)
+member_nodes l s cs j ms ns =
+    ap (λ i. (ns ++ nodes_of l (length ns) (place_of s) j) ++ members_nodes l i ms) (length-append ns (nodes_of l (length ns) (place_of s) j) ∙ ap (λ k. length ns + k) (length_nodes j l (length ns) (place_of s))) ∙
+    append_assoc ns (nodes_of l (length ns) (place_of s) j) (members_nodes l (length ns + size j) ms)
+
+member_parts : (s : Span) (cs : List ℕ) (j : Json) (ms : Members) → ValuePasses j → MorePairsPass ms → (d at n i : ℕ) (a b c e rest : List ℕ) (m : Mode) (os : List Open) (ns : List Node) → names m ≡ true →
+    space at a → pair s cs (value j) (at + length a) b → space (at + length a + length b) c → more_members ms (at + length a + length b + length c) e → n ≡ at + length a + length b + length c + length e + 1 → max (depth j) (members_depth ms) + suc (length os) ≤ d →
+    read d at (a ++ (b ++ (c ++ (e ++ 125 ∷ rest)))) (state m unnamed (opened true i ∷ os) ns) ≡
+    read d n rest (state mode.After unnamed os (close_node i n (ns ++ members_nodes (suc (length os)) (length ns) (member s cs j ms))))
+member_parts s cs j ms vp mp d at n i a b c e rest m os ns r sa vb sc me place fits =
+    space_passes d at (at + length a) a (b ++ (c ++ (e ++ 125 ∷ rest))) m unnamed (opened true i ∷ os) ns (names_rest m r) sa refl ∙
+    (pair_passes s cs j vp d (at + length a) (at + length a + length b) b (c ++ (e ++ 125 ∷ rest)) m (opened true i ∷ os) ns r vb refl (omega arith) (space_first c (e ++ 125 ∷ rest) sc (more_pairs_first ms (at + length a + length b + length c) e rest me)) ∙
+    (space_passes d (at + length a + length b) (at + length a + length b + length c) c (e ++ 125 ∷ rest) mode.After unnamed (opened true i ∷ os) (ns ++ nodes_of (suc (length os)) (length ns) (place_of s) j) refl sc refl ∙
+    (mp d (at + length a + length b + length c) n i e rest os (ns ++ nodes_of (suc (length os)) (length ns) (place_of s) j) me place (omega arith) ∙
+    ap (λ ns. read d n rest (state mode.After unnamed os (close_node i n ns))) (member_nodes (suc (length os)) s cs j ms ns))))
+
+member_passes : (s : Span) (cs : List ℕ) (j : Json) (ms : Members) → ValuePasses j → MorePairsPass ms → (d at n i : ℕ) (bs rest : List ℕ) (m : Mode) (os : List Open) (ns : List Node) → names m ≡ true → entry (pair s cs (value j)) (more_members ms) at bs → n ≡ at + length bs + 1 → max (depth j) (members_depth ms) + suc (length os) ≤ d →
+    read d at (bs ++ 125 ∷ rest) (state m unnamed (opened true i ∷ os) ns) ≡
+    read d n rest (state mode.After unnamed os (close_node i n (ns ++ members_nodes (suc (length os)) (length ns) (member s cs j ms))))
+member_passes s cs j ms vp mp d at n i bs rest m os ns r h place fits = go (entry_parts (pair s cs (value j)) (more_members ms) at bs h)
+  where
+    go : Entry (pair s cs (value j)) (more_members ms) at bs → read d at (bs ++ 125 ∷ rest) (state m unnamed (opened true i ∷ os) ns) ≡ read d n rest (state mode.After unnamed os (close_node i n (ns ++ members_nodes (suc (length os)) (length ns) (member s cs j ms))))
+    go q = ap (λ bs. read d at (bs ++ 125 ∷ rest) (state m unnamed (opened true i ∷ os) ns)) q.whole ∙
+        (ap (λ bs. read d at bs (state m unnamed (opened true i ∷ os) ns)) (grouped q.before q.inner q.behind q.others (125 ∷ rest)) ∙
+        member_parts s cs j ms vp mp d at n i q.before q.inner q.behind q.others rest m os ns r q.is_before q.is q.is_behind q.more (omega (arith, ap length q.whole, grouped_length q.before q.inner q.behind q.others)) fits)
+
+no_members_case : MembersPass no_members
+no_members_case d at n i bs rest os ns h e fits =
+    space_passes d at (at + length bs) bs (125 ∷ rest) mode.FirstKey unnamed (opened true i ∷ os) ns refl h refl ∙
+    object_ends d (at + length bs) n i rest mode.FirstKey os ns (inl refl) e
+
+member_case : (s : Span) (cs : List ℕ) (j : Json) (ms : Members) → ValuePasses j → MorePairsPass ms → MembersPass (member s cs j ms)
+member_case s cs j ms vp mp d at n i bs rest os ns h e fits = member_passes s cs j ms vp mp d at n i bs rest mode.FirstKey os ns refl h e fits
+
+no_more_pairs_case : MorePairsPass no_members
+no_more_pairs_case d at n i bs rest os ns h e fits =
+    ap (λ bs. read d at (bs ++ 125 ∷ rest) (state mode.After unnamed (opened true i ∷ os) ns)) h ∙
+    object_ends d at n i rest mode.After os ns (inr refl) (omega (arith, ap length h))
+
+more_pairs_case : (s : Span) (cs : List ℕ) (j : Json) (ms : Members) → ValuePasses j → MorePairsPass ms → MorePairsPass (member s cs j ms)
+more_pairs_case s cs j ms vp mp d at n i bs rest os ns h e fits = go (after_byte 44 (entry (pair s cs (value j)) (more_members ms)) at bs h)
+  where
+    go : Behind 44 (entry (pair s cs (value j)) (more_members ms)) at bs → read d at (bs ++ 125 ∷ rest) (state mode.After unnamed (opened true i ∷ os) ns) ≡ read d n rest (state mode.After unnamed os (close_node i n (ns ++ members_nodes (suc (length os)) (length ns) (member s cs j ms))))
+    go q = ap (λ bs. read d at (bs ++ 125 ∷ rest) (state mode.After unnamed (opened true i ∷ os) ns)) q.whole ∙
+        (one d at 44 (q.tail ++ 125 ∷ rest) (state mode.After unnamed (opened true i ∷ os) ns) (state mode.NextKey unnamed (opened true i ∷ os) ns) (object_goes d at i os ns) ∙
+        member_passes s cs j ms vp mp d (at + 1) n i q.tail rest mode.NextKey os ns refl q.is (omega (arith, ap length q.whole)) fits)
+
+-- all of them
+
+mutual
+  value_passes : (j : Json) → ValuePasses j
+  value_passes (word s w) = word_case s w
+  value_passes (number s ds) = number_case s ds
+  value_passes (string s cs) = string_case s cs
+  value_passes (array s js) = array_case s js (items_pass js)
+  value_passes (object s ms) = object_case s ms (members_pass ms)
+
+  items_pass : (js : Items) → ItemsPass js
+  items_pass no_items = no_items_case
+  items_pass (item j js) = item_case j js (value_passes j) (more_items_pass js)
+
+  more_items_pass : (js : Items) → MorePass js
+  more_items_pass no_items = no_more_case
+  more_items_pass (item j js) = more_case j js (value_passes j) (more_items_pass js)
+
+  members_pass : (ms : Members) → MembersPass ms
+  members_pass no_members = no_members_case
+  members_pass (member s cs j ms) = member_case s cs j ms (value_passes j) (more_members_pass ms)
+
+  more_members_pass : (ms : Members) → MorePairsPass ms
+  more_members_pass no_members = no_more_pairs_case
+  more_members_pass (member s cs j ms) = more_pairs_case s cs j ms (value_passes j) (more_members_pass ms)
+
+text_ends : (d at : ℕ) (a : List ℕ) (ns : List Node) → space at a → read d at a (state mode.After unnamed [] ns) ≡ Ok ns
+unfolding read finish
+text_ends d at a ns h = ap (λ bs. read d at bs (state mode.After unnamed [] ns)) (simp append-nil) ∙ (space_passes d at (at + length a) a [] mode.After unnamed [] ns refl h refl ∙ refl)
+
+text_parts : (d : ℕ) (j : Json) (a b c : List ℕ) → space 0 a → value j (0 + length a) b → space (0 + length a + length b) c → depth j ≤ d → read d 0 (a ++ (b ++ c)) start ≡ Ok (nodes_of 0 0 unnamed j)
+text_parts d j a b c sa vb sc fits =
+    space_passes d 0 (0 + length a) a (b ++ c) mode.Value unnamed [] [] refl sa refl ∙
+    (value_passes j d (0 + length a) (0 + length a + length b) b c mode.Value unnamed [] [] refl vb refl (omega arith) (last_space c sc) ∙
+    text_ends d (0 + length a + length b) c (nodes_of 0 0 unnamed j) sc)
+  where
+    last_space : (c : List ℕ) → AllByRecursion (λ b. IsTrue (is_space b)) c → NotNumber c
+    last_space [] h = tt
+    last_space (b ∷ c) h = space_no_number b h.0
+
+-- a text that nests at most d deep is read, and its nodes are the tree's
+pub complete : (d : ℕ) (bytes : List ℕ) (j : Json) → IsText bytes j → depth j ≤ d → read d 0 bytes start ≡ Ok (nodes_of 0 0 unnamed j)
+complete d bytes j h fits =
+    ap (λ bs. read d 0 bs start) (h.2 ∙ ap (λ b. h.0 ++ b) h.4.2) ∙ text_parts d j h.0 h.4.0 h.4.1 h.3 h.4.3 h.4.4 fits
