@@ -7,7 +7,12 @@ pub mod FoundObjects
 pub mod FoundTexts
 pub mod FoundTokens
 pub mod Limits
+pub mod NodeLists
+pub mod Passes
+pub mod Rules
+pub mod Runs
 pub mod Shape
 pub mod ShapeOf
 pub mod Sound
 pub mod Stuck
+pub mod Tokens
