@@ -117,6 +117,7 @@ depth_at d b front rest q os ran why = record {
   where
     one_more : take (length front + 1) (front ++ b ∷ rest) ≡ front ++ b ∷ []
     one_more = take-append-add front (b ∷ rest) 1
+
     beyond : BeginsWithin d (front ++ b ∷ []) → ⊥
     beyond begun = deep_refused d b front begun.0 q os ran why begun.1 (rw (append_assoc front (b ∷ []) begun.0) at begun.2) begun.3
 

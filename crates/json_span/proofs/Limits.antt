@@ -87,6 +87,7 @@ opens_compares d e object ks le = pick (nat_lt (length ks) d) refl
   where
     opened : (m : ℕ) → length ks < m → opens m object ks ≡ goes (first_in object) (object ∷ ks)
     opened m h = ap (λ t. if t then goes (first_in object) (object ∷ ks) else too_deep) (lt-ltb (length ks) m h)
+
     pick : (t : Bool) → nat_lt (length ks) d ≡ t → Compares d e (length ks) (if t then goes (first_in object) (object ∷ ks) else too_deep) (opens e object ks)
     pick true h = let low = ltb-true (length ks) d h in opened e (omega arith)
     pick false h = λ l. (first_in object, object ∷ ks, opened e l)
