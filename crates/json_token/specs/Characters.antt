@@ -89,3 +89,12 @@ escape_front (b ∷ rest) = if b == 117 then unit_character (unit_front rest) el
 abbrev pub next_character : List ℕ → Front
 next_character [] = None
 next_character (b ∷ rest) = if b == 92 then escape_front rest else plain_front (b ∷ rest)
+
+-- the bytes behind this character, where it comes first
+abbrev pub behind : ℕ → Front → Option (List ℕ)
+behind wanted None = None
+behind wanted (Some p) = if p.0 == wanted then Some p.1 else None
+
+abbrev pub rest_view : Option (Bor (List ℕ)) → Option (List ℕ)
+rest_view (Some rest) = Some rest.now
+rest_view None = None

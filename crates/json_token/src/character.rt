@@ -1,9 +1,9 @@
 //! The characters that a string's bytes stand for, one after the other.
-ghost use Rattle.std.specs.Prelude.{◌≡◌, ◌≤◌, ◌-◌, ◌&&◌, IfSome};
+ghost use Rattle.std.specs.Prelude.{◌≡◌, ◌≤◌, ◌-◌, ◌&&◌, IfSome, is_none};
 ghost use Rattle.std.specs.Char.Utf16.{is_high_surrogate, is_low_surrogate};
 ghost use Rattle.std.specs.Char.{digit_value};
 ghost use Rattle.json_text.specs.String.{short_character};
-ghost use Rattle.json_token.specs.Characters.{front_view, pair_view, replaced, two_code, three_code, four_code, plain_front, unit_value, unit_front, escaped_unit, after_unit, escape_front, next_character};
+ghost use Rattle.json_token.specs.Characters.{front_view, pair_view, rest_view, behind, replaced, two_code, three_code, four_code, plain_front, unit_value, unit_front, escaped_unit, after_unit, escape_front, next_character};
 
 /// The first character of a string's bytes (RFC 8259, section 7), and the bytes behind it. A surrogate with no partner stands
 /// for U+FFFD.
@@ -15,6 +15,23 @@ pub fn next_character(raw: &[u8]) -> Option<(char, &[u8])>
         [b'\\', rest @ ..] => escape_front(rest),
         _ => plain_front(raw),
     }
+}
+
+/// The bytes behind this character, where a string's bytes begin with it.
+pub fn strip_character(raw: &[u8], wanted: char) -> Option<&[u8]>
+    ensures { rest_view result ≡ behind wanted (next_character raw.now) }
+{
+    match next_character(raw) {
+        Some((character, rest)) if character == wanted => Some(rest),
+        _ => None,
+    }
+}
+
+/// Whether no character is left.
+pub fn is_at_end(raw: &[u8]) -> bool
+    ensures { result ≡ is_none (next_character raw.now) }
+{
+    next_character(raw).is_none()
 }
 
 // A character that stands for itself, in UTF-8 (RFC 3629, section 3).
