@@ -1,3 +1,4 @@
+pub mod Envelope
 pub mod Fixed
 pub mod Initialize
 pub mod Meaning
