@@ -17,7 +17,7 @@ use Rattle.rpc_message.specs.ValueTexts.{IsValueText, IsOptionText, IsIdText, Is
 use Rattle.rpc_message.proofs.Meaning.{message_says}
 
 -- a response's id is no array and no object
-response_flat : (u : Json) (i : Option Id) → response_id u ≡ Some i → depth u ≡ 0
+pub response_flat : (u : Json) (i : Option Id) → response_id u ≡ Some i → depth u ≡ 0
 response_flat (word s w) i e = refl
 response_flat (number s ds) i e = refl
 response_flat (string s cs) i e = refl
