@@ -1,14 +1,12 @@
 -- The envelope of a message: the members of its object that say what it is.
-use Rattle.std.proofs.Common.{◌≡◌, ℕ, ◌+◌, ◌≤◌, Bool, true, false, ◌&&◌, not, List, [], ◌∷◌, Option, Some, None, is_some, codes, bytes_eq, if◌then◌else◌, refl, sym, ◌∙◌, ap, ap₂, subst, arith}
+use Rattle.std.proofs.Common.{◌≡◌, ℕ, Bool, true, false, ◌&&◌, not, List, Option, Some, None, is_some, codes, bytes_eq, if◌then◌else◌, refl, sym, ◌∙◌, ap, ap₂}
 use Rattle.json_text.specs.declared.span.Span.{Span}
-use Rattle.json_text.specs.Json.{Json, word, number, string, array, object, Items, no_items, item, Members, no_members, member, depth}
-use Rattle.json_text.specs.declared.kind.Word.TheVariants.{Null, False, True}
-use Rattle.json_text.specs.Bare.{bare}
+use Rattle.json_text.specs.Json.{Json, word, number, string, array, object, Members, no_members, member}
 use Rattle.json_text.specs.Named.{named}
 use Rattle.json_text.specs.Paths.{put_named}
 use Rattle.json_text.specs.Tree.{tree_of}
 use Rattle.json_text.proofs.Put.{named_put, named_put_other, some_put}
-use Rattle.rpc_message.specs.Message.{Id, Message, not_json, not_message, request, notification, result, error, no_name_twice, is_integer, integer_if, id_of, is_two, is_null, are_params, given, result_tree, is_error, request_if, notification_if, called, response_id, error_if, outcome, response_with, answered, by_method, message_in, message_of}
+use Rattle.rpc_message.specs.Message.{Message, not_json, not_message, request, notification, result, error, no_name_twice, is_two, are_params, given, notification_if, called, answered, by_method, message_in, message_of}
 
 -- what the members of these names make
 abbrev pub by_names : Option Json → Option Json → Option Json → Option Json → Option Json → Message
@@ -68,11 +66,13 @@ envelope body h = go (tree_of body) refl h
     with_id s ms e t (Some j) f h m = record { span = s; members = ms; id = j; tree = e; test = t; named_id = f; is = m }
     with_id s ms e t None f h m = absurd (let n : has_id (by_names (named (codes "method") ms) None (named (codes "params") ms) (named (codes "error") ms) (named (codes "result") ms)) ≡ false
         = without_id (named (codes "method") ms) (named (codes "params") ms) (named (codes "error") ms) (named (codes "result") ms) in cc)
+
     tested : (s : Span) (ms : Members) → tree_of body ≡ Some (object s ms) → (b : Bool) → (no_name_twice ms && is_two (named (codes "jsonrpc") ms)) ≡ b
         → has_id (if b then by_method (named (codes "method") ms) ms else not_message) ≡ true
         → message_in (tree_of body) ≡ (if b then by_method (named (codes "method") ms) ms else not_message) → Envelope body
     tested s ms e true t h m = with_id s ms e t (named (codes "id") ms) refl (ap has_id (sym (method_names (named (codes "method") ms) ms)) ∙ h) (m ∙ method_names (named (codes "method") ms) ms)
     tested s ms e false t h m = absurd (cc)
+
     go : (o : Option Json) → tree_of body ≡ o → has_id (message_in o) ≡ true → Envelope body
     go (Some (object s ms)) e h = tested s ms e (no_name_twice ms && is_two (named (codes "jsonrpc") ms)) refl h (ap message_in e)
     go (Some (string s cs)) e h = absurd (cc)
@@ -96,11 +96,11 @@ pub put_id : (s : Span) (ms : Members) (t u : Json) → (no_name_twice ms && is_
     → message_in (Some (object s (put_named (codes "id") u ms))) ≡ by_names (named (codes "method") ms) (Some u) (named (codes "params") ms) (named (codes "error") ms) (named (codes "result") ms)
 put_id s ms t u test e =
     let same : (no_name_twice (put_named (codes "id") u ms) && is_two (named (codes "jsonrpc") (put_named (codes "id") u ms))) ≡ true
-      = ap₂ (λ a o. a && is_two o) (once_put (codes "id") ms u) (named_put_other (codes "id") (codes "jsonrpc") ms u refl) ∙ test in
+    = ap₂ (λ a o. a && is_two o) (once_put (codes "id") ms u) (named_put_other (codes "id") (codes "jsonrpc") ms u refl) ∙ test in
     ap (λ b. if b then by_method (named (codes "method") (put_named (codes "id") u ms)) (put_named (codes "id") u ms) else not_message) same
     ∙ method_names (named (codes "method") (put_named (codes "id") u ms)) (put_named (codes "id") u ms)
     ∙ ap₂ (λ a b. by_names a b (named (codes "params") (put_named (codes "id") u ms)) (named (codes "error") (put_named (codes "id") u ms)) (named (codes "result") (put_named (codes "id") u ms)))
-      (named_put_other (codes "id") (codes "method") ms u refl) (named_put (codes "id") ms t u e)
+    (named_put_other (codes "id") (codes "method") ms u refl) (named_put (codes "id") ms t u e)
     ∙ ap₂ (λ a b. by_names (named (codes "method") ms) (Some u) a b (named (codes "result") (put_named (codes "id") u ms)))
-      (named_put_other (codes "id") (codes "params") ms u refl) (named_put_other (codes "id") (codes "error") ms u refl)
+    (named_put_other (codes "id") (codes "params") ms u refl) (named_put_other (codes "id") (codes "error") ms u refl)
     ∙ ap (λ a. by_names (named (codes "method") ms) (Some u) (named (codes "params") ms) (named (codes "error") ms) a) (named_put_other (codes "id") (codes "result") ms u refl)
