@@ -101,7 +101,7 @@ failure_law i ct cm id h n whole simple =
     (answer_says h.tree (failure_tree ct cm) id (error_value ct cm) (says_of h.tree 0 id h.stands) (failure_says ct cm n simple))) (omega arith)
     ∙ ap (λ o. response_with o (Some (failure_tree ct cm)) None) h.is ∙ ap (λ b. error_if ((b && true) && true) i (failure_tree ct cm)) whole
 
-digits_of : (ds : List ℕ) → all_digits ds ≡ true → Digits ds
+pub digits_of : (ds : List ℕ) → all_digits ds ≡ true → Digits ds
 unfolding all_digits
 digits_of [] h = tt
 digits_of (d ∷ ds) h = let k : (is_digit d ≡ true) × (all_digits ds ≡ true) = and_parts (is_digit d) (all_digits ds) h in (k.0, digits_of ds k.1)

@@ -1,3 +1,4 @@
+pub mod Decimals
 pub mod Envelope
 pub mod Fixed
 pub mod Ids
