@@ -150,3 +150,6 @@ in_span bytes t h =
 
 pub value_in_span : (bytes : List ℕ) (path : List Step) (j t : Json) → IsText bytes j → value_at path j ≡ Some t → InSpan bytes t
 value_in_span bytes path j t text e = in_span bytes t (text_inside j t (path_inside path j t e) 0 bytes text)
+
+pub member_in_span : (bytes : List ℕ) (s : Span) (cs : List ℕ) (ms : Members) (t : Json) → IsText bytes (object s ms) → named cs ms ≡ Some t → InSpan bytes t
+member_in_span bytes s cs ms t text e = in_span bytes t (text_inside (object s ms) t (step_inside (key cs) (object s ms) t e) 0 bytes text)

@@ -72,3 +72,10 @@ put_swaps path j t u w e h = path_swaps path j t u (record { span = span_of t; t
 pub text_put : (bytes : List ℕ) (path : List Step) (j t u : Json) (w : List ℕ) → IsText bytes j → value_at path j ≡ Some t → says u w
     → Replaced bytes (record { span = span_of t; text = w } ∷ []) (put_at path u j)
 text_put bytes path j t u w text e h = replaced bytes (record { span = span_of t; text = w } ∷ []) j (put_at path u j) text (put_swaps path j t u w e h)
+
+-- an object's text with the bytes of a member's value replaced
+pub member_put : (bytes : List ℕ) (s : Span) (cs : List ℕ) (ms : Members) (t u : Json) (w : List ℕ) → IsText bytes (object s ms) → named cs ms ≡ Some t → says u w
+    → Replaced bytes (record { span = span_of t; text = w } ∷ []) (object s (put_named cs u ms))
+member_put bytes s cs ms t u w text e h =
+    let es : List Edit = record { span = span_of t; text = w } ∷ [] in
+    replaced bytes es (object s ms) (object s (put_named cs u ms)) text (step_swaps (key cs) (object s ms) t u es e (swapped t u w h))

@@ -1,23 +1,23 @@
 -- What the fixed texts are, as messages.
-use Rattle.std.proofs.Common.{◌≡◌, ℕ, ◌≤◌, max, Bool, true, false, ◌&&◌, List, [], ◌∷◌, ◌++◌, Option, Some, None, is_some, if◌then◌else◌, codes, IsTrue, nat_le, ◌⊎◌, inl, inr, refl, sym, ◌∙◌, ap, ap₂, subst, arith, append_assoc, append-nil}
+use Rattle.std.proofs.Common.{◌≡◌, ℕ, ◌≤◌, Bool, true, false, ◌&&◌, List, [], ◌∷◌, ◌++◌, Option, Some, None, if◌then◌else◌, codes, IsTrue, nat_le, inl, inr, refl, sym, ◌∙◌, ap, subst, arith, append_assoc, append-nil}
 use Rattle.std.proofs.lemmas.Bool.{and_parts}
 use Rattle.json_text.specs.Computes.{computes}
-use Rattle.json_text.specs.Json.{Json, word, number, string, array, object, Members, no_members, member, value, depth, members_depth}
-use Rattle.json_text.specs.declared.kind.Word.TheVariants.{Null, False, True}
-use Rattle.json_text.specs.Bare.{bare, bare_members, nowhere}
+use Rattle.json_text.specs.Json.{Json, word, number, string, array, object, no_members, member, depth}
+use Rattle.json_text.specs.declared.kind.Word.TheVariants.{Null}
+use Rattle.json_text.specs.Bare.{nowhere}
 use Rattle.json_text.specs.Named.{named}
 use Rattle.json_text.specs.Number.{is_digit, Digits, IsNumber}
 use Rattle.json_text.specs.Read.{all_digits}
-use Rattle.json_text.proofs.Compact.{all_simple, simple_string, Closing, closing_none, closing_member, compact_object, empty_object, null_word, bare_text}
-use Rattle.json_text.proofs.Forms.{says, says_of, SaysText}
-use Rattle.json_text.proofs.Put.{bare_bare, depth_bare}
-use Rattle.rpc_message.specs.Message.{Id, integer, text, Message, request, notification, result, error, no_name_twice, is_integer, integer_if, id_of, response_id, error_if, response_with, message_in, message_of}
-use Rattle.rpc_message.specs.Texts.{ok_text, Code, parse_error, invalid_request, method_not_found, invalid_params, server_not_initialized, content_modified, request_failed, code_text, code_message, error_text, error_tree, initialized_text, optional_text, optional_member, initialize_text, initialize_params}
-use Rattle.rpc_message.specs.ValueTexts.{IsValueText, IsOptionText, IsIdText, IsResponseIdText}
+use Rattle.json_text.proofs.Compact.{all_simple, simple_string, closing_none, closing_member, compact_object, bare_text}
+use Rattle.json_text.proofs.Forms.{says, says_of}
+use Rattle.json_text.proofs.Put.{depth_bare}
+use Rattle.rpc_message.specs.Message.{Id, integer, notification, result, error, no_name_twice, is_integer, integer_if, id_of, response_id, error_if, response_with, message_of}
+use Rattle.rpc_message.specs.Texts.{ok_text, Code, parse_error, invalid_request, method_not_found, invalid_params, server_not_initialized, content_modified, request_failed, error_text, error_tree, initialized_text}
+use Rattle.rpc_message.specs.ValueTexts.{IsValueText, IsIdText, IsResponseIdText}
 use Rattle.rpc_message.proofs.Meaning.{message_says}
 
 -- a response's id is no array and no object
-response_flat : (u : Json) (i : Option Id) → response_id u ≡ Some i → depth u ≡ 0
+pub response_flat : (u : Json) (i : Option Id) → response_id u ≡ Some i → depth u ≡ 0
 response_flat (word s w) i e = refl
 response_flat (number s ds) i e = refl
 response_flat (string s cs) i e = refl
@@ -52,9 +52,9 @@ ok_says : (u v : Json) (id r : List ℕ) → says u id → says v r → says (ok
 unfolding ok_tree
 ok_says u v id r h g = subst (λ z. says (ok_tree u v) z) (sym (five (codes "{\"jsonrpc\":\"2.0\",\"id\":") id (codes ",\"result\":") r (codes "}")))
     (compact_object nowhere nowhere (codes "jsonrpc") (string nowhere (codes "2.0")) (member nowhere (codes "id") u (member nowhere (codes "result") v no_members))
-      (codes "\"2.0\"") (codes ",\"id\":" ++ (id ++ (codes ",\"result\":" ++ (r ++ codes "}")))) refl (simple_string nowhere (codes "2.0") refl)
-      (closing_member nowhere (codes "id") u (member nowhere (codes "result") v no_members) id (codes ",\"result\":" ++ (r ++ codes "}")) refl h
-        (closing_member nowhere (codes "result") v no_members r (codes "}") refl g closing_none)))
+    (codes "\"2.0\"") (codes ",\"id\":" ++ (id ++ (codes ",\"result\":" ++ (r ++ codes "}")))) refl (simple_string nowhere (codes "2.0") refl)
+    (closing_member nowhere (codes "id") u (member nowhere (codes "result") v no_members) id (codes ",\"result\":" ++ (r ++ codes "}")) refl h
+    (closing_member nowhere (codes "result") v no_members r (codes "}") refl g closing_none)))
 
 -- `ok ID R` is a result
 pub ok_law : (i : Option Id) (v : Json) (id r : List ℕ) → IsResponseIdText i id → IsValueText v r → depth v ≤ 1023 → message_of (ok_text id r) ≡ result i v
@@ -86,9 +86,9 @@ answer_tree u e = object nowhere (member nowhere (codes "jsonrpc") (string nowhe
 answer_says : (u e : Json) (id w : List ℕ) → says u id → says e w → says (answer_tree u e) (codes "{\"jsonrpc\":\"2.0\",\"id\":" ++ (id ++ (codes ",\"error\":" ++ (w ++ codes "}"))))
 unfolding answer_tree
 answer_says u e id w h g = compact_object nowhere nowhere (codes "jsonrpc") (string nowhere (codes "2.0")) (member nowhere (codes "id") u (member nowhere (codes "error") e no_members))
-      (codes "\"2.0\"") (codes ",\"id\":" ++ (id ++ (codes ",\"error\":" ++ (w ++ codes "}")))) refl (simple_string nowhere (codes "2.0") refl)
-      (closing_member nowhere (codes "id") u (member nowhere (codes "error") e no_members) id (codes ",\"error\":" ++ (w ++ codes "}")) refl h
-        (closing_member nowhere (codes "error") e no_members w (codes "}") refl g closing_none))
+    (codes "\"2.0\"") (codes ",\"id\":" ++ (id ++ (codes ",\"error\":" ++ (w ++ codes "}")))) refl (simple_string nowhere (codes "2.0") refl)
+    (closing_member nowhere (codes "id") u (member nowhere (codes "error") e no_members) id (codes ",\"error\":" ++ (w ++ codes "}")) refl h
+    (closing_member nowhere (codes "error") e no_members w (codes "}") refl g closing_none))
 
 failure_law : (i : Option Id) (ct cm id : List ℕ) → IsResponseIdText i id → IsNumber ct → is_integer ct ≡ true → IsTrue (all_simple cm)
     → message_of (codes "{\"jsonrpc\":\"2.0\",\"id\":" ++ id ++ codes ",\"error\":{\"code\":" ++ ct ++ codes ",\"message\":\"" ++ cm ++ codes "\"}}") ≡ error i (failure_tree ct cm)
@@ -97,11 +97,11 @@ failure_law i ct cm id h n whole simple =
     let flat : depth h.tree ≡ 0 = response_flat h.tree i h.is in
     ap message_of (seven id ct cm)
     ∙ message_says (answer_tree h.tree (failure_tree ct cm)) (codes "{\"jsonrpc\":\"2.0\",\"id\":" ++ (id ++ (codes ",\"error\":" ++ (error_value ct cm ++ codes "}"))))
-        (bare_text (answer_tree h.tree (failure_tree ct cm)) (codes "{\"jsonrpc\":\"2.0\",\"id\":" ++ (id ++ (codes ",\"error\":" ++ (error_value ct cm ++ codes "}"))))
-          (answer_says h.tree (failure_tree ct cm) id (error_value ct cm) (says_of h.tree 0 id h.stands) (failure_says ct cm n simple))) (omega arith)
+    (bare_text (answer_tree h.tree (failure_tree ct cm)) (codes "{\"jsonrpc\":\"2.0\",\"id\":" ++ (id ++ (codes ",\"error\":" ++ (error_value ct cm ++ codes "}"))))
+    (answer_says h.tree (failure_tree ct cm) id (error_value ct cm) (says_of h.tree 0 id h.stands) (failure_says ct cm n simple))) (omega arith)
     ∙ ap (λ o. response_with o (Some (failure_tree ct cm)) None) h.is ∙ ap (λ b. error_if ((b && true) && true) i (failure_tree ct cm)) whole
 
-digits_of : (ds : List ℕ) → all_digits ds ≡ true → Digits ds
+pub digits_of : (ds : List ℕ) → all_digits ds ≡ true → Digits ds
 unfolding all_digits
 digits_of [] h = tt
 digits_of (d ∷ ds) h = let k : (is_digit d ≡ true) × (all_digits ds ≡ true) = and_parts (is_digit d) (all_digits ds) h in (k.0, digits_of ds k.1)

@@ -1,5 +1,5 @@
 -- The `initialize` request that is written, as a message.
-use Rattle.std.proofs.Common.{◌≡◌, ℕ, ◌+◌, ◌≤◌, max, List, [], ◌∷◌, ◌++◌, Option, Some, None, codes, IsTrue, inl, inr, refl, sym, ◌∙◌, ap, ap₂, subst, arith, append_assoc}
+use Rattle.std.proofs.Common.{◌≡◌, ℕ, ◌≤◌, max, List, [], ◌∷◌, ◌++◌, Option, Some, None, codes, IsTrue, inl, inr, refl, sym, ◌∙◌, ap, ap₂, subst, arith, append_assoc}
 use Rattle.json_text.specs.Json.{Json, word, number, string, object, Members, no_members, member, depth, members_depth}
 use Rattle.json_text.specs.declared.kind.Word.TheVariants.{Null}
 use Rattle.json_text.specs.Bare.{bare, bare_members, nowhere}
@@ -34,26 +34,26 @@ closing_optional cs (Some v) (Some w) ms rest h g c = subst (λ z. Closing (memb
 -- the members from `capabilities` on
 able_says : (d : Json) (f : Option Json) (capabilities : List ℕ) (folders : Option (List ℕ)) → IsValueText d capabilities → IsOptionText f folders
     → Closing (member nowhere (codes "capabilities") d (member nowhere (codes "trace") (string nowhere (codes "off")) (optional_member (codes "workspaceFolders") f no_members)))
-        (codes ",\"capabilities\":" ++ (capabilities ++ (codes ",\"trace\":\"off\"" ++ (optional_text (codes ",\"workspaceFolders\":") folders ++ codes "}"))))
+    (codes ",\"capabilities\":" ++ (capabilities ++ (codes ",\"trace\":\"off\"" ++ (optional_text (codes ",\"workspaceFolders\":") folders ++ codes "}"))))
 able_says d f capabilities folders h g = closing_member nowhere (codes "capabilities") d (member nowhere (codes "trace") (string nowhere (codes "off")) (optional_member (codes "workspaceFolders") f no_members))
     capabilities (codes ",\"trace\":\"off\"" ++ (optional_text (codes ",\"workspaceFolders\":") folders ++ codes "}")) refl (value_says d capabilities h)
     (closing_member nowhere (codes "trace") (string nowhere (codes "off")) (optional_member (codes "workspaceFolders") f no_members) (codes "\"off\"")
-      (optional_text (codes ",\"workspaceFolders\":") folders ++ codes "}") refl (simple_string nowhere (codes "off") refl)
-      (closing_optional (codes "workspaceFolders") f folders no_members (codes "}") refl g closing_none))
+    (optional_text (codes ",\"workspaceFolders\":") folders ++ codes "}") refl (simple_string nowhere (codes "off") refl)
+    (closing_optional (codes "workspaceFolders") f folders no_members (codes "}") refl g closing_none))
 
 -- all members, before these
 first_says : (u : Json) (o : Option Json) (ms : Members) (root rest : List ℕ) (options : Option (List ℕ)) → IsValueText u root → IsOptionText o options → Closing ms rest
     → says (object nowhere (member nowhere (codes "processId") (word nowhere Null) (member nowhere (codes "clientInfo") (object nowhere (member nowhere (codes "name") (string nowhere (codes "lspmux")) no_members))
-        (member nowhere (codes "rootUri") u (optional_member (codes "initializationOptions") o ms)))))
-      (codes "{\"processId\":null,\"clientInfo\":{\"name\":\"lspmux\"},\"rootUri\":" ++ (root ++ (optional_text (codes ",\"initializationOptions\":") options ++ rest)))
+    (member nowhere (codes "rootUri") u (optional_member (codes "initializationOptions") o ms)))))
+    (codes "{\"processId\":null,\"clientInfo\":{\"name\":\"lspmux\"},\"rootUri\":" ++ (root ++ (optional_text (codes ",\"initializationOptions\":") options ++ rest)))
 first_says u o ms root rest options h g c = compact_object nowhere nowhere (codes "processId") (word nowhere Null)
     (member nowhere (codes "clientInfo") (object nowhere (member nowhere (codes "name") (string nowhere (codes "lspmux")) no_members)) (member nowhere (codes "rootUri") u (optional_member (codes "initializationOptions") o ms)))
     (codes "null") (codes ",\"clientInfo\":{\"name\":\"lspmux\"},\"rootUri\":" ++ (root ++ (optional_text (codes ",\"initializationOptions\":") options ++ rest))) refl (null_word nowhere)
     (closing_member nowhere (codes "clientInfo") (object nowhere (member nowhere (codes "name") (string nowhere (codes "lspmux")) no_members)) (member nowhere (codes "rootUri") u (optional_member (codes "initializationOptions") o ms))
-      (codes "{\"name\":\"lspmux\"}") (codes ",\"rootUri\":" ++ (root ++ (optional_text (codes ",\"initializationOptions\":") options ++ rest))) refl
-      (compact_object nowhere nowhere (codes "name") (string nowhere (codes "lspmux")) no_members (codes "\"lspmux\"") (codes "}") refl (simple_string nowhere (codes "lspmux") refl) closing_none)
-      (closing_member nowhere (codes "rootUri") u (optional_member (codes "initializationOptions") o ms) root (optional_text (codes ",\"initializationOptions\":") options ++ rest) refl (value_says u root h)
-        (closing_optional (codes "initializationOptions") o options ms rest refl g c)))
+    (codes "{\"name\":\"lspmux\"}") (codes ",\"rootUri\":" ++ (root ++ (optional_text (codes ",\"initializationOptions\":") options ++ rest))) refl
+    (compact_object nowhere nowhere (codes "name") (string nowhere (codes "lspmux")) no_members (codes "\"lspmux\"") (codes "}") refl (simple_string nowhere (codes "lspmux") refl) closing_none)
+    (closing_member nowhere (codes "rootUri") u (optional_member (codes "initializationOptions") o ms) root (optional_text (codes ",\"initializationOptions\":") options ++ rest) refl (value_says u root h)
+    (closing_optional (codes "initializationOptions") o options ms rest refl g c)))
 
 -- a request with these params
 call_tree : Json → Json
@@ -66,10 +66,10 @@ call_says p w h = compact_object nowhere nowhere (codes "jsonrpc") (string nowhe
     (member nowhere (codes "id") (number nowhere (codes "1")) (member nowhere (codes "method") (string nowhere (codes "initialize")) (member nowhere (codes "params") p no_members)))
     (codes "\"2.0\"") (codes ",\"id\":1,\"method\":\"initialize\",\"params\":" ++ (w ++ codes "}")) refl (simple_string nowhere (codes "2.0") refl)
     (closing_member nowhere (codes "id") (number nowhere (codes "1")) (member nowhere (codes "method") (string nowhere (codes "initialize")) (member nowhere (codes "params") p no_members))
-      (codes "1") (codes ",\"method\":\"initialize\",\"params\":" ++ (w ++ codes "}")) refl (refl, one)
-      (closing_member nowhere (codes "method") (string nowhere (codes "initialize")) (member nowhere (codes "params") p no_members)
-        (codes "\"initialize\"") (codes ",\"params\":" ++ (w ++ codes "}")) refl (simple_string nowhere (codes "initialize") refl)
-        (closing_member nowhere (codes "params") p no_members w (codes "}") refl h closing_none)))
+    (codes "1") (codes ",\"method\":\"initialize\",\"params\":" ++ (w ++ codes "}")) refl (refl, one)
+    (closing_member nowhere (codes "method") (string nowhere (codes "initialize")) (member nowhere (codes "params") p no_members)
+    (codes "\"initialize\"") (codes ",\"params\":" ++ (w ++ codes "}")) refl (simple_string nowhere (codes "initialize") refl)
+    (closing_member nowhere (codes "params") p no_members w (codes "}") refl h closing_none)))
   where
     one : IsNumber (49 ∷ [])
     one = ([], 49 ∷ [], [], [], inl refl, inr (49, [], refl, tt, refl), inl refl, inl refl, refl)
@@ -81,7 +81,7 @@ call_deep p h = omega arith
 whole : (root o capabilities f : List ℕ) → codes "{\"jsonrpc\":\"2.0\",\"id\":1,\"method\":\"initialize\",\"params\":{\"processId\":null,\"clientInfo\":{\"name\":\"lspmux\"},\"rootUri\":" ++ root
     ++ o ++ codes ",\"capabilities\":" ++ capabilities ++ codes ",\"trace\":\"off\"" ++ f ++ codes "}}"
     ≡ codes "{\"jsonrpc\":\"2.0\",\"id\":1,\"method\":\"initialize\",\"params\":" ++ ((codes "{\"processId\":null,\"clientInfo\":{\"name\":\"lspmux\"},\"rootUri\":" ++ (root ++ (o
-      ++ (codes ",\"capabilities\":" ++ (capabilities ++ (codes ",\"trace\":\"off\"" ++ (f ++ codes "}"))))))) ++ codes "}")
+    ++ (codes ",\"capabilities\":" ++ (capabilities ++ (codes ",\"trace\":\"off\"" ++ (f ++ codes "}"))))))) ++ codes "}")
 whole root o capabilities f = simp append_assoc
 
 optional_bare : (cs : List ℕ) (o : Option Json) (w : Option (List ℕ)) (ms : Members) → IsOptionText o w → bare_members ms ≡ ms → bare_members (optional_member cs o ms) ≡ optional_member cs o ms
@@ -94,11 +94,11 @@ params_bare : (u d : Json) (o f : Option Json) (root capabilities : List ℕ) (o
 params_bare u d o f root capabilities options folders h g k l =
     let last : bare_members (optional_member (codes "workspaceFolders") f no_members) ≡ optional_member (codes "workspaceFolders") f no_members = optional_bare (codes "workspaceFolders") f folders no_members l refl in
     let rest : bare_members (member nowhere (codes "capabilities") d (member nowhere (codes "trace") (string nowhere (codes "off")) (optional_member (codes "workspaceFolders") f no_members)))
-        ≡ member nowhere (codes "capabilities") d (member nowhere (codes "trace") (string nowhere (codes "off")) (optional_member (codes "workspaceFolders") f no_members))
-      = ap₂ (λ x y. member nowhere (codes "capabilities") x (member nowhere (codes "trace") (string nowhere (codes "off")) y)) (value_bare d capabilities k) last in
+    ≡ member nowhere (codes "capabilities") d (member nowhere (codes "trace") (string nowhere (codes "off")) (optional_member (codes "workspaceFolders") f no_members))
+    = ap₂ (λ x y. member nowhere (codes "capabilities") x (member nowhere (codes "trace") (string nowhere (codes "off")) y)) (value_bare d capabilities k) last in
     ap₂ (λ x y. object nowhere (member nowhere (codes "processId") (word nowhere Null) (member nowhere (codes "clientInfo") (object nowhere (member nowhere (codes "name") (string nowhere (codes "lspmux")) no_members)) (member nowhere (codes "rootUri") x y))))
-      (value_bare u root h)
-      (optional_bare (codes "initializationOptions") o options (member nowhere (codes "capabilities") d (member nowhere (codes "trace") (string nowhere (codes "off")) (optional_member (codes "workspaceFolders") f no_members))) g rest)
+    (value_bare u root h)
+    (optional_bare (codes "initializationOptions") o options (member nowhere (codes "capabilities") d (member nowhere (codes "trace") (string nowhere (codes "off")) (optional_member (codes "workspaceFolders") f no_members))) g rest)
 
 -- how deep a value nests, where it is there
 abbrev pub option_depth : Option Json → ℕ
@@ -110,8 +110,11 @@ optional_depth cs None ms = omega arith
 optional_depth cs (Some v) ms = refl
 
 params_depth : (u d : Json) (o f : Option Json) → depth u ≤ 1022 → option_depth o ≤ 1022 → depth d ≤ 1022 → option_depth f ≤ 1022 → depth (initialize_params u o d f) ≤ 1023
-params_depth u d o f h g k l = omega (arith, optional_depth (codes "workspaceFolders") f no_members,
-    optional_depth (codes "initializationOptions") o (member nowhere (codes "capabilities") d (member nowhere (codes "trace") (string nowhere (codes "off")) (optional_member (codes "workspaceFolders") f no_members))))
+params_depth u d o f h g k l = omega (
+  arith,
+  optional_depth (codes "workspaceFolders") f no_members,
+  optional_depth (codes "initializationOptions") o (member nowhere (codes "capabilities") d (member nowhere (codes "trace") (string nowhere (codes "off")) (optional_member (codes "workspaceFolders") f no_members))),
+)
 
 params_message : (u d : Json) (o f : Option Json) → message_in (Some (call_tree (initialize_params u o d f))) ≡ request (integer (codes "1")) (codes "initialize") (Some (bare (initialize_params u o d f)))
 unfolding call_tree named no_name_twice is_integer
@@ -124,11 +127,11 @@ pub initialize_law : (u d : Json) (o f : Option Json) (root capabilities : List 
 initialize_law u d o f root capabilities options folders h g k l a b c e =
     ap message_of (whole root (optional_text (codes ",\"initializationOptions\":") options) capabilities (optional_text (codes ",\"workspaceFolders\":") folders))
     ∙ call_message (initialize_params u o d f) (codes "{\"processId\":null,\"clientInfo\":{\"name\":\"lspmux\"},\"rootUri\":" ++ (root ++ (optional_text (codes ",\"initializationOptions\":") options
-        ++ (codes ",\"capabilities\":" ++ (capabilities ++ (codes ",\"trace\":\"off\"" ++ (optional_text (codes ",\"workspaceFolders\":") folders ++ codes "}")))))))
-      (first_says u o (member nowhere (codes "capabilities") d (member nowhere (codes "trace") (string nowhere (codes "off")) (optional_member (codes "workspaceFolders") f no_members)))
-        root (codes ",\"capabilities\":" ++ (capabilities ++ (codes ",\"trace\":\"off\"" ++ (optional_text (codes ",\"workspaceFolders\":") folders ++ codes "}")))) options h g
-        (able_says d f capabilities folders k l))
-      (params_depth u d o f a b c e)
+    ++ (codes ",\"capabilities\":" ++ (capabilities ++ (codes ",\"trace\":\"off\"" ++ (optional_text (codes ",\"workspaceFolders\":") folders ++ codes "}")))))))
+    (first_says u o (member nowhere (codes "capabilities") d (member nowhere (codes "trace") (string nowhere (codes "off")) (optional_member (codes "workspaceFolders") f no_members)))
+    root (codes ",\"capabilities\":" ++ (capabilities ++ (codes ",\"trace\":\"off\"" ++ (optional_text (codes ",\"workspaceFolders\":") folders ++ codes "}")))) options h g
+    (able_says d f capabilities folders k l))
+    (params_depth u d o f a b c e)
     ∙ params_message u d o f ∙ ap (λ p. request (integer (codes "1")) (codes "initialize") (Some p)) (params_bare u d o f root capabilities options folders h g k l)
   where
     call_message : (p : Json) (w : List ℕ) → says p w → depth p ≤ 1023 → message_of (codes "{\"jsonrpc\":\"2.0\",\"id\":1,\"method\":\"initialize\",\"params\":" ++ (w ++ codes "}")) ≡ message_in (Some (call_tree p))

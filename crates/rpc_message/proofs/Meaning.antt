@@ -1,15 +1,14 @@
 -- A message depends on its tree without places alone; so what says a tree is that tree's message.
-use Rattle.std.proofs.Common.{◌≡◌, ℕ, ◌≤◌, Bool, true, false, ◌&&◌, not, List, Option, Some, None, is_some, option_map, bytes_eq, codes, if◌then◌else◌, refl, sym, ◌∙◌, ap, ap₂, subst, arith}
-use Rattle.json_text.specs.Json.{Json, word, number, string, array, object, Items, no_items, item, Members, no_members, member, IsText, depth}
+use Rattle.std.proofs.Common.{◌≡◌, ℕ, ◌≤◌, Bool, true, false, ◌&&◌, not, List, Option, Some, None, is_some, option_map, codes, if◌then◌else◌, refl, sym, ◌∙◌, ap, ap₂, arith}
+use Rattle.json_text.specs.Json.{Json, word, number, string, array, object, Members, no_members, member, depth}
 use Rattle.json_text.specs.declared.kind.Word.TheVariants.{Null, False, True}
-use Rattle.json_text.specs.Bare.{bare, bare_items, bare_members, nowhere}
+use Rattle.json_text.specs.Bare.{bare, bare_members}
 use Rattle.json_text.specs.Named.{named}
-use Rattle.json_text.specs.Tree.{tree_of}
 use Rattle.json_text.proofs.Forms.{SaysText}
 use Rattle.json_text.proofs.Moves.{PlacedText, placed_text}
 use Rattle.json_text.proofs.Put.{named_bare, bare_bare}
-use Rattle.rpc_message.specs.Message.{Id, Message, request, notification, result, error, not_message, no_name_twice, is_integer, integer_if, id_of, is_two, is_null, are_params, given, result_tree, is_integer_value, is_string_value, is_error, request_if, notification_if, called, response_id, error_if, outcome, response_with, answered, by_method, message_in, message_of}
-use Rattle.json_text.proofs.Laws.{tree_sound, tree_complete}
+use Rattle.rpc_message.specs.Message.{Id, Message, result, error, not_message, no_name_twice, id_of, is_two, is_null, are_params, given, result_tree, is_integer_value, is_string_value, is_error, request_if, notification_if, called, response_id, error_if, outcome, response_with, answered, by_method, message_in, message_of}
+use Rattle.json_text.proofs.Laws.{tree_complete}
 
 some_bare : (o : Option Json) → is_some (option_map bare o) ≡ is_some o
 some_bare (Some j) = refl
@@ -117,7 +116,7 @@ outcome_bare id (Some e) value = choice_same (is_null (bare e)) (is_null e) (res
     (result id (result_tree value)) (error_if (is_error e && not (is_some (given value))) id e)
     (null_bare e) (ap (λ v. result id v) (result_bare value))
     (error_same (is_error (bare e) && not (is_some (given (option_map bare value)))) (is_error e && not (is_some (given value))) id e
-      (ap₂ (λ a b. a && not (is_some b)) (error_bare e) (given_bare value)))
+    (ap₂ (λ a b. a && not (is_some b)) (error_bare e) (given_bare value)))
 outcome_bare id None value = ap (λ v. result id v) (result_bare value)
 
 answered_bare : (id failure value : Option Json) → answered (option_map bare id) (option_map bare failure) (option_map bare value) ≡ answered id failure value

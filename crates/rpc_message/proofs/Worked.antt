@@ -1,11 +1,11 @@
 -- Bodies read by the checker.
-use Rattle.std.proofs.Common.{◌≡◌, List, [], ◌∷◌, refl}
-use Rattle.std.specs.Prelude.{Option, Some, None, codes, ℕ}
+use Rattle.std.proofs.Common.{◌≡◌, refl}
+use Rattle.std.specs.Prelude.{Some, codes}
 use Rattle.json_text.specs.Computes.{computes}
 use Rattle.json_text.specs.Bare.{nowhere}
 use Rattle.json_text.specs.Named.{named}
-use Rattle.json_text.specs.Json.{Json, number, string, object, no_members, member}
-use Rattle.rpc_message.specs.Message.{message_of, no_name_twice, is_integer, member_bytes, request, integer, result, not_message}
+use Rattle.json_text.specs.Json.{number, object, no_members, member}
+use Rattle.rpc_message.specs.Message.{message_of, no_name_twice, is_integer, request, integer, result, not_message}
 use Rattle.rpc_message.specs.Texts.{ok_text, with_id_text}
 
 hover : message_of (codes "{\"jsonrpc\":\"2.0\", \"id\":7, \"method\":\"textDocument/hover\", \"params\":{\"x\":1.50 }}")

@@ -2,7 +2,7 @@
 use Rattle.std.specs.Prelude.{ℕ, ◌-◌, Bool, true, false, not, ◌&&◌, ◌||◌, List, [], ◌∷◌, ◌==◌, codes, is_some, take, drop, bytes_eq, if◌then◌else◌}
 use Rattle.std.specs.Prelude.{Option, Some, None}
 use Rattle.json_text.specs.declared.span.Span.{Span}
-use Rattle.json_text.specs.declared.kind.Word.TheVariants.{Null, False, True}
+use Rattle.json_text.specs.declared.kind.Word.TheVariants.{Null}
 use Rattle.json_text.specs.Json.{Json, word, number, string, array, object, Members, no_members, member, span_of}
 use Rattle.json_text.specs.Bare.{bare, nowhere}
 use Rattle.json_text.specs.Number.{is_digit}
