@@ -1,14 +1,14 @@
 -- Where the machine stops is where the grammar says that the fault is.
-use Rattle.std.proofs.Common.{◌≡◌, ℕ, suc, ◌+◌, ◌-◌, ◌≤◌, ◌<◌, List, [], ◌∷◌, ◌++◌, length, take, max, refl, sym, ap, ◌∙◌}
-use Rattle.std.specs.Prelude.{Bool, true, false}
-use Rattle.std.specs.Prelude.{Result, Ok, Err}
+use Rattle.std.proofs.Common.{◌≡◌, ℕ, suc, ◌+◌, ◌-◌, ◌≤◌, ◌<◌, List, [], ◌∷◌, ◌++◌, length, take, max, refl, ap, ◌∙◌}
+use Rattle.std.specs.Prelude.{Bool}
+use Rattle.std.specs.Prelude.{Err}
 use Rattle.std.proofs.lemmas.List.{append_assoc, append-nil, length-append}
 use Rattle.std.proofs.Math.Seq.{take-length, take-append_seam, take-append-add}
 use native.Mathlib.Omega.{arith}
 use Rattle.json_text.specs.Json.{Json, IsText, depth}
 use Rattle.json_nodes.specs.Nodes.{nodes_of, unnamed}
 use Rattle.json_text.specs.Faults.{Begins, BeginsWithin, IsSyntaxFault, IsDepthFault}
-use Rattle.json_span.specs.Machine.{Fault, syntax, deep, start, read}
+use Rattle.json_span.specs.Machine.{syntax, deep, start, read}
 use Rattle.json_span.proofs.Passes.{complete}
 use Rattle.json_span.proofs.Shape.{Point, value, Next, goes, stops, too_deep, next, MayEnd, OnGoes, on_goes, Accepts, Passes}
 use Rattle.json_span.proofs.ShapeOf.{read_accepts}

@@ -1,7 +1,7 @@
 -- The machine at two limits of depth.
-use Rattle.std.proofs.Common.{◌≡◌, ℕ, suc, ◌+◌, ◌≤◌, ◌<◌, List, [], ◌∷◌, ◌++◌, length, refl, sym, ap, ◌∙◌}
+use Rattle.std.proofs.Common.{◌≡◌, ℕ, ◌≤◌, ◌<◌, List, [], ◌∷◌, length, refl, ap}
 use Rattle.std.specs.Prelude.{Bool, true, false, nat_lt, if◌then◌else◌}
-use Rattle.std.proofs.lemmas.Bool.{ltb-true, ltb-false, lt-ltb}
+use Rattle.std.proofs.lemmas.Bool.{ltb-true, lt-ltb}
 use native.Mathlib.Omega.{arith}
 use Rattle.json_token.specs.declared.number.NumberMove.{NumberMove}
 use Rattle.json_token.specs.declared.number.NumberMove.TheVariants as number_moves
@@ -16,7 +16,7 @@ use Rattle.json_span.specs.declared.class.Class.{Class}
 use Rattle.json_span.specs.declared.class.Class.TheVariants as class
 use Rattle.json_span.specs.Classes.{class_of}
 use Rattle.json_span.specs.Machine.{same_kind}
-use Rattle.json_span.proofs.Shape.{Point, value, first_item, first_name, name, colon, after, word, number, quoted, Next, goes, stops, too_deep, first_in, opens, closes, closes_if, continues, begins, begins_item, begins_name, begins_first_name, at_colon, behind, in_word, in_number, in_string, next, OnGoes, on_goes, Passes}
+use Rattle.json_span.proofs.Shape.{Point, value, first_item, first_name, name, colon, after, word, number, quoted, Next, goes, stops, too_deep, first_in, opens, closes, closes_if, begins, begins_item, begins_name, begins_first_name, at_colon, behind, in_word, in_number, in_string, next, OnGoes, Passes}
 
 -- at the higher limit e a step does as at d, but for a bracket that is too deep at d
 abbrev pub Compares : ℕ → ℕ → ℕ → Next → Next → Type 0
