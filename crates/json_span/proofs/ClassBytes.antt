@@ -1,19 +1,16 @@
 -- The bytes of each class.
-use Rattle.std.proofs.Common.{◌≡◌, ℕ, List, [], ◌∷◌, refl, sym, ap, ◌∙◌}
-use Rattle.std.specs.Prelude.{IsTrue, codes, ◌⊎◌}
-use Rattle.std.specs.Prelude.{Option, Some, None}
+use Rattle.std.proofs.Common.{◌≡◌, ℕ}
+use Rattle.std.specs.Prelude.{IsTrue, ◌⊎◌}
+use Rattle.std.specs.Prelude.{Some}
 use Rattle.std.proofs.lemmas.Bool.Decides.{nat_tests}
 use native.Mathlib.Omega.{arith}
-use Rattle.json_text.specs.declared.kind.Word.{Word}
-use Rattle.json_text.specs.declared.kind.Word.TheVariants as word_of
-use Rattle.json_text.specs.Json.{is_space, letters}
+use Rattle.json_text.specs.Json.{is_space}
 use Rattle.json_token.specs.declared.number.NumberPart.{NumberPart}
-use Rattle.json_token.specs.NumberMoves.{number_begin, begin_with, number_byte}
+use Rattle.json_token.specs.NumberMoves.{number_begin}
 use Rattle.json_span.specs.declared.word.Begun.{Begun}
-use Rattle.json_span.specs.declared.word.Begun.TheVariants.{N, Nu, Nul, F, Fa, Fal, Fals, T, Tr, Tru}
-use Rattle.json_span.specs.declared.class.Class.{Class}
+use Rattle.json_span.specs.declared.word.Begun.TheVariants.{N, F, T}
 use Rattle.json_span.specs.declared.class.Class.TheVariants as class
-use Rattle.json_span.specs.Classes.{class_of, class_of_number}
+use Rattle.json_span.specs.Classes.{class_of}
 
 pub space_is : (b : ℕ) → class_of b ≡ class.Space → IsTrue (is_space b)
 unfolding class_of

@@ -1,15 +1,13 @@
 -- Wherever the machine stands, some bytes complete a text.
-use Rattle.std.proofs.Common.{◌≡◌, ℕ, suc, ◌+◌, ◌≤◌, List, [], ◌∷◌, ◌++◌, length, refl, sym, ap, ◌∙◌}
-use Rattle.std.specs.Prelude.{Bool, true, false, IsTrue, ◌==◌}
-use Rattle.std.specs.Prelude.{Option, Some, None}
-use Rattle.json_text.specs.Read.{is_number_byte}
+use Rattle.std.proofs.Common.{◌≡◌, ℕ, List, [], ◌∷◌, ◌++◌}
+use Rattle.std.specs.Prelude.{Bool, true, false}
+use Rattle.std.specs.Prelude.{Some}
 use Rattle.json_text.specs.Faults.{BeginsWithin}
 use Rattle.json_token.specs.declared.number.NumberPart.{NumberPart}
 use Rattle.json_token.specs.declared.number.NumberMove.{NumberMove}
 use Rattle.json_token.specs.declared.number.NumberMove.TheVariants as number_moves
-use Rattle.json_token.specs.NumberMoves.{number_move, number_may_end, number_byte}
+use Rattle.json_token.specs.NumberMoves.{number_move, number_may_end}
 use Rattle.json_token.specs.declared.string.Part.{Part}
-use Rattle.json_token.specs.declared.string.Part.TheVariants.{Plain}
 use Rattle.json_token.specs.declared.string.Move.{Move}
 use Rattle.json_token.specs.declared.string.Move.TheVariants as moves
 use Rattle.json_token.specs.StringMoves.{string_move, plain_move}
@@ -18,7 +16,7 @@ use Rattle.json_token.proofs.Walks.{walk, walk_move, string_completed}
 use Rattle.json_span.specs.declared.word.Begun.{Begun}
 use Rattle.json_span.specs.declared.word.Begun.TheVariants.{N, Nu, Nul, F, Fa, Fal, Fals, T, Tr, Tru}
 use Rattle.json_span.specs.Classes.{class_of}
-use Rattle.json_span.proofs.Shape.{Point, value, first_item, first_name, name, colon, after, word, number, quoted, goes, next, OnGoes, on_goes, Accepts, Passes, in_number, in_string}
+use Rattle.json_span.proofs.Shape.{Point, value, first_item, first_name, name, colon, after, word, number, quoted, next, OnGoes, on_goes, Accepts, Passes, in_number, in_string}
 use Rattle.json_span.proofs.FoundTokens.{left_of}
 use Rattle.json_span.proofs.FoundTexts.{accepted}
 

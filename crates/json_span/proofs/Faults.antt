@@ -1,14 +1,14 @@
 -- Where the machine stops is where the grammar says that the fault is.
-use Rattle.std.proofs.Common.{◌≡◌, ℕ, suc, ◌+◌, ◌-◌, ◌≤◌, ◌<◌, List, [], ◌∷◌, ◌++◌, length, take, max, refl, sym, ap, ◌∙◌}
-use Rattle.std.specs.Prelude.{Bool, true, false}
-use Rattle.std.specs.Prelude.{Result, Ok, Err}
+use Rattle.std.proofs.Common.{◌≡◌, ℕ, suc, ◌+◌, ◌-◌, ◌≤◌, ◌<◌, List, [], ◌∷◌, ◌++◌, length, take, max, refl, ap, ◌∙◌}
+use Rattle.std.specs.Prelude.{Bool}
+use Rattle.std.specs.Prelude.{Err}
 use Rattle.std.proofs.lemmas.List.{append_assoc, append-nil, length-append}
 use Rattle.std.proofs.Math.Seq.{take-length, take-append_seam, take-append-add}
 use native.Mathlib.Omega.{arith}
 use Rattle.json_text.specs.Json.{Json, IsText, depth}
 use Rattle.json_nodes.specs.Nodes.{nodes_of, unnamed}
 use Rattle.json_text.specs.Faults.{Begins, BeginsWithin, IsSyntaxFault, IsDepthFault}
-use Rattle.json_span.specs.Machine.{Fault, syntax, deep, start, read}
+use Rattle.json_span.specs.Machine.{syntax, deep, start, read}
 use Rattle.json_span.proofs.Passes.{complete}
 use Rattle.json_span.proofs.Shape.{Point, value, Next, goes, stops, too_deep, next, MayEnd, OnGoes, on_goes, Accepts, Passes}
 use Rattle.json_span.proofs.ShapeOf.{read_accepts}
@@ -34,10 +34,10 @@ passed_more d b [] p ks q os r ls h e = rw (h.0, h.1, e) (refl, refl)
 passed_more d b (x ∷ xs) p ks q os r ls h e = on_goes (next d x p ks) (λ t us. Passes d xs t us q os) (λ t us. Passes d (xs ++ b ∷ []) t us r ls) (λ t us k. passed_more d b xs t us q os r ls k e) h
 
 -- no text goes on where the machine stops
-same_stop : (d e n : ℕ) (x y : Next) → Compares d e n x y → x ≡ stops → y ≡ stops
-same_stop d e n (goes p ks) y c h = cc
-same_stop d e n stops y c h = c
-same_stop d e n too_deep y c h = cc
+same_stop : (e n : ℕ) (x y : Next) → Compares e n x y → x ≡ stops → y ≡ stops
+same_stop e n (goes p ks) y c h = cc
+same_stop e n stops y c h = c
+same_stop e n too_deep y c h = cc
 
 stopped : (n : Next) (P : Point → List Bool → Type 0) → n ≡ stops → OnGoes n P → ⊥
 stopped n P e h = rw e at h
@@ -47,7 +47,7 @@ no_text_on d b front rest q os ran why j text =
     let e = max d (depth j) in
     let lower : d ≤ e = omega arith in
     let a = passed_rest e front (b ∷ rest) value [] q os (passes_higher d e front value [] q os lower ran) (text_accepted e (front ++ b ∷ rest) j text (omega arith)) in
-    stopped (next e b q os) (λ r ls. Accepts e rest r ls) (same_stop d e (length os) (next d b q os) (next e b q os) (next_compares d e b q os lower) why) a
+    stopped (next e b q os) (λ r ls. Accepts e rest r ls) (same_stop e (length os) (next d b q os) (next e b q os) (next_compares d e b q os lower) why) a
 
 no_text_end : (d : ℕ) (bytes : List ℕ) (q : Point) (os : List Bool) → Passes d bytes value [] q os → (MayEnd q os → ⊥) → (j : Json) → IsText bytes j → ⊥
 no_text_end d bytes q os ran why j text =
@@ -87,16 +87,16 @@ syntax_end d bytes q os ran why = record {
 }
 
 -- a bracket that is too deep passes at a higher limit
-opened_higher : (d e n : ℕ) (x y : Next) → Compares d e n x y → x ≡ too_deep → n < e → (p : Point) × (ks : List Bool) × (y ≡ goes p ks)
-opened_higher d e n (goes p ks) y c h l = cc
-opened_higher d e n stops y c h l = cc
-opened_higher d e n too_deep y c h l = c l
+opened_higher : (e n : ℕ) (x y : Next) → Compares e n x y → x ≡ too_deep → n < e → (p : Point) × (ks : List Bool) × (y ≡ goes p ks)
+opened_higher e n (goes p ks) y c h l = cc
+opened_higher e n stops y c h l = cc
+opened_higher e n too_deep y c h l = c l
 
 deep_begins : (d b : ℕ) (front : List ℕ) (q : Point) (os : List Bool) → Passes d front value [] q os → next d b q os ≡ too_deep → Begins (front ++ b ∷ [])
 deep_begins d b front q os ran why =
     let e = max d (suc (length os)) in
     let lower : d ≤ e = omega arith in
-    let o = opened_higher d e (length os) (next d b q os) (next e b q os) (next_compares d e b q os lower) why (omega arith) in
+    let o = opened_higher e (length os) (next d b q os) (next e b q os) (next_compares d e b q os lower) why (omega arith) in
     let begun = passes_begins e (front ++ b ∷ []) o.0 o.1 (passed_more e b front value [] q os o.0 o.1 (passes_higher d e front value [] q os lower ran) o.2) in
     (begun.0, begun.1, begun.2)
 

@@ -1,28 +1,23 @@
 -- What the machine passes, from where a value may begin, is a value; and so on for what may follow one.
-use Rattle.std.proofs.Common.{◌≡◌, ℕ, zero, suc, ◌+◌, ◌≤◌, ◌<◌, List, [], ◌∷◌, ◌++◌, length, refl, sym, ap, ◌∙◌, inl, inr}
-use Rattle.std.specs.Prelude.{Bool, true, false, IsTrue, flat_map, ◌⊎◌}
-use Rattle.std.specs.List.{AllByRecursion}
+use Rattle.std.proofs.Common.{◌≡◌, ℕ, suc, ◌+◌, ◌≤◌, ◌<◌, List, [], ◌∷◌, ◌++◌, length, refl, sym, ap, ◌∙◌, inl, inr}
+use Rattle.std.specs.Prelude.{Bool, true, false, ◌⊎◌}
 use Rattle.std.proofs.lemmas.List.{append_assoc, length-append}
-use Rattle.std.proofs.lemmas.Bool.{ltb-true}
 use native.Mathlib.Omega.{arith}
-use Rattle.json_text.specs.declared.span.Span.{Span}
 use Rattle.json_text.specs.declared.kind.Word.{Word}
 use Rattle.json_text.specs.declared.kind.Word.TheVariants as word_of
-use Rattle.json_text.specs.String.{Piece, IsPiece, spelled, characters}
 use Rattle.json_text.specs.Json as grammar
 use Rattle.json_text.specs.Json.{Json, Items, no_items, item, Members, no_members, member, is_space, space, byte, ◌then◌, depth, items_depth, members_depth, items, more_items, members, more_members, pair}
 use Rattle.json_token.specs.declared.number.NumberPart.{NumberPart}
 use Rattle.json_token.specs.declared.string.Part.TheVariants.{Plain}
 use Rattle.json_span.specs.declared.word.Begun.{Begun}
 use Rattle.json_span.specs.declared.word.Begun.TheVariants.{N, F, T}
-use Rattle.json_span.specs.declared.class.Class.{Class}
 use Rattle.json_span.specs.declared.class.Class.TheVariants as class
 use Rattle.json_span.specs.Classes.{class_of}
 use Rattle.json_token.proofs.Numbers.{number_found}
 use Rattle.json_token.proofs.Pieces.{string_found}
-use Rattle.json_span.proofs.Shape.{Point, value, first_item, first_name, name, colon, after, word, number, quoted, goes, too_deep, OnGoes, Accepts, first_in, begins, begins_item, begins_name, begins_first_name, at_colon, behind, opens, closes}
-use Rattle.json_span.proofs.ClassBytes.{space_is, quote_is, colon_is, comma_is, open_array_is, close_array_is, open_object_is, close_object_is, begins_is, number_is}
-use Rattle.json_span.proofs.FoundTokens.{NoSpace, Stripped, strip, value_waits, name_waits, colon_waits, after_waits, left_of, PastLetters, past_word, PastNumber, past_number, PastString, past_string}
+use Rattle.json_span.proofs.Shape.{Point, value, after, word, quoted, Accepts}
+use Rattle.json_span.proofs.ClassBytes.{quote_is, begins_is, number_is}
+use Rattle.json_span.proofs.FoundTokens.{NoSpace, left_of, PastLetters, past_word, PastNumber, PastString, past_string}
 
 -- a value in front of these bytes, which stand at a place
 pub record FoundValue (d at : ℕ) (bs : List ℕ) (ks : List Bool) : Type 0 where

@@ -1,6 +1,6 @@
 -- What the machine passes in an array is its items.
-use Rattle.std.proofs.Common.{◌≡◌, ℕ, zero, suc, ◌+◌, ◌≤◌, ◌<◌, List, [], ◌∷◌, ◌++◌, length, max, refl, sym, ap, ◌∙◌, inl, inr}
-use Rattle.std.specs.Prelude.{Bool, true, false, ◌⊎◌}
+use Rattle.std.proofs.Common.{◌≡◌, ℕ, suc, ◌+◌, ◌≤◌, ◌<◌, List, [], ◌∷◌, ◌++◌, length, max, refl, sym, ap, ◌∙◌, inl, inr}
+use Rattle.std.specs.Prelude.{Bool, false, ◌⊎◌}
 use Rattle.std.proofs.lemmas.List.{append_assoc}
 use native.Mathlib.Omega.{arith}
 use Rattle.json_text.specs.Json as grammar

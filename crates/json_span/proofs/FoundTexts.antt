@@ -1,5 +1,5 @@
 -- What the machine passes from its start is a text.
-use Rattle.std.proofs.Common.{◌≡◌, ℕ, zero, suc, ◌+◌, ◌≤◌, ◌<◌, List, [], ◌∷◌, ◌++◌, length, refl, sym, ap, ◌∙◌}
+use Rattle.std.proofs.Common.{◌≡◌, ℕ, zero, suc, ◌+◌, ◌≤◌, ◌<◌, List, [], ◌∷◌, ◌++◌, length, refl, ap, ◌∙◌}
 use Rattle.std.specs.Prelude.{Bool, true, false, nat_lt, if◌then◌else◌}
 use Rattle.std.proofs.lemmas.Bool.{ltb-true}
 use Rattle.std.proofs.lemmas.List.{append-nil}
@@ -8,7 +8,7 @@ use Rattle.json_text.specs.Json.{Json, IsText, depth}
 use Rattle.json_span.specs.declared.class.Class.{Class}
 use Rattle.json_span.specs.declared.class.Class.TheVariants as class
 use Rattle.json_span.specs.Classes.{class_of}
-use Rattle.json_span.proofs.Shape.{Point, value, after, goes, too_deep, OnGoes, Accepts, first_in, begins, behind}
+use Rattle.json_span.proofs.Shape.{value, after, goes, too_deep, OnGoes, Accepts, first_in, begins, behind}
 use Rattle.json_span.proofs.FoundTokens.{NoSpace, Stripped, strip, value_waits, after_waits, past_number}
 use Rattle.json_span.proofs.Found.{FoundValue, FoundItems, FoundMembers, Finds, shorter, found_string, string_value, number_value, found_word}
 use Rattle.json_span.proofs.FoundArrays as arrays

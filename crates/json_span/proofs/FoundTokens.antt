@@ -1,24 +1,17 @@
 -- Whitespace, words, numbers and strings that the machine passes are those of the grammar.
-use Rattle.std.proofs.Common.{◌≡◌, ℕ, ◌+◌, List, [], ◌∷◌, ◌++◌, refl, sym, ap, ◌∙◌}
-use Rattle.std.specs.Prelude.{Bool, true, false, IsTrue, flat_map, ◌==◌, codes, if◌then◌else◌}
-use Rattle.std.specs.Prelude.{Option, Some, None}
+use Rattle.std.proofs.Common.{◌≡◌, ℕ, List, [], ◌∷◌, ◌++◌, refl, ap}
+use Rattle.std.specs.Prelude.{Bool, true, false, IsTrue, ◌==◌, codes, if◌then◌else◌}
+use Rattle.std.specs.Prelude.{Some}
 use Rattle.std.specs.List.{AllByRecursion}
-use Rattle.std.proofs.lemmas.List.{append_assoc}
-use Rattle.std.proofs.lemmas.Bool.Decides.{nat_tests}
 use Rattle.std.proofs.lemmas.Bool.{eqb-true}
 use native.Mathlib.Omega.{arith}
-use Rattle.json_text.specs.Json.{is_space, space}
-use Rattle.json_text.specs.String.{Piece, IsPiece, spelled, characters}
-use Rattle.json_text.specs.Json.{quoted as quoted_bytes}
+use Rattle.json_text.specs.Json.{is_space}
 use Rattle.json_token.specs.declared.number.NumberPart.{NumberPart}
-use Rattle.json_token.specs.declared.number.NumberPart.TheVariants as part
 use Rattle.json_token.specs.declared.number.NumberByte.{NumberByte}
-use Rattle.json_token.specs.declared.number.NumberByte.TheVariants as byte
 use Rattle.json_token.specs.declared.number.NumberMove.{NumberMove}
 use Rattle.json_token.specs.declared.number.NumberMove.TheVariants as number_moves
-use Rattle.json_token.specs.NumberMoves.{number_begin, number_move, number_moved, number_may_end, number_byte}
+use Rattle.json_token.specs.NumberMoves.{number_move, number_moved, number_may_end, number_byte}
 use Rattle.json_token.specs.declared.string.Part.{Part}
-use Rattle.json_token.specs.declared.string.Part.TheVariants.{Plain}
 use Rattle.json_token.specs.declared.string.Move.{Move}
 use Rattle.json_token.specs.declared.string.Move.TheVariants as moves
 use Rattle.json_token.specs.StringMoves.{string_move}
@@ -30,8 +23,6 @@ use Rattle.json_token.proofs.Numbers.{rem}
 use Rattle.json_token.proofs.Walks.{walk}
 use Rattle.json_span.specs.declared.word.Begun.{Begun}
 use Rattle.json_span.specs.declared.word.Begun.TheVariants.{N, Nu, Nul, F, Fa, Fal, Fals, T, Tr, Tru}
-use Rattle.json_span.specs.Words.{word_move, goes_at, ends_at}
-use Rattle.json_span.specs.declared.word.WordMove.{WordMove}
 use Rattle.json_span.specs.declared.word.WordMove.TheVariants as word_moves
 use Rattle.json_text.specs.declared.kind.Word.{Word}
 use Rattle.json_text.specs.declared.kind.Word.TheVariants as word_of

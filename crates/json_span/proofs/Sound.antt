@@ -1,6 +1,6 @@
 -- What the machine reads is a JSON text.
 use Rattle.std.proofs.Common.{◌≡◌, ℕ, ◌≤◌, List}
-use Rattle.std.specs.Prelude.{Result, Ok}
+use Rattle.std.specs.Prelude.{Ok}
 use Rattle.json_nodes.specs.declared.node.Node.{Node}
 use Rattle.json_text.specs.Json.{Json, IsText, depth}
 use Rattle.json_span.specs.Machine.{start, read}

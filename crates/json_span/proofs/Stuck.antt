@@ -1,5 +1,5 @@
 -- Where the machine stops: the bytes up to there, and why it goes no further.
-use Rattle.std.proofs.Common.{◌≡◌, ℕ, suc, ◌+◌, List, [], ◌∷◌, ◌++◌, length, refl, sym, ap, ◌∙◌}
+use Rattle.std.proofs.Common.{◌≡◌, ℕ, ◌+◌, List, [], ◌∷◌, ◌++◌, length, refl, ap, ◌∙◌}
 use Rattle.std.specs.Prelude.{Bool, true, false}
 use Rattle.std.specs.Prelude.{Result, Ok, Err}
 use native.Mathlib.Omega.{arith}
@@ -11,7 +11,7 @@ use Rattle.json_span.specs.declared.state.Mode.TheVariants as mode
 use Rattle.json_span.specs.declared.state.Open.{Open}
 use Rattle.json_span.specs.Machine as machine
 use Rattle.json_span.specs.Machine.{State, Fault, syntax, deep, step, finish, finish_in, read, ◌andthen◌}
-use Rattle.json_span.proofs.Shape.{Point, Next, goes, stops, too_deep, next, NoneOpen, MayEnd, OnGoes, Passes}
+use Rattle.json_span.proofs.Shape.{Point, Next, goes, stops, too_deep, next, NoneOpen, MayEnd, Passes}
 use Rattle.json_span.proofs.ShapeOf.{point_of, kinds, Matches, step_matches}
 
 pub data Stuck (d at : ℕ) (bs : List ℕ) (p : Point) (ks : List Bool) (f : Fault) : Type 0 where
