@@ -1,13 +1,10 @@
-// A library with one function.
+//! What the multiplexer is to do: the words over a history, the routing table, and which histories are legal.
 #![tactic(auto)]
 
-ghost use Rattle.std.specs.Prelude.{◌≡◌};
-ghost use Rattle.mux_model.specs.Echo.{echo_of};
+mod phase;
+mod settings;
+mod stage;
 
-// The `ensures` clause is the contract: what `echo` returns is `echo_of` of its argument, a definition
-// in `specs/Echo.antt`, which a caller's clause can cite too.
-pub fn echo(x: usize) -> usize
-    ensures { result ≡ echo_of x }
-{
-    x
-}
+pub use phase::Phase;
+pub use settings::{Limits, Server};
+pub use stage::Stage;
