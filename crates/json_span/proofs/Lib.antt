@@ -15,4 +15,5 @@ pub mod Shape
 pub mod ShapeOf
 pub mod Sound
 pub mod Stuck
+pub mod Tapes
 pub mod Tokens

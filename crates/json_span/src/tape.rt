@@ -1,5 +1,8 @@
 //! A JSON text with its values.
-ghost use Rattle.std.specs.Prelude.{◌≡◌, ℕ, ◌^◌, ◌≤◌, length};
+ghost use Rattle.std.specs.Prelude.{◌≡◌, ℕ, ◌^◌, ◌≤◌, length, IfOk, MatchResult, Err};
+ghost use Rattle.json_text.specs.Json.{Json, IsText, depth};
+ghost use Rattle.json_text.specs.Faults.{IsSyntaxFault, IsDepthFault};
+ghost use Rattle.json_nodes.specs.Doc.{Holds};
 ghost use Rattle.json_span.specs.Machine.{start, read};
 ghost use Rattle.json_span.specs.Views.{Reads};
 
@@ -37,10 +40,13 @@ fn read_nodes(alloc: Global, bytes: &[u8]) -> Result<Vec<Node>, JsonFault>
 }
 
 impl<'a> Tape<'a> {
-    /// Reads bytes as a JSON text.
+    /// Reads bytes as a JSON text: it is taken just where it is one and nests at most 1,024 deep, unless memory is wanting.
     pub fn read(alloc: Global, bytes: &'a [u8]) -> Result<Tape<'a>, JsonFault>
         requires { length bytes.now ≤ 268435456 }
-        ensures { Reads result (λ tape. tape.nodes) (read 1024 0 bytes.now start) }
+        ensures ok { IfOk result (λ tape. (tape.bytes ≡ bytes.now) × ((j : Json) × Holds tape j)) }
+        ensures only { (j : Json) → IsText bytes.now j → depth j ≤ 1024 → MatchResult result (λ tape. Holds tape j) (λ e. e ≡ JsonFault.Memory) }
+        ensures syntax { (p : ℕ) → result ≡ Err (JsonFault.Syntax p) → IsSyntaxFault 1024 bytes.now p }
+        ensures too_deep { (p : ℕ) → result ≡ Err (JsonFault.TooDeep p) → IsDepthFault 1024 bytes.now p }
     {
         let nodes = read_nodes(alloc, bytes)?;
         Ok(Tape {
