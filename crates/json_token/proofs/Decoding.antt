@@ -1,18 +1,18 @@
 -- The characters that are read one after the other are those of the string (RFC 8259, section 7).
-use Rattle.std.proofs.Common.{◌≡◌, refl, ap, subst, ◌∙◌, sym, ℕ, ◌+◌, ◌-◌, ◌*◌, ◌/◌, ◌%◌, ◌<◌, ◌≤◌, Bool, true, false, ◌&&◌, List, [], ◌∷◌, ◌++◌, length, get_or, map, ◌⊎◌, inl, inr, arith}
-use Rattle.std.specs.Prelude.{IsTrue, ◌==◌, nat_lt, Option, Some, None, flat_map, if◌then◌else◌}
+use Rattle.std.proofs.Common.{◌≡◌, refl, ap, subst, ◌∙◌, sym, ℕ, ◌+◌, ◌-◌, ◌*◌, ◌/◌, ◌%◌, ◌<◌, ◌≤◌, Bool, true, false, ◌&&◌, List, [], ◌∷◌, ◌++◌, get_or, map, ◌⊎◌, inl, inr, arith}
+use Rattle.std.specs.Prelude.{IsTrue, ◌==◌, nat_lt, Some, None, flat_map, if◌then◌else◌}
 use Rattle.std.specs.List.{AllByRecursion}
 use Rattle.std.specs.Option.{unwrap_or}
 use Rattle.std.specs.Char.{IsScalar, digit_value}
 use Rattle.std.specs.Char.Escape.{encode_utf16}
-use Rattle.std.specs.Char.Utf16.{is_high_surrogate, is_low_surrogate, surrogate_pair_char, lone_unit_char, utf16_chars, utf16_lossy_chars}
+use Rattle.std.specs.Char.Utf16.{is_high_surrogate, is_low_surrogate, surrogate_pair_char, lone_unit_char, utf16_lossy_chars}
 use Rattle.std.proofs.str.Utf16.{IsPair, one_unit, two_units}
 use Rattle.std.proofs.lemmas.Str.{utf16_chars_lone, utf16_chars_pair, utf16_chars-nil}
-use lib.Utf8.{encode, scalar}
+use lib.Utf8.{encode}
 use Rattle.std.proofs.lemmas.Bool.Decides.{nat_tests}
 use Rattle.std.proofs.lemmas.Bool.{cases_lt}
 use Rattle.json_text.specs.String.{Piece, plain, short, unit, is_plain, is_hex, is_short, short_character, IsPiece, spelled, units, characters, SpellsCharacters}
-use Rattle.json_token.specs.Characters.{Front, replaced, two_code, three_code, four_code, two_front, three_front, four_front, plain_front, unit_value, unit_front, escaped_unit, after_second, after_unit, unit_character, escape_front, next_character}
+use Rattle.json_token.specs.Characters.{Front, replaced, two_code, three_code, four_code, unit_value, unit_front, escaped_unit, after_second, unit_character, next_character}
 use Rattle.json_token.proofs.Encoded.{one, two, three, four, scalar_low, scalar_high, scalar_sides}
 
 -- one character from its bytes
