@@ -79,12 +79,12 @@ first_law doc k t a = first_case doc k t a (slice_get (children t) 0) refl
 
 -- the next child
 
-next_is : (ns : List Node) (m : ℕ) (x y : Node) → slice_get ns m ≡ Some x → slice_get ns x.after ≡ Some y → y.level ≡ x.level → next_number ns m ≡ Some x.after
-next_is ns m x y h g e = let same : (y.level == x.level) ≡ true = grind (arith, nat_tests) in rw (h, g, same) refl
+next_is : (ns : List Node) (m : ℕ) (x y : Node) → slice_get ns m ≡ Some x → slice_get ns x.after ≡ Some y → y.level ≡ x.level → m < x.after → next_number ns m ≡ Some x.after
+next_is ns m x y h g e lt = let same : ((y.level == x.level) && nat_lt m x.after) ≡ true = grind (arith, nat_tests) in rw (h, g, same) refl
 
 next_is_none : (ns : List Node) (m : ℕ) (x : Node) (tail : List Node) → slice_get ns m ≡ Some x → slice_get ns x.after ≡ slice_get tail 0 → (l : ℕ) → Low l tail → l < x.level → next_number ns m ≡ None
 next_is_none ns m x [] h g l low lt = rw (h, g) refl
-next_is_none ns m x (y ∷ tail) h g l low lt = let other : (y.level == x.level) ≡ false = grind (arith, nat_tests) in rw (h, g, other) refl
+next_is_none ns m x (y ∷ tail) h g l low lt = let other : ((y.level == x.level) && nat_lt m x.after) ≡ false = grind (arith, nat_tests) in rw (h, g, other) refl
 
 more_sizes : (js : List Json) (n : ℕ) (c : Json) → slice_get js n ≡ Some c → sizes (suc n) js ≡ sizes n js + size c
 more_sizes [] n c h = cc
@@ -98,7 +98,7 @@ last_sizes (j ∷ (i ∷ js)) zero c h g = cc
 last_sizes (j ∷ js) (suc n) c h g = omega (arith, last_sizes js n c h g)
 
 next_at : (ns : List Node) (l m : ℕ) (u : Json) (p : Placed ns l m u) (n : ℕ) (c : Json) → n ≡ m + size u → Placed ns l n c → next_number ns m ≡ Some n
-next_at ns l m u p n c e q = let after : next_number ns m ≡ Some (m + size u) = next_is ns m (head_node l m p.name u) (head_node l n q.name c) (head_at ns l m u p) (ap (λ i. slice_get ns i) (sym e) ∙ head_at ns l n c q) refl in
+next_at ns l m u p n c e q = let after : next_number ns m ≡ Some (m + size u) = next_is ns m (head_node l m p.name u) (head_node l n q.name c) (head_at ns l m u p) (ap (λ i. slice_get ns i) (sym e) ∙ head_at ns l n c q) refl (omega (arith, size_shape u)) in
     after ∙ ap (λ i. Some i) (sym e)
 
 next_at_none : (ns : List Node) (l k : ℕ) (t : Json) (p : Placed ns l k t) (m : ℕ) (u : Json) → Placed ns (l + 1) m u → m + size u ≡ k + size t → next_number ns m ≡ None
@@ -124,32 +124,33 @@ next_case doc k n m t u c (Some v) e =
 pub next_law : (doc : Doc) (k n m : ℕ) (t u : Json) → ChildAt doc k t n m u → FoundChild doc k t (n + 1) (next_number doc.nodes m)
 next_law doc k n m t u c = rw (add-one n) (next_case doc k n m t u c (slice_get (children t) (suc n)) refl)
 
--- the numbers are those of nodes
+-- the numbers are those of later nodes
 
-pub first_inside_all : (ns : List Node) (k : ℕ) → MatchOption (first_number ns k) (Unit {0}) (λ m. m < length ns)
-first_inside_all ns k = by (slice_get ns k)
+abbrev pub Later : List Node → ℕ → Option ℕ → Type 0
+Later ns k answer = MatchOption answer (Unit {0}) (λ m. (k < m) × (m < length ns))
+
+pub first_later : (ns : List Node) (k : ℕ) → Later ns k (first_number ns k)
+first_later ns k = by (slice_get ns k)
   where
-    by_test : (x y : Bool) → nat_lt (k + 1) (length ns) ≡ y → MatchOption (some_if (x && y) (k + 1)) (Unit {0}) (λ m. m < length ns)
-    by_test true true e = grind (arith, nat_tests)
+    by_test : (x y : Bool) → nat_lt (k + 1) (length ns) ≡ y → Later ns k (some_if (x && y) (k + 1))
+    by_test true true e = (omega arith, grind (arith, nat_tests))
     by_test true false e = tt
     by_test false y e = tt
-
-    by : (o : Option Node) → MatchOption (first_inside (length ns) k o) (Unit {0}) (λ m. m < length ns)
+    by : (o : Option Node) → Later ns k (first_inside (length ns) k o)
     by None = tt
     by (Some x) = by_test (nat_lt (k + 1) x.after) (nat_lt (k + 1) (length ns)) refl
 
-pub next_inside_all : (ns : List Node) (k : ℕ) → MatchOption (next_number ns k) (Unit {0}) (λ m. m < length ns)
-next_inside_all ns k = by (slice_get ns k)
+pub next_later : (ns : List Node) (k : ℕ) → Later ns k (next_number ns k)
+next_later ns k = by (slice_get ns k)
   where
-    by_test : (x : Bool) (m : ℕ) → m < length ns → MatchOption (some_if x m) (Unit {0}) (λ m. m < length ns)
-    by_test true m h = h
-    by_test false m h = tt
-
-    behind : (x : Node) (o : Option Node) → slice_get ns x.after ≡ o → MatchOption (same_level x o) (Unit {0}) (λ m. m < length ns)
+    by_test : (x y : Bool) (m : ℕ) → m < length ns → nat_lt k m ≡ y → Later ns k (some_if (x && y) m)
+    by_test true true m h e = (grind (arith, nat_tests), h)
+    by_test true false m h e = tt
+    by_test false y m h e = tt
+    behind : (x : Node) (o : Option Node) → slice_get ns x.after ≡ o → Later ns k (same_level k x o)
     behind x None e = tt
-    behind x (Some y) e = by_test (y.level == x.level) x.after (slice_get_within ns x.after y e)
-
-    by : (o : Option Node) → MatchOption (next_behind ns o) (Unit {0}) (λ m. m < length ns)
+    behind x (Some y) e = by_test (y.level == x.level) (nat_lt k x.after) x.after (slice_get_within ns x.after y e) refl
+    by : (o : Option Node) → Later ns k (next_behind ns k o)
     by None = tt
     by (Some x) = behind x (slice_get ns x.after) refl
 

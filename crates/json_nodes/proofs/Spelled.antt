@@ -118,3 +118,13 @@ pub name_inside : (doc : Doc) (k n m : ℕ) (t u : Json) (cs : List ℕ) (d : No
 name_inside doc k n m t u cs d c h = let a : NameAt doc m d cs = name_text doc k n m t u cs d c h in
     let same : place_span (get_or doc.nodes m d).name ≡ a.place = ap place_span a.named in
     subst (λ (p : Span). IsStringAt doc.bytes p cs) (sym same) a.text
+
+pub value_inside : (doc : Doc) (k : ℕ) (t : Json) (d : Node) (bs : List ℕ) → At doc k t → ((get_or doc.nodes k d).from ≤ (get_or doc.nodes k d).to → (get_or doc.nodes k d).to ≤ length doc.bytes → bs ≡ between (get_or doc.nodes k d).from (get_or doc.nodes k d).to doc.bytes) → value t (span_of t).from bs
+value_inside doc k t d bs a part =
+    let s : IsSpelledAt doc.bytes t = span_text doc k t a in
+    let e : node_span (get_or doc.nodes k d) ≡ span_of t = span_law doc k t d a in
+    let from : (get_or doc.nodes k d).from ≡ (span_of t).from = ap (λ (p : Span). p.from) e in
+    let to : (get_or doc.nodes k d).to ≡ (span_of t).to = ap (λ (p : Span). p.to) e in
+    let rises : (get_or doc.nodes k d).from ≤ (get_or doc.nodes k d).to = omega (arith, s.rises) in
+    let fits : (get_or doc.nodes k d).to ≤ length doc.bytes = omega (arith, s.fits) in
+    rw (part rises fits, from, to) s.text

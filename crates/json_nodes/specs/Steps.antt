@@ -16,14 +16,14 @@ first_inside count k (Some x) = some_if (nat_lt (k + 1) x.after && nat_lt (k + 1
 abbrev pub first_number : List Node → ℕ → Option ℕ
 first_number ns k = first_inside (length ns) k (slice_get ns k)
 
--- the node behind all that this one holds, where it has the same level
-abbrev pub same_level : Node → Option Node → Option ℕ
-same_level x None = None
-same_level x (Some y) = some_if (y.level == x.level) x.after
+-- the node behind all that node m holds, where it has the same level
+abbrev pub same_level : ℕ → Node → Option Node → Option ℕ
+same_level m x None = None
+same_level m x (Some y) = some_if ((y.level == x.level) && nat_lt m x.after) x.after
 
-abbrev pub next_behind : List Node → Option Node → Option ℕ
-next_behind ns None = None
-next_behind ns (Some x) = same_level x (slice_get ns x.after)
+abbrev pub next_behind : List Node → ℕ → Option Node → Option ℕ
+next_behind ns m None = None
+next_behind ns m (Some x) = same_level m x (slice_get ns x.after)
 
 abbrev pub next_number : List Node → ℕ → Option ℕ
-next_number ns k = next_behind ns (slice_get ns k)
+next_number ns m = next_behind ns m (slice_get ns m)

@@ -2,8 +2,11 @@
 #![tactic(auto)]
 
 mod look;
+mod member;
 mod node;
+mod same;
 mod steps;
 
 pub use look::{first_in, kind_in, name_in, next_in, span_in, string_in};
+pub use member::member_in;
 pub use node::{Node, Place};

@@ -1,10 +1,10 @@
 ghost use Rattle.json_nodes.specs.At.{At, ChildAt, FoundChild};
 ghost use Rattle.json_nodes.specs.Nodes.{kind_of};
-ghost use Rattle.json_nodes.specs.Texts.{IsSpelledAt, IsStringAt, names};
+ghost use Rattle.json_nodes.specs.Texts.{IsSpelledAt, IsStringAt, between, names};
 ghost use Rattle.json_text.specs.declared.span.Span.{Span};
-ghost use Rattle.json_text.specs.Json.{Json, span_of, string};
+ghost use Rattle.json_text.specs.Json.{Json, span_of, string, value};
 ghost use Rattle.json_text.specs.String.{SpellsCharacters};
-ghost use Rattle.std.specs.Prelude.{◌≡◌, ◌+◌, ◌<◌, ℕ, List, length, MatchOption, Some};
+ghost use Rattle.std.specs.Prelude.{◌≡◌, ◌+◌, ◌<◌, ◌≤◌, ℕ, List, length, MatchOption, Some};
 ghost use Rattle.std.specs.List.{slice_get};
 
 use crate::node::Node;
@@ -27,6 +27,22 @@ pub fn span_in(nodes: &[Node], node: u32) -> Span
 {
     let here = nodes[node as usize];
     Span { from: here.from as usize, to: here.to as usize }
+}
+
+/// The bytes of a value, with its quotation marks or brackets.
+pub fn bytes_in<'a>(bytes: &'a [u8], nodes: &[Node], node: u32) -> &'a [u8]
+    requires { node < length nodes.now }
+    ensures { (t : Json) → At (record { bytes = bytes.now; nodes = nodes.now }) node t → value t (span_of t).from result.now }
+{
+    let here = nodes[node as usize];
+    part(bytes, here.from as usize, here.to as usize)
+}
+
+// The bytes from one place to another, where there are such places.
+fn part(bytes: &[u8], from: usize, to: usize) -> &[u8]
+    ensures { from ≤ to → to ≤ length bytes.now → result.now ≡ between from to bytes.now }
+{
+    if from <= to && to <= bytes.len() { &bytes[from..to] } else { &[] }
 }
 
 /// The bytes between the quotation marks of a string.
@@ -60,7 +76,7 @@ fn inside_quotes(bytes: &[u8], from: u32, to: u32) -> &[u8]
 pub fn first_in(nodes: &[Node], node: u32) -> Option<u32>
     requires { node < length nodes.now }
     ensures first { (bytes : List ℕ) (t : Json) → At (record { bytes = bytes; nodes = nodes.now }) node t → FoundChild (record { bytes = bytes; nodes = nodes.now }) node t 0 result }
-    ensures inside { MatchOption result (Unit {0}) (λ first. first < length nodes.now) }
+    ensures inside { MatchOption result (Unit {0}) (λ first. (node < first) × (first < length nodes.now)) }
 {
     first_number(nodes, node)
 }
@@ -69,7 +85,7 @@ pub fn first_in(nodes: &[Node], node: u32) -> Option<u32>
 pub fn next_in(nodes: &[Node], node: u32) -> Option<u32>
     requires { node < length nodes.now }
     ensures next { (bytes : List ℕ) (k n : ℕ) (t u : Json) → ChildAt (record { bytes = bytes; nodes = nodes.now }) k t n node u → FoundChild (record { bytes = bytes; nodes = nodes.now }) k t (n + 1) result }
-    ensures inside { MatchOption result (Unit {0}) (λ next. next < length nodes.now) }
+    ensures inside { MatchOption result (Unit {0}) (λ next. (node < next) × (next < length nodes.now)) }
 {
     next_number(nodes, node)
 }

@@ -24,7 +24,7 @@ pub fn next_number(nodes: &[Node], node: u32) -> Option<u32>
 {
     let here = nodes[node as usize];
     let next = nodes.get(here.after as usize)?;
-    if next.level == here.level {
+    if next.level == here.level && node < here.after {
         Some(here.after)
     } else {
         None
