@@ -1,0 +1,6 @@
+pub mod Encoded
+pub mod NumberBytes
+pub mod Numbers
+pub mod Pieces
+pub mod TextBytes
+pub mod Walks

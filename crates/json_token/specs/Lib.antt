@@ -1,0 +1,2 @@
+pub mod NumberMoves
+pub mod StringMoves

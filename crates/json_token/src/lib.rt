@@ -1,2 +1,8 @@
 //! The numbers and strings of RFC 8259, a byte at a time, and what a string's bytes decode to.
 #![tactic(auto)]
+
+mod number;
+mod string;
+
+pub use number::{NumberMove, NumberPart, number_begin, number_may_end, number_move};
+pub use string::{Move, Part, string_move};

@@ -1,0 +1,4 @@
+pub mod Classes
+pub mod Machine
+pub mod Views
+pub mod Words

@@ -1,0 +1,17 @@
+//! The reader of JSON texts (RFC 8259): bytes in, their values as nodes out, or the place of the first fault.
+#![tactic(auto)]
+
+mod class;
+mod fault;
+mod nodes;
+mod reader;
+mod state;
+mod tape;
+mod word;
+
+#[cfg(test)]
+mod tests;
+
+pub use fault::JsonFault;
+pub use tape::Tape;
+pub use json_text::{Body, Kind, Memory, Span};

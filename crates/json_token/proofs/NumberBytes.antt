@@ -1,0 +1,79 @@
+-- What the classes of bytes say, and the bytes of each class.
+use Rattle.std.proofs.Common.{◌≡◌, refl, ap, ℕ, Bool, true, ◌&&◌, ◌⊎◌, inl, inr, arith}
+use Rattle.std.specs.Prelude.{IsTrue, nat_le}
+use Rattle.std.proofs.lemmas.Bool.Decides.{nat_tests}
+use Rattle.json_text.specs.Number.{is_digit}
+use Rattle.json_text.specs.Read.{is_number_byte}
+use Rattle.json_token.specs.declared.number.NumberByte.{NumberByte}
+use Rattle.json_token.specs.declared.number.NumberByte.TheVariants as byte
+use Rattle.json_token.specs.NumberMoves.{number_byte}
+
+pub zero_is : (b : ℕ) → number_byte b ≡ byte.Zero → b ≡ 48
+unfolding number_byte
+zero_is b h = grind (arith, nat_tests)
+
+pub one_is : (b : ℕ) → number_byte b ≡ byte.OneToNine → IsTrue (nat_le 49 b && nat_le b 57)
+unfolding number_byte
+one_is b h = grind (arith, nat_tests)
+
+pub zero_digit : (b : ℕ) → number_byte b ≡ byte.Zero → IsTrue (is_digit b)
+unfolding number_byte
+zero_digit b h = grind (arith, nat_tests)
+
+pub one_digit : (b : ℕ) → number_byte b ≡ byte.OneToNine → IsTrue (is_digit b)
+unfolding number_byte
+one_digit b h = grind (arith, nat_tests)
+
+pub point_is : (b : ℕ) → number_byte b ≡ byte.Point → b ≡ 46
+unfolding number_byte
+point_is b h = grind (arith, nat_tests)
+
+pub letter_is : (b : ℕ) → number_byte b ≡ byte.Letter → (b ≡ 101) ⊎ (b ≡ 69)
+unfolding number_byte
+letter_is b h = grind (arith, nat_tests)
+
+pub plus_is : (b : ℕ) → number_byte b ≡ byte.Plus → b ≡ 43
+unfolding number_byte
+plus_is b h = grind (arith, nat_tests)
+
+pub minus_is : (b : ℕ) → number_byte b ≡ byte.Minus → b ≡ 45
+unfolding number_byte
+minus_is b h = grind (arith, nat_tests)
+
+pub one_class : (b : ℕ) → IsTrue (nat_le 49 b && nat_le b 57) → number_byte b ≡ byte.OneToNine
+unfolding number_byte
+one_class b h = grind (arith, nat_tests)
+
+pub digit_class : (b : ℕ) → IsTrue (is_digit b) → (number_byte b ≡ byte.Zero) ⊎ (number_byte b ≡ byte.OneToNine)
+unfolding number_byte
+digit_class b h = grind (arith, nat_tests)
+
+-- no number has a byte of the last class
+pub other_is : (b : ℕ) → number_byte b ≡ byte.Other → IsTrue (is_number_byte b) → ⊥
+unfolding number_byte
+other_is b h k = grind (arith, nat_tests)
+
+pub other_class : (b : ℕ) → (IsTrue (is_number_byte b) → ⊥) → number_byte b ≡ byte.Other
+unfolding number_byte
+other_class b h = grind (arith, nat_tests)
+
+pub zero_class : number_byte 48 ≡ byte.Zero
+unfolding number_byte
+zero_class = refl
+
+pub point_class : number_byte 46 ≡ byte.Point
+unfolding number_byte
+point_class = refl
+
+pub plus_class : number_byte 43 ≡ byte.Plus
+unfolding number_byte
+plus_class = refl
+
+pub minus_class : number_byte 45 ≡ byte.Minus
+unfolding number_byte
+minus_class = refl
+
+pub letter_class : (e : ℕ) → (e ≡ 101) ⊎ (e ≡ 69) → number_byte e ≡ byte.Letter
+unfolding number_byte
+letter_class e (inl h) = ap number_byte h
+letter_class e (inr h) = ap number_byte h
