@@ -1,0 +1,9 @@
+pub mod Looks
+pub mod Members
+pub mod Numbers
+pub mod Parts
+pub mod Places
+pub mod Sames
+pub mod Spelled
+pub mod Spelling
+pub mod Tree

@@ -1,6 +1,12 @@
 //! The values of a JSON text as a list of nodes in preorder, and the look-ups over it.
 #![tactic(auto)]
 
+mod look;
+mod member;
 mod node;
+mod same;
+mod steps;
 
+pub use look::{first_in, kind_in, name_in, next_in, span_in, string_in};
+pub use member::member_in;
 pub use node::{Node, Place};

@@ -1,6 +1,9 @@
+pub mod Comparing
+pub mod Decoding
 pub mod Encoded
 pub mod NumberBytes
 pub mod Numbers
 pub mod Pieces
+pub mod Shorter
 pub mod TextBytes
 pub mod Walks

@@ -1,8 +1,12 @@
 //! The numbers and strings of RFC 8259, a byte at a time, and what a string's bytes decode to.
 #![tactic(auto)]
 
+mod character;
+mod decoded;
 mod number;
 mod string;
 
+pub use character::next_character;
+pub use decoded::{decode, same_characters, spells_text};
 pub use number::{NumberMove, NumberPart, number_begin, number_may_end, number_move};
 pub use string::{Move, Part, string_move};

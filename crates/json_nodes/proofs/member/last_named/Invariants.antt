@@ -1,0 +1,10 @@
+use Rattle.std.proofs.Common.{length}
+use Rattle.std.specs.Str.{chars}
+use Rattle.json_nodes.proofs.Members.{Walking, left}
+use Rattle.json_nodes.proofs.member.last_named.Given as goal
+
+abbrev pub invariant-loop-next : goal.invariant-loop-next
+invariant-loop-next l = Walking (chars l.name) (record { bytes = l.bytes; nodes = l.nodes }) l.node l.next l.found
+
+abbrev pub decreases-loop-next : goal.decreases-loop-next
+decreases-loop-next l = left (length l.nodes) l.next

@@ -1,0 +1,91 @@
+ghost use Rattle.json_nodes.specs.At.{At, ChildAt, FoundChild};
+ghost use Rattle.json_nodes.specs.Nodes.{kind_of};
+ghost use Rattle.json_nodes.specs.Texts.{IsSpelledAt, IsStringAt, between, names};
+ghost use Rattle.json_text.specs.declared.span.Span.{Span};
+ghost use Rattle.json_text.specs.Json.{Json, span_of, string, value};
+ghost use Rattle.json_text.specs.String.{SpellsCharacters};
+ghost use Rattle.std.specs.Prelude.{◌≡◌, ◌+◌, ◌<◌, ◌≤◌, ℕ, List, length, MatchOption, Some};
+ghost use Rattle.std.specs.List.{slice_get};
+
+use crate::node::Node;
+use crate::steps::{first_number, next_number};
+use json_text::{Kind, Span};
+
+/// What a value is.
+pub fn kind_in(nodes: &[Node], node: u32) -> Kind
+    requires { node < length nodes.now }
+    ensures { (bytes : List ℕ) (t : Json) → At (record { bytes = bytes; nodes = nodes.now }) node t → result ≡ kind_of t }
+{
+    nodes[node as usize].kind
+}
+
+/// Where a value stands, with its quotation marks or brackets.
+pub fn span_in(nodes: &[Node], node: u32) -> Span
+    requires { node < length nodes.now }
+    ensures span { (bytes : List ℕ) (t : Json) → At (record { bytes = bytes; nodes = nodes.now }) node t → result ≡ span_of t }
+    ensures text { (bytes : List ℕ) (t : Json) → At (record { bytes = bytes; nodes = nodes.now }) node t → IsSpelledAt bytes t }
+{
+    let here = nodes[node as usize];
+    Span { from: here.from as usize, to: here.to as usize }
+}
+
+/// The bytes of a value, with its quotation marks or brackets.
+pub fn bytes_in<'a>(bytes: &'a [u8], nodes: &[Node], node: u32) -> &'a [u8]
+    requires { node < length nodes.now }
+    ensures { (t : Json) → At (record { bytes = bytes.now; nodes = nodes.now }) node t → value t (span_of t).from result.now }
+{
+    let here = nodes[node as usize];
+    part(bytes, here.from as usize, here.to as usize)
+}
+
+// The bytes from one place to another, where there are such places.
+fn part(bytes: &[u8], from: usize, to: usize) -> &[u8]
+    ensures { from ≤ to → to ≤ length bytes.now → result.now ≡ between from to bytes.now }
+{
+    if from <= to && to <= bytes.len() { &bytes[from..to] } else { &[] }
+}
+
+/// The bytes between the quotation marks of a string.
+pub fn string_in<'a>(bytes: &'a [u8], nodes: &[Node], node: u32) -> &'a [u8]
+    requires { node < length nodes.now }
+    ensures { (s : Span) (cs : List ℕ) → At (record { bytes = bytes.now; nodes = nodes.now }) node (string s cs) → SpellsCharacters cs result.now }
+{
+    let here = nodes[node as usize];
+    inside_quotes(bytes, here.from, here.to)
+}
+
+/// The bytes between the quotation marks of the name of a member, which its value stands for.
+pub fn name_in<'a>(bytes: &'a [u8], nodes: &[Node], node: u32) -> &'a [u8]
+    requires { node < length nodes.now }
+    ensures { (k n : ℕ) (t u : Json) (cs : List ℕ) → ChildAt (record { bytes = bytes.now; nodes = nodes.now }) k t n node u → slice_get (names t) n ≡ Some cs → SpellsCharacters cs result.now }
+{
+    let name = nodes[node as usize].name;
+    inside_quotes(bytes, name.from, name.to)
+}
+
+// The bytes of a string in this span, without its quotation marks.
+fn inside_quotes(bytes: &[u8], from: u32, to: u32) -> &[u8]
+    ensures { (cs : List ℕ) → IsStringAt bytes.now (record { from = from; to = to }) cs → SpellsCharacters cs result.now }
+{
+    let from = from as usize + 1;
+    let to = to as usize;
+    if from < to && to <= bytes.len() { &bytes[from..to - 1] } else { &[] }
+}
+
+/// The first item of an array, or the value of the first member of an object.
+pub fn first_in(nodes: &[Node], node: u32) -> Option<u32>
+    requires { node < length nodes.now }
+    ensures first { (bytes : List ℕ) (t : Json) → At (record { bytes = bytes; nodes = nodes.now }) node t → FoundChild (record { bytes = bytes; nodes = nodes.now }) node t 0 result }
+    ensures inside { MatchOption result (Unit {0}) (λ first. (node < first) × (first < length nodes.now)) }
+{
+    first_number(nodes, node)
+}
+
+/// The item that follows this one in its array, or the value of the member that follows this one's in its object.
+pub fn next_in(nodes: &[Node], node: u32) -> Option<u32>
+    requires { node < length nodes.now }
+    ensures next { (bytes : List ℕ) (k n : ℕ) (t u : Json) → ChildAt (record { bytes = bytes; nodes = nodes.now }) k t n node u → FoundChild (record { bytes = bytes; nodes = nodes.now }) k t (n + 1) result }
+    ensures inside { MatchOption result (Unit {0}) (λ next. (node < next) × (next < length nodes.now)) }
+{
+    next_number(nodes, node)
+}

@@ -1,0 +1,52 @@
+//! A string's characters as text, and compared with a text or with another string's.
+ghost use Rattle.std.specs.Prelude.{◌≡◌, ℕ, ◌↔◌, List, IfOk, IsTrue};
+ghost use Rattle.std.specs.Str.{chars};
+ghost use Rattle.std.proofs.Math.Utf8.{encodes};
+ghost use Rattle.json_text.specs.String.{SpellsCharacters};
+
+use crate::character::{is_at_end, next_character, strip_character};
+use std::alloc::{AllocError, Global};
+
+/// The characters that the bytes between a string's quotation marks stand for, in UTF-8. A surrogate with no partner stands for
+/// U+FFFD.
+pub fn decode(alloc: Global, raw: &[u8]) -> Result<Vec<u8>, AllocError>
+    ensures { (cs : List ℕ) → SpellsCharacters cs raw.now → IfOk result (λ v. v.items ≡ encodes cs) }
+{
+    let mut text = String::new(alloc);
+    let mut rest = raw;
+    while let Some((character, more)) = next_character(rest) {
+        text.push(character)?;
+        rest = more;
+    }
+    Ok(text.into_bytes())
+}
+
+/// Whether the bytes between a string's quotation marks stand for the characters of a text.
+pub fn spells_text(raw: &[u8], text: &str) -> bool
+    ensures { (cs : List ℕ) → SpellsCharacters cs raw.now → (IsTrue result ↔ (cs ≡ chars text.now)) }
+{
+    let mut rest = raw;
+    for wanted in text.chars() {
+        let Some(more) = strip_character(rest, wanted) else {
+            return false;
+        };
+        rest = more;
+    }
+    is_at_end(rest)
+}
+
+/// Whether the bytes between the quotation marks of two strings stand for the same characters.
+pub fn same_characters(a: &[u8], b: &[u8]) -> bool
+    ensures { (cs ds : List ℕ) → SpellsCharacters cs a.now → SpellsCharacters ds b.now → (IsTrue result ↔ (cs ≡ ds)) }
+{
+    let mut rest = a;
+    let mut other_rest = b;
+    while let Some((character, more)) = next_character(rest) {
+        let Some(other_more) = strip_character(other_rest, character) else {
+            return false;
+        };
+        rest = more;
+        other_rest = other_more;
+    }
+    is_at_end(other_rest)
+}
