@@ -176,4 +176,4 @@ mutual
   says_more_members_bare no_members bs h = h
   says_more_members_bare (member s cs j ms) bs h = second_to (one 44) (blank along name_and cs (says j) along blank along says_more_members ms) (blank along name_and cs (says (bare j)) along blank along says_more_members (bare_members ms))
       (two_to (name_and cs (says j)) (says_more_members ms) (name_and cs (says (bare j))) (says_more_members (bare_members ms))
-        (name_to cs (says j) (says (bare j)) (λ bs h. says_bare j bs h)) (λ bs h. says_more_members_bare ms bs h)) bs h
+      (name_to cs (says j) (says (bare j)) (λ bs h. says_bare j bs h)) (λ bs h. says_more_members_bare ms bs h)) bs h

@@ -1,3 +1,4 @@
+pub mod Changes
 pub mod Compact
 pub mod Depths
 pub mod Edits

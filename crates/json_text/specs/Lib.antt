@@ -1,4 +1,5 @@
 pub mod Bare
+pub mod Changes
 pub mod Computes
 pub mod Faults
 pub mod Json

@@ -2,11 +2,13 @@
 #![tactic(auto)]
 
 mod body;
+mod change;
 mod kind;
 mod span;
 mod tree;
 
 pub use body::{Body, Memory};
+pub use change::{Change, splice};
 pub use kind::{Kind, Word};
 pub use span::Span;
 pub use tree::tree_of_law;

@@ -1,0 +1,31 @@
+// Bytes in which some places are replaced.
+ghost use Rattle.std.specs.Prelude.{◌≡◌, IfOk};
+ghost use Rattle.json_text.specs.Changes.{edits_of};
+ghost use Rattle.json_text.specs.Replace.{replace, Rise};
+
+use crate::body::{Body, Memory};
+use crate::span::Span;
+use std::alloc::Global;
+
+/// A place in a list of bytes, and the bytes that come there.
+#[derive(Debug, Drop)]
+pub struct Change {
+    pub span: Span,
+    pub text: Body,
+}
+
+/// The bytes with each change made, in one pass; the places rise and don't overlap.
+pub fn splice(alloc: Global, bytes: &[u8], changes: &[Change]) -> Result<Body, Memory>
+    requires { Rise bytes.now (edits_of changes.now) }
+    ensures { IfOk result (λ body. body ≡ replace bytes.now (edits_of changes.now)) }
+{
+    let mut written = Vec::new(alloc);
+    let mut at: usize = 0;
+    for change in changes {
+        written.extend_from_slice(&bytes[at..change.span.from])?;
+        written.extend_from_slice(change.text.bytes())?;
+        at = change.span.to;
+    }
+    written.extend_from_slice(&bytes[at..])?;
+    Ok(Body::new(written))
+}
