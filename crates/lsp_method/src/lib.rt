@@ -4,5 +4,5 @@
 mod table;
 mod variants;
 
-pub use table::server_notification;
+pub use table::class;
 pub use variants::{Class, Origin};
