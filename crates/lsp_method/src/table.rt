@@ -4,7 +4,8 @@ ghost use Rattle.lsp_method.specs.Class.{class_of, own_request, own_notification
 
 use crate::variants::{Class, Origin};
 
-/// The class of a method by its decoded bytes, its sender and whether it is a notification.
+/// The class of a method (LSP 3.17) by its decoded bytes, its sender and whether it is a notification.
+/// An editor's request under the name of an editor's notification is wrong, a notification under that of a request is dropped.
 pub fn class(method: &[u8], sender: Origin, notification: bool) -> Class
     ensures { result ≡ class_of method.now sender notification }
 {
