@@ -4,6 +4,7 @@ use Rattle.std.specs.Fmt.{digits}
 use Rattle.json.specs.Print.{escape_byte}
 use Rattle.json_text.specs.Computes.{computes}
 use Rattle.json_text.specs.Named.{named}
+use Rattle.lsp_method.specs.Class.{own_request, own_notification, goes_nowhere, editor_request, editor_notification, is_refresh, is_focused, server_request, server_notification}
 use Rattle.rpc_message.specs.Message.{message_of, no_name_twice, is_integer, member_bytes}
 use Rattle.rpc_message.specs.Texts.{with_id_text}
 use Rattle.mux_model.specs.Example.{outs_from, taken_from, plain_path, plain_path_outs}
@@ -13,5 +14,5 @@ unfolding computes message_of named no_name_twice is_integer member_bytes with_i
 the_plain_path = refl
 
 the_plain_path_is_taken : taken_from [] plain_path ≡ true
-unfolding computes message_of named no_name_twice is_integer member_bytes with_id_text escape_byte digits
+unfolding computes message_of named no_name_twice is_integer member_bytes with_id_text escape_byte digits own_request own_notification goes_nowhere editor_request editor_notification is_refresh is_focused server_request server_notification
 the_plain_path_is_taken = refl
