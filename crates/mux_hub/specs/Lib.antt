@@ -1,0 +1,4 @@
+pub mod Faults
+pub mod Hubs
+pub mod Stands
+pub mod Tables
