@@ -19,7 +19,7 @@ use crate::tables::Tables;
 
 /// The core of the multiplexer. It stands for the history of its steps, and its journal has the entries.
 #[derive(Drop)]
-pub struct Hub<J> {
+pub struct Hub<J: Journal> {
     alloc: Global,
     limits: Limits,
     servers: Vec<Server>,
