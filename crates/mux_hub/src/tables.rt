@@ -1,6 +1,45 @@
 // What the hub keeps of the history: where editor 0 and start 0 stand, and the requests between them.
+ghost use Rattle.std.specs.Prelude.{◌≡◌, List};
+ghost use Rattle.mux_model.specs.Event.{Event};
+ghost use Rattle.mux_model.specs.Fits.{fits_behind};
+ghost use Rattle.mux_model.specs.Phases.{is_linked};
+ghost use Rattle.mux_model.specs.Stages.{may_start, runs};
+ghost use Rattle.mux_hub.specs.Tables.{joined_in};
+
 use json_text::Body;
+use mux_history::Cause;
 use mux_model::{Phase, Stage};
+
+// How many editors joined.
+fn joined_in(phase: Phase) -> u64
+    ensures { result ≡ joined_in phase }
+{
+    match phase {
+        Phase::Absent => 0,
+        _ => 1,
+    }
+}
+
+// The editor's link isn't gone.
+fn is_linked(phase: Phase) -> bool
+    ensures { result ≡ is_linked phase }
+{
+    !matches!(phase, Phase::Absent | Phase::Gone)
+}
+
+// The start's program may yet run, or fail to.
+fn may_start(stage: Stage, started: bool) -> bool
+    ensures { result ≡ may_start (record { stage = stage; started = started }) }
+{
+    matches!(stage, Stage::Spawning | Stage::Ending) && !started
+}
+
+// The start's program runs.
+fn runs(stage: Stage, started: bool) -> bool
+    ensures { result ≡ runs (record { stage = stage; started = started }) }
+{
+    started && !matches!(stage, Stage::Ended)
+}
 
 /// A request that was sent to the start for the editor and isn't answered: its number there, and the bytes of the id
 /// that the editor gave it.
@@ -26,4 +65,27 @@ pub struct Tables {
     pub next: u32,
     /// Numbers rising.
     pub pending: Vec<Pending>,
+}
+
+impl Tables {
+    ghost use Rattle.mux_hub.specs.Stands.{Stands};
+
+    /// Whether this cause can come now.
+    pub fn fits(&self, cause: &Cause) -> bool
+        ensures { (events : List Event) → Stands self.now events → result ≡ fits_behind events cause.now }
+    {
+        match cause {
+            Cause::Joined(editor) => *editor == joined_in(self.phase),
+            Cause::FromEditor(editor, _) | Cause::EditorGone(editor, _) => *editor == 0
+                && is_linked(self.phase),
+            Cause::Drained(editor, bytes) => *editor == 0
+                && is_linked(self.phase)
+                && *bytes <= self.sent,
+            Cause::Started(start) | Cause::StartFailed(start) => *start == 0
+                && may_start(self.stage, self.started),
+            Cause::FromServer(start, _) | Cause::ServerGone(start) => *start == 0
+                && runs(self.stage, self.started),
+            Cause::Tick(_) => true,
+        }
+    }
 }
