@@ -1,0 +1,6 @@
+pub mod Causes
+pub mod Lines
+pub mod Marks
+pub mod Numbers
+pub mod Options
+pub mod Outs

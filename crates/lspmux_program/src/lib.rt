@@ -1,0 +1,6 @@
+//! The command `drive`: cause lines in, one hub, out lines out.
+#![tactic(auto)]
+
+mod read;
+mod word;
+mod write;
