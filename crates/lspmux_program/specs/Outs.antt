@@ -9,7 +9,7 @@ use Rattle.lspmux_program.specs.Marks.{text_of_body}
 abbrev pub head_of : Out → List ℕ
 head_of (ToEditor e body) = (codes ">ed " ++ decimal e) ++ codes " "
 head_of (ToServer s body) = (codes ">sv " ++ decimal s) ++ codes " "
-head_of (Spawn s g) = ((codes ">spawn " ++ decimal s) ++ codes " ") ++ decimal g
+head_of (Spawn s g) = codes ">spawn " ++ (decimal s ++ (codes " " ++ decimal g))
 head_of (CloseEditor e) = codes ">close " ++ decimal e
 head_of (EndServer s) = codes ">end " ++ decimal s
 
