@@ -1,3 +1,4 @@
+pub mod Buffers
 pub mod Causes
 pub mod Lines
 pub mod Marks

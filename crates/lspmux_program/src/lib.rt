@@ -1,6 +1,7 @@
 //! The command `drive`: cause lines in, one hub, out lines out.
 #![tactic(auto)]
 
+mod buffer;
 mod read;
 mod word;
 mod write;
