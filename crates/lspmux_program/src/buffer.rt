@@ -1,5 +1,5 @@
 // Bytes read ahead of their use.
-ghost use Rattle.std.specs.Prelude.{◌≡◌, ℕ, ◌+◌, ◌-◌, ◌*◌, ◌^◌, ◌<◌, ◌≤◌, ◌↔◌, ◌≢◌, Option, List, [], length, take, drop, IfOk, OnOk, OnErr, IfSome, IsTrue, nat_eq, true, false};
+ghost use Rattle.std.specs.Prelude.{◌≡◌, ℕ, ◌+◌, ◌-◌, ◌*◌, ◌^◌, ◌<◌, ◌≤◌, ◌↔◌, ◌≢◌, Option, List, [], length, take, drop, IfOk, OnOk, OnErr, IfSome, nat_eq, true, false};
 ghost use Rattle.std.specs.Io.KnownBytes.{prepend_known};
 ghost use Rattle.outside_io.specs.Faults.{HasCause};
 ghost use Rattle.lspmux_program.specs.Buffers.{BufferView, Taken, FirstPasses, unused, known_lines, begun_lines, onto_known, line_feed};
@@ -93,7 +93,7 @@ impl Buffer {
     ) -> Result<bool, Memory>
         requires there { count + skipped ≤ length self.old.pending }
         requires small { self.old.used ≤ 2 ^ 40 }
-        ensures taken { IfOk result (λ fits. IsTrue fits → Taken count skipped self.old self.new line.old.items line.new.items) }
+        ensures taken { IfOk result (λ fits. fits ≡ true → Taken count skipped self.old self.new line.old.items line.new.items) }
         ensures passed { IfOk result (λ fits. fits ≡ false → 2 ^ 40 < self.old.used + (count + skipped)) }
     {
         let used = self.used + (count + skipped) as u64;

@@ -2,6 +2,7 @@
 #![tactic(auto)]
 
 mod buffer;
+mod line;
 mod read;
 mod word;
 mod write;
