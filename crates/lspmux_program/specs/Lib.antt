@@ -5,3 +5,5 @@ pub mod Marks
 pub mod Numbers
 pub mod Options
 pub mod Outs
+pub mod Runs
+pub mod Steps

@@ -4,5 +4,6 @@
 mod buffer;
 mod line;
 mod read;
+mod refusal;
 mod word;
 mod write;
