@@ -1,5 +1,6 @@
 pub mod Buffers
 pub mod Causes
+pub mod Faults
 pub mod Lines
 pub mod Marks
 pub mod Numbers

@@ -5,5 +5,6 @@ mod buffer;
 mod line;
 mod read;
 mod refusal;
+mod step;
 mod word;
 mod write;
