@@ -8,3 +8,4 @@ pub mod Options
 pub mod Outs
 pub mod Runs
 pub mod Steps
+pub mod Stops

@@ -2,9 +2,11 @@
 #![tactic(auto)]
 
 mod buffer;
+mod drive;
 mod line;
 mod read;
 mod refusal;
 mod step;
+mod stop;
 mod word;
 mod write;
