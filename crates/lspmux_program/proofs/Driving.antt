@@ -123,12 +123,12 @@ front_of_more w v u a b c n e f g = record {
 }
 
 -- the exits and the turn of the loop
-pub begins : {J : Type 0} (told : J → Option (List Entry)) (settings : Settings) (hub : HubView J) (left w : Option (List ℕ)) → HubStands told hub []
-    → Driving told settings (option_map lines_of left) (known_lines (record { pending = []; used = 0 }) left) 0 w w hub
-begins told settings hub left w s = record {
+pub begins : {J : Type 0} (told : J → Option (List Entry)) (settings : Settings) (hub : HubView J) (buffer : BufferView) (left w : Option (List ℕ)) → HubStands told hub []
+    → buffer ≡ record { pending = []; used = 0 } → Driving told settings (option_map lines_of left) (known_lines buffer left) 0 w w hub
+begins told settings hub buffer left w s e = record {
   history = [];
   stands = s;
-  run = record { front = []; whole = unread left; runs = refl };
+  run = record { front = []; whole = unread left ∙ ap (λ (b : BufferView). option_map (λ lines. [] ++ lines) (known_lines b left)) (sym e); runs = refl };
   count = refl;
   wrote = unwritten w;
 }
@@ -250,3 +250,12 @@ faults told settings all now rest taken number w v u hub next bytes upto (line_f
     kept_at told settings all now taken w v u hub next (stop.Refused number r) d k.0 k.1
         (k.1 ∙ d.wrote, numbered_as settings all d.history d.run.front r number taken n d.count
             (given_refused settings all rest d.history d.run.front (record { bytes = bytes; upto = upto }) r (d.run.whole ∙ ap (option_map (λ ls. d.run.front ++ ls)) e) d.run.runs (reading_near d.history bytes upto m ∙ refused r refl)))
+
+memory_not_passed : line_stop.Memory ≡ line_stop.Passed → ⊥
+memory_not_passed e = cc
+
+-- no memory for a buffer
+pub never_begins : {J : Type 0} (told : J → Option (List Entry)) (settings : Settings) (hub : HubView J) (left w : Option (List ℕ)) → HubStands told hub [] → Driven told settings (option_map lines_of left) w w hub (Err stop.Memory)
+never_begins told settings hub left w s =
+    stops told settings (option_map lines_of left) (known_lines (record { pending = []; used = 0 }) left) 0 1 w w hub line_stop.Memory
+        (begins told settings hub (record { pending = []; used = 0 }) left w s refl) refl (λ e. absurd (memory_not_passed e))
