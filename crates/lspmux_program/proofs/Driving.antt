@@ -100,7 +100,7 @@ given_passed settings all (Some []) history front e r h = absurd h
 given_passed settings all (Some (line ∷ ls)) history front e r h = given_refused settings all (Some ls) history front line Form e r (reading_far history line h)
 
 -- what was written
-append_both : (w : Option (List ℕ)) (a b : List ℕ) → append_known (append_known w a) b ≡ append_known w (a ++ b)
+pub append_both : (w : Option (List ℕ)) (a b : List ℕ) → append_known (append_known w a) b ≡ append_known w (a ++ b)
 append_both None a b = refl
 append_both (Some bytes) a b = ap (λ l. Some l) (append_assoc bytes a b)
 
@@ -109,11 +109,11 @@ unfolding after
 outs_more settings history cause =
     flat_map-append (λ (entry : Entry). out_lines entry.outs) history (entry_of settings history cause ∷ []) ∙ ap (λ l. outs_text history ++ l) (append-nil (out_lines (emits settings history cause)))
 
-take_more : (a b : List ℕ) (n : ℕ) → take (length a + n) (a ++ b) ≡ a ++ take n b
+pub take_more : (a b : List ℕ) (n : ℕ) → take (length a + n) (a ++ b) ≡ a ++ take n b
 take_more [] b n = let e : 0 + n ≡ n = omega arith in ap (λ k. take k b) e
 take_more (x ∷ a) b n = let e : length (x ∷ a) + n ≡ suc (length a + n) = omega arith in ap (λ k. take k (x ∷ a ++ b)) e ∙ ap (λ l. x ∷ l) (take_more a b n)
 
-front_of_all : (w v : Option (List ℕ)) (text : List ℕ) → v ≡ append_known w text → WroteFront w v text
+pub front_of_all : (w v : Option (List ℕ)) (text : List ℕ) → v ≡ append_known w text → WroteFront w v text
 front_of_all w v text e = record { count = length text; wrote = e ∙ ap (append_known w) (sym (take-length text)) }
 
 front_of_more : (w v u : Option (List ℕ)) (a b c : List ℕ) (n : ℕ) → v ≡ append_known w a → u ≡ append_known v (take n b) → c ≡ a ++ b → WroteFront w u c

@@ -6,6 +6,8 @@ pub mod Marks
 pub mod Numbers
 pub mod Options
 pub mod Outs
+pub mod Program
+pub mod Reports
 pub mod Runs
 pub mod Steps
 pub mod Stops

@@ -6,6 +6,7 @@ mod drive;
 mod line;
 mod read;
 mod refusal;
+mod report;
 mod step;
 mod stop;
 mod word;
