@@ -4,7 +4,7 @@ ghost use Rattle.std.specs.Io.KnownBytes.{append_known};
 ghost use Rattle.outside_io.specs.Faults.{Rose};
 ghost use Rattle.lspmux_program.specs.Program.{status_of, refusal_word, refused_line, journal_line, input_line, fault_line};
 ghost use Rattle.lspmux_program.specs.Runs.{WroteFront};
-ghost use Rattle.lspmux_program.specs.Reports.{Wrote};
+ghost use Rattle.lspmux_program.specs.Reports.{Wrote, Reported};
 
 use std::alloc::Global;
 
@@ -41,9 +41,7 @@ pub fn write_fault<O: Sink>(output: &mut O, line: &[u8])
 }
 
 fn write_refused<O: Sink>(alloc: Global, output: &mut O, line: u64, refusal: Refusal) -> u8
-    ensures answers { (result ≡ 1) ⊎ (result ≡ 5) }
-    ensures wrote { result ≡ 1 → Wrote (O.written output.old) (O.written output.new) (refused_line (record { line = line; refusal = refusal })) (Rose (O.faults output.old) (O.faults output.new)) }
-    ensures unwritten { result ≡ 5 → O.written output.new ≡ O.written output.old }
+    ensures reported { Reported result 1 (O.written output.old) (O.written output.new) (refused_line (record { line = line; refusal = refusal })) (Rose (O.faults output.old) (O.faults output.new)) }
     ensures later { O.faults output.old ≤ O.faults output.new }
 {
     let Ok(text) = refused_line(alloc, line, refusal) else {
@@ -56,9 +54,7 @@ fn write_refused<O: Sink>(alloc: Global, output: &mut O, line: u64, refusal: Ref
 /// Writes the fault line of a stop and answers the status: 1 and the number of a refused line, 5 for want of memory,
 /// 6, 7 and 8 for faults of journal, input and output.
 pub fn report<O: Sink>(alloc: Global, output: &mut O, stop: Stop) -> u8
-    ensures status { result ≢ 5 → result ≡ status_of stop }
-    ensures wrote { result ≢ 5 → Wrote (O.written output.old) (O.written output.new) (fault_line stop) (Rose (O.faults output.old) (O.faults output.new)) }
-    ensures unwritten { result ≡ 5 → O.written output.new ≡ O.written output.old }
+    ensures reported { Reported result (status_of stop) (O.written output.old) (O.written output.new) (fault_line stop) (Rose (O.faults output.old) (O.faults output.new)) }
     ensures later { O.faults output.old ≤ O.faults output.new }
 {
     match stop {
