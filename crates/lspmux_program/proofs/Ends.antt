@@ -6,6 +6,7 @@ use Rattle.std.proofs.lemmas.List.{append-nil}
 use Rattle.mux_history.specs.declared.entry.Entry.{Entry}
 use Rattle.mux_hub.specs.Hubs.{HubView, HubStands, Tells}
 use Rattle.mux_model.specs.Legal.{Legal}
+use Rattle.outside_io.specs.Faults.{Rose}
 use Rattle.mux_model.specs.Settings.{Settings}
 use Rattle.lspmux_program.specs.declared.refusal.Refusal.{Refusal}
 use Rattle.lspmux_program.specs.declared.stop.Stop.{Stop}
@@ -150,7 +151,7 @@ said_of told journal input w v u failed stop.Journal r f = spoken told journal i
 said_of told journal input w v u failed stop.Input r f = spoken told journal input w v u failed stop.Input 7 r (omega arith) r.stopped f.front
 said_of told journal input w v u failed stop.Output r f = silent told journal input w v u failed stop.Output 8 r (omega arith) refl (nothing_written v u f.front)
 
-pub drove_stopped : {J : Type 0} (told : J → Option (List Entry)) (journal : J) (input w v u : Option (List ℕ)) (failed : Type 0) (s : Stop) (status : ℕ)
+drove_stopped : {J : Type 0} (told : J → Option (List Entry)) (journal : J) (input w v u : Option (List ℕ)) (failed : Type 0) (s : Stop) (status : ℕ)
     → Ran told journal (option_map lines_of input) w v (Err s) → Reported status (status_of s) v u (fault_line s) failed → Drove told (Some journal) input w u failed status
 drove_stopped told journal input w v u failed s status r (said e f) =
     subst (λ n. Drove told (Some journal) input w u failed n) (sym e) (said_of told journal input w v u failed s r f)
@@ -168,3 +169,22 @@ drove_words told journal input w v failed t f = record {
   other_words = λ _. (refl, f);
   cut_off = λ e. absurd (omega (arith, e));
 }
+
+rose_since : (before mid now : ℕ) → before ≤ mid → Rose mid now → Rose before now
+rose_since before mid now l r = omega (arith, l, r)
+
+wrote_since : (v u : Option (List ℕ)) (line : List ℕ) (before mid now : ℕ) → before ≤ mid → Wrote v u line (Rose mid now) → Wrote v u line (Rose before now)
+wrote_since v u line before mid now l f = record { front = f.front; whole = by f.whole }
+  where
+    by : (u ≡ append_known v line) ⊎ Rose mid now → (u ≡ append_known v line) ⊎ Rose before now
+    by (inl e) = inl e
+    by (inr r) = inr (rose_since before mid now l r)
+
+reported_since : (status told : ℕ) (v u : Option (List ℕ)) (line : List ℕ) (before mid now : ℕ) → before ≤ mid → Reported status told v u line (Rose mid now) → Reported status told v u line (Rose before now)
+reported_since status told v u line before mid now l (said e f) = said e (wrote_since v u line before mid now l f)
+reported_since status told v u line before mid now l (unsaid e f) = unsaid e f
+
+pub drove_reported : {J : Type 0} (told : J → Option (List Entry)) (journal : J) (input w v u : Option (List ℕ)) (before mid now : ℕ) (s : Stop) (status : ℕ)
+    → Ran told journal (option_map lines_of input) w v (Err s) → before ≤ mid → Reported status (status_of s) v u (fault_line s) (Rose mid now) → Drove told (Some journal) input w u (Rose before now) status
+drove_reported told journal input w v u before mid now s status r l f =
+    drove_stopped told journal input w v u (Rose before now) s status r (reported_since status (status_of s) v u (fault_line s) before mid now l f)

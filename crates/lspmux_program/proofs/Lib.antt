@@ -5,3 +5,4 @@ pub mod Ends
 pub mod Reports
 pub mod Steps
 pub mod Windows
+pub mod Words

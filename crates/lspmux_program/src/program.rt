@@ -87,3 +87,37 @@ fn run<J: Journal, I: Source, O: Sink>(
         Err(journal) => (journal, Err(Stop::Memory)),
     }
 }
+
+/// Runs the program on these words and answers its status.
+///
+/// The one list of words that is taken is `drive`: it reads cause lines from the input, steps one hub with the
+/// built-in settings, and writes out lines to the output. The journal that is handed in comes back.
+pub fn lspmux<J: Journal + Drop, I: Source, O: Sink>(
+    alloc: Global,
+    words: &[String],
+    outside: &mut Outside<J, I, O>,
+) -> u8
+    requires { JournalTells J.told outside.old.journal [] }
+    ensures drove { Drove J.told outside.new.journal (I.left outside.old.input) (O.written outside.old.output) (O.written outside.new.output) (Rose (O.faults outside.old.output) (O.faults outside.new.output)) result }
+    ensures read_to_the_end { result ≡ 0 → IfSome (I.left outside.new.input) (λ bytes. bytes ≡ []) }
+    ensures words { (result ≡ 2) ↔ (map string_bytes words.now ≢ drive_words) }
+    ensures untouched { result ≡ 2 → outside.new.input ≡ outside.old.input }
+    ensures journal_only { result ≡ 6 → JournalRose J.faults outside.old.journal outside.new.journal }
+    ensures input_only { result ≡ 7 → Rose (I.faults outside.old.input) (I.faults outside.new.input) }
+    ensures output_only { result ≡ 8 → Rose (O.faults outside.old.output) (O.faults outside.new.output) }
+    ensures answers { IsStatus result }
+{
+    if !is_drive(words) {
+        write_fault(&mut outside.output, b"!words\n");
+        return 2;
+    }
+    let Some(journal) = outside.journal.take() else {
+        return 2;
+    };
+    let (journal, result) = run(alloc, journal, &mut outside.input, &mut outside.output);
+    outside.journal = Some(journal);
+    match result {
+        Ok(()) => 0,
+        Err(stop) => report(alloc, &mut outside.output, stop),
+    }
+}
