@@ -14,7 +14,7 @@ use Rattle.lspmux_program.specs.declared.stop.Stop.TheVariants as stop
 use Rattle.lspmux_program.proofs.Driving.{append_both, take_more, front_of_all}
 use Rattle.lspmux_program.specs.Lines.{Line, lines_of}
 use Rattle.lspmux_program.specs.Outs.{outs_text}
-use Rattle.lspmux_program.specs.Program.{status_of, fault_line, status_line, refused_line, Ran, Finished, RefusedAt, CutOff, Drove, JournalTells, words_line}
+use Rattle.lspmux_program.specs.Program.{status_of, fault_line, status_line, refused_line, Ran, Finished, RefusedAt, CutOff, Drove, JournalTells, words_line, IsUnrefused, Undisturbed}
 use Rattle.lspmux_program.specs.Reports.{Wrote, Reported, said, unsaid}
 use Rattle.lspmux_program.specs.Runs.{built_in, Refused, Outcome, drive_from, drive_of, IsRunOf, WroteFront}
 use Rattle.lspmux_program.specs.Stops.{Gives, StopsAt, Driven}
@@ -188,3 +188,29 @@ pub drove_reported : {J : Type 0} (told : J → Option (List Entry)) (journal : 
     → Ran told journal (option_map lines_of input) w v (Err s) → before ≤ mid → Reported status (status_of s) v u (fault_line s) (Rose mid now) → Drove told (Some journal) input w u (Rose before now) status
 drove_reported told journal input w v u before mid now s status r l f =
     drove_stopped told journal input w v u (Rose before now) s status r (reported_since status (status_of s) v u (fault_line s) before mid now l f)
+
+refused_not_none : (at : Refused) → Some at ≡ None → ⊥
+refused_not_none at e = cc
+
+not_refused : (input : Option (List ℕ)) (history : List Entry) (at : Refused) → IsUnrefused input → Gives built_in (option_map lines_of input) (record { history = history; refused = Some at }) → ⊥
+not_refused None history at u g = u
+not_refused (Some bytes) history at u g = refused_not_none at (sym (ap (λ (o : Outcome). o.refused) g) ∙ u)
+
+complete_said : {J : Type 0} (told : J → Option (List Entry)) (journal : J) (words : List (List ℕ)) (input w v : Option (List ℕ)) (journal_rose input_rose output_rose : Type 0) (s : Stop)
+    → Ran told journal (option_map lines_of input) w v (Err s) → (s ≡ stop.Journal → journal_rose) → (s ≡ stop.Input → input_rose) → (s ≡ stop.Output → output_rose) → Undisturbed words input journal_rose input_rose output_rose → status_of s ≡ 5
+complete_said told journal words input w v journal_rose input_rose output_rose (stop.Refused k refusal) r j i o u =
+    absurd (not_refused input r.history (record { line = k; refusal = refusal }) u.lines r.stopped.1)
+complete_said told journal words input w v journal_rose input_rose output_rose stop.Memory r j i o u = refl
+complete_said told journal words input w v journal_rose input_rose output_rose stop.Journal r j i o u = absurd (u.journal (j refl))
+complete_said told journal words input w v journal_rose input_rose output_rose stop.Input r j i o u = absurd (u.input (i refl))
+complete_said told journal words input w v journal_rose input_rose output_rose stop.Output r j i o u = absurd (u.output (o refl))
+
+pub complete : {J : Type 0} (told : J → Option (List Entry)) (journal : J) (words : List (List ℕ)) (input w v u : Option (List ℕ)) (journal_rose input_rose output_rose failed : Type 0) (s : Stop) (status : ℕ)
+    → Ran told journal (option_map lines_of input) w v (Err s) → Reported status (status_of s) v u (fault_line s) failed
+    → (s ≡ stop.Journal → journal_rose) → (s ≡ stop.Input → input_rose) → (s ≡ stop.Output → output_rose) → Undisturbed words input journal_rose input_rose output_rose → (status ≡ 0) ⊎ (status ≡ 5)
+complete told journal words input w v u journal_rose input_rose output_rose failed s status r (said e f) j i o d =
+    inr (e ∙ complete_said told journal words input w v journal_rose input_rose output_rose s r j i o d)
+complete told journal words input w v u journal_rose input_rose output_rose failed s status r (unsaid e f) j i o d = inr e
+
+pub rose_until : (before mid now : ℕ) → Rose before mid → mid ≤ now → Rose before now
+rose_until before mid now r l = omega (arith, l, r)

@@ -111,3 +111,16 @@ pub record Drove {J : Type 0} (told : J → Option (List Entry)) (journal : Opti
 -- the statuses
 abbrev pub IsStatus : ℕ → Type 0
 IsStatus status = (status ≡ 0) ⊎ (status ≡ 1) ⊎ (status ≡ 2) ⊎ (status ≡ 5) ⊎ (status ≡ 6) ⊎ (status ≡ 7) ⊎ (status ≡ 8)
+
+-- the input is told, and none of its lines is refused
+abbrev pub IsUnrefused : Option (List ℕ) → Type 0
+IsUnrefused None = ⊥
+IsUnrefused (Some bytes) = (drive_of built_in bytes).refused ≡ None
+
+-- the words are taken, nothing outside failed, and no line is refused
+pub record Undisturbed (given : List (List ℕ)) (told : Option (List ℕ)) (journal_rose input_rose output_rose : Type 0) : Type 0 where
+  pub words : given ≡ drive_words
+  pub journal : journal_rose → ⊥
+  pub input : input_rose → ⊥
+  pub output : output_rose → ⊥
+  pub lines : IsUnrefused told

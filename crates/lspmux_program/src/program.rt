@@ -3,7 +3,7 @@ ghost use Rattle.std.specs.Prelude.{◌≡◌, ◌≢◌, ℕ, ◌≤◌, ◌<�
 ghost use Rattle.outside_io.specs.Faults.{Rose};
 ghost use Rattle.mux_hub.specs.Hubs.{HubView, HubStands, Tells};
 ghost use Rattle.lspmux_program.specs.Lines.{lines_of};
-ghost use Rattle.lspmux_program.specs.Program.{drive_words, JournalTells, JournalRose, Ran, Drove, IsStatus};
+ghost use Rattle.lspmux_program.specs.Program.{drive_words, JournalTells, JournalRose, Ran, Drove, IsStatus, Undisturbed};
 ghost use Rattle.lspmux_program.specs.Runs.{built_in, drive_of};
 
 use std::alloc::Global;
@@ -106,6 +106,7 @@ pub fn lspmux<J: Journal + Drop, I: Source, O: Sink>(
     ensures input_only { result ≡ 7 → Rose (I.faults outside.old.input) (I.faults outside.new.input) }
     ensures output_only { result ≡ 8 → Rose (O.faults outside.old.output) (O.faults outside.new.output) }
     ensures answers { IsStatus result }
+    ensures complete { Undisturbed (map string_bytes words.now) (I.left outside.old.input) (JournalRose J.faults outside.old.journal outside.new.journal) (Rose (I.faults outside.old.input) (I.faults outside.new.input)) (Rose (O.faults outside.old.output) (O.faults outside.new.output)) → (result ≡ 0) ⊎ (result ≡ 5) }
 {
     if !is_drive(words) {
         write_fault(&mut outside.output, b"!words\n");
