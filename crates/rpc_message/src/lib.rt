@@ -5,4 +5,4 @@ mod code;
 mod texts;
 
 pub use code::ErrorCode;
-pub use texts::{error_answer, initialized, ok_answer};
+pub use texts::{error_answer, initialize, initialized, ok_answer};
