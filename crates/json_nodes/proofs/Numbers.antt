@@ -1,6 +1,6 @@
 -- The numbers of the values in a value.
-use Rattle.std.proofs.Common.{◌≡◌, ℕ, zero, suc, ◌+◌, ◌<◌, ◌≤◌, List, [], ◌∷◌, ◌++◌, length, refl, sym, ◌∙◌, ap, subst, arith, append_assoc, length-append, zero-add, append-nil}
-use Rattle.std.specs.Prelude.{Option, Some, None}
+use Rattle.std.proofs.Common.{◌≡◌, ℕ, zero, suc, ◌+◌, List, [], ◌∷◌, ◌++◌, length, refl, sym, ◌∙◌, ap, subst, arith, append_assoc, length-append, zero-add, append-nil}
+use Rattle.std.specs.Prelude.{Some}
 use Rattle.std.specs.List.{slice_get, flat_map}
 use Rattle.json_text.specs.Json.{Json}
 use Rattle.json_text.specs.Named.{children}
