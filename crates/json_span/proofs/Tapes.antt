@@ -1,11 +1,11 @@
 -- What the reader's answer says of a text.
-use Rattle.std.proofs.Common.{◌≡◌, refl, sym, ◌∙◌, ℕ, ◌≤◌, List}
+use Rattle.std.proofs.Common.{◌≡◌, refl, ℕ, ◌≤◌, List}
 use Rattle.std.specs.Prelude.{Result, Ok, Err}
 use Rattle.json_text.specs.Json.{Json, IsText, depth}
 use Rattle.json_text.specs.Faults.{IsSyntaxFault, IsDepthFault}
 use Rattle.json_nodes.specs.declared.node.Node.{Node}
 use Rattle.json_nodes.specs.Nodes.{nodes_of, unnamed}
-use Rattle.json_nodes.specs.Doc.{Doc, Holds}
+use Rattle.json_nodes.specs.Doc.{Holds}
 use Rattle.json_span.specs.declared.fault.JsonFault.{JsonFault}
 use Rattle.json_span.specs.declared.fault.JsonFault.TheVariants.{Syntax, TooDeep, Memory}
 use Rattle.json_span.specs.Machine.{Fault, start, read}

@@ -7,11 +7,10 @@ mod nodes;
 mod reader;
 mod state;
 mod tape;
-mod word;
-
 #[cfg(test)]
 mod tests;
+mod word;
 
 pub use fault::JsonFault;
-pub use tape::Tape;
 pub use json_text::{Body, Kind, Memory, Span};
+pub use tape::Tape;

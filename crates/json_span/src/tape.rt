@@ -49,10 +49,7 @@ impl<'a> Tape<'a> {
         ensures too_deep { (p : ℕ) → result ≡ Err (JsonFault.TooDeep p) → IsDepthFault 1024 bytes.now p }
     {
         let nodes = read_nodes(alloc, bytes)?;
-        Ok(Tape {
-            bytes,
-            nodes,
-        })
+        Ok(Tape { bytes, nodes })
     }
 
     /// The text.

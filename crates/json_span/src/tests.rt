@@ -88,14 +88,21 @@ fn names_the_fault(rt: HostRuntime) {
         (b"1 2", 2),
     ];
     for (text, place) in texts {
-        assert_eq!(rt; fault_of(rt.alloc(), text), Some(JsonFault::Syntax(place)), "at {text:?}");
+        assert_eq!(rt;
+            fault_of(rt.alloc(), text),
+            Some(JsonFault::Syntax(place)),
+            "at {text:?}"
+        );
     }
 }
 
 #[test]
 fn nests_so_deep(rt: HostRuntime) -> Result<(), AllocError> {
     assert_eq!(rt; fault_of(rt.alloc(), &nested(rt.alloc(), 1024)?), None);
-    assert_eq!(rt; fault_of(rt.alloc(), &nested(rt.alloc(), 1025)?), Some(JsonFault::TooDeep(1024)));
+    assert_eq!(rt;
+        fault_of(rt.alloc(), &nested(rt.alloc(), 1025)?),
+        Some(JsonFault::TooDeep(1024))
+    );
     Ok(())
 }
 
@@ -105,10 +112,16 @@ fn numbers_its_values(rt: HostRuntime) {
         assert!(rt; false, "not read");
         return;
     };
-    let mut found = 0;
-    for (node, want) in tape.nodes().iter().zip([(0, 15, 4, 0, 0), (6, 14, 4, 1, 4), (7, 8, 3, 0, 0), (10, 13, 4, 0, 0)]) {
-        assert_eq!(rt; (node.from, node.to, node.after, node.name.from, node.name.to), want);
-        found += 1;
+    assert_eq!(rt; tape.nodes().len(), 4);
+    for (node, want) in tape.nodes().iter().zip([
+        (0, 15, 4, 0, 0),
+        (6, 14, 4, 1, 4),
+        (7, 8, 3, 0, 0),
+        (10, 13, 4, 0, 0),
+    ]) {
+        assert_eq!(rt;
+            (node.from, node.to, node.after, node.name.from, node.name.to),
+            want
+        );
     }
-    assert_eq!(rt; found, 4);
 }

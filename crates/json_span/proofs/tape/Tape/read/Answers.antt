@@ -1,4 +1,4 @@
-use Rattle.std.proofs.Common.{◌≡◌, refl, ℕ, ◌≤◌}
+use Rattle.std.proofs.Common.{refl}
 use Rattle.std.proofs.lemmas.Result.{err_from_is_err_and}
 use Rattle.json_span.proofs.Tapes.{read_holds, some_holds, only_memory, is_syntax_fault, is_depth_fault}
 use Rattle.json_span.proofs.tape.Tape.read.Goals as goal
