@@ -1,3 +1,4 @@
+pub mod Codes
 pub mod Message
 pub mod Texts
 pub mod ValueTexts

@@ -1,2 +1,8 @@
 //! The messages of JSON-RPC 2.0, and the fixed texts that are written.
 #![tactic(auto)]
+
+mod code;
+mod texts;
+
+pub use code::ErrorCode;
+pub use texts::{error_answer, initialize, initialized, ok_answer};
