@@ -14,8 +14,17 @@ use Rattle.mux_model.specs.Phases.{desk_of, no_desk, editors_of, backlog_of}
 use Rattle.mux_model.specs.Requests.{Asked, open_of, asking_of}
 use Rattle.mux_model.specs.Spawns.{starts_of, groups_of, start_of, home_of, founding_of, group_of}
 use Rattle.mux_model.specs.Stages.{life_of, no_life}
-use Rattle.mux_hub.specs.declared.tables.Tables.{Tables}
-use Rattle.mux_hub.specs.declared.tables.Pending.{Pending}
+use Rattle.mux_hub.specs.declared.pending.Pending.{Pending}
+
+-- what the hub keeps: of editor 0, of start 0, and the open requests between them
+pub record Kept : Type 0 where
+  pub phase : Phase
+  pub initialize : List ℕ
+  pub sent : ℕ
+  pub stage : Stage
+  pub started : Bool
+  pub next : ℕ
+  pub pending : List Pending
 
 -- the id that these bytes write
 abbrev pub id_in : Option Json → Option Id
