@@ -8,3 +8,4 @@ pub mod Sames
 pub mod Spelled
 pub mod Spelling
 pub mod Tree
+mod Worked
