@@ -4,6 +4,7 @@ pub mod Members
 pub mod Numbers
 pub mod Parts
 pub mod Places
+pub mod SameLaw
 pub mod Sames
 pub mod Spelled
 pub mod Spelling
