@@ -1,5 +1,5 @@
 -- The test of two values is true exactly where they say the same.
-use Rattle.std.proofs.Common.{◌≡◌, ℕ, zero, suc, Bool, true, false, ◌&&◌, ◌||◌, List, [], ◌∷◌, refl, sym, ◌∙◌, ap, subst, arith}
+use Rattle.std.proofs.Common.{◌≡◌, ℕ, Bool, true, false, ◌&&◌, ◌||◌, List, refl, sym, ◌∙◌, ap, subst}
 use Rattle.std.specs.Prelude.{Option, Some, None, bytes_eq}
 use Rattle.std.specs.Bool.{Decides}
 use Rattle.std.specs.Option.{is_some}
@@ -90,8 +90,8 @@ first_holds s ds j ms ns None e f g =
 member_complete : (s : Span) (ds : List ℕ) (j : Json) (ms : Members) → Complete j → MembersComplete ms → MembersComplete (member s ds j ms)
 member_complete s ds j ms f g ns all =
     and_true (has_name ds ms || if_some (named ds ns) (λ k. same j k)) (same_members ms ns)
-      (first_holds s ds j ms ns (named ds ms) refl f all)
-      (g ns (λ cs i h. all cs i (named_member cs ds s j ms ∙ ap (λ o. or_else o (if_named (bytes_eq cs ds) j)) h)))
+    (first_holds s ds j ms ns (named ds ms) refl f all)
+    (g ns (λ cs i h. all cs i (named_member cs ds s j ms ∙ ap (λ o. or_else o (if_named (bytes_eq cs ds) j)) h)))
 
 -- names
 
@@ -111,8 +111,8 @@ names_complete : (ns ms : Members) → ((cs : List ℕ) (k : Json) → named cs 
 names_complete no_members ms f = refl
 names_complete (member s ds j ns) ms f =
     and_true (has_name ds ms) (names_within ns ms)
-      (last (named ds ns) (λ k h. f ds k (named_member ds ds s j ns ∙ h)))
-      (names_complete ns ms (λ cs k h. f cs k (named_member cs ds s j ns ∙ ap (λ o. or_else o (if_named (bytes_eq cs ds) j)) h)))
+    (last (named ds ns) (λ k h. f ds k (named_member ds ds s j ns ∙ h)))
+    (names_complete ns ms (λ cs k h. f cs k (named_member cs ds s j ns ∙ ap (λ o. or_else o (if_named (bytes_eq cs ds) j)) h)))
   where
     last : (o : Option Json) → ((k : Json) → or_else o (if_named (bytes_eq ds ds) j) ≡ Some k → has_name ds ms ≡ true) → has_name ds ms ≡ true
     last (Some i) f = f i refl
@@ -145,8 +145,8 @@ missing_of cs ms ns o p k e f (both h) = ap (λ q. is_some q) e
 object_complete : (s : Span) (ms : Members) → MembersComplete ms → Complete (object s ms)
 object_complete s ms f (object r ns) (objects g) =
     and_true (same_members ms ns) (names_within ns ms)
-      (f ns (λ cs j e. matched_of cs ns (named cs ms) (named cs ns) j e refl (g cs)))
-      (names_complete ns ms (λ cs k e. missing_of cs ms ns (named cs ms) (named cs ns) k refl e (g cs)))
+    (f ns (λ cs j e. matched_of cs ns (named cs ms) (named cs ns) j e refl (g cs)))
+    (names_complete ns ms (λ cs k e. missing_of cs ms ns (named cs ms) (named cs ns) k refl e (g cs)))
 object_complete s ms f (word r w) h = elim h [ ]
 object_complete s ms f (number r ds) h = elim h [ ]
 object_complete s ms f (string r ds) h = elim h [ ]

@@ -2,7 +2,7 @@
 use Rattle.std.proofs.Common.{◌≡◌, true, false, refl}
 use Rattle.std.specs.Prelude.{codes}
 use Rattle.json_text.specs.Bare.{nowhere}
-use Rattle.json_text.specs.Json.{Json, number, string, array, object, no_items, item, no_members, member}
+use Rattle.json_text.specs.Json.{Json, number, array, object, no_items, item, no_members, member}
 use Rattle.json_text.specs.Named.{named}
 use Rattle.json_nodes.specs.Same.{same}
 
