@@ -16,7 +16,7 @@ use Rattle.mux_model.specs.Spawns.{Home, Founding, starts_of, starts_behind, gro
 use Rattle.mux_model.specs.Stages.{Life, life_of, life_behind, no_life}
 use Rattle.mux_hub.specs.declared.pending.Pending.{Pending}
 use Rattle.mux_hub.specs.Tables.{Kept, asked_for, joined_in, spawned_in, first_in, open_in}
-use Rattle.mux_hub.specs.Stands.{Stands, MeansId, PhaseTies, StageTies}
+use Rattle.mux_hub.specs.Stands.{Stands, Distinct, MeansId, PhaseTies, StageTies}
 
 -- these events lead the tables t to u
 pub record Goes (t : Kept) (evs : List Event) (u : Kept) : Type 0 where
@@ -36,6 +36,7 @@ pub record Goes (t : Kept) (evs : List Event) (u : Kept) : Type 0 where
   pub pending : (a : Asking) → a.next ≡ t.next → a.open_requests ≡ asked_for t.pending → (fold (asking_behind 0) a evs).open_requests ≡ asked_for u.pending
   pub opened : fold (open_behind 0) (open_in t.phase t.pending (id_bytes t.initialize)) evs ≡ open_in u.phase u.pending (id_bytes u.initialize)
   pub ids : AllByRecursion (λ p. MeansId p.id) u.pending
+  pub distinct : Distinct u.pending
   pub phase_ties : PhaseTies u.phase u.stage u.pending u.initialize
   pub stage_ties : StageTies u.stage u.next
 
@@ -59,6 +60,7 @@ stands_further t u events evs s g = record {
   next = ap (λ a. a.next) (fold-append (asking_behind 0) _ events evs) ∙ g.next (asking_of 0 events) s.next s.pending;
   pending = ap (λ a. a.open_requests) (fold-append (asking_behind 0) _ events evs) ∙ g.pending (asking_of 0 events) s.next s.pending;
   ids = g.ids;
+  distinct = g.distinct;
   phase_ties = g.phase_ties;
   stage_ties = g.stage_ties;
   opened = further (open_behind 0) [] _ events evs s.opened ∙ g.opened;

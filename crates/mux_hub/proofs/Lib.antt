@@ -1,3 +1,4 @@
+pub mod Answering
 pub mod Classes
 pub mod Entries
 pub mod Ids

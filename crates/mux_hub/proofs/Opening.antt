@@ -67,6 +67,7 @@ joined_steps settings events t s e = steps_so settings events (Joined 0) [] t (r
   pending = λ a q r. r;
   opened = rw e refl;
   ids = s.ids;
+  distinct = s.distinct;
   phase_ties = absent_ties t events s e;
   stage_ties = s.stage_ties;
 }) refl
@@ -99,6 +100,7 @@ founded_steps settings events t body id ps s e m i means =
       pending = λ a q r. r;
       opened = rw (m, e) (ap (λ x. x ∷ []) i);
       ids = s.ids;
+  distinct = s.distinct;
       phase_ties = (none.1, means);
       stage_ties = unspawned_ties t events s g;
     }) (rw (p, m, a, b) refl)
@@ -130,6 +132,7 @@ started_steps settings events t text ps s g x m =
       pending = λ a q r. rw m (append-nil a.open_requests ∙ r);
       opened = refl;
       ids = s.ids;
+  distinct = s.distinct;
       phase_ties = spawned_tie t.phase t.stage Initializing t.pending t.initialize s.phase_ties (λ q. let z : Spawning ≡ Unspawned = sym g ∙ q in cc);
       stage_ties = tt;
     }) (rw l (ap (λ b. ToServer 0 b ∷ []) (x ∙ ap initialize_for (sym founder))))

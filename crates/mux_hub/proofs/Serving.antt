@@ -28,7 +28,7 @@ use Rattle.mux_hub.specs.Steps.{Steps}
 use Rattle.mux_hub.specs.Tables.{Kept, asked_of, asked_for, joined_in, spawned_in, first_in, open_in, id_meant, after_message}
 use Rattle.mux_hub.proofs.Classes.{NotOwn, Serves, serves}
 use Rattle.mux_hub.proofs.Entries.{Goes, steps_so}
-use Rattle.mux_hub.proofs.Ids.{ids_of, closes, untouched}
+use Rattle.mux_hub.proofs.Ids.{ids_of, closes, untouched, distinct_snoc}
 use Rattle.mux_hub.proofs.Numbers.{not_zero}
 
 -- the phase behind `initialized`
@@ -104,6 +104,7 @@ noted_steps settings events t body ps s m =
       pending = λ a q r. r;
       opened = rw m (note_open t.phase t.pending (id_bytes t.initialize));
       ids = s.ids;
+  distinct = s.distinct;
       phase_ties = note_ties t.phase t.stage t.pending t.initialize s.phase_ties;
       stage_ties = s.stage_ties;
     }) (rw (d, m) (note_outs settings events _ body ps t.phase))
@@ -182,7 +183,7 @@ refusing settings events evs body Ended n s l a c = rw (s, l) refl
 asks_text : ℕ → List ℕ → ℕ
 asks_text n text = min (n + length text) (2 ^ 64 - 1)
 
-more_sent : (n sent k : ℕ) → sent ≡ min n (2 ^ 64 - 1) → min (sent + k) (2 ^ 64 - 1) ≡ min (n + k) (2 ^ 64 - 1)
+pub more_sent : (n sent k : ℕ) → sent ≡ min n (2 ^ 64 - 1) → min (sent + k) (2 ^ 64 - 1) ≡ min (n + k) (2 ^ 64 - 1)
 more_sent n sent k h = omega arith
 
 -- E10 where the start isn't ready or no number is left
@@ -217,6 +218,7 @@ refused_steps settings events t body text method id ps tree s p m n o x w c =
       pending = λ a q r. rw (w, r) (untouched id t.pending o);
       opened = rw (m, w, opens) (closes id (ids_of t.pending) o);
       ids = s.ids;
+  distinct = s.distinct;
       phase_ties = tt;
       stage_ties = s.stage_ties;
     }) (rw (d, m) (ap (λ b. ToEditor 0 b ∷ []) x ∙ sym row))
@@ -234,10 +236,10 @@ map-append f (x ∷ xs) ys = ap (λ l. f x ∷ l) (map-append f xs ys)
 
 -- E10: the request goes to the start under its next number
 pub forwarded_steps : (settings : Settings) (events : List Event) (t : Kept) (body text method bytes : List ℕ) (id : Id) (ps : Option Json) → Stands t events → IsServed t.phase
-    → message_of body ≡ request id method ps → NotOwn method → bytes ≡ id_bytes body → id ≡ id_meant bytes → MeansId bytes
+    → message_of body ≡ request id method ps → NotOwn method → is_open id (ids_of t.pending) ≡ false → bytes ≡ id_bytes body → id ≡ id_meant bytes → MeansId bytes
     → text ≡ with_id_text body (decimal t.next) → message_of text ≡ request (integer (decimal t.next)) method ps → t.stage ≡ Ready → nat_lt t.next settings.limits.requests ≡ true
     → Steps settings events (FromEditor 0 body) (ToServer 0 text ∷ []) (record t { phase = Running; next = t.next + 1; pending = t.pending ++ record { number = t.next; id = bytes } ∷ [] })
-forwarded_steps settings events t body text method bytes id ps s p m n b i means x w g c =
+forwarded_steps settings events t body text method bytes id ps s p m n o b i means x w g c =
     let d : (desk_of 0 events).phase ≡ t.phase = ap (λ d. d.phase) s.desk in
     let l : (life_of 0 events).stage ≡ Ready = ap (λ l. l.stage) s.life ∙ g in
     let f : start_for 0 events ≡ Some 0 = started_for t.stage events s.home s.start ∙ ap first_in g in
@@ -271,6 +273,7 @@ forwarded_steps settings events t body text method bytes id ps s p m n b i means
       pending = λ a q r. rw (w, m, q, r, own) (ap (λ k. asked_for t.pending ++ record { number = t.next; asker = k } ∷ []) asker ∙ sym (map-append asked_of t.pending (record { number = t.next; id = bytes } ∷ [])));
       opened = rw (m, opens) (ap (λ j. ids_of t.pending ++ j ∷ []) i ∙ sym (map-append (λ p. id_meant p.id) t.pending (record { number = t.next; id = bytes } ∷ [])));
       ids = snoc_all t.pending _ s.ids means;
+      distinct = distinct_snoc t.pending _ s.distinct (subst (λ j. is_open j (ids_of t.pending) ≡ false) i o);
       phase_ties = tt;
       stage_ties = let P : Stage → Type 0 = λ g. StageTies g (t.next + 1) in subst P (sym g) tt;
     }) (rw (d, m) (ap (λ b. ToServer 0 b ∷ []) x ∙ sym row))

@@ -1,5 +1,5 @@
 -- When the hub's tables stand for events.
-use Rattle.std.specs.Prelude.{◌≡◌, ℕ, ◌-◌, ◌^◌, ◌<◌, ◌≤◌, min, List, []}
+use Rattle.std.specs.Prelude.{◌≡◌, ℕ, ◌-◌, ◌^◌, ◌<◌, ◌≤◌, min, List, [], ◌∷◌, map, false}
 use Rattle.std.specs.List.{AllByRecursion}
 use Rattle.rpc_message.specs.Message.{id_bytes}
 use Rattle.rpc_message.specs.ValueTexts.{IsIdText}
@@ -9,7 +9,7 @@ use Rattle.mux_model.specs.declared.stage.Stage.{Stage}
 use Rattle.mux_model.specs.declared.stage.Stage.TheVariants.{Unspawned, Spawning, Initializing, Ready, Stopping, Ending, Ended}
 use Rattle.mux_model.specs.Event.{Event}
 use Rattle.mux_model.specs.Phases.{desk_of, no_desk, editors_of, backlog_of}
-use Rattle.mux_model.specs.Requests.{open_of, asking_of}
+use Rattle.mux_model.specs.Requests.{open_of, asking_of, is_open}
 use Rattle.mux_model.specs.Spawns.{starts_of, groups_of, start_of, home_of, founding_of, group_of}
 use Rattle.mux_model.specs.Stages.{life_of, no_life}
 use Rattle.mux_hub.specs.declared.pending.Pending.{Pending}
@@ -32,6 +32,11 @@ StageTies Unspawned next = next ≡ 1
 StageTies Spawning next = next ≡ 1
 StageTies other next = Unit {0}
 
+-- no two kept requests have the same id
+abbrev pub Distinct : List Pending → Type 0
+Distinct [] = Unit {0}
+Distinct (p ∷ ps) = (is_open (id_meant p.id) (map (λ q. id_meant q.id) ps) ≡ false) × Distinct ps
+
 pub record Stands (kept : Kept) (events : List Event) : Type 0 where
   pub desk : desk_of 0 events ≡ record { phase = kept.phase; initialize = kept.initialize }
   pub other_desks : (e : ℕ) → 0 < e → desk_of e events ≡ no_desk
@@ -48,6 +53,7 @@ pub record Stands (kept : Kept) (events : List Event) : Type 0 where
   pub next : (asking_of 0 events).next ≡ kept.next
   pub pending : (asking_of 0 events).open_requests ≡ asked_for kept.pending
   pub ids : AllByRecursion (λ p. MeansId p.id) kept.pending
+  pub distinct : Distinct kept.pending
   pub phase_ties : PhaseTies kept.phase kept.stage kept.pending kept.initialize
   pub stage_ties : StageTies kept.stage kept.next
   pub opened : open_of 0 events ≡ open_in kept.phase kept.pending (id_bytes kept.initialize)
