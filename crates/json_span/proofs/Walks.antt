@@ -1,6 +1,6 @@
 -- What a caller learns of what a tape's methods find, and of a walk over the values in an array or an object.
 use Rattle.std.proofs.Common.{◌≡◌, ℕ, zero, suc, ◌+◌, ◌<◌, ◌≤◌, List, [], ◌∷◌, length, refl, sym, ap, subst, arith, add-one}
-use Rattle.std.specs.Prelude.{Option, Some, None, MatchOption}
+use Rattle.std.specs.Prelude.{Option, Some, None, MatchOption, option_map}
 use Rattle.std.specs.List.{slice_get}
 use Rattle.std.proofs.lemmas.Option.{slice_get_within}
 use Rattle.json_text.specs.Json.{Json}
@@ -31,6 +31,11 @@ pub found_nothing : (doc : Doc) (o : Option Json) → Found doc o None → o ≡
 found_nothing doc (Some t) h = absurd h
 found_nothing doc None h = refl
 
+-- what the value that was found gives is what the tree's gives
+pub found_gives : {A : Type 0} (doc : Doc) (k : ℕ) (o : Option Json) (f : Json → A) (x : A) → Found doc o (Some k) → ((t : Json) → At doc k t → x ≡ f t) → Some x ≡ option_map f o
+found_gives doc k (Some t) f x h is = ap (λ y. Some y) (is t h)
+found_gives doc k None f x h is = absurd h
+
 -- a walk over the values in value k has come to this one; `Done t n` tells what the first n of them have given
 pub record Walk (doc : Doc) (k : ℕ) (Done : Json → ℕ → Type 0) (next : Option ℕ) : Type 0 where
   pub inside : MatchOption next (Unit {0}) (λ m. m < length doc.nodes)
@@ -47,14 +52,14 @@ walk_starts doc k Done next first inside done = record {
 }
 
 -- one more of them has given what it gives
-pub walk_on : (doc : Doc) (k m : ℕ) (Before Done : Json → ℕ → Type 0) (next : Option ℕ) → Walk doc k Before (Some m) → Follows doc m next → MatchOption next (Unit {0}) (λ i. (m < i) × (i < length doc.nodes)) → ((t u : Json) (n : ℕ) → ChildAt doc k t n m u → Before t n → Done t (suc n)) → Walk doc k Done next
-walk_on doc k m Before Done next w follows inside step = record {
+pub walk_on : (doc : Doc) (k m : ℕ) (Before Done : Json → ℕ → Type 0) (here next : Option ℕ) → Walk doc k Before here → here ≡ Some m → Follows doc m next → MatchOption next (Unit {0}) (λ i. (m < i) × (i < length doc.nodes)) → ((t u : Json) (n : ℕ) → ChildAt doc k t n m u → Before t n → Done t (suc n)) → Walk doc k Done next
+walk_on doc k m Before Done here next w e follows inside step = record {
   inside = later_inside m (length doc.nodes) next inside;
   stands = λ t a.
-      let here : (n : ℕ) × FoundChild doc k t n (Some m) × (n ≤ length (children t)) × Before t n = w.stands t a in
-      let child : (u : Json) × ChildAt doc k t here.0 m u = found_child_is doc k here.0 m t here.1 in
-      let within : here.0 < length (children t) = slice_get_within (children t) here.0 child.0 child.1.child in
-      (suc here.0, subst (λ i. FoundChild doc k t i next) (add-one here.0) (follows k here.0 t child.0 child.1), omega arith, step t child.0 here.0 child.1 here.3);
+      let from : (n : ℕ) × FoundChild doc k t n here × (n ≤ length (children t)) × Before t n = w.stands t a in
+      let child : (u : Json) × ChildAt doc k t from.0 m u = found_child_is doc k from.0 m t (subst (λ o. FoundChild doc k t from.0 o) e from.1) in
+      let within : from.0 < length (children t) = slice_get_within (children t) from.0 child.0 child.1.child in
+      (suc from.0, subst (λ i. FoundChild doc k t i next) (add-one from.0) (follows k from.0 t child.0 child.1), omega arith, step t child.0 from.0 child.1 from.3);
 }
 
 past_end : (js : List Json) (n : ℕ) → slice_get js n ≡ None → length js ≤ n
@@ -63,9 +68,9 @@ past_end (j ∷ js) zero h = cc
 past_end (j ∷ js) (suc n) h = omega (arith, past_end js n h)
 
 -- all of them have
-pub walk_ends : (doc : Doc) (k : ℕ) (Done : Json → ℕ → Type 0) → Walk doc k Done None → (t : Json) → At doc k t → Done t (length (children t))
-walk_ends doc k Done w t a =
-    let here : (n : ℕ) × FoundChild doc k t n None × (n ≤ length (children t)) × Done t n = w.stands t a in
-    let end : length (children t) ≤ here.0 = past_end (children t) here.0 (no_child doc k here.0 t here.1) in
-    let all : here.0 ≡ length (children t) = omega arith in
-    subst (λ n. Done t n) all here.3
+pub walk_ends : (doc : Doc) (k : ℕ) (Done : Json → ℕ → Type 0) (here : Option ℕ) → Walk doc k Done here → here ≡ None → (t : Json) → At doc k t → Done t (length (children t))
+walk_ends doc k Done here w e t a =
+    let from : (n : ℕ) × FoundChild doc k t n here × (n ≤ length (children t)) × Done t n = w.stands t a in
+    let end : length (children t) ≤ from.0 = past_end (children t) from.0 (no_child doc k from.0 t (subst (λ o. FoundChild doc k t from.0 o) e from.1)) in
+    let all : from.0 ≡ length (children t) = omega arith in
+    subst (λ n. Done t n) all from.3
