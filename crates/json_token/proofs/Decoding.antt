@@ -161,7 +161,7 @@ pair_back : (c : ℕ) → 65536 ≤ c → c < 1114112 → surrogate_pair_char (0
 pair_back c from below = omega arith
 
 -- a character that stands for itself comes first
-plain_units : (c : ℕ) (us : List ℕ) → IsScalar c → (c < 65536) ⊎ (65536 ≤ c) → utf16_lossy_chars (encode_utf16 c ++ us) ≡ c ∷ utf16_lossy_chars us
+pub plain_units : (c : ℕ) (us : List ℕ) → IsScalar c → (c < 65536) ⊎ (65536 ≤ c) → utf16_lossy_chars (encode_utf16 c ++ us) ≡ c ∷ utf16_lossy_chars us
 plain_units c us s (inl h) = ap (λ x. utf16_lossy_chars (x ++ us)) (one_unit c h)
     ∙ (lone_first c us h (no_first c (get_or us 0 0) (scalar_apart c (scalar_sides c s))) ∙ ap (λ x. x ∷ utf16_lossy_chars us) (replaced_scalar c s))
 plain_units c us s (inr h) = ap (λ x. utf16_lossy_chars (x ++ us)) (two_units c h)
