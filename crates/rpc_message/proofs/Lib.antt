@@ -1,7 +1,9 @@
 mod Worked
+pub mod Bodies
 pub mod Decimals
-pub mod Envelope
 pub mod Fixed
 pub mod Ids
 pub mod Meaning
 pub mod Opening
+pub mod Tests
+pub mod Enveloped

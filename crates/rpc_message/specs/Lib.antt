@@ -1,4 +1,5 @@
 pub mod Codes
+pub mod Envelopes
 pub mod Message
 pub mod Texts
 pub mod ValueTexts

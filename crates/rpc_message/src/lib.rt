@@ -2,7 +2,9 @@
 #![tactic(auto)]
 
 mod code;
+mod envelope;
 mod texts;
 
 pub use code::ErrorCode;
+pub use envelope::Envelope;
 pub use texts::{error_answer, initialize, initialized, ok_answer};
