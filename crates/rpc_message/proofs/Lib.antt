@@ -1,9 +1,10 @@
 mod Worked
 pub mod Bodies
 pub mod Decimals
+pub mod Enveloped
 pub mod Fixed
 pub mod Ids
 pub mod Meaning
 pub mod Opening
+pub mod Reading
 pub mod Tests
-pub mod Enveloped

@@ -3,8 +3,10 @@
 
 mod code;
 mod envelope;
+mod message;
 mod texts;
 
 pub use code::ErrorCode;
 pub use envelope::Envelope;
+pub use message::Message;
 pub use texts::{error_answer, initialize, initialized, ok_answer};
