@@ -7,4 +7,5 @@ pub mod Ids
 pub mod Meaning
 pub mod Opening
 pub mod Reading
+pub mod Standing
 pub mod Tests

@@ -4,6 +4,7 @@
 mod code;
 mod envelope;
 mod message;
+mod parts;
 mod texts;
 
 pub use code::ErrorCode;
