@@ -158,8 +158,8 @@ fn same_kind(kind: Kind, other: Kind) -> bool
     )
 }
 
-// The last member, from this one on, whose name is spelled so.
-fn last_spelled(raw: &[u8], bytes: &[u8], nodes: &[Node], from: Option<u32>) -> Option<u32>
+/// The last member, from this one on, whose name is spelled so.
+pub fn last_spelled(raw: &[u8], bytes: &[u8], nodes: &[Node], from: Option<u32>) -> Option<u32>
     requires { MatchOption from (Unit {0}) (λ m. m < length nodes.now) }
     ensures named { (k n : ℕ) (s : Span) (ms : Members) (cs : List ℕ) → SpellsCharacters cs raw.now → FoundChild (record { bytes = bytes.now; nodes = nodes.now }) k (object s ms) n from → Found (record { bytes = bytes.now; nodes = nodes.now }) (named cs (drop_members n ms)) result }
     ensures inside { MatchOption result (Unit {0}) (λ member. member < length nodes.now) }

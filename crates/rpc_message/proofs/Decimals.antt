@@ -1,9 +1,9 @@
 -- What `decimal` writes is the text of an integer id.
-use Rattle.std.proofs.Common.{◌≡◌, ℕ, zero, suc, ◌+◌, ◌/◌, ◌%◌, ◌^◌, ◌<◌, ◌≤◌, Bool, true, false, ◌&&◌, ◌||◌, ◌==◌, List, [], ◌∷◌, ◌++◌, Option, Some, None, IsTrue, nat_le, ◌⊎◌, inl, inr, length, decimal, refl, sym, ◌∙◌, ap, ap₂, subst, arith, append-nil}
+use Rattle.std.proofs.Common.{◌≡◌, ℕ, zero, suc, ◌+◌, ◌/◌, ◌%◌, ◌^◌, ◌<◌, ◌≤◌, true, ◌&&◌, ◌||◌, ◌==◌, List, [], ◌∷◌, ◌++◌, IsTrue, nat_le, inl, inr, length, decimal, refl, sym, ap, subst, arith, append-nil}
 use Rattle.std.proofs.lemmas.Bool.{and_parts, and_from, le-leb}
 use Rattle.std.proofs.lemmas.Fmt.{decimal_by_steps, decimal_digit}
 use Rattle.json_text.specs.Json.{number}
-use Rattle.json_text.specs.Number.{is_digit, Digits, IsNumber}
+use Rattle.json_text.specs.Number.{is_digit, IsNumber}
 use Rattle.json_text.specs.Read.{all_digits}
 use Rattle.rpc_message.specs.Message.{integer, is_integer, integer_if}
 use Rattle.rpc_message.specs.ValueTexts.{IsIdText}

@@ -2,7 +2,12 @@
 #![tactic(auto)]
 
 mod code;
+mod envelope;
+mod message;
+mod parts;
 mod texts;
 
 pub use code::ErrorCode;
+pub use envelope::Envelope;
+pub use message::Message;
 pub use texts::{error_answer, initialize, initialized, ok_answer};
