@@ -275,5 +275,5 @@ forwarded_steps settings events t body text method bytes id ps s p m n o b i mea
       ids = snoc_all t.pending _ s.ids means;
       distinct = distinct_snoc t.pending _ s.distinct (subst (λ j. is_open j (ids_of t.pending) ≡ false) i o);
       phase_ties = tt;
-      stage_ties = let P : Stage → Type 0 = λ g. StageTies g (t.next + 1) in subst P (sym g) tt;
+      stage_ties = let P : Stage → Type 0 = λ g. StageTies g (t.next + 1) t.opening t.initialize in subst P (sym g) tt;
     }) (rw (d, m) (ap (λ b. ToServer 0 b ∷ []) x ∙ sym row))
