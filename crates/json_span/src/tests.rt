@@ -1,4 +1,13 @@
-use crate::{JsonFault, Tape};
+ghost use Rattle.std.specs.Prelude.{◌≡◌, ◌<◌, length, codes, option_map};
+ghost use Rattle.std.specs.Str.{chars};
+ghost use Rattle.json_text.specs.declared.span.Span.{Span};
+ghost use Rattle.json_text.specs.Json.{Json, Items, array};
+ghost use Rattle.json_text.specs.Named.{items_list, named_in};
+ghost use Rattle.json_nodes.specs.At.{At};
+ghost use Rattle.json_nodes.specs.Doc.{Holds};
+ghost use Rattle.json_nodes.specs.Nodes.{kind_of};
+
+use crate::{JsonFault, Kind, Tape, same};
 use std::alloc::{AllocError, Global};
 
 // The fault in a short text; None if it is taken.
@@ -106,22 +115,35 @@ fn nests_so_deep(rt: HostRuntime) -> Result<(), AllocError> {
     Ok(())
 }
 
+// What the member `id` of a text's value is.
+fn kind_of_id(tape: &Tape) -> Option<Kind>
+    ensures { (j : Json) → Holds tape.now j → result ≡ option_map kind_of (named_in (codes "id") j) }
+{
+    let id = tape.member(tape.root(), "id")?;
+    Some(tape.kind(id))
+}
+
+// How many items an array has.
+fn count_items(tape: &Tape, node: u32) -> usize
+    requires { node < length tape.now.nodes }
+    ensures { (s : Span) (js : Items) → At tape.now node (array s js) → result ≡ length (items_list js) }
+{
+    let mut count = 0;
+    let mut next = tape.first(node);
+    while let Some(item) = next {
+        count += 1;
+        next = tape.next(item);
+    }
+    count
+}
+
 #[test]
-fn numbers_its_values(rt: HostRuntime) {
-    let Ok(tape) = Tape::read(rt.alloc(), b"{\"a\": [1, \"b\"]}") else {
+fn looks_up(rt: HostRuntime) {
+    let Ok(tape) = Tape::read(rt.alloc(), b"{\"id\": 1}") else {
         assert!(rt; false, "not read");
         return;
     };
-    assert_eq!(rt; tape.nodes().len(), 4);
-    for (node, want) in tape.nodes().iter().zip([
-        (0, 15, 4, 0, 0),
-        (6, 14, 4, 1, 4),
-        (7, 8, 3, 0, 0),
-        (10, 13, 4, 0, 0),
-    ]) {
-        assert_eq!(rt;
-            (node.from, node.to, node.after, node.name.from, node.name.to),
-            want
-        );
-    }
+    assert!(rt; matches!(kind_of_id(&tape), Some(Kind::Number)));
+    assert_eq!(rt; count_items(&tape, tape.root()), 1);
+    assert!(rt; same(&tape, 0, &tape, 0));
 }

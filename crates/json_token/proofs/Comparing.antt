@@ -1,6 +1,6 @@
 -- What a loop over the characters of a string knows as it goes.
 use Rattle.std.proofs.Common.{◌≡◌, refl, ap, ◌∙◌, sym, subst, ℕ, Bool, true, false, List, [], ◌∷◌, ◌++◌, append_assoc, append-nil, suc, ◌+◌, ◌<◌, length, drop, get_or, add-one, drop-cons, drop_of_length-le, arith}
-use Rattle.std.specs.Prelude.{◌↔◌, ◌==◌, IsTrue, is_none, Option, Some, None, if◌then◌else◌}
+use Rattle.std.specs.Prelude.{◌↔◌, ◌==◌, IsTrue, is_none, Some, None, if◌then◌else◌}
 use lib.Utf8.{encode, encodes}
 use Rattle.std.proofs.lemmas.Bool.Decides.{nat_tests}
 use Rattle.json_text.specs.String.{SpellsCharacters}

@@ -1,18 +1,18 @@
 -- The characters that are read one after the other are those of the string (RFC 8259, section 7).
-use Rattle.std.proofs.Common.{◌≡◌, refl, ap, subst, ◌∙◌, sym, ℕ, ◌+◌, ◌-◌, ◌*◌, ◌/◌, ◌%◌, ◌<◌, ◌≤◌, Bool, true, false, ◌&&◌, List, [], ◌∷◌, ◌++◌, length, get_or, map, ◌⊎◌, inl, inr, arith}
-use Rattle.std.specs.Prelude.{IsTrue, ◌==◌, nat_lt, Option, Some, None, flat_map, if◌then◌else◌}
+use Rattle.std.proofs.Common.{◌≡◌, refl, ap, subst, ◌∙◌, sym, ℕ, ◌+◌, ◌-◌, ◌*◌, ◌/◌, ◌%◌, ◌<◌, ◌≤◌, Bool, true, false, ◌&&◌, List, [], ◌∷◌, ◌++◌, get_or, map, ◌⊎◌, inl, inr, arith}
+use Rattle.std.specs.Prelude.{IsTrue, ◌==◌, nat_lt, Some, None, flat_map, if◌then◌else◌}
 use Rattle.std.specs.List.{AllByRecursion}
 use Rattle.std.specs.Option.{unwrap_or}
 use Rattle.std.specs.Char.{IsScalar, digit_value}
 use Rattle.std.specs.Char.Escape.{encode_utf16}
-use Rattle.std.specs.Char.Utf16.{is_high_surrogate, is_low_surrogate, surrogate_pair_char, lone_unit_char, utf16_chars, utf16_lossy_chars}
+use Rattle.std.specs.Char.Utf16.{is_high_surrogate, is_low_surrogate, surrogate_pair_char, lone_unit_char, utf16_lossy_chars}
 use Rattle.std.proofs.str.Utf16.{IsPair, one_unit, two_units}
 use Rattle.std.proofs.lemmas.Str.{utf16_chars_lone, utf16_chars_pair, utf16_chars-nil}
-use lib.Utf8.{encode, scalar}
+use lib.Utf8.{encode}
 use Rattle.std.proofs.lemmas.Bool.Decides.{nat_tests}
 use Rattle.std.proofs.lemmas.Bool.{cases_lt}
 use Rattle.json_text.specs.String.{Piece, plain, short, unit, is_plain, is_hex, is_short, short_character, IsPiece, spelled, units, characters, SpellsCharacters}
-use Rattle.json_token.specs.Characters.{Front, replaced, two_code, three_code, four_code, two_front, three_front, four_front, plain_front, unit_value, unit_front, escaped_unit, after_second, after_unit, unit_character, escape_front, next_character}
+use Rattle.json_token.specs.Characters.{Front, replaced, two_code, three_code, four_code, unit_value, unit_front, escaped_unit, after_second, unit_character, next_character}
 use Rattle.json_token.proofs.Encoded.{one, two, three, four, scalar_low, scalar_high, scalar_sides}
 
 -- one character from its bytes
@@ -161,7 +161,7 @@ pair_back : (c : ℕ) → 65536 ≤ c → c < 1114112 → surrogate_pair_char (0
 pair_back c from below = omega arith
 
 -- a character that stands for itself comes first
-plain_units : (c : ℕ) (us : List ℕ) → IsScalar c → (c < 65536) ⊎ (65536 ≤ c) → utf16_lossy_chars (encode_utf16 c ++ us) ≡ c ∷ utf16_lossy_chars us
+pub plain_units : (c : ℕ) (us : List ℕ) → IsScalar c → (c < 65536) ⊎ (65536 ≤ c) → utf16_lossy_chars (encode_utf16 c ++ us) ≡ c ∷ utf16_lossy_chars us
 plain_units c us s (inl h) = ap (λ x. utf16_lossy_chars (x ++ us)) (one_unit c h)
     ∙ (lone_first c us h (no_first c (get_or us 0 0) (scalar_apart c (scalar_sides c s))) ∙ ap (λ x. x ∷ utf16_lossy_chars us) (replaced_scalar c s))
 plain_units c us s (inr h) = ap (λ x. utf16_lossy_chars (x ++ us)) (two_units c h)

@@ -1,10 +1,9 @@
 -- What the classes of bytes say, and the bytes of each class.
-use Rattle.std.proofs.Common.{◌≡◌, refl, ap, ℕ, Bool, true, ◌&&◌, ◌⊎◌, inl, inr, arith}
+use Rattle.std.proofs.Common.{◌≡◌, refl, ap, ℕ, ◌&&◌, ◌⊎◌, inl, inr, arith}
 use Rattle.std.specs.Prelude.{IsTrue, nat_le}
 use Rattle.std.proofs.lemmas.Bool.Decides.{nat_tests}
 use Rattle.json_text.specs.Number.{is_digit}
 use Rattle.json_text.specs.Read.{is_number_byte}
-use Rattle.json_token.specs.declared.number.NumberByte.{NumberByte}
 use Rattle.json_token.specs.declared.number.NumberByte.TheVariants as byte
 use Rattle.json_token.specs.NumberMoves.{number_byte}
 

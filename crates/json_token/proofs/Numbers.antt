@@ -1,6 +1,6 @@
 -- The bytes that pass as a number are the numbers of RFC 8259, section 6.
 use Rattle.std.proofs.Common.{◌≡◌, refl, ℕ, Bool, true, false, List, [], ◌∷◌, ◌++◌, ◌⊎◌, inl, inr, ◌∙◌, ap, subst}
-use Rattle.std.specs.Prelude.{IsTrue, nat_le, ◌&&◌, Option, Some, None}
+use Rattle.std.specs.Prelude.{IsTrue, Some}
 use Rattle.json_text.specs.Number.{is_digit, Digits, SomeDigits, IsMinus, IsWhole, IsFraction, IsExponent, IsNumber}
 use Rattle.json_text.specs.Read.{is_number_byte}
 use Rattle.json_token.specs.declared.number.NumberPart.{NumberPart}

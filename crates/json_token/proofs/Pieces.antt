@@ -1,16 +1,15 @@
 -- What passes as a string is made of the characters of the grammar.
-use Rattle.std.proofs.Common.{◌≡◌, refl, ap, subst, ◌∙◌, sym, ℕ, zero, suc, ◌+◌, ◌-◌, ◌*◌, ◌<◌, ◌≤◌, Bool, true, false, ◌&&◌, List, [], ◌∷◌, ◌++◌, length, ◌⊎◌, inl, inr, arith, append_assoc}
-use Rattle.std.specs.Prelude.{IsTrue, ◌==◌, nat_le, Option, Some, None, flat_map, if◌then◌else◌}
+use Rattle.std.proofs.Common.{◌≡◌, refl, ap, subst, ◌∙◌, sym, ℕ, zero, suc, ◌<◌, ◌≤◌, Bool, true, false, ◌&&◌, List, [], ◌∷◌, ◌++◌, length, ◌⊎◌, inl, inr, arith, append_assoc}
+use Rattle.std.specs.Prelude.{IsTrue, ◌==◌, nat_le, Some, flat_map, if◌then◌else◌}
 use Rattle.std.specs.List.{AllByRecursion}
 use Rattle.std.specs.Char.{IsScalar}
-use lib.Utf8.{encode}
 use Rattle.std.proofs.lemmas.Bool.Decides.{nat_tests}
-use Rattle.json_text.specs.String.{Piece, plain, short, unit, is_plain, is_hex, is_short, IsPiece, spelled, characters, SpellsCharacters}
+use Rattle.json_text.specs.String.{Piece, plain, short, unit, is_hex, is_short, IsPiece, spelled, characters, SpellsCharacters}
 use Rattle.json_token.specs.declared.string.Part.{Part}
 use Rattle.json_token.specs.declared.string.Part.TheVariants.{Plain, Escape, Hex4, Hex3, Hex2, Hex1, Tail1, Tail2, Tail3, AfterE0, AfterEd, AfterF0, AfterF4}
 use Rattle.json_token.specs.declared.string.Move.{Move}
 use Rattle.json_token.specs.declared.string.Move.TheVariants.{Goes, Ends, Stops}
-use Rattle.json_token.specs.StringMoves.{plain_move, escape_move, digit_move, tail_move, string_move}
+use Rattle.json_token.specs.StringMoves.{plain_move, digit_move, tail_move, string_move}
 use Rattle.json_token.proofs.Encoded.{one, scalar_low, scalar_high, plain_past, of_two, of_three, of_four, from_two, from_three, from_four}
 use Rattle.json_token.proofs.TextBytes.{ends_is, slash_is, plain_is, plain_below, two_from, two_below, three_is, e0_is, ed_is, f0_is, f4_is, four_from, four_below, no_hex4, no_hex3, no_hex2, no_hex1}
 use Rattle.json_token.proofs.Walks.{walk_move, walk}

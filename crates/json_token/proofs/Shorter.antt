@@ -1,9 +1,9 @@
 -- Reading a character leaves fewer bytes.
-use Rattle.std.proofs.Common.{◌≡◌, subst, sym, ℕ, suc, ◌<◌, ◌≤◌, Bool, true, false, ◌&&◌, List, [], ◌∷◌, length, arith}
-use Rattle.std.specs.Prelude.{◌==◌, nat_lt, Option, Some, None, if◌then◌else◌}
+use Rattle.std.proofs.Common.{◌≡◌, subst, ℕ, suc, ◌<◌, ◌≤◌, Bool, true, false, ◌&&◌, List, [], ◌∷◌, length, arith}
+use Rattle.std.specs.Prelude.{◌==◌, nat_lt, Some, None, if◌then◌else◌}
 use Rattle.std.specs.Char.Utf16.{is_high_surrogate, is_low_surrogate, surrogate_pair_char}
 use Rattle.json_text.specs.String.{short_character}
-use Rattle.json_token.specs.Characters.{Front, replaced, two_front, three_front, four_front, plain_front, unit_front, escaped_unit, after_second, after_unit, unit_character, escape_front, next_character}
+use Rattle.json_token.specs.Characters.{Front, replaced, two_front, three_front, four_front, plain_front, unit_front, escaped_unit, after_second, unit_character, escape_front, next_character}
 
 -- fewer than n bytes are left
 abbrev Leaves : ℕ → Front → Type 0

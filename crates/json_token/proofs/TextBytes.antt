@@ -1,12 +1,11 @@
 -- What each byte does to a string, both ways.
-use Rattle.std.proofs.Common.{◌≡◌, refl, ap, ◌∙◌, ℕ, ◌<◌, ◌≤◌, Bool, true, ◌⊎◌, inl, inr, arith}
+use Rattle.std.proofs.Common.{◌≡◌, refl, ap, ℕ, ◌<◌, ◌≤◌, ◌⊎◌, arith}
 use Rattle.std.specs.Prelude.{IsTrue}
 use Rattle.std.proofs.lemmas.Bool.Decides.{nat_tests}
 use Rattle.json_text.specs.String.{is_plain, is_hex, is_short}
 use Rattle.json_token.specs.declared.string.Part.{Part}
 use Rattle.json_token.specs.declared.string.Part.TheVariants.{Plain, Escape, Hex4, Hex3, Hex2, Hex1, Tail1, Tail2, Tail3, AfterE0, AfterEd, AfterF0, AfterF4}
-use Rattle.json_token.specs.declared.string.Move.{Move}
-use Rattle.json_token.specs.declared.string.Move.TheVariants.{Goes, Ends, Stops}
+use Rattle.json_token.specs.declared.string.Move.TheVariants.{Goes, Ends}
 use Rattle.json_token.specs.StringMoves.{lead_move, plain_move, escape_move, digit_move, tail_move}
 
 pub quote_ends : plain_move 34 ≡ Ends

@@ -1,17 +1,17 @@
 -- The bytes that pass as a string are the strings of RFC 8259, section 7.
-use Rattle.std.proofs.Common.{◌≡◌, refl, ap, ◌∙◌, sym, ℕ, suc, ◌+◌, ◌-◌, ◌*◌, ◌/◌, ◌%◌, ◌<◌, ◌≤◌, Bool, true, false, ◌&&◌, List, [], ◌∷◌, ◌++◌, length, ◌⊎◌, inl, inr, arith, append_assoc}
-use Rattle.std.specs.Prelude.{IsTrue, nat_le, Option, Some, None, flat_map, if◌then◌else◌}
+use Rattle.std.proofs.Common.{◌≡◌, refl, ap, ◌∙◌, ℕ, ◌+◌, ◌/◌, ◌%◌, ◌<◌, ◌≤◌, List, [], ◌∷◌, ◌++◌, ◌⊎◌, inl, inr, arith, append_assoc}
+use Rattle.std.specs.Prelude.{IsTrue, Option, Some, None, flat_map}
 use Rattle.std.specs.List.{AllByRecursion}
 use Rattle.std.specs.Char.{IsScalar}
 use lib.Utf8.{encode}
 use Rattle.std.proofs.lemmas.Bool.{cases_lt}
-use Rattle.json_text.specs.String.{Piece, plain, short, unit, is_plain, is_hex, is_short, IsPiece, spelled, characters, SpellsCharacters}
+use Rattle.json_text.specs.String.{Piece, plain, short, unit, is_plain, IsPiece, spelled, SpellsCharacters}
 use Rattle.json_token.specs.declared.string.Part.{Part}
 use Rattle.json_token.specs.declared.string.Part.TheVariants.{Plain, Escape, Hex4, Hex3, Hex2, Hex1, Tail1, Tail2, Tail3, AfterE0, AfterEd, AfterF0, AfterF4}
 use Rattle.json_token.specs.declared.string.Move.{Move}
 use Rattle.json_token.specs.declared.string.Move.TheVariants.{Goes, Ends, Stops}
-use Rattle.json_token.specs.StringMoves.{plain_move, escape_move, digit_move, tail_move, string_move}
-use Rattle.json_token.proofs.Encoded.{one, two, three, four, scalar_low, scalar_high, scalar_sides, plain_past, of_two, of_three, of_four, from_two, from_three, from_four}
+use Rattle.json_token.specs.StringMoves.{string_move}
+use Rattle.json_token.proofs.Encoded.{one, two, three, four, scalar_sides}
 use Rattle.json_token.proofs.TextBytes.{quote_ends, slash_goes, plain_goes, two_goes, e0_goes, ed_goes, three_goes, f0_goes, four_goes, f4_goes, tail_goes, digit_goes, unit_goes, short_goes}
 
 abbrev pub walk_move : Move → List ℕ → (Part → Option (List ℕ)) → Option (List ℕ)

@@ -1,7 +1,6 @@
 //! A string's characters as text, and compared with a text or with another string's.
-ghost use Rattle.std.specs.Prelude.{◌≡◌, ℕ, ◌↔◌, List, IfOk, IsTrue};
+ghost use Rattle.std.specs.Prelude.{◌≡◌, ℕ, ◌↔◌, List, IfOk, IsTrue, encode_utf8_all};
 ghost use Rattle.std.specs.Str.{chars};
-ghost use Rattle.std.proofs.Math.Utf8.{encodes};
 ghost use Rattle.json_text.specs.String.{SpellsCharacters};
 
 use crate::character::{is_at_end, next_character, strip_character};
@@ -10,7 +9,7 @@ use std::alloc::{AllocError, Global};
 /// The characters that the bytes between a string's quotation marks stand for, in UTF-8. A surrogate with no partner stands for
 /// U+FFFD.
 pub fn decode(alloc: Global, raw: &[u8]) -> Result<Vec<u8>, AllocError>
-    ensures { (cs : List ℕ) → SpellsCharacters cs raw.now → IfOk result (λ v. v.items ≡ encodes cs) }
+    ensures { (cs : List ℕ) → SpellsCharacters cs raw.now → IfOk result (λ v. v.items ≡ encode_utf8_all cs) }
 {
     let mut text = String::new(alloc);
     let mut rest = raw;

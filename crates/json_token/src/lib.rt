@@ -5,6 +5,8 @@ mod character;
 mod decoded;
 mod number;
 mod string;
+#[cfg(test)]
+mod tests;
 
 pub use character::next_character;
 pub use decoded::{decode, same_characters, spells_text};

@@ -1,5 +1,5 @@
-use Rattle.std.proofs.Common.{◌≡◌, sym, subst, ap, ◌∙◌, List, ℕ}
-use Rattle.std.specs.Prelude.{string_bytes, Option, Some, None}
+use Rattle.std.proofs.Common.{◌≡◌, sym, subst, ap, ◌∙◌}
+use Rattle.std.specs.Prelude.{string_bytes, None}
 use Rattle.json_token.specs.Characters.{next_character, front_view}
 use Rattle.json_token.proofs.Comparing.{Decoded, decoded_first, decoded_more, decoded_all}
 use Rattle.json_token.proofs.Shorter.{next_shorter}

@@ -1,4 +1,4 @@
-use Rattle.std.proofs.Common.{ℕ, length}
+use Rattle.std.proofs.Common.{length}
 use Rattle.std.specs.Prelude.{string_bytes}
 use Rattle.json_token.proofs.Comparing.{Decoded}
 use Rattle.json_token.proofs.decoded.decode.Given as goal

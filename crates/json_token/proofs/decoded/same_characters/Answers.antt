@@ -1,7 +1,7 @@
-use Rattle.std.proofs.Common.{◌≡◌, sym, subst, ap, ◌∙◌, List, ℕ}
-use Rattle.std.specs.Prelude.{◌↔◌, IsTrue, is_none, Option, Some, None}
+use Rattle.std.proofs.Common.{◌≡◌, sym, ap, ◌∙◌}
+use Rattle.std.specs.Prelude.{None}
 use Rattle.json_token.specs.Characters.{next_character, front_view, rest_view, behind}
-use Rattle.json_token.proofs.Comparing.{Agree, agree_more, agree_end, agree_apart}
+use Rattle.json_token.proofs.Comparing.{agree_more, agree_end, agree_apart}
 use Rattle.json_token.proofs.Shorter.{next_shorter}
 use Rattle.json_token.proofs.decoded.same_characters.Goals as goal
 

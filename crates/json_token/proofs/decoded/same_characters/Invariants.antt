@@ -1,4 +1,4 @@
-use Rattle.std.proofs.Common.{ℕ, length}
+use Rattle.std.proofs.Common.{length}
 use Rattle.json_token.proofs.Comparing.{Agree}
 use Rattle.json_token.proofs.decoded.same_characters.Given as goal
 

@@ -1,0 +1,27 @@
+// One step of the multiplexer: what it was told, and what it said.
+ghost use Rattle.std.specs.Prelude.{◌≡◌, IfOk};
+
+use std::alloc::Global;
+
+use json_text::Memory;
+
+use crate::cause::Cause;
+use crate::outs::Outs;
+
+/// A cause and its outs. The list of the entries is the history.
+#[derive(Debug, Drop)]
+pub struct Entry {
+    pub cause: Cause,
+    pub outs: Outs,
+}
+
+impl Entry {
+    pub fn copy(&self, alloc: Global) -> Result<Entry, Memory>
+        ensures { IfOk result (λ entry. entry ≡ self.now) }
+    {
+        Ok(Entry {
+            cause: self.cause.copy(alloc)?,
+            outs: self.outs.copy(alloc)?,
+        })
+    }
+}

@@ -1,0 +1,35 @@
+// What the multiplexer says.
+ghost use Rattle.std.specs.Prelude.{◌≡◌, IfOk};
+
+use std::alloc::Global;
+
+use json_text::{Body, Memory};
+
+/// One order of the multiplexer.
+#[derive(Debug, Drop)]
+pub enum Out {
+    /// This body goes to this editor.
+    ToEditor(u64, Body),
+    /// This body goes to this start.
+    ToServer(u64, Body),
+    /// This start of a server is to be run for this group.
+    Spawn(u64, u64),
+    /// This editor's link is to be ended.
+    CloseEditor(u64),
+    /// This start's program is to be ended.
+    EndServer(u64),
+}
+
+impl Out {
+    pub fn copy(&self, alloc: Global) -> Result<Out, Memory>
+        ensures { IfOk result (λ out. out ≡ self.now) }
+    {
+        match self {
+            Out::ToEditor(editor, body) => Ok(Out::ToEditor(*editor, body.copy(alloc)?)),
+            Out::ToServer(start, body) => Ok(Out::ToServer(*start, body.copy(alloc)?)),
+            Out::Spawn(start, group) => Ok(Out::Spawn(*start, *group)),
+            Out::CloseEditor(editor) => Ok(Out::CloseEditor(*editor)),
+            Out::EndServer(start) => Ok(Out::EndServer(*start)),
+        }
+    }
+}

@@ -1,0 +1,11 @@
+//! The core of the multiplexer: one call takes a cause and gives its outs.
+#![tactic(auto)]
+
+mod fault;
+mod hub;
+mod pending;
+mod tables;
+
+pub use fault::StepFault;
+pub use hub::Hub;
+pub use mux_model::{Limits, Server};

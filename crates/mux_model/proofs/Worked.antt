@@ -1,0 +1,18 @@
+-- The plain path, computed by the checker: what the routing table gives at each of its causes.
+use Rattle.std.proofs.Common.{◌≡◌, [], true, refl}
+use Rattle.std.specs.Fmt.{digits}
+use Rattle.json.specs.Print.{escape_byte}
+use Rattle.json_text.specs.Computes.{computes}
+use Rattle.json_text.specs.Named.{named}
+use Rattle.lsp_method.specs.Class.{own_request, own_notification, goes_nowhere, editor_request, editor_notification, is_refresh, is_focused, server_request, server_notification}
+use Rattle.rpc_message.specs.Message.{message_of, no_name_twice, is_integer, member_bytes}
+use Rattle.rpc_message.specs.Texts.{with_id_text}
+use Rattle.mux_model.specs.Example.{outs_from, taken_from, plain_path, plain_path_outs}
+
+the_plain_path : outs_from [] plain_path ≡ plain_path_outs
+unfolding computes message_of named no_name_twice is_integer member_bytes with_id_text escape_byte digits
+the_plain_path = refl
+
+the_plain_path_is_taken : taken_from [] plain_path ≡ true
+unfolding computes message_of named no_name_twice is_integer member_bytes with_id_text escape_byte digits own_request own_notification goes_nowhere editor_request editor_notification is_refresh is_focused server_request server_notification
+the_plain_path_is_taken = refl

@@ -1,0 +1,15 @@
+-- Which histories are the multiplexer's.
+use Rattle.std.specs.Prelude.{◌≡◌, List, [], ◌∷◌, ◌++◌, IsTrue}
+use Rattle.mux_history.specs.declared.entry.Entry.{Entry}
+use Rattle.mux_model.specs.Built.{built}
+use Rattle.mux_model.specs.Fits.{fits}
+use Rattle.mux_model.specs.Rows.{emits}
+use Rattle.mux_model.specs.Settings.{Settings}
+
+-- each cause fits the entries before it and is built, and its outs are the routing table's
+abbrev pub LegalFrom : Settings → List Entry → List Entry → Type 0
+LegalFrom settings before [] = Unit {0}
+LegalFrom settings before (entry ∷ rest) = IsTrue (fits before entry.cause) × IsTrue (built before entry.cause) × (entry.outs ≡ emits settings before entry.cause) × LegalFrom settings (before ++ entry ∷ []) rest
+
+abbrev pub Legal : Settings → List Entry → Type 0
+Legal settings history = LegalFrom settings [] history

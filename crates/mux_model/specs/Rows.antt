@@ -1,0 +1,129 @@
+-- The routing table: for each cause, what is sent.
+use Rattle.std.specs.Prelude.{ℕ, zero, suc, ◌+◌, Bool, true, false, not, ◌&&◌, ◌||◌, List, [], ◌∷◌, ◌++◌, filter, codes, nat_eq, nat_lt, decimal, if◌then◌else◌}
+use Rattle.std.specs.Prelude.{Option, Some, None}
+use Rattle.mux_history.specs.declared.cause.Cause.{Cause}
+use Rattle.mux_history.specs.declared.cause.Cause.TheVariants.{Joined, FromEditor, EditorGone, Started, StartFailed, FromServer, ServerGone, Drained, Tick}
+use Rattle.mux_history.specs.declared.out.Out.{Out}
+use Rattle.mux_history.specs.declared.out.Out.TheVariants.{ToEditor, ToServer, Spawn, CloseEditor, EndServer}
+use Rattle.mux_history.specs.declared.entry.Entry.{Entry}
+use Rattle.rpc_message.specs.Message.{Message, request, notification, result, error, not_json, not_message, Id, message_of, id_bytes, result_bytes}
+use Rattle.rpc_message.specs.Texts.{ok_text, error_text, initialized_text, initialize_text, with_id_text, Code, request_failed}
+use Rattle.mux_model.specs.declared.phase.Phase.{Phase}
+use Rattle.mux_model.specs.declared.phase.Phase.TheVariants.{Absent, New, Waiting, Answered, Running, Down, Closed, Gone}
+use Rattle.mux_model.specs.declared.stage.Stage.{Stage}
+use Rattle.mux_model.specs.declared.stage.Stage.TheVariants.{Unspawned, Spawning, Initializing, Ready, Stopping, Ending, Ended}
+use Rattle.mux_model.specs.Event.{Event, events_of, with_cause, requests}
+use Rattle.mux_model.specs.Members.{params_of, root_uri, string_or_null, options_of}
+use Rattle.mux_model.specs.Phases.{desk_of, editors_of, is_there}
+use Rattle.mux_model.specs.Requests.{Asked, asking_of, asked_by, answered_id}
+use Rattle.mux_model.specs.Row.{Row, nothing, send, choose, look, outs, each, on, ◌⨾◌}
+use Rattle.mux_model.specs.Settings.{Settings}
+use Rattle.mux_model.specs.Spawns.{starts_of, groups_of, start_of, home_of, founding_of, group_of}
+use Rattle.mux_model.specs.Stages.{life_of, is_ready, is_first_result}
+
+abbrev pub answer_error : ℕ → List ℕ → Code → Row
+answer_error e body code = send (ToEditor e (error_text (id_bytes body) code))
+
+-- E7: a new group, and a start for it; the editor waits
+abbrev pub found_group : Row
+found_group = look (λ events. send (Spawn (starts_of events) (groups_of events)))
+
+-- E10: the request goes to the start under its next number
+abbrev pub forward : ℕ → List ℕ → Row
+forward s body = look (λ events. send (ToServer s (with_id_text body (decimal (asking_of s events).next))))
+
+-- the start of the editor's group
+abbrev pub start_in : Option ℕ → List Event → Option ℕ
+start_in None events = None
+start_in (Some g) events = start_of g events
+
+abbrev pub start_for : ℕ → List Event → Option ℕ
+start_for e events = start_in (home_of e events).group events
+
+-- it is ready, and a number is left
+abbrev pub can_ask : Settings → ℕ → List Event → Bool
+can_ask settings s events = is_ready (life_of s events).stage && nat_lt (asking_of s events).next settings.limits.requests
+
+abbrev pub request_row : Settings → List Event → ℕ → List ℕ → Row
+request_row settings before e body = on (start_for e before) (answer_error e body request_failed)
+    (λ s. choose (can_ask settings s before) (forward s body) (answer_error e body request_failed))
+
+abbrev pub served_row : Settings → List Event → ℕ → List ℕ → Message → Row
+served_row settings before e body (request id method params) = request_row settings before e body
+served_row settings before e body other = nothing
+
+abbrev pub from_editor : Settings → List Event → ℕ → List ℕ → Message → Phase → Row
+from_editor settings before e body m New = choose (requests (codes "initialize") m) found_group nothing
+from_editor settings before e body m Answered = served_row settings before e body m
+from_editor settings before e body m Running = served_row settings before e body m
+from_editor settings before e body m other = nothing
+
+-- S2: the editors of the start's group that wait
+abbrev pub below : ℕ → List ℕ
+below zero = []
+below (suc n) = below n ++ n ∷ []
+
+abbrev pub is_waiting : Phase → Bool
+is_waiting Waiting = true
+is_waiting _ = false
+
+abbrev pub is_group : Option ℕ → Option ℕ → Bool
+is_group (Some g) (Some h) = nat_eq g h
+is_group _ _ = false
+
+abbrev pub waiting_for : ℕ → List Event → List ℕ
+waiting_for s events = filter (λ e. is_waiting (desk_of e events).phase && is_group (home_of e events).group (group_of s events)) (below (editors_of events))
+
+abbrev pub welcome : List ℕ → ℕ → Row
+welcome body e = look (λ events. send (ToEditor e (ok_text (id_bytes (desk_of e events).initialize) (result_bytes body))))
+
+abbrev pub first_result : ℕ → List ℕ → Row
+first_result s body = send (ToServer s initialized_text) ⨾ look (λ events. each (welcome body) (waiting_for s events))
+
+-- S5: an answer goes to the editor that asked, under its own id
+abbrev pub pass_on : List Event → List ℕ → Asked → Row
+pass_on before body asked = choose (is_there (desk_of asked.asker.editor before).phase) (send (ToEditor asked.asker.editor (with_id_text body asked.asker.bytes))) nothing
+
+abbrev pub response_row : ℕ → List Event → List ℕ → Message → Row
+response_row s before body m = on (asked_by (answered_id m) (asking_of s before).open_requests) nothing (pass_on before body)
+
+abbrev pub from_server : ℕ → List Event → List ℕ → Message → Stage → Row
+from_server s before body m Initializing = choose (is_first_result m) (first_result s body) nothing
+from_server s before body m Ready = response_row s before body m
+from_server s before body m other = nothing
+
+-- the daemon's initialize to a start: the root and the options of the group's founder
+abbrev pub initialize_by : Option ℕ → List Event → List ℕ
+initialize_by None events = []
+initialize_by (Some e) events = (desk_of e events).initialize
+
+abbrev pub initialize_in : Option ℕ → List Event → List ℕ
+initialize_in None events = []
+initialize_in (Some g) events = initialize_by (founding_of g events).founder events
+
+abbrev pub founder_body : ℕ → List Event → List ℕ
+founder_body s events = initialize_in (group_of s events) events
+
+abbrev pub initialize_for : List ℕ → List ℕ
+initialize_for body = initialize_text (string_or_null (root_uri (params_of body))) (options_of body) (codes "{}") None
+
+abbrev pub started : ℕ → List Event → Stage → Row
+started s before Spawning = send (ToServer s (initialize_for (founder_body s before)))
+started s before other = nothing
+
+abbrev pub row_of : Settings → List Event → Cause → Row
+row_of settings before (FromEditor e body) = from_editor settings before e body (message_of body) (desk_of e before).phase
+row_of settings before (FromServer s body) = from_server s before body (message_of body) (life_of s before).stage
+row_of settings before (Started s) = started s before (life_of s before).stage
+row_of settings before other = nothing
+
+-- the outs of a cause behind these events
+abbrev pub outs_of : Settings → List Event → Cause → List Out
+outs_of settings before cause = outs (row_of settings before cause) (with_cause before cause)
+
+-- the routing table as a function of the history
+abbrev pub emits : Settings → List Entry → Cause → List Out
+emits settings history cause = outs_of settings (events_of history) cause
+
+abbrev pub entry_of : Settings → List Entry → Cause → Entry
+entry_of settings history cause = record { cause = cause; outs = emits settings history cause }
