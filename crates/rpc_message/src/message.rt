@@ -9,7 +9,7 @@ ghost use Rattle.rpc_message.specs.Texts.{with_id_text};
 
 use crate::envelope::{Envelope, envelope_in};
 use crate::parts::{member_bytes, with_id};
-use json_nodes::{Node, text_in};
+use json_nodes::text_in;
 use json_span::{JsonFault, Tape};
 use json_text::{Body, Memory};
 use std::alloc::Global;
@@ -49,18 +49,11 @@ impl<'a> Message<'a> {
         self.envelope
     }
 
-    /// The body.
-    pub fn bytes(&self) -> &'a [u8]
-        ensures { result.now ≡ self.now.doc.bytes }
+    /// The body, with its values.
+    pub fn tape(&self) -> &Tape<'a>
+        ensures { result.now ≡ self.now.doc }
     {
-        self.tape.bytes()
-    }
-
-    /// Its values in preorder.
-    pub fn nodes(&self) -> &[Node]
-        ensures { result.now ≡ self.now.doc.nodes }
-    {
-        self.tape.nodes()
+        &self.tape
     }
 
     /// The bytes of its id, as they came; `null` where it has none.
