@@ -138,24 +138,33 @@ fn count_items(tape: &Tape, node: u32) -> usize
 }
 
 // The second example of RFC 8259, section 13, in short.
-const PLACES: &[u8] = b"[{\"precision\": \"zip\", \"Latitude\": 37.7668, \"City\": \"SAN FRANCISCO\"},
+const PLACES: &[u8] =
+    b"[{\"precision\": \"zip\", \"Latitude\": 37.7668, \"City\": \"SAN FRANCISCO\"},
  {\"precision\": \"zip\", \"Latitude\": 37.371991, \"City\": \"SUNNYVALE\", \"City\": null}]";
 
 // The bytes of the member of this name, in the item of this number.
 fn bytes_of<'a>(tape: &Tape<'a>, number: u32, name: &str) -> &'a [u8] {
-    let Some(mut item) = tape.first(tape.root()) else { return b"no item" };
+    let Some(mut item) = tape.first(tape.root()) else {
+        return b"no item"
+    };
     for _ in 0..number {
-        let Some(next) = tape.next(item) else { return b"too few" };
+        let Some(next) = tape.next(item) else {
+            return b"too few"
+        };
         item = next;
     }
-    let Some(member) = tape.member(item, name) else { return b"no member" };
+    let Some(member) = tape.member(item, name) else {
+        return b"no member"
+    };
     let span = tape.span(member);
     &tape.bytes()[span.from..span.to]
 }
 
 #[test]
 fn looks_up(rt: HostRuntime) -> Result<(), Memory> {
-    let Ok(tape) = Tape::read(rt.alloc(), PLACES) else { return Err(Memory) };
+    let Ok(tape) = Tape::read(rt.alloc(), PLACES) else {
+        return Err(Memory)
+    };
     let root = tape.root();
     assert!(rt; matches!(tape.kind(root), Kind::Array));
     assert_eq!(rt; count_items(&tape, root), 2);
@@ -170,10 +179,18 @@ fn looks_up(rt: HostRuntime) -> Result<(), Memory> {
     ] {
         assert_eq!(rt; bytes_of(&tape, number, name), want);
     }
-    let Some(first) = tape.first(root) else { return Err(Memory) };
-    let Some(second) = tape.next(first) else { return Err(Memory) };
-    let Some(zip) = tape.member(first, "precision") else { return Err(Memory) };
-    let Some(other) = tape.member(second, "precision") else { return Err(Memory) };
+    let Some(first) = tape.first(root) else {
+        return Err(Memory)
+    };
+    let Some(second) = tape.next(first) else {
+        return Err(Memory)
+    };
+    let Some(zip) = tape.member(first, "precision") else {
+        return Err(Memory)
+    };
+    let Some(other) = tape.member(second, "precision") else {
+        return Err(Memory)
+    };
     assert_eq!(rt; tape.text(rt.alloc(), zip)?.bytes(), b"zip".as_slice());
     assert!(rt; same(&tape, zip, &tape, other));
     assert!(rt; !same(&tape, first, &tape, second));
@@ -210,8 +227,13 @@ fn quotes(rt: HostRuntime) -> Result<(), Memory> {
     ] {
         let body = quote(rt.alloc(), text.as_bytes())?;
         assert_eq!(rt; body.bytes(), want.as_bytes());
-        let Ok(tape) = Tape::read(rt.alloc(), body.bytes()) else { return Err(Memory) };
-        assert_eq!(rt; tape.text(rt.alloc(), tape.root())?.bytes(), text.as_bytes());
+        let Ok(tape) = Tape::read(rt.alloc(), body.bytes()) else {
+            return Err(Memory)
+        };
+        assert_eq!(rt;
+            tape.text(rt.alloc(), tape.root())?.bytes(),
+            text.as_bytes()
+        );
     }
     Ok(())
 }
@@ -219,13 +241,21 @@ fn quotes(rt: HostRuntime) -> Result<(), Memory> {
 #[test]
 fn splices(rt: HostRuntime) -> Result<(), Memory> {
     let bytes = b"{\"id\":1,\"method\":\"exit\"}";
-    let Ok(tape) = Tape::read(rt.alloc(), bytes) else { return Err(Memory) };
-    let Some(id) = tape.member(tape.root(), "id") else { return Err(Memory) };
+    let Ok(tape) = Tape::read(rt.alloc(), bytes) else {
+        return Err(Memory)
+    };
+    let Some(id) = tape.member(tape.root(), "id") else {
+        return Err(Memory)
+    };
     let change = Change {
         span: tape.span(id),
         text: quote(rt.alloc(), b"a")?,
     };
     let body = splice(rt.alloc(), bytes, &[change])?;
-    assert_eq!(rt; body.bytes(), b"{\"id\":\"a\",\"method\":\"exit\"}".as_slice());
+    assert_eq!(rt;
+        body.bytes(),
+        b"{\"id\":\"a\",\"method\":\"exit\"}".as_slice()
+    );
+    assert_eq!(rt; body.copy(rt.alloc())?.bytes(), body.bytes());
     Ok(())
 }
