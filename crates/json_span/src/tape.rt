@@ -70,6 +70,13 @@ impl<'a> Tape<'a> {
         self.bytes
     }
 
+    /// Its values in preorder, for the layers that read them one by one.
+    pub fn nodes(&self) -> &[Node]
+        ensures { result.now ≡ self.now.nodes }
+    {
+        self.nodes.as_slice()
+    }
+
     /// The text's value.
     pub fn root(&self) -> u32
         ensures first { result ≡ 0 }

@@ -1,4 +1,5 @@
 pub mod Faults
 pub mod Hubs
 pub mod Stands
+pub mod Steps
 pub mod Tables

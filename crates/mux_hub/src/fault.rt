@@ -16,6 +16,7 @@ pub enum StepFault {
 impl From<Memory> for StepFault {
     ghost use Rattle.std.specs.Prelude.{◌≡◌};
     ghost use Rattle.mux_hub.specs.declared.fault.StepFault.TheVariants as step_fault;
+
     ghost from_gives = { λ _ e. e ≡ step_fault.Memory };
 
     fn from(_: Memory) -> Self {
@@ -26,6 +27,7 @@ impl From<Memory> for StepFault {
 impl From<JournalFault> for StepFault {
     ghost use Rattle.std.specs.Prelude.{◌≡◌};
     ghost use Rattle.mux_hub.specs.Faults.{step_fault_of};
+
     ghost from_gives = { λ fault e. e ≡ step_fault_of fault };
 
     fn from(fault: JournalFault) -> Self {

@@ -1,5 +1,5 @@
 // The hub: the tables, the journal, and whether a step had a fault.
-ghost use Rattle.std.specs.Prelude.{◌≡◌, ℕ, ◌≤◌, ◌<◌, ◌↔◌, ◌×◌, List, [], ◌∷◌, ◌++◌, Bool, true, false, length, IsTrue, IfOk, OnOk, OnErr, IsErrOf, IfErr};
+ghost use Rattle.std.specs.Prelude.{◌≡◌, ℕ, ◌≤◌, ◌<◌, ◌↔◌, List, [], ◌∷◌, ◌++◌, Bool, true, false, length, IsTrue, IfOk, OnOk, OnErr, IsErrOf, IfErr};
 ghost use Rattle.outside_io.specs.Faults.{Rose};
 ghost use Rattle.mux_history.specs.declared.entry.Entry.{Entry};
 ghost use Rattle.mux_model.specs.Built.{built};
@@ -7,15 +7,13 @@ ghost use Rattle.mux_model.specs.Fits.{fits};
 ghost use Rattle.mux_model.specs.Rows.{emits, entry_of};
 ghost use Rattle.mux_hub.specs.Hubs.{HubView, HubStands, Tells, body_length};
 
-use std::alloc::Global;
-use std::marker::Model;
-
+use crate::fault::StepFault;
+use crate::tables::Tables;
 use json_text::{Body, Memory};
 use mux_history::{Cause, Entry, Journal, Outs};
 use mux_model::{Limits, Phase, Server, Stage};
-
-use crate::fault::StepFault;
-use crate::tables::Tables;
+use std::alloc::Global;
+use std::marker::Model;
 
 /// The core of the multiplexer. It stands for the history of its steps, and its journal has the entries.
 #[derive(Drop)]
@@ -39,7 +37,13 @@ impl<J: Journal> Model for Hub<J> {
 
 impl<J: Journal> Hub<J> {
     /// A hub without a history. Want of memory hands the journal back.
-    pub fn new(alloc: Global, limits: Limits, servers: Vec<Server>, default: u32, journal: J) -> Result<Hub<J>, J>
+    pub fn new(
+        alloc: Global,
+        limits: Limits,
+        servers: Vec<Server>,
+        default: u32,
+        journal: J,
+    ) -> Result<Hub<J>, J>
         requires { Tells (J.told journal) [] }
         ensures settings { IfOk result (λ hub. hub.settings ≡ record { limits = limits; servers = servers.items; default = default }) }
         ensures stands { IfOk result (λ hub. HubStands J.told hub []) }
@@ -55,6 +59,7 @@ impl<J: Journal> Hub<J> {
             tables: Tables {
                 phase: Phase::Absent,
                 initialize: Body::new(Vec::new(alloc)),
+                opening: Body::new(Vec::new(alloc)),
                 sent: 0,
                 stage: Stage::Unspawned,
                 started: false,
@@ -72,5 +77,42 @@ impl<J: Journal> Hub<J> {
     {
         let Hub { journal, .. } = self;
         journal
+    }
+
+    /// Whether this cause can come behind the history.
+    pub fn fits(&self, cause: &Cause) -> bool
+        ensures { (history : List Entry) → HubStands J.told self.now history → self.now.spent ≡ false → result ≡ fits history cause.now }
+    {
+        self.tables.fits(cause)
+    }
+
+    /// Whether this cause, which fits, meets only rows of the routing table that are built.
+    pub fn built(&self, cause: &Cause) -> Result<bool, Memory>
+        requires { body_length cause.now ≤ 268435456 }
+        ensures { (history : List Entry) → HubStands J.told self.now history → self.now.spent ≡ false → IfOk result (λ answer. answer ≡ built history cause.now) }
+    {
+        Err(Memory)
+    }
+
+    /// Takes a cause and gives its outs: those of the routing table. The entry was appended to the journal.
+    pub fn step(&mut self, cause: Cause) -> Result<Outs, StepFault>
+        requires small { body_length cause ≤ 268435456 }
+        requires fits { (history : List Entry) → HubStands J.told self.old history → self.old.spent ≡ false → IsTrue (fits history cause) }
+        requires is_built { (history : List Entry) → HubStands J.told self.old history → self.old.spent ≡ false → IsTrue (built history cause) }
+        ensures settings { self.new.settings ≡ self.old.settings }
+        ensures outs { (history : List Entry) → HubStands J.told self.old history → IfOk result (λ outs. outs ≡ emits self.old.settings history cause) }
+        ensures stands { (history : List Entry) → HubStands J.told self.old history → OnOk result (HubStands J.told self.new (history ++ entry_of self.old.settings history cause ∷ [])) }
+        ensures err { (history : List Entry) → HubStands J.told self.old history → OnErr result (HubStands J.told self.new history) }
+        ensures ready { OnOk result (self.new.spent ≡ false) }
+        ensures spent { OnErr result (self.new.spent ≡ true) }
+        ensures spent_only { IsErrOf result StepFault.Spent ↔ (self.old.spent ≡ true) }
+        ensures journal_only { IsErrOf result StepFault.Journal → Rose (J.faults self.old.journal) (J.faults self.new.journal) }
+        ensures later { J.faults self.old.journal ≤ J.faults self.new.journal }
+    {
+        if self.spent {
+            return Err(StepFault::Spent);
+        }
+        self.spent = true;
+        Err(StepFault::Memory)
     }
 }

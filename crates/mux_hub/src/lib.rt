@@ -3,6 +3,7 @@
 
 mod fault;
 mod hub;
+mod pending;
 mod tables;
 
 pub use fault::StepFault;

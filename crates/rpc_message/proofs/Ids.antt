@@ -19,7 +19,8 @@ use Rattle.json_text.proofs.Swaps.{Replaced}
 use Rattle.rpc_message.specs.Message.{Id, request, result, error, id_of, is_null, are_params, given, result_tree, is_error, request_if, response_id, error_if, outcome, response_with, answered, message_of, place_in, slice_of, member_bytes, id_bytes, result_bytes}
 use Rattle.rpc_message.specs.Texts.{with_id_at, with_id_text}
 use Rattle.rpc_message.specs.ValueTexts.{IsValueText, IsIdText, IsResponseIdText}
-use Rattle.rpc_message.proofs.Envelope.{by_names, has_id, Envelope, envelope, put_id}
+use Rattle.rpc_message.specs.Envelopes.{by_names}
+use Rattle.rpc_message.proofs.Bodies.{has_id, Envelope, envelope, put_id}
 use Rattle.rpc_message.proofs.Fixed.{response_flat, response_is_id}
 use Rattle.rpc_message.proofs.Meaning.{message_says, id_bare, response_id_bare}
 
