@@ -77,13 +77,6 @@ impl<'a> Tape<'a> {
         self.nodes.as_slice()
     }
 
-    /// Its values in preorder.
-    pub fn nodes(&self) -> &[Node]
-        ensures { result.now ≡ self.now.nodes }
-    {
-        self.nodes.as_slice()
-    }
-
     /// The text's value.
     pub fn root(&self) -> u32
         ensures first { result ≡ 0 }
