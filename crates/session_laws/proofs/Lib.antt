@@ -1,0 +1,9 @@
+pub mod Bricks
+pub mod Folds
+pub mod Initializes
+pub mod Keeps
+pub mod Rules
+pub mod ServerLaw
+pub mod Starts
+pub mod Table
+pub mod Words

@@ -1,0 +1,4 @@
+pub mod Always
+pub mod ClientRules
+pub mod Parts
+pub mod ServerRules

@@ -1,0 +1,2 @@
+//! The rules of a conforming session, each a law of every legal history.
+#![tactic(auto)]
