@@ -1,6 +1,6 @@
 //! The rules of a conforming session, each a law of every legal history.
 #![tactic(auto)]
 
-mod rules;
+mod laws;
 
-pub use rules::server_1;
+pub use laws::server_1;
