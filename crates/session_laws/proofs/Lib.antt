@@ -1,4 +1,6 @@
 mod Server1Law
+mod Server2Law
+mod Server3Law
 pub mod Bricks
 pub mod Folds
 pub mod Initializes

@@ -30,3 +30,12 @@ word_more f start test events event = ap (fold f start) (filter-append test even
 pub unless : {A : Type 0} (b : Bool) (x y : A) → (b ≡ true → ⊥) → cond b x y ≡ y
 unless true x y h = absurd (h refl)
 unless false x y h = refl
+
+-- a word over the part, from the front
+pub word_first : {W : Type 0} (f : W → Event → W) (w : W) (test : Event → Bool) (event : Event) (events : List Event)
+    → fold f w (filter test (event ∷ events)) ≡ fold f (cond (test event) (f w event) w) (filter test events)
+word_first f w test event events = go (test event)
+  where
+    go : (b : Bool) → fold f w (cond b (event ∷ filter test events) (filter test events)) ≡ fold f (cond b (f w event) w) (filter test events)
+    go true = refl
+    go false = refl

@@ -3,4 +3,4 @@
 
 mod laws;
 
-pub use laws::server_1;
+pub use laws::{server_1, server_2, server_3};
