@@ -61,7 +61,7 @@ joined_right : (settings : Settings) (events : List Event) (t : Kept) (e : ℕ) 
 joined_right settings events t e s b f =
     let z : e ≡ 0 = is_zero e b in
     let p : t.phase ≡ Absent = no_number t.phase (ap (λ n. nat_eq 0 n) (sym s.editors) ∙ (ap (λ n. nat_eq n (editors_of events)) (sym z) ∙ f)) in
-    subst (λ n. Steps settings events (Joined n) [] (record t { phase = New; initialize = [] })) (sym z) (joined_steps settings events t s p)
+    subst (λ n. Steps settings events (Joined n) [] (record t { phase = New })) (sym z) (joined_steps settings events t s p)
 
 and_left : (a b : Bool) → (a && b) ≡ true → a ≡ true
 and_left true b h = refl
@@ -140,7 +140,7 @@ founding settings events t body method id ps s e m i =
     founded_steps settings events t body id ps s e (m ∙ ap (λ w. request id w ps) i) (meant id (id_bytes body) is) (means id (id_bytes body) is) (opening_law body id method ps m)
 
 requesting : (settings : Settings) (events : List Event) (t : Kept) (body method : List ℕ) (id : Id) (ps : Option Json) (p : Phase) → settings.limits.requests < 2 ^ 32 → Stands t events → t.phase ≡ p
-    → message_of body ≡ request id method ps → built_request p (open_in p t.pending (id_bytes t.initialize)) id method ps ≡ true
+    → message_of body ≡ request id method ps → built_request p (open_in p t.pending t.id) id method ps ≡ true
     → Right settings events (FromEditor 0 body) (requested settings.limits.requests t body p)
 requesting settings events t body method id ps New l s e m b =
     let init : bytes_eq (codes "initialize") method ≡ true = and_left _ _ b in
@@ -158,7 +158,7 @@ requesting settings events t body method id ps Closed l s e m b = never b
 requesting settings events t body method id ps Gone l s e m b = never b
 
 hearing : (settings : Settings) (events : List Event) (t : Kept) (body : List ℕ) (m : Message) → settings.limits.requests < 2 ^ 32 → Stands t events → message_of body ≡ m
-    → built_from_editor t.phase (open_in t.phase t.pending (id_bytes t.initialize)) m ≡ true → Right settings events (FromEditor 0 body) (from_editor settings.limits.requests t body m)
+    → built_from_editor t.phase (open_in t.phase t.pending t.id) m ≡ true → Right settings events (FromEditor 0 body) (from_editor settings.limits.requests t body m)
 hearing settings events t body (request id method ps) l s m b = requesting settings events t body method id ps t.phase l s refl m b
 hearing settings events t body (notification method ps) l s m b = noted_steps settings events t body ps s (m ∙ ap (λ w. notification w ps) (sym (same_text (codes "initialized") method b)))
 hearing settings events t body (result id r) l s m b = never b
@@ -251,8 +251,8 @@ waiting_is Down h = never h
 waiting_is Closed h = never h
 waiting_is Gone h = never h
 
-waiting_means : (p : Phase) (g : Stage) (ps : List Pending) (i : List ℕ) → PhaseTies p g ps i → p ≡ Waiting → MeansId (id_bytes i)
-waiting_means p g ps i t e = let P : Phase → Type 0 = λ q. PhaseTies q g ps i in (subst P e t).1
+waiting_means : (p : Phase) (g : Stage) (ps : List Pending) (i b : List ℕ) → PhaseTies p g ps i b → p ≡ Waiting → MeansId i
+waiting_means p g ps i b t e = let P : Phase → Type 0 = λ q. PhaseTies q g ps i b in (subst P e t).1
 
 readying : (settings : Settings) (events : List Event) (t : Kept) (body : List ℕ) (r : Json) (b : Bool) → Stands t events → t.stage ≡ Initializing → message_of body ≡ result (Some (integer (codes "1"))) r → is_waiting t.phase ≡ b
     → Right settings events (FromServer 0 body) (ready_if b t body)
@@ -261,7 +261,7 @@ readying settings events t body r true s g m w =
     let p = waiting_is t.phase w in
     let shallow = result_bytes_law body (Some (integer (codes "1"))) r m in
     welcomed_steps settings events t body (welcome_text t body) r r _ s g m initialized_law p refl
-      (ok_law (Some (id_meant (id_bytes t.initialize))) r (id_bytes t.initialize) (result_bytes body) (id_as_response _ _ (waiting_means t.phase t.stage t.pending t.initialize s.phase_ties p)) shallow.text shallow.shallow)
+      (ok_law (Some (id_meant t.id)) r t.id (result_bytes body) (id_as_response _ _ (waiting_means t.phase t.stage t.pending t.id s.initialize s.phase_ties p)) shallow.text shallow.shallow)
 
 first_is : (body : List ℕ) (m : Message) → message_of body ≡ m → is_first_result m ≡ true → (r : Json) × (message_of body ≡ result (Some (integer (codes "1"))) r)
 first_is body (result (Some (integer n)) r) m f = (r, m ∙ ap (λ n. result (Some (integer n)) r) (same_text n (codes "1") f))
