@@ -6,5 +6,6 @@ pub mod Meant
 pub mod Numbers
 pub mod Opening
 pub mod OpeningLaw
+pub mod Places
 pub mod Serving
 pub mod TurnLaw

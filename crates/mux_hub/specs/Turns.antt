@@ -1,5 +1,5 @@
 -- What the hub does over its tables, for a cause that meets rows that are built: the outs, and the tables behind them.
-use Rattle.std.specs.Prelude.{◌≡◌, ℕ, suc, ◌+◌, ◌-◌, ◌^◌, min, Bool, true, false, ◌&&◌, List, [], ◌∷◌, ◌++◌, length, codes, decimal, nat_lt, slice_get, if◌then◌else◌}
+use Rattle.std.specs.Prelude.{◌≡◌, ℕ, suc, ◌+◌, ◌-◌, ◌^◌, min, Bool, true, false, ◌&&◌, List, [], ◌∷◌, ◌++◌, length, codes, decimal, bytes_eq, nat_lt, slice_get, if◌then◌else◌}
 use Rattle.std.specs.Prelude.{Option, Some, None, option_map}
 use Rattle.std.specs.List.{remove}
 use Rattle.mux_history.specs.declared.cause.Cause.{Cause}
@@ -72,6 +72,11 @@ or_next false k = option_map suc k
 abbrev pub place_of : Option Id → List Pending → Option ℕ
 place_of id [] = None
 place_of id (p ∷ ps) = or_next (has_number id (asked_of p)) (place_of id ps)
+
+-- the same by the bytes of the id
+abbrev pub place_written : List ℕ → List Pending → Option ℕ
+place_written id [] = None
+place_written id (p ∷ ps) = or_next (bytes_eq id (decimal p.number)) (place_written id ps)
 
 abbrev pub pass_on : Kept → List ℕ → ℕ → Option Pending → Turn
 pass_on t body k (Some p) = record { outs = ToEditor 0 (with_id_text body p.id) ∷ []; now = record t { sent = sent_more t.sent (with_id_text body p.id); pending = remove t.pending k } }

@@ -8,7 +8,7 @@ ghost use Rattle.rpc_message.specs.Message.{Message as Meaning, message_of, id_b
 ghost use Rattle.rpc_message.specs.Texts.{error_text, request_failed};
 ghost use Rattle.rpc_message.specs.Parsed.{IsRead};
 ghost use Rattle.mux_hub.specs.Hubs.{body_length};
-ghost use Rattle.mux_hub.specs.Turns.{Turn, turn, joined, noted, found, forward, refuse, requested, from_editor, from_server, ready_if, started, answered, pass_on, place_of, can_go, Gives};
+ghost use Rattle.mux_hub.specs.Turns.{Turn, turn, joined, noted, found, forward, refuse, requested, from_editor, from_server, ready_if, started, answered, pass_on, place_of, place_written, can_go, Gives};
 
 use std::alloc::Global;
 
@@ -51,6 +51,20 @@ fn writes(bytes: &[u8], number: u32) -> bool
 {
     let mut digits = Buffer::new();
     bytes == digits.format(number).as_bytes()
+}
+
+// The place of the request whose number these bytes write.
+#[tactic(auto, using(crate::proofs::Places::here, crate::proofs::Places::not_here, crate::proofs::Places::nowhere))]
+fn place_of(pending: &[Pending], id: &[u8]) -> Option<usize>
+    ensures place { result ≡ place_written id.now pending.now }
+    ensures inside { IfSome result (λ k. k < length pending.now) }
+{
+    for (at, request) in pending.iter().enumerate() {
+        if writes(id, request.number) {
+            return Some(at);
+        }
+    }
+    None
 }
 
 impl Tables {
