@@ -6,6 +6,8 @@ mod envelope;
 mod laws;
 mod message;
 mod parts;
+#[cfg(test)]
+mod tests;
 mod texts;
 
 pub use code::ErrorCode;
