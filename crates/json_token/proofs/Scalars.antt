@@ -1,10 +1,10 @@
 -- The characters of a string are Unicode scalar values: a surrogate with no partner stands for U+FFFD (RFC 8259, section 8.2).
-use Rattle.std.proofs.Common.{◌≡◌, refl, ap, subst, ◌∙◌, sym, ℕ, ◌+◌, ◌-◌, ◌*◌, ◌<◌, ◌≤◌, Bool, true, false, ◌&&◌, List, [], ◌∷◌, ◌++◌, map, ◌⊎◌, inl, inr, IsUtf8, arith, encode_utf8_all}
-use Rattle.std.specs.Prelude.{IsTrue, nat_lt, flat_map, if◌then◌else◌}
-use Rattle.std.specs.Prelude.{Some, None}
+use Rattle.std.proofs.Common.{◌≡◌, refl, ap, subst, ◌∙◌, sym, ℕ, ◌<◌, ◌≤◌, Bool, true, false, ◌&&◌, List, [], ◌∷◌, ◌++◌, map, ◌⊎◌, inl, inr, IsUtf8, arith, encode_utf8_all}
+use Rattle.std.specs.Prelude.{flat_map, if◌then◌else◌}
+use Rattle.std.specs.Prelude.{Some}
 use Rattle.std.specs.List.{AllByRecursion}
 use Rattle.std.specs.Option.{unwrap_or}
-use Rattle.std.specs.Char.{IsScalar, digit_value}
+use Rattle.std.specs.Char.{IsScalar}
 use Rattle.std.specs.Char.Escape.{encode_utf16}
 use Rattle.std.specs.Char.Utf16.{is_high_surrogate, is_low_surrogate, surrogate_pair_char, lone_unit_char, utf16_chars, utf16_lossy_chars}
 use Rattle.std.specs.Str.{chars}
@@ -15,7 +15,7 @@ use Rattle.std.proofs.lemmas.Str.{chars-encodes}
 use lib.Utf8.{scalar, scalars}
 use Rattle.json_text.specs.Json.{string, value}
 use Rattle.json_text.specs.declared.span.Span.{Span}
-use Rattle.json_text.specs.String.{Piece, plain, short, unit, is_hex, is_short, short_character, IsPiece, units, characters, SpellsCharacters}
+use Rattle.json_text.specs.String.{Piece, plain, short, unit, short_character, IsPiece, units, SpellsCharacters}
 use Rattle.json_token.proofs.Decoding.{short_below, unit_below, scalar_below}
 
 -- units of UTF-16

@@ -1,13 +1,12 @@
 -- The `initialize` that a start is sent is a request, whatever the body of the group's founder says.
-use Rattle.std.proofs.Common.{◌≡◌, ℕ, zero, suc, ◌+◌, ◌-◌, ◌≤◌, Bool, true, false, List, [], ◌∷◌, length, take, drop, Option, Some, None, is_some, option_map, if◌then◌else◌, codes, encode_utf8_all, refl, sym, ◌∙◌, ap, subst, arith, zero-add}
+use Rattle.std.proofs.Common.{◌≡◌, ℕ, suc, ◌+◌, ◌≤◌, true, List, [], ◌∷◌, length, Option, Some, None, is_some, option_map, if◌then◌else◌, codes, encode_utf8_all, refl, sym, ◌∙◌, ap, subst, arith}
 use Rattle.std.specs.Option.{option_and_then}
 use Rattle.std.specs.Str.{chars}
 use Rattle.json.specs.Print.{quoted}
-use Rattle.json_text.specs.declared.span.Span.{Span}
-use Rattle.json_text.specs.declared.kind.Word.TheVariants.{Null, False, True}
+use Rattle.json_text.specs.declared.kind.Word.TheVariants.{Null}
 use Rattle.json_text.specs.Bare.{bare, nowhere}
-use Rattle.json_text.specs.Json.{Json, word, number, string, array, object, Items, no_items, item, Members, no_members, member, value, span_of, IsText, depth}
-use Rattle.json_text.specs.Named.{named, named_in, items_list}
+use Rattle.json_text.specs.Json.{Json, word, number, string, array, object, Items, no_items, item, no_members, value, span_of, IsText, depth}
+use Rattle.json_text.specs.Named.{named_in, items_list}
 use Rattle.json_text.specs.Paths.{Step, key, index, item_at, step_to, value_at}
 use Rattle.json_text.specs.Tree.{tree_of}
 use Rattle.json_text.proofs.Depths.{step_below}
@@ -17,10 +16,11 @@ use Rattle.json_text.proofs.Moves.{Placed, moved}
 use Rattle.json_text.proofs.Put.{depth_bare}
 use Rattle.json_token.proofs.Scalars.{scalar_string, utf8_characters}
 use Rattle.json_span.proofs.Quoted.{quoted_body}
-use Rattle.rpc_message.specs.Message.{Id, Message, integer, request, not_json, place_in, slice_of, message_in, message_of}
+use Rattle.rpc_message.specs.Message.{Id, integer, request, slice_of, message_in, message_of}
 use Rattle.rpc_message.specs.ValueTexts.{IsValueText, IsOptionText}
 use Rattle.rpc_message.specs.Texts.{initialize_text, initialize_params}
 use Rattle.rpc_message.proofs.Opening.{option_depth, initialize_law}
+use Rattle.rpc_message.proofs.Standing.{place_named}
 use Rattle.mux_model.specs.Members.{named_of, params_of, string_of, or_first, first_uri, listed, root_uri, string_or_null, bytes_if, options_of}
 use Rattle.mux_model.specs.Rows.{initialize_for}
 use lib.Utf8.{scalars}
@@ -110,18 +110,6 @@ record OptionWritten (bytes : Option (List ℕ)) : Type 0 where
   tree : Option Json
   text : IsOptionText tree bytes
   shallow : option_depth tree ≤ 1022
-
--- where a member stands
-place_named : (cs : List ℕ) (j : Json) → place_in cs (Some j) ≡ option_map span_of (named_in cs j)
-place_named cs (object s ms) = go (named cs ms)
-  where
-    go : (o : Option Json) → (elim o [ None ↦ None | Some k ↦ Some (span_of k) ]) ≡ option_map span_of o
-    go None = refl
-    go (Some k) = refl
-place_named cs (word s w) = refl
-place_named cs (number s ds) = refl
-place_named cs (string s ds) = refl
-place_named cs (array s js) = refl
 
 -- a value two levels down, in its span
 slice_written : (body : List ℕ) (j p t : Json) (name inner : List ℕ) → IsText body j → depth j ≤ 1024 → named_in name j ≡ Some p → named_in inner p ≡ Some t → OptionWritten (Some (slice_of body (Some (span_of t))))
