@@ -70,7 +70,7 @@ impl<'a> Tape<'a> {
         self.bytes
     }
 
-    /// Its values in preorder, for the layers that read them one by one.
+    /// Its values in preorder, each as a node.
     pub fn nodes(&self) -> &[Node]
         ensures { result.now ≡ self.now.nodes }
     {

@@ -179,18 +179,10 @@ fn looks_up(rt: HostRuntime) -> Result<(), Memory> {
     ] {
         assert_eq!(rt; bytes_of(&tape, number, name), want);
     }
-    let Some(first) = tape.first(root) else {
-        return Err(Memory)
-    };
-    let Some(second) = tape.next(first) else {
-        return Err(Memory)
-    };
-    let Some(zip) = tape.member(first, "precision") else {
-        return Err(Memory)
-    };
-    let Some(other) = tape.member(second, "precision") else {
-        return Err(Memory)
-    };
+    let first = tape.first(root).ok_or(Memory)?;
+    let second = tape.next(first).ok_or(Memory)?;
+    let zip = tape.member(first, "precision").ok_or(Memory)?;
+    let other = tape.member(second, "precision").ok_or(Memory)?;
     assert_eq!(rt; tape.text(rt.alloc(), zip)?.bytes(), b"zip".as_slice());
     assert!(rt; same(&tape, zip, &tape, other));
     assert!(rt; !same(&tape, first, &tape, second));
@@ -244,9 +236,7 @@ fn splices(rt: HostRuntime) -> Result<(), Memory> {
     let Ok(tape) = Tape::read(rt.alloc(), bytes) else {
         return Err(Memory)
     };
-    let Some(id) = tape.member(tape.root(), "id") else {
-        return Err(Memory)
-    };
+    let id = tape.member(tape.root(), "id").ok_or(Memory)?;
     let change = Change {
         span: tape.span(id),
         text: quote(rt.alloc(), b"a")?,

@@ -19,7 +19,7 @@ use Rattle.mux_hub.specs.declared.pending.Pending.{Pending}
 use Rattle.mux_model.specs.Spawns.{group_of, founding_of, starts_of, starts_behind, groups_of, groups_behind, first_of, founded_by}
 use Rattle.std.proofs.lemmas.List.Sums.{fold-append}
 use Rattle.mux_model.specs.Settings.{Settings}
-use Rattle.mux_hub.specs.Stands.{Stands, MeansId, PhaseTies, StageTies}
+use Rattle.mux_hub.specs.Stands.{Stands, Opens, MeansId, PhaseTies, StageTies}
 use Rattle.mux_hub.specs.Steps.{Steps}
 use Rattle.mux_hub.specs.Tables.{Kept, asked_for, joined_in, spawned_in, first_in, open_in, id_meant}
 use Rattle.mux_hub.proofs.Entries.{Goes, steps_so}
@@ -34,7 +34,7 @@ new_ties t events s e = let P : Phase → Type 0 = λ p. PhaseTies p t.stage t.p
 unspawned_ties : (t : Kept) (events : List Event) → Stands t events → t.stage ≡ Unspawned → t.next ≡ 1
 unspawned_ties t events s g = let P : Stage → Type 0 = λ p. StageTies p t.next t.opening t.initialize in subst P g s.stage_ties
 
-spawning_ties : (t : Kept) (events : List Event) → Stands t events → t.stage ≡ Spawning → (t.next ≡ 1) × (t.opening ≡ initialize_for t.initialize)
+spawning_ties : (t : Kept) (events : List Event) → Stands t events → t.stage ≡ Spawning → (t.next ≡ 1) × (t.opening ≡ initialize_for t.initialize) × Opens t.opening
 spawning_ties t events s g = let P : Stage → Type 0 = λ p. StageTies p t.next t.opening t.initialize in subst P g s.stage_ties
 
 -- where a start was spawned, the ties of the phase say nothing of its stage
@@ -74,9 +74,9 @@ joined_steps settings events t s e = steps_so settings events (Joined 0) [] t (r
 
 -- E7: the editor's initialize founds a group
 pub founded_steps : (settings : Settings) (events : List Event) (t : Kept) (body : List ℕ) (id : Id) (ps : Option Json) → Stands t events → t.phase ≡ New
-    → message_of body ≡ request id (codes "initialize") ps → id ≡ id_meant (id_bytes body) → MeansId (id_bytes body)
+    → message_of body ≡ request id (codes "initialize") ps → id ≡ id_meant (id_bytes body) → MeansId (id_bytes body) → Opens (initialize_for body)
     → Steps settings events (FromEditor 0 body) (Spawn 0 0 ∷ []) (record t { phase = Waiting; initialize = body; opening = initialize_for body; stage = Spawning; started = false })
-founded_steps settings events t body id ps s e m i means =
+founded_steps settings events t body id ps s e m i means opens =
     let none = new_ties t events s e in
     let g : t.stage ≡ Unspawned = none.0 in
     let p : (desk_of 0 events).phase ≡ New = ap (λ d. d.phase) s.desk ∙ e in
@@ -102,21 +102,18 @@ founded_steps settings events t body id ps s e m i means =
       ids = s.ids;
   distinct = s.distinct;
       phase_ties = (none.1, means);
-      stage_ties = (unspawned_ties t events s g, refl);
+      stage_ties = (unspawned_ties t events s g, refl, opens);
     }) (rw (p, m, a, b) refl)
 
 -- the tables stand where the start's program may run, and it is spawning
-pub started_steps : (settings : Settings) (events : List Event) (t : Kept) (text : List ℕ) (ps : Option Json) → Stands t events → t.stage ≡ Spawning
-    → text ≡ t.opening → message_of text ≡ request (integer (codes "1")) (codes "initialize") ps
-    → Steps settings events (Started 0) (ToServer 0 text ∷ []) (record t { stage = Initializing; started = true; next = 2 })
-started_steps settings events t text ps s g x m =
-    let ties = spawning_ties t events s g in
-    let n : t.next ≡ 1 = ties.0 in
+started_with : (settings : Settings) (events : List Event) (t : Kept) (ps : Option Json) → Stands t events → t.stage ≡ Spawning → t.next ≡ 1 → t.opening ≡ initialize_for t.initialize
+    → message_of t.opening ≡ request (integer (codes "1")) (codes "initialize") ps → Steps settings events (Started 0) (ToServer 0 t.opening ∷ []) (record t { stage = Initializing; started = true; next = 2 })
+started_with settings events t ps s g n x m =
     let l : (life_of 0 events).stage ≡ Spawning = ap (λ l. l.stage) s.life ∙ g in
     let gr : group_of 0 events ≡ Some 0 = s.group ∙ ap first_in g in
     let fo : (founding_of 0 events).founder ≡ Some 0 = s.founder ∙ ap first_in g in
     let founder : founder_body 0 events ≡ t.initialize = ap (λ g. initialize_in g events) gr ∙ (ap (λ f. initialize_by f events) fo ∙ ap (λ d. d.initialize) s.desk) in
-    steps_so settings events (Started 0) (ToServer 0 text ∷ []) t (record t { stage = Initializing; started = true; next = 2 }) s (record {
+    steps_so settings events (Started 0) (ToServer 0 t.opening ∷ []) t (record t { stage = Initializing; started = true; next = 2 }) s (record {
       desk = refl;
       other_desks = λ n h. refl;
       editors = refl;
@@ -136,7 +133,11 @@ started_steps settings events t text ps s g x m =
   distinct = s.distinct;
       phase_ties = spawned_tie t.phase t.stage Initializing t.pending t.initialize s.phase_ties (λ q. let z : Spawning ≡ Unspawned = sym g ∙ q in cc);
       stage_ties = tt;
-    }) (rw l (ap (λ b. ToServer 0 b ∷ []) (x ∙ (ties.1 ∙ ap initialize_for (sym founder)))))
+    }) (rw l (ap (λ b. ToServer 0 b ∷ []) (x ∙ ap initialize_for (sym founder))))
+
+pub started_steps : (settings : Settings) (events : List Event) (t : Kept) → Stands t events → t.stage ≡ Spawning
+    → Steps settings events (Started 0) (ToServer 0 t.opening ∷ []) (record t { stage = Initializing; started = true; next = 2 })
+started_steps settings events t s g = let ties = spawning_ties t events s g in started_with settings events t ties.2.0 s g ties.0 ties.1 ties.2.1
 
 -- while it is ending its program may run too, and nothing is sent
 pub ending_steps : (settings : Settings) (events : List Event) (t : Kept) → Stands t events → t.stage ≡ Ending → Steps settings events (Started 0) [] (record t { started = true })

@@ -1,7 +1,8 @@
 -- When the hub's tables stand for events.
-use Rattle.std.specs.Prelude.{◌≡◌, ℕ, ◌-◌, ◌^◌, ◌<◌, ◌≤◌, min, List, [], ◌∷◌, map, false}
+use Rattle.std.specs.Prelude.{◌≡◌, ℕ, ◌-◌, ◌^◌, ◌<◌, ◌≤◌, min, List, [], ◌∷◌, map, false, codes, Option}
 use Rattle.std.specs.List.{AllByRecursion}
-use Rattle.rpc_message.specs.Message.{id_bytes}
+use Rattle.json_text.specs.Json.{Json}
+use Rattle.rpc_message.specs.Message.{id_bytes, message_of, request, integer}
 use Rattle.rpc_message.specs.ValueTexts.{IsIdText}
 use Rattle.mux_model.specs.declared.phase.Phase.{Phase}
 use Rattle.mux_model.specs.declared.phase.Phase.TheVariants.{Absent, New, Waiting, Answered, Running, Down, Closed, Gone}
@@ -27,10 +28,14 @@ PhaseTies New stage ps body = (stage ≡ Unspawned) × (ps ≡ [])
 PhaseTies Waiting stage ps body = (ps ≡ []) × MeansId (id_bytes body)
 PhaseTies other stage ps body = Unit {0}
 
+-- the text is the request initialize, with the number 1
+abbrev pub Opens : List ℕ → Type 0
+Opens text = (ps : Option Json) × (message_of text ≡ request (integer (codes "1")) (codes "initialize") ps)
+
 -- before its program ran, nothing was sent to the start; what it will be sent first is ready when it is spawned
 abbrev pub StageTies : Stage → ℕ → List ℕ → List ℕ → Type 0
 StageTies Unspawned next text body = next ≡ 1
-StageTies Spawning next text body = (next ≡ 1) × (text ≡ initialize_for body)
+StageTies Spawning next text body = (next ≡ 1) × (text ≡ initialize_for body) × Opens text
 StageTies other next text body = Unit {0}
 
 -- no two kept requests have the same id

@@ -1,20 +1,23 @@
 -- A body that is no JSON text is no message; one that is has its tree's.
-use Rattle.std.proofs.Common.{◌≡◌, ℕ, ◌<◌, Result, Ok, Err, IsErrAnd, IfErr, ◌⊎◌, inl, inr, List, length, Option, Some, None, refl, sym, ◌∙◌, ap, ap₂, subst}
+use Rattle.std.proofs.Common.{◌≡◌, ℕ, ◌<◌, codes, encode_utf8_all, IfOk, Result, Ok, Err, IsErrAnd, IfErr, ◌⊎◌, inl, inr, List, length, Option, Some, None, refl, sym, ◌∙◌, ap, ap₂, subst, ◌≤◌, arith}
 use Rattle.json_text.specs.Faults.{IsSyntaxFault, IsDepthFault}
-use Rattle.json_text.specs.Json.{Json}
+use Rattle.std.specs.Str.{chars}
+use Rattle.json_text.specs.declared.span.Span.{Span}
+use Rattle.json_text.specs.Json.{Json, string}
 use Rattle.json_text.specs.Tree.{tree_of}
 use Rattle.json_text.proofs.Laws.{syntax_none, deep_none, tree_complete}
 use Rattle.json_nodes.specs.At.{At}
 use Rattle.json_nodes.specs.Doc.{Doc, Holds}
 use Rattle.json_nodes.specs.declared.node.Node.{Node}
-use Rattle.json_nodes.proofs.Bounds.{root_inside}
+use Rattle.json_nodes.proofs.Bounds.{at_inside, root_inside}
 use Rattle.json_nodes.proofs.Numbers.{root_at}
 use Rattle.json_span.specs.declared.fault.JsonFault.{JsonFault}
 use Rattle.json_span.specs.declared.fault.JsonFault.TheVariants.{Syntax, TooDeep, Memory}
 use Rattle.rpc_message.specs.declared.envelope.Envelope.{Envelope}
-use Rattle.rpc_message.specs.Envelopes.{Tells}
-use Rattle.rpc_message.specs.Message.{message_in, message_of, not_json}
-use Rattle.rpc_message.specs.Parsed.{Parsed, IsRead}
+use Rattle.rpc_message.specs.declared.envelope.Envelope.TheVariants.{Request, Notification}
+use Rattle.rpc_message.specs.Envelopes.{Tells, IsRequest, IsNotification}
+use Rattle.rpc_message.specs.Message.{member_bytes, message_in, message_of, not_json}
+use Rattle.rpc_message.specs.Parsed.{Parsed, IsRead, method_of}
 
 no_message : (bytes : List ℕ) → tree_of bytes ≡ None → message_of bytes ≡ not_json
 unfolding message_of
@@ -47,3 +50,28 @@ err_and (Err e) Q P h f = f e h
 
 pub same_doc : (doc : Doc) (bs : List ℕ) (ns : List Node) → bs ≡ doc.bytes → ns ≡ doc.nodes → ◌≡◌ {A = Doc} (record { bytes = bs; nodes = ns }) doc
 same_doc doc bs ns e f = ap₂ (λ b n. record { bytes = b; nodes = n }) e f
+
+-- what is said of a text with its nodes holds of the body that was read
+pub read_bytes : (m : Parsed) (bytes w cs : List ℕ) (d : Doc) → d ≡ m.doc → IsRead m bytes → ((j : Json) → Holds d j → w ≡ member_bytes (chars cs) d.bytes) → chars cs ≡ cs → w ≡ member_bytes cs bytes
+read_bytes m bytes w cs d same r h plain =
+    h r.tree (subst (λ e. Holds e r.tree) (sym same) r.holds) ∙ ap₂ (λ z b. member_bytes z b) plain (ap (λ (e : Doc). e.bytes) same ∙ r.bytes_are)
+
+pub result_chars : chars (codes "result") ≡ codes "result"
+unfolding chars
+result_chars = refl
+
+pub text_read : {E : Type 0} (d e : Doc) (n : ℕ) (s : Span) (cs : List ℕ) (r : Result (List ℕ) E) → d ≡ e → At e n (string s cs) → ((s : Span) (cs : List ℕ) → At d n (string s cs) → IfOk r (λ t. t ≡ encode_utf8_all cs)) → IfOk r (λ t. t ≡ encode_utf8_all cs)
+text_read d e n s cs r same a h = h s cs (subst (λ z. At z n (string s cs)) (sym same) a)
+
+pub text_missing : (d e : Doc) (n : ℕ) (s : Span) (cs w : List ℕ) → d ≡ e → At e n (string s cs) → length d.nodes ≤ n → w ≡ encode_utf8_all cs
+text_missing d e n s cs w same a h = absurd (omega (arith, at_inside a, ap (λ (z : Doc). length z.nodes) same))
+
+-- the method of a request or a notification
+pub method_read : {E : Type 0} (m : Parsed) (bytes : List ℕ) (e : Envelope) (n : ℕ) (r : Result (List ℕ) E) → IsRead m bytes → e ≡ m.envelope → ((id : ℕ) × (params : Option ℕ) × (e ≡ Request id n params)) ⊎ ((params : Option ℕ) × (e ≡ Notification n params))
+    → ((s : Span) (cs : List ℕ) → At m.doc n (string s cs) → IfOk r (λ t. t ≡ encode_utf8_all cs)) → IfOk r (λ t. t ≡ encode_utf8_all (method_of (message_of bytes)))
+method_read m bytes e n r read same (inl k) h =
+    let q : IsRequest m.doc k.0 n k.1 (message_of bytes) = subst (λ z. Tells m.doc z (message_of bytes)) (sym same ∙ k.2) read.tells in
+    subst (λ z. IfOk r (λ t. t ≡ encode_utf8_all (method_of z))) (sym q.is) (h q.span q.method q.method_stands)
+method_read m bytes e n r read same (inr k) h =
+    let q : IsNotification m.doc n k.0 (message_of bytes) = subst (λ z. Tells m.doc z (message_of bytes)) (sym same ∙ k.1) read.tells in
+    subst (λ z. IfOk r (λ t. t ≡ encode_utf8_all (method_of z))) (sym q.is) (h q.span q.method q.method_stands)

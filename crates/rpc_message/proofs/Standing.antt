@@ -1,10 +1,10 @@
 -- The parts of a body by the nodes of its values.
-use Rattle.std.proofs.Common.{◌≡◌, ℕ, ◌<◌, ◌≤◌, ◌-◌, List, [], ◌∷◌, length, take, drop, codes, Result, IfOk, Option, Some, None, option_map, refl, sym, ◌∙◌, ap, ap₂, subst}
+use Rattle.std.proofs.Common.{◌≡◌, ℕ, ◌≤◌, ◌-◌, List, [], ◌∷◌, length, take, drop, codes, Result, IfOk, Option, Some, None, option_map, refl, sym, ◌∙◌, ap, subst}
 use Rattle.std.specs.Str.{chars}
 use Rattle.json_text.specs.declared.span.Span.{Span}
 use Rattle.json_text.specs.Json.{Json, word, number, string, array, object, span_of}
 use Rattle.json_text.specs.Named.{named, named_in}
-use Rattle.json_text.specs.Replace.{Edit, replace}
+use Rattle.json_text.specs.Replace.{replace}
 use Rattle.json_text.specs.Tree.{tree_of}
 use Rattle.json_nodes.specs.At.{At, Found}
 use Rattle.json_nodes.specs.Doc.{Doc, Holds}

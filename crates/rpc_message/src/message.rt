@@ -1,14 +1,15 @@
 //! A body that is a JSON text, and what it is as a message.
-ghost use Rattle.std.specs.Prelude.{◌≡◌, ◌≤◌, ◌<◌, ◌⊎◌, ℕ, List, length, encode_utf8_all, IfErr, IfOk};
-ghost use Rattle.std.specs.Str.{chars};
-ghost use Rattle.json_text.specs.Json.{Json};
-ghost use Rattle.json_nodes.specs.Doc.{Doc, Holds};
-ghost use Rattle.rpc_message.specs.Message.{id_bytes, member_bytes, message_of, not_json, result_bytes};
-ghost use Rattle.rpc_message.specs.Parsed.{IsRead};
+ghost use Rattle.std.specs.Prelude.{◌≡◌, ◌≤◌, ◌⊎◌, ℕ, List, length, encode_utf8_all, IfErr, IfOk};
+ghost use Rattle.json_text.specs.declared.span.Span.{Span};
+ghost use Rattle.json_text.specs.Json.{string};
+ghost use Rattle.json_nodes.specs.At.{At};
+ghost use Rattle.rpc_message.specs.Message.{id_bytes, message_of, not_json, result_bytes};
+ghost use Rattle.rpc_message.specs.Parsed.{IsRead, method_of};
 ghost use Rattle.rpc_message.specs.Texts.{with_id_text};
 
 use crate::envelope::{Envelope, envelope_in};
-use json_nodes::{Node, member_in, span_in, text_in};
+use crate::parts::{member_bytes, with_id};
+use json_nodes::text_in;
 use json_span::{JsonFault, Tape};
 use json_text::{Body, Memory};
 use std::alloc::Global;
@@ -48,17 +49,55 @@ impl<'a> Message<'a> {
         self.envelope
     }
 
-    /// The body.
-    pub fn bytes(&self) -> &'a [u8]
-        ensures { result.now ≡ self.now.doc.bytes }
+    /// The body, with its values.
+    pub fn tape(&self) -> &Tape<'a>
+        ensures { result.now ≡ self.now.doc }
     {
-        self.tape.bytes()
+        &self.tape
     }
 
-    /// Its values in preorder.
-    pub fn nodes(&self) -> &[Node]
-        ensures { result.now ≡ self.now.doc.nodes }
+    /// The bytes of its id, as they came; `null` where it has none.
+    pub fn id_bytes(&self) -> &[u8]
+        ensures { (bytes : List ℕ) → IsRead self.now bytes → result.now ≡ id_bytes bytes }
     {
-        self.tape.nodes()
+        member_bytes(self.tape.bytes(), self.tape.nodes(), "id")
+    }
+
+    /// The bytes of its result, as they came; `null` where it has none.
+    pub fn result_bytes(&self) -> &[u8]
+        ensures { (bytes : List ℕ) → IsRead self.now bytes → result.now ≡ result_bytes bytes }
+    {
+        member_bytes(self.tape.bytes(), self.tape.nodes(), "result")
+    }
+
+    /// The body with another id, and all else as it came.
+    pub fn with_id(&self, alloc: Global, id: &[u8]) -> Result<Body, Memory>
+        ensures { (bytes : List ℕ) → IsRead self.now bytes → IfOk result (λ body. body ≡ with_id_text bytes id.now) }
+    {
+        with_id(alloc, self.tape.bytes(), self.tape.nodes(), id)
+    }
+
+    /// The characters of its method, in UTF-8; empty where it is a response or no message.
+    pub fn method(&self, alloc: Global) -> Result<Body, Memory>
+        ensures { (bytes : List ℕ) → IsRead self.now bytes → IfOk result (λ text. text ≡ encode_utf8_all (method_of (message_of bytes))) }
+    {
+        match self.envelope {
+            Envelope::Request { method, .. } | Envelope::Notification { method, .. } => self.text(
+                alloc, method,
+            ),
+            _ => Ok(Body::new(Vec::new(alloc))),
+        }
+    }
+
+    // The characters of a string, in UTF-8.
+    fn text(&self, alloc: Global, node: u32) -> Result<Body, Memory>
+        ensures { (s : Span) (cs : List ℕ) → At self.now.doc node (string s cs) → IfOk result (λ text. text ≡ encode_utf8_all cs) }
+    {
+        let nodes = self.tape.nodes();
+        if (node as usize) < nodes.len() {
+            text_in(alloc, self.tape.bytes(), nodes, node)
+        } else {
+            Ok(Body::new(Vec::new(alloc)))
+        }
     }
 }

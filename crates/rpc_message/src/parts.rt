@@ -17,14 +17,22 @@ use std::alloc::Global;
 fn part(bytes: &[u8], from: usize, to: usize) -> &[u8]
     ensures { from ≤ to → to ≤ length bytes.now → result.now ≡ take (to - from) (drop from bytes.now) }
 {
-    if from <= to && to <= bytes.len() { &bytes[from..to] } else { &[] }
+    if from <= to && to <= bytes.len() {
+        &bytes[from..to]
+    } else {
+        &[]
+    }
 }
 
 // The bytes from a place on, where there is such a place.
 fn tail(bytes: &[u8], from: usize) -> &[u8]
     ensures { from ≤ length bytes.now → result.now ≡ drop from bytes.now }
 {
-    if from <= bytes.len() { &bytes[from..] } else { &[] }
+    if from <= bytes.len() {
+        &bytes[from..]
+    } else {
+        &[]
+    }
 }
 
 // The member of this name, in a body that is an object.
@@ -32,7 +40,11 @@ fn root_member(bytes: &[u8], nodes: &[Node], name: &str) -> Option<u32>
     ensures member { (j : Json) → Holds (record { bytes = bytes.now; nodes = nodes.now }) j → Found (record { bytes = bytes.now; nodes = nodes.now }) (named_in (chars name.now) j) result }
     ensures inside { MatchOption result (Unit {0}) (λ node. node < length nodes.now) }
 {
-    if nodes.is_empty() { None } else { member_in(bytes, nodes, 0, name) }
+    if nodes.is_empty() {
+        None
+    } else {
+        member_in(bytes, nodes, 0, name)
+    }
 }
 
 /// The bytes of the last member of this name, in a body that is an object; `null` where it has none.

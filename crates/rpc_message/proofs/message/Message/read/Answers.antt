@@ -1,4 +1,4 @@
-use Rattle.std.proofs.Common.{◌≡◌, ◌⊎◌, ap, sym, ◌∙◌, subst, length, Err, Some}
+use Rattle.std.proofs.Common.{◌≡◌, ◌⊎◌, ap, sym, subst, length, Err, Some}
 use Rattle.json_span.specs.declared.fault.JsonFault.TheVariants.{Memory}
 use Rattle.json_nodes.specs.At.{At}
 use Rattle.rpc_message.specs.Envelopes.{Tells}
