@@ -17,9 +17,9 @@ use Rattle.json_text.proofs.Put.{depth_bare}
 use Rattle.json_token.proofs.Scalars.{scalar_string, utf8_characters}
 use Rattle.json_span.proofs.Quoted.{quoted_body}
 use Rattle.rpc_message.specs.Message.{Id, integer, request, slice_of, message_in, message_of}
-use Rattle.rpc_message.specs.ValueTexts.{IsValueText, IsOptionText}
+use Rattle.rpc_message.specs.ValueTexts.{IsValueText, IsOptionText, option_depth}
 use Rattle.rpc_message.specs.Texts.{initialize_text, initialize_params}
-use Rattle.rpc_message.proofs.Opening.{option_depth, initialize_law}
+use Rattle.rpc_message.proofs.Opening.{initialize_law}
 use Rattle.rpc_message.proofs.Standing.{place_named}
 use Rattle.mux_model.specs.Members.{named_of, params_of, string_of, or_first, first_uri, listed, root_uri, string_or_null, bytes_if, options_of}
 use Rattle.mux_model.specs.Rows.{initialize_for}
