@@ -12,7 +12,9 @@ use Rattle.rpc_message.specs.Envelopes.{Tells, IsRequest, IsNotification, IsOutc
 use Rattle.rpc_message.specs.Message.{Message, not_json, not_message, request, notification, result, error}
 use Rattle.rpc_message.specs.Parsed.{Parsed, IsRead}
 use Rattle.mux_model.specs.Event.{notifies, requests}
-use Rattle.mux_members.specs.Envelopes.{request_method, notification_method}
+use Rattle.rpc_message.specs.Message.{Id, result_tree}
+use Rattle.mux_members.specs.Finds.{FoundBare}
+use Rattle.mux_members.specs.Envelopes.{request_method, notification_method, request_params, outcome_value}
 
 -- an envelope without a method of that sort
 pub not_requests : (doc : Doc) (e : Envelope) (m : Message) (name : List ℕ) → Tells doc e m → request_method e ≡ None → false ≡ requests name m
@@ -46,3 +48,15 @@ told_notifies doc (Request id method params) m name b n t h tell = absurd (cc)
 told_notifies doc (Outcome id value) m name b n t h tell = absurd (cc)
 told_notifies doc (Failure id failure) m name b n t h tell = absurd (cc)
 told_notifies doc Other m name b n t h tell = absurd (cc)
+
+-- a request's params
+pub told_params : (doc : Doc) (e : Envelope) (m : Message) (id : Id) (method : List ℕ) (params : Option Json) → Tells doc e m → m ≡ request id method params → FoundBare doc params (request_params e)
+told_params doc (Request i n p) m id method params t h = record { value = t.params; stands = t.params_stand; is = let same : m ≡ request t.id t.method (option_map bare t.params) = t.is in cc }
+told_params doc (Notification n p) m id method params t h = absurd (let same : m ≡ notification t.method (option_map bare t.params) = t.is in cc)
+told_params doc (Outcome i v) m id method params t h = absurd (let same : m ≡ result t.id (result_tree t.value) = t.is in cc)
+told_params doc (Failure i f) m id method params t h = absurd (let same : m ≡ error t.id (bare t.failure) = t.is in cc)
+told_params doc Other m id method params t h = absurd (cc)
+
+-- the same at another name for the text
+pub found_there : (doc d : Doc) (params : Option Json) (told answer : Option ℕ) → d ≡ doc → answer ≡ told → FoundBare doc params told → FoundBare d params answer
+found_there doc d params told answer e f h = subst (λ z. FoundBare z params answer) (sym e) (subst (λ z. FoundBare doc params z) (sym f) h)

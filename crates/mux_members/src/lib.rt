@@ -4,5 +4,7 @@
 mod envelope;
 mod look;
 mod method;
+mod params;
 
 pub use method::{class_in, is_initialize, is_initialized};
+pub use params::{has_bare_capabilities, has_token};
