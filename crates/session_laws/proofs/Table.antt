@@ -32,28 +32,10 @@ use Rattle.session_laws.proofs.Bricks.{Brick, takes, begins, greets, spawns, for
 use Rattle.session_laws.proofs.Folds.{desk_more, life_more, opens_more, asking_more}
 use Rattle.session_laws.proofs.Initializes.{initialize_says}
 use Rattle.session_laws.proofs.Keeps.{At, at_nothing, at_send, at_then, at_choose, at_look, at_on, behind_both, behind_nothing, EntryKeeps}
+use Rattle.session_laws.proofs.Late.{hears_late}
 use Rattle.session_laws.proofs.Words.{same_number, number_same, other_number, open_last}
 
 -- Behind a request of e
-
-hears_late : (phase : Phase) (initialize body : List ℕ) (m : Message) → is_early phase ≡ false → is_early (desk_hears phase initialize body m).phase ≡ false
-hears_late Absent initialize body m h = absurd (cc)
-hears_late New initialize body m h = absurd (cc)
-hears_late Waiting initialize body m h = absurd (cc)
-hears_late Answered initialize body m h = go (requests (codes "shutdown") m) (makes_running m)
-  where
-    go : (a b : Bool) → is_early (if a then Down else if b then Running else Answered) ≡ false
-    go true b = refl
-    go false true = refl
-    go false false = refl
-hears_late Running initialize body m h = go (requests (codes "shutdown") m)
-  where
-    go : (a : Bool) → is_early (if a then Down else Running) ≡ false
-    go true = refl
-    go false = refl
-hears_late Down initialize body m h = refl
-hears_late Closed initialize body m h = refl
-hears_late Gone initialize body m h = refl
 
 module _ (before : List Event) (e : ℕ) (body : List ℕ) where
   late_taken : is_early (desk_of e before).phase ≡ false → is_early (desk_of e (with_cause before (FromEditor e body))).phase ≡ false
