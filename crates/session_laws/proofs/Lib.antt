@@ -1,3 +1,4 @@
+mod Client2Law
 mod Server1Law
 mod Server2Law
 mod Server3Law
@@ -5,6 +6,7 @@ pub mod Asked
 pub mod Bodies
 pub mod Bricks
 pub mod Editors
+pub mod Facts
 pub mod Folds
 pub mod Initializes
 pub mod Keeps
