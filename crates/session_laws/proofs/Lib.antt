@@ -1,4 +1,5 @@
 mod Client2Law
+mod Client3Law
 mod Server1Law
 mod Server2Law
 mod Server3Law
