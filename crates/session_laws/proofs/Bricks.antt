@@ -51,7 +51,6 @@ pub record IsForward (settings : Settings) (events : List Event) (s e : ℕ) (bo
   pub served : is_early (desk_of e events).phase ≡ false
   pub ready : (life_of s events).stage ≡ Ready
   pub room : nat_lt (asking_of s events).next settings.limits.requests ≡ true
-  pub other : is_other (class_of method Editor false) ≡ true
 
 -- e's request in this body is open, and e doesn't wait
 pub record IsRefusal (events : List Event) (e : ℕ) (body : List ℕ) (id : Id) (method : List ℕ) (params : Option Json) : Type 0 where
