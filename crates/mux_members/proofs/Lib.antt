@@ -1,5 +1,6 @@
 pub mod Bared
 pub mod Encoded
+pub mod Ids
 pub mod Looks
 pub mod Told
 pub mod Walks
