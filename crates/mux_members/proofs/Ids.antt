@@ -30,7 +30,7 @@ integer_shape (integer n) w ds e true h g = (let same : ds ≡ n = cc in e ∙ s
 integer_shape (text cs) w ds e true h g = absurd (cc)
 integer_shape i w ds e false h g = absurd (cc)
 
-quoted_shape : (cs w : List ℕ) (at : ℕ) → quoted cs at w → (raw : List ℕ) × (w ≡ 34 ∷ (raw ++ (34 ∷ []))) × SpellsCharacters cs raw
+pub quoted_shape : (cs w : List ℕ) (at : ℕ) → quoted cs at w → (raw : List ℕ) × (w ≡ 34 ∷ (raw ++ (34 ∷ []))) × SpellsCharacters cs raw
 quoted_shape cs w at h =
     let r : (spells cs then byte 34) (at + length h.0) h.1 = h.4 in
     (r.0, h.2 ∙ ap₂ (λ x y. x ++ y) h.3 (r.2 ∙ ap (λ x. r.0 ++ x) r.4), r.3)
