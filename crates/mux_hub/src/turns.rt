@@ -8,7 +8,7 @@ ghost use Rattle.rpc_message.specs.Message.{Message as Meaning, message_of, id_b
 ghost use Rattle.rpc_message.specs.Texts.{error_text, request_failed};
 ghost use Rattle.rpc_message.specs.Parsed.{IsRead};
 ghost use Rattle.mux_hub.specs.Hubs.{body_length};
-ghost use Rattle.mux_hub.specs.Turns.{Turn, turn, joined, noted, found, forward, refuse, requested, from_editor, from_server, ready_if, started, answered, pass_on, place_of, place_written, can_go, Gives};
+ghost use Rattle.mux_hub.specs.Turns.{Turn, turn, joined, noted, found, forward, refuse, requested, from_editor, from_server, ready_if, started, answered, pass_on, place_of, place_written, place_if, is_no_number, can_go, Gives};
 
 use std::alloc::Global;
 
@@ -65,6 +65,24 @@ fn place_of(pending: &[Pending], id: &[u8]) -> Option<usize>
         }
     }
     None
+}
+
+// Whether an id is a string or null.
+fn is_no_number(id: &[u8]) -> bool
+    ensures { result ≡ is_no_number id.now }
+{
+    matches!(id, [b'"' | b'n', ..])
+}
+
+// The place of the request whose number is this id of a response.
+fn place_by_id(pending: &[Pending], id: &[u8]) -> Option<usize>
+    ensures place { result ≡ place_if (is_no_number id.now) id.now pending.now }
+    ensures inside { IfSome result (λ k. k < length pending.now) }
+{
+    if is_no_number(id) {
+        return None;
+    }
+    place_of(pending, id)
 }
 
 impl Tables {
@@ -140,5 +158,27 @@ impl Tables {
         self.phase = Phase::Answered;
         outs.push(Out::ToEditor(0, text))?;
         Ok(outs)
+    }
+
+    /// An answer goes to the editor that asked, under its own id (JSON-RPC 2.0, section 5).
+    fn pass_on(&mut self, alloc: Global, message: &Message, at: usize) -> Result<Outs, Memory>
+        requires { at < length self.old.pending }
+        ensures { (body : List ℕ) → IsRead message.now body → IfOk result (λ outs. Gives (pass_on self.old body at (slice_get self.old.pending at)) outs self.new) }
+    {
+        let text = message.with_id(alloc, self.pending[at].id.bytes())?;
+        self.sent = self.sent.saturating_add(text.bytes().len() as u64);
+        let outs = one(alloc, Out::ToEditor(0, text))?;
+        self.pending.remove(at);
+        Ok(outs)
+    }
+
+    /// A response to a request of the start's number goes to the editor that asked, if it is there.
+    fn answer(&mut self, alloc: Global, message: &Message) -> Result<Outs, Memory>
+        ensures { (body : List ℕ) → IsRead message.now body → IfOk result (λ outs. Gives (answered self.old body (place_if (is_no_number (id_bytes body)) (id_bytes body) self.old.pending)) outs self.new) }
+    {
+        match place_by_id(&self.pending, message.id_bytes()) {
+            Some(at) if is_there(self.phase) => self.pass_on(alloc, message, at),
+            _ => Ok(Outs::new(alloc)),
+        }
     }
 }
