@@ -13,9 +13,10 @@ use Rattle.rpc_message.specs.declared.envelope.Envelope.{Envelope}
 use Rattle.rpc_message.specs.declared.envelope.Envelope.TheVariants as envelope
 use Rattle.rpc_message.proofs.Ids.{result_id_bytes, error_id_bytes}
 use Rattle.mux_model.specs.Requests.{answered_id, has_number}
+use Rattle.mux_model.specs.declared.stage.Stage.TheVariants.{Ready}
 use Rattle.mux_hub.specs.declared.pending.Pending.{Pending}
 use Rattle.mux_hub.specs.Tables.{Kept, asked_of}
-use Rattle.mux_hub.specs.Turns.{Turn, from_editor, from_server, requested, noted, quiet, place_of, place_written, place_if, is_no_number, or_next}
+use Rattle.mux_hub.specs.Turns.{Turn, from_editor, from_server, requested, noted, quiet, place_of, place_written, place_if, is_no_number, or_next, answered}
 
 pub request_turn : (requests : ℕ) (t : Kept) (body : List ℕ) (doc : Parsed) (id method : ℕ) (params : Option ℕ) → IsRead doc body → doc.envelope ≡ envelope.Request id method params
     → from_editor requests t body (message_of body) ≡ requested requests t body t.phase
@@ -76,3 +77,16 @@ place_in (object s ms) o w ps v e = absurd (none_some e)
 -- the place of a response's request, by the bytes of its id
 pub place_by_id : (o : Option Id) (w : List ℕ) (ps : List Pending) → IsResponseIdText o w → place_if (is_no_number w) w ps ≡ place_of o ps
 place_by_id o w ps t = place_in t.tree o w ps t.stands t.is
+
+-- a response to a ready start
+pub outcome_turn : (t : Kept) (body : List ℕ) (doc : Parsed) (at : ℕ) (value_at : Option ℕ) → IsRead doc body → doc.envelope ≡ envelope.Outcome at value_at
+    → from_server t body (message_of body) Ready ≡ answered t body (place_if (is_no_number (id_bytes body)) (id_bytes body) t.pending)
+outcome_turn t body doc at value_at r e =
+    let tells : IsOutcome doc.doc at value_at (message_of body) = subst (λ v. Tells doc.doc v (message_of body)) e r.tells in
+    ap (λ m. from_server t body m Ready) tells.is ∙ ap (answered t body) (sym (place_by_id tells.id (id_bytes body) t.pending (result_id_bytes body tells.id _ tells.is)))
+
+pub failure_turn : (t : Kept) (body : List ℕ) (doc : Parsed) (at error_at : ℕ) → IsRead doc body → doc.envelope ≡ envelope.Failure at error_at
+    → from_server t body (message_of body) Ready ≡ answered t body (place_if (is_no_number (id_bytes body)) (id_bytes body) t.pending)
+failure_turn t body doc at error_at r e =
+    let tells : IsFailure doc.doc at error_at (message_of body) = subst (λ v. Tells doc.doc v (message_of body)) e r.tells in
+    ap (λ m. from_server t body m Ready) tells.is ∙ ap (answered t body) (sym (place_by_id tells.id (id_bytes body) t.pending (error_id_bytes body tells.id _ tells.is)))

@@ -1,14 +1,15 @@
 // What the hub does for a cause, over its tables.
-ghost use Rattle.std.specs.Prelude.{◌≡◌, ℕ, ◌≤◌, ◌<◌, ◌∷◌, [], List, length, IfOk, IfErr, IfSome, IfNone, MatchOption, OnOk, slice_get, decimal, bytes_eq};
+ghost use Rattle.std.specs.Prelude.{◌≡◌, ℕ, ◌≤◌, ◌<◌, ◌∷◌, [], List, length, IfOk, IfErr, IfSome, Option, slice_get, decimal, bytes_eq};
 ghost use Rattle.mux_model.specs.Phases.{is_there};
-ghost use Rattle.mux_model.specs.Rows.{is_waiting};
+ghost use Rattle.mux_model.specs.Rows.{is_waiting, initialize_for};
 ghost use Rattle.mux_model.specs.Requests.{answered_id};
 ghost use Rattle.mux_model.specs.Stages.{is_ready};
-ghost use Rattle.rpc_message.specs.Message.{Message as Meaning, message_of, id_bytes};
+ghost use Rattle.json_text.specs.Json.{Json};
+ghost use Rattle.rpc_message.specs.Message.{Id, message_of, id_bytes, request};
 ghost use Rattle.rpc_message.specs.Texts.{error_text, request_failed};
 ghost use Rattle.rpc_message.specs.Parsed.{IsRead};
 ghost use Rattle.mux_hub.specs.Hubs.{body_length};
-ghost use Rattle.mux_hub.specs.Turns.{Turn, turn, joined, noted, found, forward, refuse, requested, from_editor, from_server, ready_if, started, answered, pass_on, place_of, place_written, place_if, is_no_number, can_go, Gives};
+ghost use Rattle.mux_hub.specs.Turns.{Turn, turn, joined, noted, found, forward, refuse, requested, from_editor, from_server, ready_if, started, answered, pass_on, place_of, place_written, place_if, is_no_number, can_go, ask_if, Gives};
 
 use std::alloc::Global;
 
@@ -21,6 +22,12 @@ use rpc_message::{Envelope, ErrorCode, Message, error_answer, initialized, ok_an
 
 use crate::pending::Pending;
 use crate::tables::Tables;
+
+fn initialize_request(alloc: Global, m: &Message) -> Result<Body, Memory>
+    ensures { (bytes method : List ℕ) (id : Id) (params : Option Json) → IsRead m.now bytes → message_of bytes ≡ request id method params → IfOk result (λ text. text ≡ initialize_for bytes) }
+{
+    Err(Memory)
+}
 
 // One out.
 fn one(alloc: Global, out: Out) -> Result<Outs, Memory>
@@ -178,6 +185,99 @@ impl Tables {
     {
         match place_by_id(&self.pending, message.id_bytes()) {
             Some(at) if is_there(self.phase) => self.pass_on(alloc, message, at),
+            _ => Ok(Outs::new(alloc)),
+        }
+    }
+
+    #[tactic(auto, using(crate::proofs::Heard::outcome_turn, crate::proofs::Heard::failure_turn))]
+    /// A result or an error came from the start, or something else, which gives nothing.
+    fn hear_server(&mut self, alloc: Global, body: &Body) -> Result<Outs, Memory>
+        requires { length body.now ≤ 268435456 }
+        ensures { IfOk result (λ outs. Gives (from_server self.old body.now (message_of body.now) self.old.stage) outs self.new) }
+    {
+        let message = match Message::read(alloc, body.bytes()) {
+            Ok(message) => message,
+            Err(JsonFault::Memory) => return Err(Memory),
+            Err(_) => return Ok(Outs::new(alloc)),
+        };
+        match (message.envelope(), self.stage) {
+            (Envelope::Outcome { .. }, Stage::Initializing) => self.ready(alloc, &message),
+            (Envelope::Outcome { .. }, Stage::Ready) => self.answer(alloc, &message),
+            (Envelope::Failure { .. }, Stage::Ready) => self.answer(alloc, &message),
+            _ => Ok(Outs::new(alloc)),
+        }
+    }
+
+    /// The editor's initialize founds a group, for which a server is to be started; the editor waits.
+    fn found(&mut self, alloc: Global, message: &Message) -> Result<Outs, Memory>
+        ensures { (body method : List ℕ) (id : Id) (params : Option Json) → IsRead message.now body → message_of body ≡ request id method params → IfOk result (λ outs. Gives (found self.old body) outs self.new) }
+    {
+        let opening = initialize_request(alloc, message)?;
+        let id = Body::new(Vec::from_slice(alloc, message.id_bytes())?);
+        let outs = one(alloc, Out::Spawn(0, 0))?;
+        self.phase = Phase::Waiting;
+        self.id = id;
+        self.opening = opening;
+        self.stage = Stage::Spawning;
+        self.started = false;
+        Ok(outs)
+    }
+
+    /// A request goes on where it can, and else is refused.
+    fn ask(&mut self, alloc: Global, requests: u32, message: &Message) -> Result<Outs, Memory>
+        ensures { (body : List ℕ) → IsRead message.now body → IfOk result (λ outs. Gives (ask_if (can_go requests self.old.stage self.old.next) self.old body) outs self.new) }
+    {
+        if can_go(requests, self.stage, self.next) {
+            self.forward(alloc, message)
+        } else {
+            self.refuse(alloc, message)
+        }
+    }
+
+    /// A request came from the editor.
+    fn hear_request(&mut self, alloc: Global, requests: u32, message: &Message) -> Result<Outs, Memory>
+        ensures { (body method : List ℕ) (id : Id) (params : Option Json) → IsRead message.now body → message_of body ≡ request id method params → IfOk result (λ outs. Gives (requested requests self.old body self.old.phase) outs self.new) }
+    {
+        match self.phase {
+            Phase::New => self.found(alloc, message),
+            Phase::Answered | Phase::Running => self.ask(alloc, requests, message),
+            _ => Ok(Outs::new(alloc)),
+        }
+    }
+
+    /// A message came from the editor.
+    fn hear_editor(&mut self, alloc: Global, requests: u32, body: &Body) -> Result<Outs, Memory>
+        requires { length body.now ≤ 268435456 }
+        ensures { IfOk result (λ outs. Gives (from_editor requests self.old body.now (message_of body.now)) outs self.new) }
+    {
+        let message = match Message::read(alloc, body.bytes()) {
+            Ok(message) => message,
+            Err(JsonFault::Memory) => return Err(Memory),
+            Err(_) => return Ok(Outs::new(alloc)),
+        };
+        match message.envelope() {
+            Envelope::Request { .. } => self.hear_request(alloc, requests, &message),
+            Envelope::Notification { .. } => {
+                self.note();
+                Ok(Outs::new(alloc))
+            }
+            _ => Ok(Outs::new(alloc)),
+        }
+    }
+
+    /// Takes a cause: the outs, and the tables behind them.
+    pub fn take(&mut self, alloc: Global, requests: u32, cause: &Cause) -> Result<Outs, Memory>
+        requires { body_length cause.now ≤ 268435456 }
+        ensures { IfOk result (λ outs. Gives (turn requests self.old cause.now) outs self.new) }
+    {
+        match cause {
+            Cause::Joined(_) => {
+                self.join();
+                Ok(Outs::new(alloc))
+            }
+            Cause::Started(_) => self.start(alloc),
+            Cause::FromEditor(_, body) => self.hear_editor(alloc, requests, body),
+            Cause::FromServer(_, body) => self.hear_server(alloc, body),
             _ => Ok(Outs::new(alloc)),
         }
     }
