@@ -38,7 +38,7 @@ pub record Goes (t : Kept) (evs : List Event) (u : Kept) : Type 0 where
   pub ids : AllByRecursion (λ p. MeansId p.id) u.pending
   pub distinct : Distinct u.pending
   pub phase_ties : PhaseTies u.phase u.stage u.pending u.initialize
-  pub stage_ties : StageTies u.stage u.next
+  pub stage_ties : StageTies u.stage u.next u.opening u.initialize
 
 further : {A : Type 0} (f : A → Event → A) (b x : A) (events evs : List Event) → fold f b events ≡ x → fold f b (events ++ evs) ≡ fold f x evs
 further f b x events evs e = fold-append f b events evs ∙ ap (λ y. fold f y evs) e

@@ -10,7 +10,7 @@ use Rattle.rpc_message.specs.Message.{Message, not_message, request, notificatio
 use Rattle.mux_model.specs.declared.phase.Phase.{Phase}
 use Rattle.mux_model.specs.declared.phase.Phase.TheVariants.{Absent, New, Waiting, Answered, Running, Down, Closed, Gone}
 use Rattle.mux_model.specs.declared.stage.Stage.{Stage}
-use Rattle.mux_model.specs.declared.stage.Stage.TheVariants.{Unspawned, Spawning, Initializing, Ready}
+use Rattle.mux_model.specs.declared.stage.Stage.TheVariants.{Unspawned, Spawning, Initializing, Ready, Ending}
 use Rattle.mux_model.specs.Event.{Event, took, did, heard, said, requests}
 use Rattle.mux_model.specs.Phases.{desk_of}
 use Rattle.mux_model.specs.Rows.{outs_of, initialize_for, founder_body, initialize_in, initialize_by}
@@ -19,7 +19,7 @@ use Rattle.mux_hub.specs.declared.pending.Pending.{Pending}
 use Rattle.mux_model.specs.Spawns.{group_of, founding_of, starts_of, starts_behind, groups_of, groups_behind, first_of, founded_by}
 use Rattle.std.proofs.lemmas.List.Sums.{fold-append}
 use Rattle.mux_model.specs.Settings.{Settings}
-use Rattle.mux_hub.specs.Stands.{Stands, MeansId, PhaseTies, StageTies}
+use Rattle.mux_hub.specs.Stands.{Stands, Opens, MeansId, PhaseTies, StageTies}
 use Rattle.mux_hub.specs.Steps.{Steps}
 use Rattle.mux_hub.specs.Tables.{Kept, asked_for, joined_in, spawned_in, first_in, open_in, id_meant}
 use Rattle.mux_hub.proofs.Entries.{Goes, steps_so}
@@ -32,10 +32,10 @@ new_ties : (t : Kept) (events : List Event) → Stands t events → t.phase ≡ 
 new_ties t events s e = let P : Phase → Type 0 = λ p. PhaseTies p t.stage t.pending t.initialize in subst P e s.phase_ties
 
 unspawned_ties : (t : Kept) (events : List Event) → Stands t events → t.stage ≡ Unspawned → t.next ≡ 1
-unspawned_ties t events s g = let P : Stage → Type 0 = λ p. StageTies p t.next in subst P g s.stage_ties
+unspawned_ties t events s g = let P : Stage → Type 0 = λ p. StageTies p t.next t.opening t.initialize in subst P g s.stage_ties
 
-spawning_ties : (t : Kept) (events : List Event) → Stands t events → t.stage ≡ Spawning → t.next ≡ 1
-spawning_ties t events s g = let P : Stage → Type 0 = λ p. StageTies p t.next in subst P g s.stage_ties
+spawning_ties : (t : Kept) (events : List Event) → Stands t events → t.stage ≡ Spawning → (t.next ≡ 1) × (t.opening ≡ initialize_for t.initialize) × Opens t.opening
+spawning_ties t events s g = let P : Stage → Type 0 = λ p. StageTies p t.next t.opening t.initialize in subst P g s.stage_ties
 
 -- where a start was spawned, the ties of the phase say nothing of its stage
 pub spawned_tie : (p : Phase) (g h : Stage) (ps : List Pending) (body : List ℕ) → PhaseTies p g ps body → (g ≡ Unspawned → ⊥) → PhaseTies p h ps body
@@ -69,21 +69,21 @@ joined_steps settings events t s e = steps_so settings events (Joined 0) [] t (r
   ids = s.ids;
   distinct = s.distinct;
   phase_ties = absent_ties t events s e;
-  stage_ties = s.stage_ties;
+  stage_ties = let P : Stage → Type 0 = λ g. StageTies g t.next t.opening [] in subst P (sym (absent_ties t events s e).0) (unspawned_ties t events s (absent_ties t events s e).0);
 }) refl
 
 -- E7: the editor's initialize founds a group
 pub founded_steps : (settings : Settings) (events : List Event) (t : Kept) (body : List ℕ) (id : Id) (ps : Option Json) → Stands t events → t.phase ≡ New
-    → message_of body ≡ request id (codes "initialize") ps → id ≡ id_meant (id_bytes body) → MeansId (id_bytes body)
-    → Steps settings events (FromEditor 0 body) (Spawn 0 0 ∷ []) (record t { phase = Waiting; initialize = body; stage = Spawning; started = false })
-founded_steps settings events t body id ps s e m i means =
+    → message_of body ≡ request id (codes "initialize") ps → id ≡ id_meant (id_bytes body) → MeansId (id_bytes body) → Opens (initialize_for body)
+    → Steps settings events (FromEditor 0 body) (Spawn 0 0 ∷ []) (record t { phase = Waiting; initialize = body; opening = initialize_for body; stage = Spawning; started = false })
+founded_steps settings events t body id ps s e m i means opens =
     let none = new_ties t events s e in
     let g : t.stage ≡ Unspawned = none.0 in
     let p : (desk_of 0 events).phase ≡ New = ap (λ d. d.phase) s.desk ∙ e in
     let event : Event = took (FromEditor 0 body) (request id (codes "initialize") ps) in
     let a : starts_of (events ++ event ∷ []) ≡ 0 = fold-append starts_behind 0 events (event ∷ []) ∙ (s.starts ∙ ap spawned_in g) in
     let b : groups_of (events ++ event ∷ []) ≡ 0 = fold-append groups_behind 0 events (event ∷ []) ∙ (s.groups ∙ ap spawned_in g) in
-    steps_so settings events (FromEditor 0 body) (Spawn 0 0 ∷ []) t (record t { phase = Waiting; initialize = body; stage = Spawning; started = false }) s (record {
+    steps_so settings events (FromEditor 0 body) (Spawn 0 0 ∷ []) t (record t { phase = Waiting; initialize = body; opening = initialize_for body; stage = Spawning; started = false }) s (record {
       desk = rw (m, e) refl;
       other_desks = λ n h. rw (not_zero n h) refl;
       editors = rw e refl;
@@ -102,20 +102,18 @@ founded_steps settings events t body id ps s e m i means =
       ids = s.ids;
   distinct = s.distinct;
       phase_ties = (none.1, means);
-      stage_ties = unspawned_ties t events s g;
+      stage_ties = (unspawned_ties t events s g, refl, opens);
     }) (rw (p, m, a, b) refl)
 
 -- the tables stand where the start's program may run, and it is spawning
-pub started_steps : (settings : Settings) (events : List Event) (t : Kept) (text : List ℕ) (ps : Option Json) → Stands t events → t.stage ≡ Spawning
-    → text ≡ initialize_for t.initialize → message_of text ≡ request (integer (codes "1")) (codes "initialize") ps
-    → Steps settings events (Started 0) (ToServer 0 text ∷ []) (record t { stage = Initializing; started = true; next = 2 })
-started_steps settings events t text ps s g x m =
-    let n = spawning_ties t events s g in
+started_with : (settings : Settings) (events : List Event) (t : Kept) (ps : Option Json) → Stands t events → t.stage ≡ Spawning → t.next ≡ 1 → t.opening ≡ initialize_for t.initialize
+    → message_of t.opening ≡ request (integer (codes "1")) (codes "initialize") ps → Steps settings events (Started 0) (ToServer 0 t.opening ∷ []) (record t { stage = Initializing; started = true; next = 2 })
+started_with settings events t ps s g n x m =
     let l : (life_of 0 events).stage ≡ Spawning = ap (λ l. l.stage) s.life ∙ g in
     let gr : group_of 0 events ≡ Some 0 = s.group ∙ ap first_in g in
     let fo : (founding_of 0 events).founder ≡ Some 0 = s.founder ∙ ap first_in g in
     let founder : founder_body 0 events ≡ t.initialize = ap (λ g. initialize_in g events) gr ∙ (ap (λ f. initialize_by f events) fo ∙ ap (λ d. d.initialize) s.desk) in
-    steps_so settings events (Started 0) (ToServer 0 text ∷ []) t (record t { stage = Initializing; started = true; next = 2 }) s (record {
+    steps_so settings events (Started 0) (ToServer 0 t.opening ∷ []) t (record t { stage = Initializing; started = true; next = 2 }) s (record {
       desk = refl;
       other_desks = λ n h. refl;
       editors = refl;
@@ -137,4 +135,32 @@ started_steps settings events t text ps s g x m =
       stage_ties = tt;
     }) (rw l (ap (λ b. ToServer 0 b ∷ []) (x ∙ ap initialize_for (sym founder))))
 
+pub started_steps : (settings : Settings) (events : List Event) (t : Kept) → Stands t events → t.stage ≡ Spawning
+    → Steps settings events (Started 0) (ToServer 0 t.opening ∷ []) (record t { stage = Initializing; started = true; next = 2 })
+started_steps settings events t s g = let ties = spawning_ties t events s g in started_with settings events t ties.2.0 s g ties.0 ties.1 ties.2.1
+
 -- while it is ending its program may run too, and nothing is sent
+pub ending_steps : (settings : Settings) (events : List Event) (t : Kept) → Stands t events → t.stage ≡ Ending → Steps settings events (Started 0) [] (record t { started = true })
+ending_steps settings events t s g =
+    let l : (life_of 0 events).stage ≡ Ending = ap (λ l. l.stage) s.life ∙ g in
+    steps_so settings events (Started 0) [] t (record t { started = true }) s (record {
+      desk = refl;
+      other_desks = λ n h. refl;
+      editors = refl;
+      sent = λ n h. h;
+      life = rw g refl;
+      other_lives = λ n h. rw (not_zero n h) refl;
+      starts = refl;
+      groups = refl;
+      start = refl;
+      group = refl;
+      home = λ h q. q;
+      founder = λ f q. q;
+      next = λ a q r. q;
+      pending = λ a q r. r;
+      opened = refl;
+      ids = s.ids;
+      distinct = s.distinct;
+      phase_ties = s.phase_ties;
+      stage_ties = s.stage_ties;
+    }) (rw l refl)

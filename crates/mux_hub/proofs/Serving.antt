@@ -25,6 +25,7 @@ use Rattle.mux_model.specs.Stages.{life_of, is_ready}
 use Rattle.mux_hub.specs.declared.pending.Pending.{Pending}
 use Rattle.mux_hub.specs.Stands.{Stands, MeansId, PhaseTies, StageTies}
 use Rattle.mux_hub.specs.Steps.{Steps}
+use Rattle.mux_hub.specs.Turns.{can_go}
 use Rattle.mux_hub.specs.Tables.{Kept, asked_of, asked_for, joined_in, spawned_in, first_in, open_in, id_meant, after_message}
 use Rattle.mux_hub.proofs.Classes.{NotOwn, Serves, serves}
 use Rattle.mux_hub.proofs.Entries.{Goes, steps_so}
@@ -166,10 +167,6 @@ started_for Stopping events h k = ap (λ o. start_in o events) h ∙ k
 started_for Ending events h k = ap (λ o. start_in o events) h ∙ k
 started_for Ended events h k = ap (λ o. start_in o events) h ∙ k
 
--- what a request may do
-abbrev pub can_go : ℕ → Stage → ℕ → Bool
-can_go requests stage next = is_ready stage && nat_lt next requests
-
 refusing : (settings : Settings) (events evs : List Event) (body : List ℕ) (g : Stage) (n : ℕ) → start_for 0 events ≡ first_in g → (life_of 0 events).stage ≡ g → (asking_of 0 events).next ≡ n
     → can_go settings.limits.requests g n ≡ false → outs (request_row settings events 0 body) evs ≡ outs (answer_error 0 body request_failed) evs
 refusing settings events evs body Unspawned n s l a c = rw s refl
@@ -275,5 +272,5 @@ forwarded_steps settings events t body text method bytes id ps s p m n o b i mea
       ids = snoc_all t.pending _ s.ids means;
       distinct = distinct_snoc t.pending _ s.distinct (subst (λ j. is_open j (ids_of t.pending) ≡ false) i o);
       phase_ties = tt;
-      stage_ties = let P : Stage → Type 0 = λ g. StageTies g (t.next + 1) in subst P (sym g) tt;
+      stage_ties = let P : Stage → Type 0 = λ g. StageTies g (t.next + 1) t.opening t.initialize in subst P (sym g) tt;
     }) (rw (d, m) (ap (λ b. ToServer 0 b ∷ []) x ∙ sym row))

@@ -3,3 +3,4 @@ pub mod Hubs
 pub mod Stands
 pub mod Steps
 pub mod Tables
+pub mod Turns

@@ -1,7 +1,8 @@
 -- When the hub's tables stand for events.
-use Rattle.std.specs.Prelude.{◌≡◌, ℕ, ◌-◌, ◌^◌, ◌<◌, ◌≤◌, min, List, [], ◌∷◌, map, false}
+use Rattle.std.specs.Prelude.{◌≡◌, ℕ, ◌-◌, ◌^◌, ◌<◌, ◌≤◌, min, List, [], ◌∷◌, map, false, codes, Option}
 use Rattle.std.specs.List.{AllByRecursion}
-use Rattle.rpc_message.specs.Message.{id_bytes}
+use Rattle.json_text.specs.Json.{Json}
+use Rattle.rpc_message.specs.Message.{id_bytes, message_of, request, integer}
 use Rattle.rpc_message.specs.ValueTexts.{IsIdText}
 use Rattle.mux_model.specs.declared.phase.Phase.{Phase}
 use Rattle.mux_model.specs.declared.phase.Phase.TheVariants.{Absent, New, Waiting, Answered, Running, Down, Closed, Gone}
@@ -10,6 +11,7 @@ use Rattle.mux_model.specs.declared.stage.Stage.TheVariants.{Unspawned, Spawning
 use Rattle.mux_model.specs.Event.{Event}
 use Rattle.mux_model.specs.Phases.{desk_of, no_desk, editors_of, backlog_of}
 use Rattle.mux_model.specs.Requests.{open_of, asking_of, is_open}
+use Rattle.mux_model.specs.Rows.{initialize_for}
 use Rattle.mux_model.specs.Spawns.{starts_of, groups_of, start_of, home_of, founding_of, group_of}
 use Rattle.mux_model.specs.Stages.{life_of, no_life}
 use Rattle.mux_hub.specs.declared.pending.Pending.{Pending}
@@ -26,11 +28,15 @@ PhaseTies New stage ps body = (stage ≡ Unspawned) × (ps ≡ [])
 PhaseTies Waiting stage ps body = (ps ≡ []) × MeansId (id_bytes body)
 PhaseTies other stage ps body = Unit {0}
 
--- before its program ran, nothing was sent to the start
-abbrev pub StageTies : Stage → ℕ → Type 0
-StageTies Unspawned next = next ≡ 1
-StageTies Spawning next = next ≡ 1
-StageTies other next = Unit {0}
+-- the text is the request initialize, with the number 1
+abbrev pub Opens : List ℕ → Type 0
+Opens text = (ps : Option Json) × (message_of text ≡ request (integer (codes "1")) (codes "initialize") ps)
+
+-- before its program ran, nothing was sent to the start; what it will be sent first is ready when it is spawned
+abbrev pub StageTies : Stage → ℕ → List ℕ → List ℕ → Type 0
+StageTies Unspawned next text body = next ≡ 1
+StageTies Spawning next text body = (next ≡ 1) × (text ≡ initialize_for body) × Opens text
+StageTies other next text body = Unit {0}
 
 -- no two kept requests have the same id
 abbrev pub Distinct : List Pending → Type 0
@@ -55,5 +61,5 @@ pub record Stands (kept : Kept) (events : List Event) : Type 0 where
   pub ids : AllByRecursion (λ p. MeansId p.id) kept.pending
   pub distinct : Distinct kept.pending
   pub phase_ties : PhaseTies kept.phase kept.stage kept.pending kept.initialize
-  pub stage_ties : StageTies kept.stage kept.next
+  pub stage_ties : StageTies kept.stage kept.next kept.opening kept.initialize
   pub opened : open_of 0 events ≡ open_in kept.phase kept.pending (id_bytes kept.initialize)

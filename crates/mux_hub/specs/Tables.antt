@@ -20,6 +20,7 @@ use Rattle.mux_hub.specs.declared.pending.Pending.{Pending}
 pub record Kept : Type 0 where
   pub phase : Phase
   pub initialize : List ℕ
+  pub opening : List ℕ
   pub sent : ℕ
   pub stage : Stage
   pub started : Bool

@@ -59,6 +59,7 @@ impl<J: Journal> Hub<J> {
             tables: Tables {
                 phase: Phase::Absent,
                 initialize: Body::new(Vec::new(alloc)),
+                opening: Body::new(Vec::new(alloc)),
                 sent: 0,
                 stage: Stage::Unspawned,
                 started: false,

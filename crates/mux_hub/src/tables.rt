@@ -50,6 +50,8 @@ pub struct Tables {
     pub phase: Phase,
     /// The body of its initialize; empty before it came.
     pub initialize: Body,
+    /// What the start is sent first; empty before it was spawned.
+    pub opening: Body,
     /// The bytes of bodies sent to it, up to 2^64 - 1.
     pub sent: u64,
     /// Where the start stands.
@@ -67,7 +69,7 @@ impl Model for Tables {
 
     ghost Value = { Kept };
 
-    ghost view = { λ t. record { phase = t.phase; initialize = t.initialize; sent = t.sent; stage = t.stage; started = t.started; next = t.next; pending = t.pending.items } };
+    ghost view = { λ t. record { phase = t.phase; initialize = t.initialize; opening = t.opening; sent = t.sent; stage = t.stage; started = t.started; next = t.next; pending = t.pending.items } };
 }
 
 impl Tables {

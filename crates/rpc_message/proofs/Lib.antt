@@ -4,8 +4,8 @@ pub mod Decimals
 pub mod Enveloped
 pub mod Fixed
 pub mod Ids
+pub mod KindTests
 pub mod Meaning
 pub mod Opening
 pub mod Reading
 pub mod Standing
-pub mod Tests

@@ -3,11 +3,15 @@
 
 mod code;
 mod envelope;
+mod laws;
 mod message;
 mod parts;
+#[cfg(test)]
+mod tests;
 mod texts;
 
 pub use code::ErrorCode;
 pub use envelope::Envelope;
+pub use laws::{answers_law, opening_law, parts_law, renamed_law};
 pub use message::Message;
 pub use texts::{error_answer, initialize, initialized, ok_answer};

@@ -1,7 +1,7 @@
 use Rattle.std.proofs.Common.{codes}
 use Rattle.std.specs.Str.{chars}
 use Rattle.json_text.specs.Named.{named_in}
-use Rattle.rpc_message.proofs.Tests.{error_and, error_not}
+use Rattle.rpc_message.proofs.KindTests.{error_and, error_not}
 use Rattle.rpc_message.proofs.envelope.is_error.Goals as goal
 
 pub returns-then-is_integer_value : goal.returns-then-is_integer_value

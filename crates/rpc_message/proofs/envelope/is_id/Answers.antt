@@ -1,5 +1,5 @@
 use Rattle.json_text.specs.Json.{span_of}
-use Rattle.rpc_message.proofs.Tests.{number_id, text_id, no_id}
+use Rattle.rpc_message.proofs.KindTests.{number_id, text_id, no_id}
 use Rattle.rpc_message.proofs.envelope.is_id.Goals as goal
 
 pub returns-in-Number : goal.returns-in-Number

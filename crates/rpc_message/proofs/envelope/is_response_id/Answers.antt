@@ -1,5 +1,5 @@
 use Rattle.json_text.specs.Json.{span_of}
-use Rattle.rpc_message.proofs.Tests.{number_response, text_or_null, no_response}
+use Rattle.rpc_message.proofs.KindTests.{number_response, text_or_null, no_response}
 use Rattle.rpc_message.proofs.envelope.is_response_id.Goals as goal
 
 pub returns-in-Number : goal.returns-in-Number

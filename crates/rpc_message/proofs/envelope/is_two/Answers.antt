@@ -1,7 +1,7 @@
 use Rattle.json_nodes.specs.At.{Found}
 use Rattle.json_nodes.specs.Doc.{Doc}
 use Rattle.std.proofs.Common.{subst}
-use Rattle.rpc_message.proofs.Tests.{text_two}
+use Rattle.rpc_message.proofs.KindTests.{text_two}
 use Rattle.rpc_message.proofs.envelope.is_two.Goals as goal
 
 pub returns-in-Text : goal.returns-in-Text
