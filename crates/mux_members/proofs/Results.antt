@@ -12,13 +12,13 @@ use Rattle.json_nodes.specs.Doc.{Doc}
 use Rattle.rpc_message.specs.declared.envelope.Envelope.{Envelope}
 use Rattle.rpc_message.specs.declared.envelope.Envelope.TheVariants.{Other, Request, Notification, Outcome, Failure}
 use Rattle.rpc_message.specs.Envelopes.{Tells}
-use Rattle.rpc_message.specs.Message.{Id, integer, text, Message, result, result_tree, response_id, is_integer}
+use Rattle.rpc_message.specs.Message.{Id, integer, text, Message, request, notification, result, error, result_tree, response_id, is_integer, is_integer_value, is_string_value}
 use Rattle.mux_model.specs.Built.{is_plain_result}
-use Rattle.mux_model.specs.Members.{named_of}
+use Rattle.mux_model.specs.Members.{listed, named_of, has_version, has_versions, is_versioned_edit, reads_versions}
 use Rattle.mux_model.specs.Stages.{is_first_result}
 use Rattle.mux_members.specs.Envelopes.{outcome_id, outcome_value}
-use Rattle.mux_members.specs.Results.{is_one, is_plain_value}
-use Rattle.mux_members.proofs.Bared.{in_bare, of_bare}
+use Rattle.mux_members.specs.Results.{any_versioned, is_one, is_plain_value, value_reads_versions}
+use Rattle.mux_members.proofs.Bared.{in_bare, integer_bare, of_bare, string_bare}
 use Rattle.mux_members.proofs.Ids.{quoted_shape}
 
 -- the number 1
@@ -75,3 +75,55 @@ told_plain doc (Request i n p) m b k t h tell = absurd (cc)
 told_plain doc (Notification n p) m b k t h tell = absurd (cc)
 told_plain doc (Failure i f) m b k t h tell = absurd (cc)
 told_plain doc Other m b k t h tell = absurd (cc)
+
+-- versions
+
+pub any_here : (p : Json → Bool) (t : Json) (more : List Json) → p t ≡ true → list_any p (t ∷ more) ≡ true
+any_here p t more e = ap (λ b. b || list_any p more) e
+
+pub any_on : (p : Json → Bool) (t : Json) (more : List Json) → p t ≡ false → list_any p (t ∷ more) ≡ list_any p more
+any_on p t more e = ap (λ b. b || list_any p more) e
+
+any_bare : (p : Json → Bool) → ((j : Json) → p (bare j) ≡ p j) → (js : Items) → list_any p (items_list (bare_items js)) ≡ list_any p (items_list js)
+any_bare p same no_items = refl
+any_bare p same (item j js) = ap₂ (λ a b. a || b) (same j) (any_bare p same js)
+
+listed_bare : (p : Json → Bool) → ((j : Json) → p (bare j) ≡ p j) → (o : Option Json) → list_any p (listed (option_map bare o)) ≡ list_any p (listed o)
+listed_bare p same None = refl
+listed_bare p same (Some (array s js)) = any_bare p same js
+listed_bare p same (Some (word s w)) = refl
+listed_bare p same (Some (number s ds)) = refl
+listed_bare p same (Some (string s cs)) = refl
+listed_bare p same (Some (object s ms)) = refl
+
+version_bare : (o : Option Json) → has_version (option_map bare o) ≡ has_version o
+version_bare o = ap₂ (λ a b. a && b) (ap is_string_value (of_bare (codes "uri") o) ∙ string_bare (named_of (codes "uri") o)) (ap is_integer_value (of_bare (codes "version") o) ∙ integer_bare (named_of (codes "version") o))
+
+edit_bare : (j : Json) → is_versioned_edit (bare j) ≡ is_versioned_edit j
+edit_bare j = ap has_version (in_bare (codes "textDocument") j) ∙ version_bare (named_in (codes "textDocument") j)
+
+versions_bare : (o : Option Json) → has_versions (option_map bare o) ≡ has_versions o
+versions_bare o = ap (λ z. any_versioned (listed z)) (of_bare (codes "documentChanges") o) ∙ listed_bare (λ j. is_versioned_edit j) edit_bare (named_of (codes "documentChanges") o)
+
+edits_bare : (j : Json) → has_versions (named_in (codes "edit") (bare j)) ≡ has_versions (named_in (codes "edit") j)
+edits_bare j = ap has_versions (in_bare (codes "edit") j) ∙ versions_bare (named_in (codes "edit") j)
+
+reads_bare : (j : Json) → reads_versions (bare j) ≡ reads_versions j
+reads_bare (array s js) = any_bare (λ j. has_versions (named_in (codes "edit") j)) edits_bare js
+reads_bare (object s ms) = ap₂ (λ a b. a || b) (versions_bare (Some (object s ms))) (edits_bare (object s ms))
+reads_bare (word s w) = refl
+reads_bare (number s ds) = refl
+reads_bare (string s cs) = refl
+
+value_versions : (o : Option Json) → reads_versions (result_tree o) ≡ value_reads_versions o
+value_versions None = refl
+value_versions (Some j) = reads_bare j
+
+pub told_versions : (doc : Doc) (e : Envelope) (m : Message) (id : Option Id) (value : Json) (b : Bool) → Tells doc e m → m ≡ result id value → ((o : Option Json) → Found doc o (outcome_value e) → b ≡ value_reads_versions o) → b ≡ reads_versions value
+told_versions doc (Outcome i v) m id value b t h tell =
+    let same : value ≡ result_tree t.value = (let is : m ≡ result t.id (result_tree t.value) = t.is in cc) in
+    tell t.value t.value_stands ∙ sym (ap reads_versions same ∙ value_versions t.value)
+told_versions doc (Request i n p) m id value b t h tell = absurd (let is : m ≡ request t.id t.method (option_map bare t.params) = t.is in cc)
+told_versions doc (Notification n p) m id value b t h tell = absurd (let is : m ≡ notification t.method (option_map bare t.params) = t.is in cc)
+told_versions doc (Failure i f) m id value b t h tell = absurd (let is : m ≡ error t.id (bare t.failure) = t.is in cc)
+told_versions doc Other m id value b t h tell = absurd (cc)
