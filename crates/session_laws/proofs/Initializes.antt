@@ -1,5 +1,5 @@
 -- The body that asks a start to initialize is that request, with the id 1 (LSP 3.17, Initialize Request).
-use Rattle.std.proofs.Common.{◌≡◌, ℕ, suc, ◌+◌, ◌-◌, ◌≤◌, Bool, true, false, List, [], ◌∷◌, codes, take, drop, is_some, if◌then◌else◌, Option, Some, None, refl, sym, ◌∙◌, ap, ap₂, subst, arith}
+use Rattle.std.proofs.Common.{◌≡◌, ℕ, suc, ◌+◌, ◌-◌, ◌≤◌, List, [], ◌∷◌, codes, take, drop, Option, Some, None, refl, sym, ◌∙◌, ap, subst, arith}
 use Rattle.std.specs.List.{AllByRecursion}
 use Rattle.std.specs.Option.{option_and_then}
 use Rattle.json_text.specs.Bare.{bare, nowhere}
@@ -14,7 +14,7 @@ use Rattle.json_text.proofs.Inside.{InSpan, value_in_span}
 use Rattle.json_text.proofs.Laws.{tree_sound}
 use Rattle.json_text.proofs.Moves.{Placed, moved}
 use Rattle.json_text.proofs.Put.{depth_bare}
-use Rattle.rpc_message.specs.Message.{request, integer, message_of, place_in, slice_of}
+use Rattle.rpc_message.specs.Message.{request, integer, message_of, slice_of}
 use Rattle.rpc_message.specs.Texts.{initialize_params}
 use Rattle.rpc_message.specs.ValueTexts.{IsValueText, IsOptionText}
 use Rattle.rpc_message.proofs.Initialize.{initialize_law, option_depth}
@@ -142,16 +142,18 @@ options_from body j text low (Some p) e = options_in body j p text low e
 -- for any body
 initialize_from : (body : List ℕ) (o : Option Json) → tree_of body ≡ o → Root (string_or_null (root_uri (named_of (codes "params") o))) × Options (bytes_if name (named_of (codes "params") o) body)
 initialize_from body None e = (root_text None tt, no_options)
-initialize_from body (Some j) e = let sound : IsText body j × (depth j ≤ 1024) = tree_sound body j e in
-    (root_text (root_uri (named_in (codes "params") j)) (root_good (named_in (codes "params") j) (named_good (codes "params") (Some j) (text_good body j sound.0))),
-    options_from body j sound.0 sound.1 (named_in (codes "params") j) refl)
+initialize_from body (Some j) e = let sound : IsText body j × (depth j ≤ 1024) = tree_sound body j e in (
+  root_text (root_uri (named_in (codes "params") j)) (root_good (named_in (codes "params") j) (named_good (codes "params") (Some j) (text_good body j sound.0))),
+  options_from body j sound.0 sound.1 (named_in (codes "params") j) refl,
+)
 
 no_capabilities : IsValueText (object nowhere no_members) (codes "{}")
 no_capabilities = record { tree = object (record { from = 0; to = 2 }) no_members; stands = ((123 ∷ [], 125 ∷ [], refl, refl, ([], 125 ∷ [], refl, tt, refl)), refl); same = refl }
 
 pub initialize_says : (body : List ℕ) → (params : Option Json) × (message_of (initialize_for body) ≡ request (integer (codes "1")) (codes "initialize") params)
 initialize_says body =
-    let parts : Root (string_or_null (root_uri (params_of body))) × Options (options_of body) = initialize_from body (tree_of body) refl in
-    (Some (initialize_params parts.0.tree parts.1.tree (object nowhere no_members) None),
-    initialize_law parts.0.tree (object nowhere no_members) parts.1.tree None (string_or_null (root_uri (params_of body))) (codes "{}") (options_of body) None
-    parts.0.text parts.1.text no_capabilities tt (omega (arith, parts.0.flat)) parts.1.low (omega arith) (omega arith))
+    let parts : Root (string_or_null (root_uri (params_of body))) × Options (options_of body) = initialize_from body (tree_of body) refl in (
+      Some (initialize_params parts.0.tree parts.1.tree (object nowhere no_members) None),
+      initialize_law parts.0.tree (object nowhere no_members) parts.1.tree None (string_or_null (root_uri (params_of body))) (codes "{}") (options_of body) None
+          parts.0.text parts.1.text no_capabilities tt (omega (arith, parts.0.flat)) parts.1.low (omega arith) (omega arith),
+    )
