@@ -1,9 +1,12 @@
+pub mod Bounds
 pub mod Looks
 pub mod Members
 pub mod Numbers
 pub mod Parts
 pub mod Places
+pub mod SameLaw
 pub mod Sames
 pub mod Spelled
 pub mod Spelling
 pub mod Tree
+mod Worked

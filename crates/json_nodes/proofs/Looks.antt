@@ -1,5 +1,5 @@
 -- What the look-ups over the nodes find is the tree's.
-use Rattle.std.proofs.Common.{◌≡◌, ℕ, zero, suc, ◌+◌, ◌<◌, ◌≤◌, Bool, true, false, ◌&&◌, ◌==◌, nat_lt, List, [], ◌∷◌, ◌++◌, length, get_or, refl, sym, ◌∙◌, ap, subst, arith, append_assoc, length-append, zero-add, append-nil, add-one}
+use Rattle.std.proofs.Common.{◌≡◌, ℕ, zero, suc, ◌+◌, ◌<◌, ◌≤◌, Bool, true, false, ◌&&◌, ◌==◌, nat_lt, List, [], ◌∷◌, ◌++◌, length, get_or, refl, sym, ◌∙◌, ap, subst, arith, zero-add, append-nil, add-one}
 use Rattle.std.specs.Prelude.{Option, Some, None, MatchOption}
 use Rattle.std.specs.List.{slice_get}
 use Rattle.std.proofs.lemmas.Option.{slice_get_within, get_or_from_slice_get}
@@ -9,12 +9,12 @@ use Rattle.json_text.specs.Json.{Json, span_of}
 use Rattle.json_text.specs.Named.{children}
 use Rattle.json_nodes.specs.declared.node.Node.{Node}
 use Rattle.json_nodes.specs.declared.node.Place.{Place}
-use Rattle.json_nodes.specs.At.{At, ChildAt, FoundChild, found_child, preorder, tree_at, sizes}
-use Rattle.json_nodes.specs.Doc.{Doc, Holds}
+use Rattle.json_nodes.specs.At.{At, ChildAt, FoundChild, found_child, sizes}
+use Rattle.json_nodes.specs.Doc.{Doc}
 use Rattle.json_nodes.specs.Nodes.{size, kind_of, nodes_of, head_node, unnamed}
 use Rattle.json_nodes.specs.Steps.{some_if, first_inside, first_number, same_level, next_behind, next_number}
 use Rattle.json_nodes.proofs.Numbers.{get_front, get_behind, child_at}
-use Rattle.json_nodes.proofs.Places.{Placed, PlacedChild, placed_child, placed_named, Low}
+use Rattle.json_nodes.proofs.Places.{Placed, placed_child, Low}
 use Rattle.json_nodes.proofs.Tree.{children_nodes, named_children, nodes_shape, nodes_length, size_shape, all_sizes, child_sizes, everywhere}
 
 -- the nodes of value k stand at some level
@@ -136,6 +136,7 @@ first_later ns k = by (slice_get ns k)
     by_test true true e = (omega arith, grind (arith, nat_tests))
     by_test true false e = tt
     by_test false y e = tt
+
     by : (o : Option Node) → Later ns k (first_inside (length ns) k o)
     by None = tt
     by (Some x) = by_test (nat_lt (k + 1) x.after) (nat_lt (k + 1) (length ns)) refl
@@ -147,9 +148,11 @@ next_later ns k = by (slice_get ns k)
     by_test true true m h e = (grind (arith, nat_tests), h)
     by_test true false m h e = tt
     by_test false y m h e = tt
+
     behind : (x : Node) (o : Option Node) → slice_get ns x.after ≡ o → Later ns k (same_level k x o)
     behind x None e = tt
     behind x (Some y) e = by_test (y.level == x.level) (nat_lt k x.after) x.after (slice_get_within ns x.after y e) refl
+
     by : (o : Option Node) → Later ns k (next_behind ns k o)
     by None = tt
     by (Some x) = behind x (slice_get ns x.after) refl

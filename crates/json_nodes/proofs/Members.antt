@@ -1,5 +1,5 @@
 -- The members of an object, one by one.
-use Rattle.std.proofs.Common.{◌≡◌, ℕ, zero, suc, ◌+◌, ◌-◌, ◌<◌, ◌≤◌, Bool, true, false, cond, List, [], ◌∷◌, ◌++◌, length, refl, sym, ◌∙◌, ap, subst, arith, add-one}
+use Rattle.std.proofs.Common.{◌≡◌, ℕ, zero, suc, ◌+◌, ◌-◌, ◌<◌, Bool, true, false, cond, List, length, refl, sym, ◌∙◌, ap, subst, add-one}
 use Rattle.std.specs.Prelude.{Option, Some, None, bytes_eq, MatchOption}
 use Rattle.std.specs.List.{slice_get}
 use Rattle.json_text.specs.declared.span.Span.{Span}
@@ -12,7 +12,7 @@ use Rattle.json_text.specs.Named.{children, values_list, named, named_in, if_nam
 use Rattle.json_nodes.specs.At.{At, Found, ChildAt, FoundChild, found_child}
 use Rattle.json_nodes.specs.Doc.{Doc}
 use Rattle.json_nodes.specs.Names.{Tests}
-use Rattle.json_nodes.specs.Texts.{names, member_names}
+use Rattle.json_nodes.specs.Texts.{member_names}
 use Rattle.json_nodes.proofs.Numbers.{child_at}
 
 -- the last of the first n members of this name
@@ -121,17 +121,17 @@ inside_cond n m false found h g = g
 
 pub walking_starts : (cs : List ℕ) (doc : Doc) (k : ℕ) (next : Option ℕ) → ((t : Json) → At doc k t → FoundChild doc k t 0 next) → MatchOption next (Unit {0}) (λ i. (k < i) × (i < length doc.nodes)) → Walking cs doc k next None
 walking_starts cs doc k next first later = record {
-    next_inside = inside_more (length doc.nodes) k next later;
-    found_inside = tt;
-    walked = λ s ms a. walk_starts cs doc k s ms next (first (object s ms) a);
-  }
+  next_inside = inside_more (length doc.nodes) k next later;
+  found_inside = tt;
+  walked = λ s ms a. walk_starts cs doc k s ms next (first (object s ms) a);
+}
 
 walking_at : (cs : List ℕ) (doc : Doc) (k m : ℕ) (next found : Option ℕ) (b : Bool) → Walking cs doc k (Some m) found → Tests cs doc m b → Follows doc m next → MatchOption next (Unit {0}) (λ i. (m < i) × (i < length doc.nodes)) → Walking cs doc k next (cond b (Some m) found)
 walking_at cs doc k m next found b w test follows later = record {
-    next_inside = inside_more (length doc.nodes) m next later;
-    found_inside = inside_cond (length doc.nodes) m b found w.next_inside w.found_inside;
-    walked = λ s ms a. walk_step cs doc k m s ms next found b (w.walked s ms a) test follows;
-  }
+  next_inside = inside_more (length doc.nodes) m next later;
+  found_inside = inside_cond (length doc.nodes) m b found w.next_inside w.found_inside;
+  walked = λ s ms a. walk_step cs doc k m s ms next found b (w.walked s ms a) test follows;
+}
 
 pub walking_found : (cs : List ℕ) (doc : Doc) (k m : ℕ) (here next found new : Option ℕ) (b : Bool) → Walking cs doc k here found → here ≡ Some m → b ≡ true → new ≡ Some m → Tests cs doc m b → Follows doc m next → MatchOption next (Unit {0}) (λ i. (m < i) × (i < length doc.nodes)) → Walking cs doc k next new
 walking_found cs doc k m here next found new b w is holds new_is test follows later =

@@ -1,10 +1,10 @@
 -- Where in the bytes of a text each value and each name stands.
-use Rattle.std.proofs.Common.{◌≡◌, ℕ, zero, suc, ◌+◌, ◌-◌, ◌<◌, ◌≤◌, List, [], ◌∷◌, ◌++◌, length, take, drop, refl, sym, ◌∙◌, ap, subst, arith, append_assoc, length-append, zero-add, append-nil}
+use Rattle.std.proofs.Common.{◌≡◌, ℕ, zero, suc, ◌+◌, ◌-◌, List, [], ◌∷◌, ◌++◌, length, refl, sym, ◌∙◌, ap, subst, arith, append_assoc, length-append, append-nil}
 use Rattle.std.proofs.Math.Seq.{drop-append_seam, take-append_seam}
-use Rattle.std.specs.Prelude.{Option, Some, None}
+use Rattle.std.specs.Prelude.{Some}
 use Rattle.std.specs.List.{slice_get}
 use Rattle.json_text.specs.declared.span.Span.{Span}
-use Rattle.json_text.specs.Json.{Json, word, number, string, array, object, Items, no_items, item, Members, no_members, member, Rule, ◌then◌, byte, spans, space, quoted, pair, value, items, more_items, members, more_members, IsText, span_of}
+use Rattle.json_text.specs.Json.{Json, word, number, string, array, object, Items, no_items, item, Members, no_members, member, Rule, ◌then◌, byte, spans, space, quoted, pair, value, items, more_items, members, more_members, span_of}
 use Rattle.json_nodes.specs.Texts.{between}
 use Rattle.json_text.specs.Named.{children, items_list, values_list}
 
@@ -25,12 +25,12 @@ regroup u v w front text back bs mid e f = e ∙ ap (λ xs. u ++ (xs ++ w)) f �
 -- a part of a part
 pub part_in : (P R : Rule) (at : ℕ) (bs : List ℕ) → Part P at bs → ((i : ℕ) (xs : List ℕ) → P i xs → Part R i xs) → Part R at bs
 part_in P R at bs p f = let q : Part R (at + length p.front) p.text = f (at + length p.front) p.text p.is in record {
-    front = p.front ++ q.front;
-    text = q.text;
-    back = q.back ++ p.back;
-    whole = regroup p.front [] p.back q.front q.text q.back bs p.text p.whole q.whole;
-    is = subst (λ i. R i q.text) (omega (arith, length-append p.front q.front)) q.is;
-  }
+  front = p.front ++ q.front;
+  text = q.text;
+  back = q.back ++ p.back;
+  whole = regroup p.front [] p.back q.front q.text q.back bs p.text p.whole q.whole;
+  is = subst (λ i. R i q.text) (omega (arith, length-append p.front q.front)) q.is;
+}
 
 pub in_first : (P Q R : Rule) (at : ℕ) (bs : List ℕ) → (P then Q) at bs → ((i : ℕ) (xs : List ℕ) → P i xs → Part R i xs) → Part R at bs
 in_first P Q R at bs h f = part_in P R at bs (record { front = []; text = h.0; back = h.1; whole = h.2; is = subst (λ i. P i h.0) (omega arith) h.3 }) f
@@ -46,28 +46,28 @@ more_items_part n no_items c at bs h e = cc
 more_items_part zero (item j js) c at bs h e =
     let same : j ≡ c = cc in
     in_second (byte 44) (space then value j then space then more_items js) (value c) at bs h
-      (λ i xs h. in_second space (value j then space then more_items js) (value c) i xs h
-      (λ i xs h. in_first (value j) (space then more_items js) (value c) i xs h
-      (λ i xs h. same_value j c i xs same h)))
+    (λ i xs h. in_second space (value j then space then more_items js) (value c) i xs h
+    (λ i xs h. in_first (value j) (space then more_items js) (value c) i xs h
+    (λ i xs h. same_value j c i xs same h)))
 more_items_part (suc n) (item j js) c at bs h e =
     let rest : (i : ℕ) (xs : List ℕ) → more_items js i xs → Part (value c) i xs = λ i xs h. more_items_part n js c i xs h e in
     in_second (byte 44) (space then value j then space then more_items js) (value c) at bs h
-      (λ i xs h. in_second space (value j then space then more_items js) (value c) i xs h
-      (λ i xs h. in_second (value j) (space then more_items js) (value c) i xs h
-      (λ i xs h. in_second space (more_items js) (value c) i xs h rest)))
+    (λ i xs h. in_second space (value j then space then more_items js) (value c) i xs h
+    (λ i xs h. in_second (value j) (space then more_items js) (value c) i xs h
+    (λ i xs h. in_second space (more_items js) (value c) i xs h rest)))
 
 items_part : (n : ℕ) (js : Items) (c : Json) (at : ℕ) (bs : List ℕ) → items js at bs → slice_get (items_list js) n ≡ Some c → Part (value c) at bs
 items_part n no_items c at bs h e = cc
 items_part zero (item j js) c at bs h e =
     let same : j ≡ c = cc in
     in_second space (value j then space then more_items js) (value c) at bs h
-      (λ i xs h. in_first (value j) (space then more_items js) (value c) i xs h
-      (λ i xs h. same_value j c i xs same h))
+    (λ i xs h. in_first (value j) (space then more_items js) (value c) i xs h
+    (λ i xs h. same_value j c i xs same h))
 items_part (suc n) (item j js) c at bs h e =
     let rest : (i : ℕ) (xs : List ℕ) → more_items js i xs → Part (value c) i xs = λ i xs h. more_items_part n js c i xs h e in
     in_second space (value j then space then more_items js) (value c) at bs h
-      (λ i xs h. in_second (value j) (space then more_items js) (value c) i xs h
-      (λ i xs h. in_second space (more_items js) (value c) i xs h rest))
+    (λ i xs h. in_second (value j) (space then more_items js) (value c) i xs h
+    (λ i xs h. in_second space (more_items js) (value c) i xs h rest))
 
 -- a member of an object
 pub record Entry : Type 0 where
@@ -91,16 +91,16 @@ more_members_part zero (member s cs j ms) e at bs h g =
     let d : Entry = record { place = s; characters = cs; content = j } in
     let same : d ≡ e = cc in
     in_second (byte 44) (space then entry d then space then more_members ms) (entry e) at bs h
-      (λ i xs h. in_second space (entry d then space then more_members ms) (entry e) i xs h
-      (λ i xs h. in_first (entry d) (space then more_members ms) (entry e) i xs h
-      (λ i xs h. same_entry d e i xs same h)))
+    (λ i xs h. in_second space (entry d then space then more_members ms) (entry e) i xs h
+    (λ i xs h. in_first (entry d) (space then more_members ms) (entry e) i xs h
+    (λ i xs h. same_entry d e i xs same h)))
 more_members_part (suc n) (member s cs j ms) e at bs h g =
     let d : Entry = record { place = s; characters = cs; content = j } in
     let rest : (i : ℕ) (xs : List ℕ) → more_members ms i xs → Part (entry e) i xs = λ i xs h. more_members_part n ms e i xs h g in
     in_second (byte 44) (space then entry d then space then more_members ms) (entry e) at bs h
-      (λ i xs h. in_second space (entry d then space then more_members ms) (entry e) i xs h
-      (λ i xs h. in_second (entry d) (space then more_members ms) (entry e) i xs h
-      (λ i xs h. in_second space (more_members ms) (entry e) i xs h rest)))
+    (λ i xs h. in_second space (entry d then space then more_members ms) (entry e) i xs h
+    (λ i xs h. in_second (entry d) (space then more_members ms) (entry e) i xs h
+    (λ i xs h. in_second space (more_members ms) (entry e) i xs h rest)))
 
 members_part : (n : ℕ) (ms : Members) (e : Entry) (at : ℕ) (bs : List ℕ) → members ms at bs → slice_get (entries ms) n ≡ Some e → Part (entry e) at bs
 members_part n no_members e at bs h g = cc
@@ -108,14 +108,14 @@ members_part zero (member s cs j ms) e at bs h g =
     let d : Entry = record { place = s; characters = cs; content = j } in
     let same : d ≡ e = cc in
     in_second space (entry d then space then more_members ms) (entry e) at bs h
-      (λ i xs h. in_first (entry d) (space then more_members ms) (entry e) i xs h
-      (λ i xs h. same_entry d e i xs same h))
+    (λ i xs h. in_first (entry d) (space then more_members ms) (entry e) i xs h
+    (λ i xs h. same_entry d e i xs same h))
 members_part (suc n) (member s cs j ms) e at bs h g =
     let d : Entry = record { place = s; characters = cs; content = j } in
     let rest : (i : ℕ) (xs : List ℕ) → more_members ms i xs → Part (entry e) i xs = λ i xs h. more_members_part n ms e i xs h g in
     in_second space (entry d then space then more_members ms) (entry e) at bs h
-      (λ i xs h. in_second (entry d) (space then more_members ms) (entry e) i xs h
-      (λ i xs h. in_second space (more_members ms) (entry e) i xs h rest))
+    (λ i xs h. in_second (entry d) (space then more_members ms) (entry e) i xs h
+    (λ i xs h. in_second space (more_members ms) (entry e) i xs h rest))
 
 -- the value and the name of a member
 
@@ -150,7 +150,7 @@ child_part (array s js) n c at bs h e = in_second (byte 91) (items js then byte 
     (λ i xs h. items_part n js c i xs h e))
 child_part (object s ms) n c at bs h e = let f : (d : Entry) × (slice_get (entries ms) n ≡ Some d) × (d.content ≡ c) = entry_of ms n c e in
     part_in (entry f.0) (value c) at bs (entry_part s ms n f.0 at bs h f.1)
-      (λ i xs h. subst (λ k. Part (value k) i xs) f.2 (entry_value f.0 i xs h))
+    (λ i xs h. subst (λ k. Part (value k) i xs) f.2 (entry_value f.0 i xs h))
 
 -- a value's span is where its bytes stand
 pub value_span : (t : Json) (at : ℕ) (bs : List ℕ) → value t at bs → span_of t ≡ record { from = at; to = at + length bs }

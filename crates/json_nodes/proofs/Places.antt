@@ -1,14 +1,14 @@
 -- Where the nodes of each value stand.
-use Rattle.std.proofs.Common.{◌≡◌, ℕ, zero, suc, ◌+◌, ◌<◌, ◌≤◌, List, [], ◌∷◌, ◌++◌, length, refl, sym, ◌∙◌, ap, subst, arith, append_assoc, length-append, add-zero}
-use Rattle.std.specs.Prelude.{Option, Some, None}
+use Rattle.std.proofs.Common.{◌≡◌, ℕ, zero, suc, ◌+◌, ◌≤◌, List, [], ◌∷◌, ◌++◌, length, refl, sym, ◌∙◌, ap, arith, append_assoc, length-append, add-zero}
+use Rattle.std.specs.Prelude.{Some}
 use Rattle.std.specs.List.{slice_get}
 use Rattle.json_text.specs.Json.{Json}
 use Rattle.json_text.specs.Named.{children}
 use Rattle.json_nodes.specs.declared.node.Node.{Node}
 use Rattle.json_nodes.specs.declared.node.Place.{Place}
-use Rattle.json_nodes.specs.At.{preorder, sizes}
-use Rattle.json_nodes.specs.Nodes.{size, nodes_of, head_node, unnamed}
-use Rattle.json_nodes.proofs.Tree.{Child, contents, child_places, named_children, children_nodes, nodes_shape, children_shape, nodes_length, everywhere, all_sizes}
+use Rattle.json_nodes.specs.At.{sizes}
+use Rattle.json_nodes.specs.Nodes.{size, nodes_of, head_node}
+use Rattle.json_nodes.proofs.Tree.{Child, contents, child_places, named_children, children_nodes, nodes_shape, children_shape, nodes_length}
 
 -- no node in front has a higher level
 abbrev pub Low : ℕ → List Node → Type 0

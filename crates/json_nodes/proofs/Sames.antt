@@ -1,21 +1,19 @@
 -- The comparison of two values, step by step.
-use Rattle.std.proofs.Common.{◌≡◌, ℕ, zero, suc, ◌+◌, ◌-◌, ◌<◌, ◌≤◌, Bool, true, false, not, ◌&&◌, ◌||◌, cond, List, [], ◌∷◌, ◌++◌, length, refl, sym, ◌∙◌, ap, subst, arith, add-one}
+use Rattle.std.proofs.Common.{◌≡◌, ℕ, zero, suc, ◌+◌, ◌<◌, Bool, true, false, not, ◌&&◌, ◌||◌, ◌⊎◌, inl, inr, List, length, refl, sym, ◌∙◌, ap, subst, arith, add-one}
 use Rattle.std.specs.Prelude.{Option, Some, None, bytes_eq, MatchOption}
 use Rattle.std.specs.List.{slice_get}
 use Rattle.std.specs.Option.{is_some}
 use Rattle.json_text.specs.declared.kind.Kind.{Kind}
 use Rattle.json_text.specs.declared.kind.Kind.TheVariants as kind
-use Rattle.json_text.specs.declared.kind.Word.{Word}
 use Rattle.json_text.specs.declared.kind.Word.TheVariants as word_of
 use Rattle.json_text.specs.declared.span.Span.{Span}
 use Rattle.json_text.specs.Json.{Json, word, number, string, array, object, Items, no_items, item, Members, no_members, member}
-use Rattle.json_text.specs.Named.{children, items_list, values_list, named, if_named, or_else}
-use Rattle.json_text.specs.String.{SpellsCharacters}
-use Rattle.json_nodes.specs.At.{At, Found, ChildAt, FoundChild, found_child}
+use Rattle.json_text.specs.Named.{items_list, named}
+use Rattle.json_nodes.specs.At.{At, Found, ChildAt, FoundChild}
 use Rattle.json_nodes.specs.Doc.{Doc}
 use Rattle.json_nodes.specs.Nodes.{kind_of}
-use Rattle.json_nodes.specs.Same.{drop_items, drop_members, has_name, if_some, names_within, same, same_items, same_members, same_kind, is_empty, if_item}
-use Rattle.json_nodes.specs.Texts.{names, member_names}
+use Rattle.json_nodes.specs.Same.{drop_items, drop_members, has_name, if_some, names_within, same, same_items, same_members, same_kind}
+use Rattle.json_nodes.specs.Texts.{member_names}
 use Rattle.json_nodes.proofs.Members.{Inside, Follows, found_child_is, no_child, inside_more}
 use Rattle.json_nodes.proofs.Numbers.{child_at}
 use Rattle.json_nodes.proofs.Spelling.{IsMember, is_member, members_end}
@@ -236,10 +234,10 @@ beside_ends d e x y s r js ks (Some n) w =
 
 pub comparing_starts : (d e : Doc) (x y : ℕ) (next beside : Option ℕ) → ((t : Json) → At d x t → FoundChild d x t 0 next) → MatchOption next (Unit {0}) (λ m. (x < m) × (m < length d.nodes)) → ((t : Json) → At e y t → FoundChild e y t 0 beside) → MatchOption beside (Unit {0}) (λ m. (y < m) × (m < length e.nodes)) → Comparing d e x y next beside
 comparing_starts d e x y next beside first later first_too later_too = record {
-    next_inside = later;
-    beside_inside = inside_more (length e.nodes) y beside later_too;
-    items = λ s r js ks a b. record { count = 0; next_is = first (array s js) a; beside_is = first_too (array r ks) b; rest = refl };
-  }
+  next_inside = later;
+  beside_inside = inside_more (length e.nodes) y beside later_too;
+  items = λ s r js ks a b. record { count = 0; next_is = first (array s js) a; beside_is = first_too (array r ks) b; rest = refl };
+}
 
 later_on : (len x m : ℕ) (next : Option ℕ) → x < m → MatchOption next (Unit {0}) (λ i. (m < i) × (i < len)) → MatchOption next (Unit {0}) (λ i. (x < i) × (i < len))
 later_on len x m None lt h = tt
@@ -369,3 +367,21 @@ member_last d e o (Some v) m n u found twin b h f a g is answers =
 pub member_missing : (d e : Doc) (o p : Option Json) (u : Json) (found twin : Option ℕ) → Found d o found → is_some found ≡ false → Found e p twin → twin ≡ None → false ≡ (is_some o || if_some p (λ v. same u v))
 member_missing d e o None u found twin h f g is = rw (← found_some d o found h, f) refl
 member_missing d e o (Some v) u found twin h f g is = let z : Found e (Some v) None = subst (λ q. Found e (Some v) q) is g in absurd z
+
+-- answers of the code
+
+pub none_answer : (b : Bool) (o : Option ℕ) → is_some o ≡ not b → b ≡ not (is_some o)
+none_answer true o h = ap not (sym h)
+none_answer false o h = ap not (sym h)
+
+pub same_words : (x : Kind) (t u : Json) → x ≡ kind_of t → ((k : Kind) → x ≡ k → kind_of u ≡ k) → (x ≡ kind.Null) ⊎ ((x ≡ kind.False) ⊎ (x ≡ kind.True)) → true ≡ same t u
+same_words x t u first second (inl e) = same_null t u (sym first ∙ e) (second kind.Null e)
+same_words x t u first second (inr (inl e)) = same_false t u (sym first ∙ e) (second kind.False e)
+same_words x t u first second (inr (inr e)) = same_true t u (sym first ∙ e) (second kind.True e)
+
+pub objects_differ : (t u : Json) (b : Bool) → kind_of t ≡ kind.Object → kind_of u ≡ kind.Object → b ≡ false → ((s r : Span) (ms ns : Members) → t ≡ object s ms → u ≡ object r ns → b ≡ same_members ms ns) → false ≡ same t u
+objects_differ t u b e f fails g =
+    let p : (s : Span) × (ms : Members) × (t ≡ object s ms) = object_of t e in
+    let q : (s : Span) × (ms : Members) × (u ≡ object s ms) = object_of u f in
+    let h : same_members p.1 q.1 ≡ false = sym (g p.0 q.0 p.1 q.1 p.2 q.2) ∙ fails in
+    rw (p.2, q.2, h) refl

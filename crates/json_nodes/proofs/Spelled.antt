@@ -1,21 +1,19 @@
 -- The bytes in the span of a value, of a string and of a name.
-use Rattle.std.proofs.Common.{◌≡◌, ℕ, zero, suc, ◌+◌, ◌-◌, ◌<◌, ◌≤◌, List, [], ◌∷◌, ◌++◌, length, get_or, take, drop, refl, sym, ◌∙◌, ap, subst, arith, append_assoc, length-append, zero-add, append-nil}
-use Rattle.std.specs.Prelude.{Option, Some, None}
+use Rattle.std.proofs.Common.{◌≡◌, ℕ, zero, suc, ◌+◌, ◌-◌, ◌≤◌, List, [], ◌∷◌, ◌++◌, length, get_or, sym, ◌∙◌, ap, subst, arith, append_assoc, length-append}
+use Rattle.std.specs.Prelude.{Some}
 use Rattle.std.specs.List.{slice_get}
 use Rattle.std.proofs.lemmas.Option.{get_or_from_slice_get}
 use Rattle.json_text.specs.declared.span.Span.{Span}
-use Rattle.json_text.specs.Json.{Json, word, number, string, array, object, Items, no_items, item, Members, no_members, member, Rule, ◌then◌, byte, spans, spells, space, quoted, pair, value, items, more_items, members, more_members, IsText, span_of}
-use Rattle.json_text.specs.Named.{children, items_list, values_list}
-use Rattle.json_text.specs.String.{SpellsCharacters}
+use Rattle.json_text.specs.Json.{Json, word, number, string, array, object, Members, no_members, member, ◌then◌, byte, spans, spells, space, quoted, value, IsText, span_of}
 use Rattle.json_nodes.specs.declared.node.Node.{Node}
 use Rattle.json_nodes.specs.declared.node.Place.{Place}
-use Rattle.json_nodes.specs.At.{At, ChildAt, sizes}
-use Rattle.json_nodes.specs.Doc.{Doc, Holds}
+use Rattle.json_nodes.specs.At.{At, ChildAt}
+use Rattle.json_nodes.specs.Doc.{Doc}
 use Rattle.json_nodes.specs.Nodes.{size, place_of, head_node}
 use Rattle.json_nodes.specs.Texts.{IsSpelledAt, IsStringAt, between, names, member_names}
 use Rattle.json_nodes.proofs.Looks.{Here, here_at, head_at, node_span, span_law}
 use Rattle.json_nodes.proofs.Parts.{Part, all_part, part_in, child_part, value_span, between_is, Entry, entries, entry, entry_of, entry_part, entry_name, in_first, in_second}
-use Rattle.json_nodes.proofs.Places.{Placed, PlacedChild, placed_named}
+use Rattle.json_nodes.proofs.Places.{PlacedChild, placed_named}
 use Rattle.json_nodes.proofs.Tree.{everywhere, child_places, members_children, named_children}
 
 -- each value of a text is a part of its bytes
@@ -97,7 +95,7 @@ name_text doc k n m (object s ms) u cs d c h =
     let e : (e : Entry) × (slice_get (entries ms) n ≡ Some e) × (e.content ≡ u) = entry_of ms n u c.child in
     let p : Part (value (object s ms)) 0 doc.bytes = value_part c.parent in
     let q : Part (spans e.0.place (quoted e.0.characters)) 0 doc.bytes = part_in (value (object s ms)) (spans e.0.place (quoted e.0.characters)) 0 doc.bytes p
-      (λ i xs h. part_in (entry e.0) (spans e.0.place (quoted e.0.characters)) i xs (entry_part s ms n e.0 i xs h e.1) (λ i xs h. entry_name e.0 i xs h)) in
+    (λ i xs h. part_in (entry e.0) (spans e.0.place (quoted e.0.characters)) i xs (entry_part s ms n e.0 i xs h e.1) (λ i xs h. entry_name e.0 i xs h)) in
     let x : Here doc.nodes k (object s ms) = here_at c.parent in
     let same : e.0.characters ≡ cs = (let f : slice_get (member_names ms) n ≡ Some e.0.characters = entry_names ms n e.0 e.1 in cc) in
     record {

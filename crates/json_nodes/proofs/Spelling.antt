@@ -1,18 +1,24 @@
 -- The members of an object from one on, against a name's spelling.
-use Rattle.std.proofs.Common.{◌≡◌, ℕ, zero, suc, ◌+◌, ◌-◌, ◌<◌, ◌≤◌, Bool, true, false, cond, List, [], ◌∷◌, ◌++◌, length, refl, sym, ◌∙◌, ap, subst, arith, add-one}
+use Rattle.std.proofs.Common.{◌≡◌, ℕ, zero, suc, ◌<◌, Bool, true, false, cond, IsTrue, ◌↔◌, List, length, refl, sym, ◌∙◌, ap, subst, add-one}
 use Rattle.std.specs.Prelude.{Option, Some, None, bytes_eq, MatchOption}
 use Rattle.std.specs.List.{slice_get}
+use Rattle.std.proofs.lemmas.Slice.Eq.{bytes_eq-Decides}
+use Rattle.std.proofs.lemmas.Bool.Decides.{same_from_decides}
 use Rattle.json_text.specs.declared.span.Span.{Span}
-use Rattle.json_text.specs.Json.{Json, word, number, string, array, object, Items, no_items, item, Members, no_members, member}
-use Rattle.json_text.specs.Named.{children, items_list, values_list, named, if_named, or_else}
+use Rattle.json_text.specs.Json.{Json, object, Members, no_members, member}
+use Rattle.json_text.specs.Named.{values_list, named, if_named, or_else}
 use Rattle.json_text.specs.String.{SpellsCharacters}
-use Rattle.json_nodes.specs.At.{At, Found, ChildAt, FoundChild, found_child}
+use Rattle.json_nodes.specs.At.{Found, ChildAt, FoundChild}
 use Rattle.json_nodes.specs.Doc.{Doc}
 use Rattle.json_nodes.specs.Names.{Tests}
-use Rattle.json_nodes.specs.Same.{drop_items, drop_members}
-use Rattle.json_nodes.specs.Texts.{names, member_names}
+use Rattle.json_nodes.specs.Same.{drop_members}
+use Rattle.json_nodes.specs.Texts.{member_names}
 use Rattle.json_nodes.proofs.Members.{Inside, Follows, or_else_assoc, found_next, found_child_is, no_child, inside_more, inside_cond}
 use Rattle.json_nodes.proofs.Numbers.{child_at}
+
+-- an answer that says whether two lists are equal
+pub decided : (b : Bool) (cs ds : List ℕ) → IsTrue b ↔ (cs ≡ ds) → b ≡ bytes_eq cs ds
+decided b cs ds h = same_from_decides b (bytes_eq cs ds) h (bytes_eq-Decides cs ds)
 
 -- child n of an object, as its member n
 pub record IsMember (ms : Members) (n : ℕ) (u : Json) : Type 0 where
@@ -40,7 +46,7 @@ pub record Left (cs : List ℕ) (doc : Doc) (k n : ℕ) (s : Span) (ms : Members
   pub found_is : Found doc best found
   pub all : named cs (drop_members n ms) ≡ or_else (named cs (drop_members count ms)) best
 
-named_member : (cs ds : List ℕ) (s : Span) (u : Json) (ms : Members) → named cs (member s ds u ms) ≡ or_else (named cs ms) (if_named (bytes_eq cs ds) u)
+pub named_member : (cs ds : List ℕ) (s : Span) (u : Json) (ms : Members) → named cs (member s ds u ms) ≡ or_else (named cs ms) (if_named (bytes_eq cs ds) u)
 unfolding named
 named_member cs ds s u ms = refl
 
@@ -57,7 +63,7 @@ left_step cs doc k n m s ms next found b w test follows =
       all = w.all ∙ ap (λ xs. or_else (named cs xs) w.best) e.whole ∙ ap (λ o. or_else o w.best) (named_member cs e.name e.place c.0 (drop_members (suc w.count) ms)) ∙ or_else_assoc (named cs (drop_members (suc w.count) ms)) (if_named (bytes_eq cs e.name) c.0) w.best ∙ ap (λ x. or_else (named cs (drop_members (suc w.count) ms)) (or_else (if_named x c.0) w.best)) (sym tested);
     }
 
-named_none : (cs : List ℕ) → named cs no_members ≡ None
+pub named_none : (cs : List ℕ) → named cs no_members ≡ None
 unfolding named
 named_none cs = refl
 
@@ -78,17 +84,17 @@ or_else_none (Some x) = refl
 
 pub looking_starts : (raw : List ℕ) (doc : Doc) (from : Option ℕ) → Inside (length doc.nodes) from → Looking raw doc from from None
 looking_starts raw doc from inside = record {
-    next_inside = inside;
-    found_inside = tt;
-    left_over = λ k n s ms cs h f. record { count = n; best = None; next_is = f; found_is = tt; all = sym (or_else_none (named cs (drop_members n ms))) };
-  }
+  next_inside = inside;
+  found_inside = tt;
+  left_over = λ k n s ms cs h f. record { count = n; best = None; next_is = f; found_is = tt; all = sym (or_else_none (named cs (drop_members n ms))) };
+}
 
 looking_at : (raw : List ℕ) (doc : Doc) (m : ℕ) (from next found : Option ℕ) (b : Bool) → Looking raw doc from (Some m) found → ((cs : List ℕ) → SpellsCharacters cs raw → Tests cs doc m b) → Follows doc m next → MatchOption next (Unit {0}) (λ i. (m < i) × (i < length doc.nodes)) → Looking raw doc from next (cond b (Some m) found)
 looking_at raw doc m from next found b w test follows later = record {
-    next_inside = inside_more (length doc.nodes) m next later;
-    found_inside = inside_cond (length doc.nodes) m b found w.next_inside w.found_inside;
-    left_over = λ k n s ms cs h f. left_step cs doc k n m s ms next found b (w.left_over k n s ms cs h f) (test cs h) follows;
-  }
+  next_inside = inside_more (length doc.nodes) m next later;
+  found_inside = inside_cond (length doc.nodes) m b found w.next_inside w.found_inside;
+  left_over = λ k n s ms cs h f. left_step cs doc k n m s ms next found b (w.left_over k n s ms cs h f) (test cs h) follows;
+}
 
 pub looking_found : (raw : List ℕ) (doc : Doc) (m : ℕ) (from here next found new : Option ℕ) (b : Bool) → Looking raw doc from here found → here ≡ Some m → b ≡ true → new ≡ Some m → ((cs : List ℕ) → SpellsCharacters cs raw → Tests cs doc m b) → Follows doc m next → MatchOption next (Unit {0}) (λ i. (m < i) × (i < length doc.nodes)) → Looking raw doc from next new
 looking_found raw doc m from here next found new b w is holds new_is test follows later =
@@ -102,3 +108,6 @@ looking_on raw doc m from here next found new b w is fails new_is test follows l
 
 pub looking_ends : (raw : List ℕ) (doc : Doc) (from next found : Option ℕ) → Looking raw doc from next found → next ≡ None → (k n : ℕ) (s : Span) (ms : Members) (cs : List ℕ) → SpellsCharacters cs raw → FoundChild doc k (object s ms) n from → Found doc (named cs (drop_members n ms)) found
 looking_ends raw doc from next found w e k n s ms cs h f = left_ends cs doc k n s ms found (subst (λ o. Left cs doc k n s ms o found) e (w.left_over k n s ms cs h f))
+
+pub named_so : (b : Bool) (cs ds : List ℕ) → IsTrue b ↔ (cs ≡ ds) → b ≡ bytes_eq ds cs
+named_so b cs ds h = decided b ds cs ((λ k. sym (h.0 k)), (λ e. h.1 (sym e)))

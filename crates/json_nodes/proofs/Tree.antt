@@ -1,12 +1,12 @@
 -- A tree as a value and its children: its nodes, its values in preorder, and what holds of each value in it.
-use Rattle.std.proofs.Common.{◌≡◌, ℕ, zero, suc, ◌+◌, ◌<◌, ◌≤◌, List, [], ◌∷◌, ◌++◌, length, map, ◌⊎◌, inl, inr, refl, sym, ◌∙◌, ap, subst, arith, append_assoc, length-append, add-zero}
-use Rattle.std.specs.Prelude.{Option, Some, None}
+use Rattle.std.proofs.Common.{◌≡◌, ℕ, zero, suc, ◌+◌, ◌≤◌, List, [], ◌∷◌, ◌++◌, length, ◌⊎◌, inl, inr, refl, sym, ap, subst, arith, length-append, add-zero}
+use Rattle.std.specs.Prelude.{Some}
 use Rattle.std.specs.List.{slice_get, flat_map}
 use Rattle.json_text.specs.Json.{Json, word, number, string, array, object, Items, no_items, item, Members, no_members, member}
 use Rattle.json_text.specs.Named.{children, items_list, values_list}
 use Rattle.json_nodes.specs.declared.node.Node.{Node}
 use Rattle.json_nodes.specs.declared.node.Place.{Place}
-use Rattle.json_nodes.specs.At.{preorder, items_preorder, members_preorder, tree_at, sizes}
+use Rattle.json_nodes.specs.At.{preorder, items_preorder, members_preorder, sizes}
 use Rattle.json_nodes.specs.Nodes.{size, items_size, members_size, nodes_of, items_nodes, members_nodes, head_node, unnamed, place_of}
 
 -- a child with the place of its name

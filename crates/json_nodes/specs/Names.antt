@@ -1,6 +1,6 @@
 -- Whether a child is named so.
 use Rattle.std.specs.Prelude.{◌≡◌, ℕ, Bool, List, bytes_eq}
-use Rattle.std.specs.Prelude.{Option, Some}
+use Rattle.std.specs.Prelude.{Some}
 use Rattle.std.specs.List.{slice_get}
 use Rattle.json_text.specs.Json.{Json}
 use Rattle.json_nodes.specs.At.{ChildAt}

@@ -4,12 +4,14 @@ ghost use Rattle.json_nodes.specs.Texts.{IsSpelledAt, IsStringAt, between, names
 ghost use Rattle.json_text.specs.declared.span.Span.{Span};
 ghost use Rattle.json_text.specs.Json.{Json, span_of, string, value};
 ghost use Rattle.json_text.specs.String.{SpellsCharacters};
-ghost use Rattle.std.specs.Prelude.{◌≡◌, ◌+◌, ◌<◌, ◌≤◌, ℕ, List, length, MatchOption, Some};
+ghost use Rattle.std.specs.Prelude.{◌≡◌, ◌+◌, ◌<◌, ◌≤◌, ℕ, List, length, MatchOption, IfOk, Some, encode_utf8_all};
 ghost use Rattle.std.specs.List.{slice_get};
 
 use crate::node::Node;
 use crate::steps::{first_number, next_number};
-use json_text::{Kind, Span};
+use json_text::{Body, Kind, Memory, Span};
+use json_token::decode;
+use std::alloc::Global;
 
 /// What a value is.
 pub fn kind_in(nodes: &[Node], node: u32) -> Kind
@@ -26,7 +28,10 @@ pub fn span_in(nodes: &[Node], node: u32) -> Span
     ensures text { (bytes : List ℕ) (t : Json) → At (record { bytes = bytes; nodes = nodes.now }) node t → IsSpelledAt bytes t }
 {
     let here = nodes[node as usize];
-    Span { from: here.from as usize, to: here.to as usize }
+    Span {
+        from: here.from as usize,
+        to: here.to as usize,
+    }
 }
 
 /// The bytes of a value, with its quotation marks or brackets.
@@ -42,7 +47,11 @@ pub fn bytes_in<'a>(bytes: &'a [u8], nodes: &[Node], node: u32) -> &'a [u8]
 fn part(bytes: &[u8], from: usize, to: usize) -> &[u8]
     ensures { from ≤ to → to ≤ length bytes.now → result.now ≡ between from to bytes.now }
 {
-    if from <= to && to <= bytes.len() { &bytes[from..to] } else { &[] }
+    if from <= to && to <= bytes.len() {
+        &bytes[from..to]
+    } else {
+        &[]
+    }
 }
 
 /// The bytes between the quotation marks of a string.
@@ -52,6 +61,15 @@ pub fn string_in<'a>(bytes: &'a [u8], nodes: &[Node], node: u32) -> &'a [u8]
 {
     let here = nodes[node as usize];
     inside_quotes(bytes, here.from, here.to)
+}
+
+/// The characters of a string, in UTF-8; a surrogate with no partner stands for U+FFFD.
+pub fn text_in(alloc: Global, bytes: &[u8], nodes: &[Node], node: u32) -> Result<Body, Memory>
+    requires { node < length nodes.now }
+    ensures { (s : Span) (cs : List ℕ) → At (record { bytes = bytes.now; nodes = nodes.now }) node (string s cs) → IfOk result (λ text. text ≡ encode_utf8_all cs) }
+{
+    let text = decode(alloc, string_in(bytes, nodes, node))?;
+    Ok(Body::new(text))
 }
 
 /// The bytes between the quotation marks of the name of a member, which its value stands for.
@@ -69,7 +87,11 @@ fn inside_quotes(bytes: &[u8], from: u32, to: u32) -> &[u8]
 {
     let from = from as usize + 1;
     let to = to as usize;
-    if from < to && to <= bytes.len() { &bytes[from..to - 1] } else { &[] }
+    if from < to && to <= bytes.len() {
+        &bytes[from..to - 1]
+    } else {
+        &[]
+    }
 }
 
 /// The first item of an array, or the value of the first member of an object.

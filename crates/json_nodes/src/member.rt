@@ -6,10 +6,10 @@ ghost use Rattle.json_text.specs.Named.{named_in};
 ghost use Rattle.std.specs.Prelude.{◌<◌, length, MatchOption};
 ghost use Rattle.std.specs.Str.{chars};
 
-use json_text::Kind;
-
 use crate::look::{first_in, kind_in, name_in, next_in};
 use crate::node::Node;
+use json_text::Kind;
+use json_token::spells_text;
 
 /// The value of the last member of this name; none where the value is no object.
 pub fn member_in(bytes: &[u8], nodes: &[Node], node: u32, name: &str) -> Option<u32>
@@ -45,5 +45,5 @@ fn is_named(bytes: &[u8], nodes: &[Node], node: u32, name: &str) -> bool
     requires { node < length nodes.now }
     ensures { Tests (chars name.now) (record { bytes = bytes.now; nodes = nodes.now }) node result }
 {
-    name_in(bytes, nodes, node).len() == name.len()
+    spells_text(name_in(bytes, nodes, node), name)
 }

@@ -1,18 +1,19 @@
 ghost use Rattle.json_nodes.specs.At.{At, ChildAt, Found, FoundChild};
 ghost use Rattle.json_nodes.specs.Same.{drop_members, has_name, if_some, names_within, same, same_items, same_kind, same_members};
+ghost use Rattle.json_nodes.specs.SameTree.{Same};
 ghost use Rattle.json_nodes.specs.Values.{doc_of};
 ghost use Rattle.json_nodes.specs.Texts.{names};
 ghost use Rattle.json_text.specs.declared.span.Span.{Span};
 ghost use Rattle.json_text.specs.Json.{Items, Json, Members, array, object};
 ghost use Rattle.json_text.specs.Named.{named};
 ghost use Rattle.json_text.specs.String.{SpellsCharacters};
-ghost use Rattle.std.specs.Prelude.{◌≡◌, ◌+◌, ◌<◌, ◌||◌, ℕ, List, length, bytes_eq, MatchOption, Some};
+ghost use Rattle.std.specs.Prelude.{◌≡◌, ◌+◌, ◌<◌, ◌↔◌, ◌||◌, ℕ, List, length, IsTrue, MatchOption, Some};
 ghost use Rattle.std.specs.List.{slice_get};
-
-use json_text::Kind;
 
 use crate::look::{bytes_in, first_in, kind_in, name_in, next_in, string_in};
 use crate::node::Node;
+use json_text::Kind;
+use json_token::same_characters;
 
 // The values of a text: its bytes and its nodes.
 #[derive(Clone, Copy)]
@@ -23,10 +24,18 @@ struct Values<'a> {
 
 /// Whether two values say the same: numbers by their text, strings by their characters, arrays item by item, and objects by
 /// name, in any order, where the last member of a name counts.
-pub fn same_in(bytes: &[u8], nodes: &[Node], node: u32, other_bytes: &[u8], other_nodes: &[Node], other: u32) -> bool
+pub fn same_in(
+    bytes: &[u8],
+    nodes: &[Node],
+    node: u32,
+    other_bytes: &[u8],
+    other_nodes: &[Node],
+    other: u32,
+) -> bool
     requires node { node < length nodes.now }
     requires other { other < length other_nodes.now }
-    ensures { (t u : Json) → At (record { bytes = bytes.now; nodes = nodes.now }) node t → At (record { bytes = other_bytes.now; nodes = other_nodes.now }) other u → result ≡ same t u }
+    ensures test { (t u : Json) → At (record { bytes = bytes.now; nodes = nodes.now }) node t → At (record { bytes = other_bytes.now; nodes = other_nodes.now }) other u → result ≡ same t u }
+    ensures relation { (t u : Json) → At (record { bytes = bytes.now; nodes = nodes.now }) node t → At (record { bytes = other_bytes.now; nodes = other_nodes.now }) other u → (IsTrue result ↔ Same t u) }
 {
     let left = Values { bytes, nodes };
     let right = Values {
@@ -48,10 +57,15 @@ fn same_values(left: Values, node: u32, right: Values, other: u32) -> bool
     }
     match kind {
         Kind::Null | Kind::False | Kind::True => true,
-        Kind::Number => bytes_in(left.bytes, left.nodes, node) == bytes_in(right.bytes, right.nodes, other),
-        Kind::Text => spells_same(string_in(left.bytes, left.nodes, node), string_in(right.bytes, right.nodes, other)),
+        Kind::Number => bytes_in(left.bytes, left.nodes, node)
+            == bytes_in(right.bytes, right.nodes, other),
+        Kind::Text => same_characters(
+            string_in(left.bytes, left.nodes, node),
+            string_in(right.bytes, right.nodes, other),
+        ),
         Kind::Array => same_items(left, node, right, other),
-        Kind::Object => same_members(left, node, right, other) && names_within(right, other, left, node),
+        Kind::Object => same_members(left, node, right, other)
+            && names_within(right, other, left, node),
     }
 }
 
@@ -144,15 +158,8 @@ fn same_kind(kind: Kind, other: Kind) -> bool
     )
 }
 
-// Whether two strings, given without their quotation marks, have the same characters.
-fn spells_same(left: &[u8], right: &[u8]) -> bool
-    ensures { (cs ds : List ℕ) → SpellsCharacters cs left.now → SpellsCharacters ds right.now → result ≡ bytes_eq cs ds }
-{
-    left.len() == right.len()
-}
-
-// The last member, from this one on, whose name is spelled so.
-fn last_spelled(raw: &[u8], bytes: &[u8], nodes: &[Node], from: Option<u32>) -> Option<u32>
+/// The last member, from this one on, whose name is spelled so.
+pub fn last_spelled(raw: &[u8], bytes: &[u8], nodes: &[Node], from: Option<u32>) -> Option<u32>
     requires { MatchOption from (Unit {0}) (λ m. m < length nodes.now) }
     ensures named { (k n : ℕ) (s : Span) (ms : Members) (cs : List ℕ) → SpellsCharacters cs raw.now → FoundChild (record { bytes = bytes.now; nodes = nodes.now }) k (object s ms) n from → Found (record { bytes = bytes.now; nodes = nodes.now }) (named cs (drop_members n ms)) result }
     ensures inside { MatchOption result (Unit {0}) (λ member. member < length nodes.now) }
@@ -160,7 +167,7 @@ fn last_spelled(raw: &[u8], bytes: &[u8], nodes: &[Node], from: Option<u32>) -> 
     let mut found = None;
     let mut next = from;
     while let Some(member) = next {
-        if spells_same(raw, name_in(bytes, nodes, member)) {
+        if same_characters(raw, name_in(bytes, nodes, member)) {
             found = Some(member);
         }
         next = next_in(nodes, member);

@@ -1,13 +1,13 @@
 -- Each text of the grammar is read, with the nodes of its tree.
-use Rattle.std.proofs.Common.{◌≡◌, refl, ap, sym, ◌∙◌, subst, ℕ, suc, ◌+◌, ◌<◌, ◌≤◌, max, Bool, true, false, List, [], ◌∷◌, ◌++◌, length, arith, append_assoc, append-nil, length-append, add-one, ◌⊎◌, inl, inr}
-use Rattle.std.specs.Prelude.{IsTrue, Option, Some, None, Result, Ok, Err, nat_lt, if◌then◌else◌}
+use Rattle.std.proofs.Common.{◌≡◌, refl, ap, sym, ◌∙◌, ℕ, suc, ◌+◌, ◌<◌, ◌≤◌, max, Bool, true, false, List, [], ◌∷◌, ◌++◌, length, arith, append_assoc, append-nil, length-append, ◌⊎◌, inl, inr}
+use Rattle.std.specs.Prelude.{IsTrue, Result, Ok, Err, nat_lt, if◌then◌else◌}
 use Rattle.std.specs.List.{AllByRecursion}
 use Rattle.std.proofs.lemmas.Bool.Decides.{nat_tests}
 use Rattle.json_text.specs.declared.span.Span.{Span}
 use Rattle.json_text.specs.declared.kind.Kind.{Kind}
 use Rattle.json_text.specs.declared.kind.Kind.TheVariants as kind
 use Rattle.json_text.specs.declared.kind.Word.{Word}
-use Rattle.json_text.specs.Json.{Json, word, number, string, array, object, Items, no_items, item, Members, no_members, member, Rule, ◌then◌, byte, is_space, space, letters, spells, quoted, pair, value, items, more_items, members, more_members, IsText, depth, items_depth, members_depth}
+use Rattle.json_text.specs.Json.{Json, word, number, string, array, object, Items, no_items, item, Members, no_members, member, Rule, ◌then◌, byte, is_space, space, spells, pair, value, items, more_items, members, more_members, IsText, depth, items_depth, members_depth}
 use Rattle.json_text.specs.Read.{is_number_byte}
 use Rattle.json_text.specs.String.{SpellsCharacters}
 use Rattle.json_nodes.specs.declared.node.Node.{Node}
@@ -20,9 +20,9 @@ use Rattle.json_span.specs.declared.state.Open.{Open}
 use Rattle.json_span.specs.Classes.{class_of}
 use Rattle.json_span.specs.Machine.{State, state, start, Fault, deep, step, read, finish, leaf, node_at, opened, opens, first_in, kind_of_open, close_node}
 use Rattle.json_span.proofs.Runs.{one, rests, starts, starts_rest, start_step, space_passes, open_array_class, open_object_class}
-use Rattle.json_span.proofs.Tokens.{NotNumber, word_passes, number_passes, text_passes, key_passes, keyed, names}
+use Rattle.json_span.proofs.Tokens.{NotNumber, word_passes, number_passes, text_passes, key_passes, names}
 use Rattle.json_span.proofs.NodeLists.{length_nodes, length_items, length_members, close_seam}
-use Rattle.json_span.proofs.Rules.{Behind, Before, Between, after_byte, before_byte, between_bytes, framed, framed_length, regroup, regroup_length}
+use Rattle.json_span.proofs.Rules.{Behind, Between, after_byte, between_bytes, framed, framed_length}
 
 -- the claims
 

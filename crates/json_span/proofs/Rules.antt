@@ -1,5 +1,5 @@
 -- The parts of bytes that stand under a rule, and such bytes put together again.
-use Rattle.std.proofs.Common.{◌≡◌, refl, ap, sym, ◌∙◌, subst, ℕ, ◌+◌, List, [], ◌∷◌, ◌++◌, length, arith, append_assoc, length-append}
+use Rattle.std.proofs.Common.{◌≡◌, ap, ◌∙◌, subst, ℕ, ◌+◌, List, [], ◌∷◌, ◌++◌, length, arith, append_assoc, length-append}
 use Rattle.json_text.specs.Json.{Rule, ◌then◌, byte}
 
 -- behind a byte
@@ -43,6 +43,7 @@ between_bytes c e P at bs h = go (after_byte c (P then byte e) at bs h)
       whole = f.whole ∙ ap (λ t. c ∷ t) b.whole;
       is = b.is;
     }
+
     go : Behind c (P then byte e) at bs → Between c e P at bs
     go f = inside f (before_byte e P (at + 1) f.tail f.is)
 

@@ -1,6 +1,6 @@
 -- Single steps of the machine, and whitespace.
-use Rattle.std.proofs.Common.{◌≡◌, refl, ap, sym, ◌∙◌, ℕ, ◌+◌, ◌<◌, ◌≤◌, Bool, true, false, List, [], ◌∷◌, ◌++◌, length, arith}
-use Rattle.std.specs.Prelude.{IsTrue, Option, Some, None, Result, Ok, Err, if◌then◌else◌}
+use Rattle.std.proofs.Common.{◌≡◌, refl, ap, ◌∙◌, ℕ, ◌+◌, ◌≤◌, Bool, true, false, List, [], ◌∷◌, ◌++◌, length, arith}
+use Rattle.std.specs.Prelude.{IsTrue, Some, Ok}
 use Rattle.std.specs.List.{AllByRecursion}
 use Rattle.std.proofs.lemmas.Bool.Decides.{nat_tests}
 use Rattle.json_text.specs.Json.{is_space}
@@ -18,7 +18,7 @@ use Rattle.json_span.specs.declared.state.Mode.{Mode}
 use Rattle.json_span.specs.declared.state.Mode.TheVariants as mode
 use Rattle.json_span.specs.declared.state.Open.{Open}
 use Rattle.json_span.specs.Classes.{class_of, class_of_number}
-use Rattle.json_span.specs.Machine.{State, state, Fault, step, read, ◌andthen◌, begins, first_item, next_key, first_key, colon, behind}
+use Rattle.json_span.specs.Machine.{State, state, step, read, ◌andthen◌, begins, first_item, next_key, first_key, colon, behind}
 
 pub one : (d at b : ℕ) (bs : List ℕ) (s t : State) → step d at b s ≡ Ok t → read d at (b ∷ bs) s ≡ read d (at + 1) bs t
 unfolding read

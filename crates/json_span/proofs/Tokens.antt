@@ -1,6 +1,6 @@
 -- The machine passes literal names, numbers and strings.
-use Rattle.std.proofs.Common.{◌≡◌, refl, ap, sym, ◌∙◌, ℕ, ◌+◌, ◌<◌, ◌≤◌, Bool, true, false, List, [], ◌∷◌, ◌++◌, length, arith, append_assoc, length-append}
-use Rattle.std.specs.Prelude.{IsTrue, Option, Some, None, Result, Ok, Err, codes}
+use Rattle.std.proofs.Common.{◌≡◌, refl, ap, ◌∙◌, ℕ, ◌+◌, Bool, true, false, List, [], ◌∷◌, ◌++◌, length, arith, length-append}
+use Rattle.std.specs.Prelude.{IsTrue, Some, Ok}
 use Rattle.json_text.specs.declared.kind.Kind.{Kind}
 use Rattle.json_text.specs.declared.kind.Kind.TheVariants as kind
 use Rattle.json_text.specs.declared.kind.Word.{Word}
@@ -11,7 +11,7 @@ use Rattle.json_text.specs.String.{SpellsCharacters}
 use Rattle.json_text.specs.Read.{is_number_byte}
 use Rattle.json_nodes.specs.declared.node.Node.{Node}
 use Rattle.json_nodes.specs.declared.node.Place.{Place}
-use Rattle.json_nodes.specs.Nodes.{unnamed, kind_of_word}
+use Rattle.json_nodes.specs.Nodes.{kind_of_word}
 use Rattle.json_token.specs.declared.number.NumberPart.{NumberPart}
 use Rattle.json_token.specs.declared.number.NumberMove.{NumberMove}
 use Rattle.json_token.specs.declared.number.NumberMove.TheVariants as number
@@ -23,14 +23,13 @@ use Rattle.json_token.specs.declared.string.Move.TheVariants as text
 use Rattle.json_token.specs.StringMoves.{string_move}
 use Rattle.json_token.proofs.Numbers.{rem_move, rem, Passed, number_passed, number_ends}
 use Rattle.json_token.proofs.Walks.{walk_move, walk, string_passes}
-use Rattle.json_span.specs.declared.word.Begun.{Begun}
-use Rattle.json_span.specs.declared.word.Begun.TheVariants.{N, Nu, Nul, F, Fa, Fal, Fals, T, Tr, Tru}
+use Rattle.json_span.specs.declared.word.Begun.TheVariants.{N, F, T}
 use Rattle.json_span.specs.declared.class.Class.TheVariants as class
 use Rattle.json_span.specs.declared.state.Mode.{Mode}
 use Rattle.json_span.specs.declared.state.Mode.TheVariants as mode
 use Rattle.json_span.specs.declared.state.Open.{Open}
 use Rattle.json_span.specs.Classes.{class_of}
-use Rattle.json_span.specs.Machine.{State, state, Fault, step, read, finish, leaf, number_ends as ends_number, ends_with, in_number, in_text, in_key, behind, ◌andthen◌}
+use Rattle.json_span.specs.Machine.{State, state, step, read, finish, leaf, number_ends as ends_number, in_number, in_text, in_key, ◌andthen◌}
 use Rattle.json_span.proofs.Runs.{one, starts, start_step, null_class, false_class, true_class, number_class, quote_class}
 
 -- no byte of numbers comes first
@@ -119,6 +118,7 @@ text_walks d at n from (b ∷ bs) rest p name os ns h e = go (string_move p b) r
   where
     same : Some bs ≡ Some rest → bs ≡ rest
     same h = cc
+
     go : (k : Move) → string_move p b ≡ k → walk_move k bs (λ q. walk q bs) ≡ Some rest →
         ((q : Part) → walk q bs ≡ Some rest → read d (at + 1) bs (state (mode.InText from q) name os ns) ≡ read d n rest (leaf kind.Text from n (state (mode.InText from q) name os ns))) →
         read d at (b ∷ bs) (state (mode.InText from p) name os ns) ≡ read d n rest (leaf kind.Text from n (state (mode.InText from p) name os ns))
@@ -165,8 +165,10 @@ key_walks d at n from (b ∷ bs) rest p name os ns h e = go (string_move p b) re
   where
     same : Some bs ≡ Some rest → bs ≡ rest
     same h = cc
+
     place : bs ≡ rest → at + 1 ≡ n
     place h = omega (arith, ap length h)
+
     go : (k : Move) → string_move p b ≡ k → walk_move k bs (λ q. walk q bs) ≡ Some rest →
         ((q : Part) → walk q bs ≡ Some rest → read d (at + 1) bs (state (mode.InKey from q) name os ns) ≡ read d n rest (keyed from n os ns)) →
         read d at (b ∷ bs) (state (mode.InKey from p) name os ns) ≡ read d n rest (keyed from n os ns)

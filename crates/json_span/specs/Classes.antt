@@ -1,5 +1,5 @@
 -- What a byte is between the tokens of RFC 8259, section 2.
-use Rattle.std.specs.Prelude.{ℕ, Bool, ◌==◌, if◌then◌else◌}
+use Rattle.std.specs.Prelude.{ℕ, ◌==◌, if◌then◌else◌}
 use Rattle.std.specs.Prelude.{Option, Some, None}
 use Rattle.json_text.specs.Json.{is_space}
 use Rattle.json_token.specs.declared.number.NumberPart.{NumberPart}

@@ -1,21 +1,18 @@
 -- The reader as a machine over lists: what a byte does to where it stands.
-use Rattle.std.specs.Prelude.{◌≡◌, ℕ, ◌+◌, Bool, true, false, List, [], ◌∷◌, ◌++◌, length, nat_lt, if◌then◌else◌, slice_get, slice_set, reverse}
+use Rattle.std.specs.Prelude.{ℕ, ◌+◌, Bool, true, false, List, [], ◌∷◌, ◌++◌, length, nat_lt, if◌then◌else◌, slice_get, slice_set}
 use Rattle.std.specs.Prelude.{Option, Some, None, Result, Ok, Err}
 use Rattle.json_text.specs.declared.kind.Kind.{Kind}
 use Rattle.json_text.specs.declared.kind.Kind.TheVariants as kind
 use Rattle.json_nodes.specs.declared.node.Node.{Node}
 use Rattle.json_nodes.specs.declared.node.Place.{Place}
 use Rattle.json_nodes.specs.Nodes.{unnamed, kind_of_word}
-use Rattle.json_token.specs.declared.number.NumberPart.{NumberPart}
 use Rattle.json_token.specs.declared.number.NumberMove.{NumberMove}
 use Rattle.json_token.specs.declared.number.NumberMove.TheVariants as number
 use Rattle.json_token.specs.NumberMoves.{number_move, number_may_end}
-use Rattle.json_token.specs.declared.string.Part.{Part}
 use Rattle.json_token.specs.declared.string.Part.TheVariants.{Plain}
 use Rattle.json_token.specs.declared.string.Move.{Move}
 use Rattle.json_token.specs.declared.string.Move.TheVariants as text
 use Rattle.json_token.specs.StringMoves.{string_move}
-use Rattle.json_span.specs.declared.word.Begun.{Begun}
 use Rattle.json_span.specs.declared.word.WordMove.{WordMove}
 use Rattle.json_span.specs.declared.word.WordMove.TheVariants as word
 use Rattle.json_span.specs.Words.{word_move}

@@ -1,5 +1,5 @@
 -- The literal names of RFC 8259, section 3, a byte at a time.
-use Rattle.std.specs.Prelude.{ℕ, Bool, ◌==◌, if◌then◌else◌}
+use Rattle.std.specs.Prelude.{ℕ, ◌==◌, if◌then◌else◌}
 use Rattle.json_text.specs.declared.kind.Word.{Word}
 use Rattle.json_text.specs.declared.kind.Word.TheVariants as word_of
 use Rattle.json_span.specs.declared.word.Begun.{Begun}

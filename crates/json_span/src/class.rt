@@ -4,7 +4,7 @@ ghost use Rattle.json_token.specs.NumberMoves.{number_begin};
 ghost use Rattle.json_span.specs.Classes.{class_of, class_of_number};
 
 use crate::word::Begun;
-use json_token::{number_begin, NumberPart};
+use json_token::{NumberPart, number_begin};
 
 /// What a byte is where a value, a name, a comma or a bracket may stand.
 #[derive(Clone, Copy, Debug)]

@@ -7,10 +7,7 @@ use json_nodes::{Node, Place};
 use json_text::{Kind, Word};
 
 /// No name.
-pub const UNNAMED: Place = Place {
-    from: 0,
-    to: 0,
-};
+pub const UNNAMED: Place = Place { from: 0, to: 0 };
 
 pub fn kind_of_word(word: Word) -> Kind
     ensures { result ≡ kind_of_word word }

@@ -4,14 +4,14 @@ ghost use Rattle.json_span.specs.Machine.{start, node_at, leaf, opens, closes, b
 ghost use Rattle.json_span.specs.Views.{state_of, Gives, Reads, Fits};
 ghost use Rattle.json_span.specs.Classes.{class_of};
 
-use crate::class::{class_of, Class};
+use crate::class::{Class, class_of};
 use crate::fault::JsonFault;
-use crate::nodes::{close_node, kind_of_open, kind_of_word, UNNAMED};
+use crate::nodes::{UNNAMED, close_node, kind_of_open, kind_of_word};
 use crate::state::{Mode, Open, Reader};
-use crate::word::{word_move, WordMove};
+use crate::word::{WordMove, word_move};
 use json_nodes::{Node, Place};
 use json_text::Kind;
-use json_token::{number_may_end, number_move, string_move, Move, NumberMove, Part};
+use json_token::{Move, NumberMove, Part, number_may_end, number_move, string_move};
 use std::alloc::Global;
 
 /// The most arrays and objects that may be open at once.
@@ -20,7 +20,11 @@ pub const DEPTH: usize = 1024;
 fn first_in(object: bool) -> Mode
     ensures { result ≡ first_in object }
 {
-    if object { Mode::FirstKey } else { Mode::FirstItem }
+    if object {
+        Mode::FirstKey
+    } else {
+        Mode::FirstItem
+    }
 }
 
 fn next_in(object: bool) -> Mode
@@ -86,10 +90,7 @@ impl Reader {
         }
         let node = self.nodes.len();
         self.push(kind_of_open(object), at as u32, at)?;
-        self.stack.push(Open {
-            object,
-            node,
-        })?;
+        self.stack.push(Open { object, node })?;
         self.mode = first_in(object);
         self.name = UNNAMED;
         Ok(())
@@ -229,7 +230,13 @@ impl Reader {
     }
 
     // The byte that ends a number stands behind it.
-    fn in_number(&mut self, at: usize, from: u32, byte: u8, moved: NumberMove) -> Result<(), JsonFault>
+    fn in_number(
+        &mut self,
+        at: usize,
+        from: u32,
+        byte: u8,
+        moved: NumberMove,
+    ) -> Result<(), JsonFault>
         requires small { at < 2 ^ 28 }
         requires fits { Fits at self.old }
         ensures gives { Gives result (state_of self.new) (in_number at from byte moved (state_of self.old)) }

@@ -33,13 +33,21 @@ pub enum WordMove {
 fn goes_at(letter: u8, begun: Begun, byte: u8) -> WordMove
     ensures { result ≡ goes_at letter begun byte }
 {
-    if byte == letter { WordMove::Goes(begun) } else { WordMove::Stops }
+    if byte == letter {
+        WordMove::Goes(begun)
+    } else {
+        WordMove::Stops
+    }
 }
 
 fn ends_at(letter: u8, word: Word, byte: u8) -> WordMove
     ensures { result ≡ ends_at letter word byte }
 {
-    if byte == letter { WordMove::Ends(word) } else { WordMove::Stops }
+    if byte == letter {
+        WordMove::Ends(word)
+    } else {
+        WordMove::Stops
+    }
 }
 
 /// What the next byte does to a literal name of which this has been read.

@@ -1,6 +1,6 @@
 use Rattle.std.specs.Str.{chars}
 use Rattle.json_nodes.specs.Doc.{Doc}
-use Rattle.json_nodes.proofs.Members.{walking_found, walking_on, walking_ends, walking_starts}
+use Rattle.json_nodes.proofs.Members.{walking_found, walking_on, walking_ends}
 use Rattle.json_nodes.proofs.member.last_named.Goals as goal
 use Rattle.json_nodes.proofs.member.last_named.Goals.{then-is_named, else-is_named}
 
@@ -9,8 +9,8 @@ loop-next-preserved c =
     let cs = chars c.args.name.now in
     let doc : Doc = record { bytes = c.args.bytes.now; nodes = c.args.nodes.now } in
     elim c.if-is_named.branch [
-      then-is_named w ↦ walking_found cs doc c.args.node c.in-Some.member c.loop-next.next c.next_in-next.result c.loop-next.found c.if-is_named.found c.is_named.result c.loop-next.invariant c.in-Some.is w.if-is_named.true w.found-is c.is_named.ensures (λ k n t u a. c.next_in-next.ensures.next c.args.bytes.now k n t u a) c.next_in-next.ensures.inside
-    | else-is_named w ↦ walking_on cs doc c.args.node c.in-Some.member c.loop-next.next c.next_in-next.result c.loop-next.found c.if-is_named.found c.is_named.result c.loop-next.invariant c.in-Some.is w.if-is_named.false w.found-is c.is_named.ensures (λ k n t u a. c.next_in-next.ensures.next c.args.bytes.now k n t u a) c.next_in-next.ensures.inside
+      | then-is_named w ↦ walking_found cs doc c.args.node c.in-Some.member c.loop-next.next c.next_in-next.result c.loop-next.found c.if-is_named.found c.is_named.result c.loop-next.invariant c.in-Some.is w.if-is_named.true w.found-is c.is_named.ensures (λ k n t u a. c.next_in-next.ensures.next c.args.bytes.now k n t u a) c.next_in-next.ensures.inside
+      | else-is_named w ↦ walking_on cs doc c.args.node c.in-Some.member c.loop-next.next c.next_in-next.result c.loop-next.found c.if-is_named.found c.is_named.result c.loop-next.invariant c.in-Some.is w.if-is_named.false w.found-is c.is_named.ensures (λ k n t u a. c.next_in-next.ensures.next c.args.bytes.now k n t u a) c.next_in-next.ensures.inside
     ]
 
 pub returns-clause-member : goal.returns-clause-member

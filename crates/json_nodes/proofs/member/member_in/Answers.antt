@@ -1,6 +1,6 @@
 use Rattle.std.specs.Str.{chars}
-use Rattle.std.proofs.Common.{subst, ◌≡◌}
-use Rattle.json_text.specs.Json.{Json, object}
+use Rattle.std.proofs.Common.{subst}
+use Rattle.json_text.specs.Json.{Json}
 use Rattle.json_nodes.specs.At.{At}
 use Rattle.json_nodes.specs.Doc.{Doc}
 use Rattle.json_nodes.proofs.Members.{of_object, of_other}

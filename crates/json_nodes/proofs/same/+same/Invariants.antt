@@ -1,4 +1,7 @@
 use Rattle.std.proofs.Common.{length, ◌+◌, ◌*◌, ◌-◌}
+use Rattle.json_nodes.specs.Same.{same_members}
+use Rattle.json_nodes.proofs.Members.{left}
+use Rattle.json_nodes.proofs.Sames.{Comparing, MembersWalk}
 use Rattle.json_nodes.proofs.same.+same.Given as goal
 
 abbrev pub decreases-same_values : goal.decreases-same_values
@@ -12,3 +15,15 @@ decreases-same_members l = 3 * (length l.left.nodes.now - l.node)
 
 abbrev pub decreases-same_member : goal.decreases-same_member
 decreases-same_member l = 3 * (length l.left.nodes.now - l.member) + 2
+
+abbrev pub invariant-same_items-loop-next : goal.invariant-same_items-loop-next
+invariant-same_items-loop-next l = Comparing (record { bytes = l.left.bytes.now; nodes = l.left.nodes.now }) (record { bytes = l.right.bytes.now; nodes = l.right.nodes.now }) l.node l.other l.next l.beside
+
+abbrev pub decreases-same_items-loop-next : goal.decreases-same_items-loop-next
+decreases-same_items-loop-next l = left (length l.left.nodes.now) l.next
+
+abbrev pub invariant-same_members-loop-next : goal.invariant-same_members-loop-next
+invariant-same_members-loop-next l = MembersWalk (record { bytes = l.left.bytes.now; nodes = l.left.nodes.now }) (record { bytes = l.right.bytes.now; nodes = l.right.nodes.now }) l.node l.other same_members l.next
+
+abbrev pub decreases-same_members-loop-next : goal.decreases-same_members-loop-next
+decreases-same_members-loop-next l = left (length l.left.nodes.now) l.next

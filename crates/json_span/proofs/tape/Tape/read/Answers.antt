@@ -1,4 +1,4 @@
-use Rattle.std.proofs.Common.{◌≡◌, refl, ℕ, ◌≤◌}
+use Rattle.std.proofs.Common.{refl}
 use Rattle.std.proofs.lemmas.Result.{err_from_is_err_and}
 use Rattle.json_span.proofs.Tapes.{read_holds, some_holds, only_memory, is_syntax_fault, is_depth_fault}
 use Rattle.json_span.proofs.tape.Tape.read.Goals as goal
@@ -23,3 +23,6 @@ returns-clause-ok c = (refl, some_holds c.args.bytes.now c.in_ok-nodes.nodes.ite
 
 pub returns-clause-only : goal.returns-clause-only
 returns-clause-only c = λ j text fits. read_holds c.args.bytes.now c.in_ok-nodes.nodes.items j c.in_ok-nodes.ensures text fits
+
+pub invariant_of-result : goal.invariant_of-result
+invariant_of-result c = some_holds c.args.bytes.now c.in_ok-nodes.nodes.items c.in_ok-nodes.ensures

@@ -1,0 +1,72 @@
+-- When the tables of the hub stand for events.
+use Rattle.std.specs.Prelude.{◌≡◌, ℕ, ◌-◌, ◌^◌, ◌<◌, min, List, [], ◌∷◌, map, length, Bool, true, IsTrue}
+use Rattle.std.specs.Prelude.{Option, Some, None}
+use Rattle.std.specs.List.{AllByRecursion}
+use Rattle.rpc_message.specs.Message.{Id, integer, id_of}
+use Rattle.json_text.specs.Json.{Json}
+use Rattle.json_text.specs.Tree.{tree_of}
+use Rattle.mux_model.specs.declared.phase.Phase.{Phase}
+use Rattle.mux_model.specs.declared.phase.Phase.TheVariants.{Absent, New, Waiting, Answered, Running, Down, Closed, Gone}
+use Rattle.mux_model.specs.declared.stage.Stage.{Stage}
+use Rattle.mux_model.specs.declared.stage.Stage.TheVariants.{Unspawned, Spawning, Initializing, Ready, Stopping, Ending, Ended}
+use Rattle.mux_model.specs.Event.{Event}
+use Rattle.mux_model.specs.Phases.{desk_of, no_desk, editors_of, backlog_of}
+use Rattle.mux_model.specs.Requests.{Asked, open_of, asking_of}
+use Rattle.mux_model.specs.Spawns.{starts_of, groups_of, start_of, home_of, founding_of, group_of}
+use Rattle.mux_model.specs.Stages.{life_of, no_life}
+use Rattle.mux_hub.specs.declared.pending.Pending.{Pending}
+
+-- what the hub keeps: of editor 0, of start 0, and the open requests between them
+pub record Kept : Type 0 where
+  pub phase : Phase
+  pub id : List ℕ
+  pub opening : List ℕ
+  pub sent : ℕ
+  pub stage : Stage
+  pub started : Bool
+  pub next : ℕ
+  pub pending : List Pending
+
+-- the id that these bytes write
+abbrev pub id_in : Option Json → Option Id
+id_in None = None
+id_in (Some j) = id_of j
+
+abbrev pub id_or : Option Id → Id
+id_or (Some id) = id
+id_or None = integer []
+
+unfoldable pub id_meant : List ℕ → Id
+id_meant bytes = id_or (id_in (tree_of bytes))
+
+-- a kept request, as the history has it
+abbrev pub asked_of : Pending → Asked
+asked_of p = record { number = p.number; asker = record { editor = 0; id = id_meant p.id; bytes = p.id } }
+
+abbrev pub asked_for : List Pending → List Asked
+asked_for ps = map asked_of ps
+
+-- how many editors joined, and how many groups and starts there are, in these phases and stages
+abbrev pub joined_in : Phase → ℕ
+joined_in Absent = 0
+joined_in _ = 1
+
+abbrev pub spawned_in : Stage → ℕ
+spawned_in Unspawned = 0
+spawned_in _ = 1
+
+abbrev pub first_in : Stage → Option ℕ
+first_in Unspawned = None
+first_in _ = Some 0
+
+-- the ids of the editor's open requests
+abbrev pub open_in : Phase → List Pending → List ℕ → List Id
+open_in Absent ps id = []
+open_in New ps id = []
+open_in Waiting ps id = id_meant id ∷ []
+open_in other ps id = map (λ p. id_meant p.id) ps
+
+-- a message that the editor sends behind its answered initialize makes it run
+abbrev pub after_message : Phase → Phase
+after_message Answered = Running
+after_message phase = phase

@@ -1,0 +1,118 @@
+// The hub: the tables, the journal, and whether a step had a fault.
+ghost use Rattle.std.specs.Prelude.{◌≡◌, ℕ, ◌≤◌, ◌<◌, ◌↔◌, List, [], ◌∷◌, ◌++◌, Bool, true, false, length, IsTrue, IfOk, OnOk, OnErr, IsErrOf, IfErr};
+ghost use Rattle.outside_io.specs.Faults.{Rose};
+ghost use Rattle.mux_history.specs.declared.entry.Entry.{Entry};
+ghost use Rattle.mux_model.specs.Built.{built};
+ghost use Rattle.mux_model.specs.Fits.{fits};
+ghost use Rattle.mux_model.specs.Rows.{emits, entry_of};
+ghost use Rattle.mux_hub.specs.Hubs.{HubView, HubStands, Tells, body_length};
+
+use crate::fault::StepFault;
+use crate::tables::Tables;
+use json_text::{Body, Memory};
+use mux_history::{Cause, Entry, Journal, Outs};
+use mux_model::{Limits, Phase, Server, Stage};
+use std::alloc::Global;
+use std::marker::Model;
+
+/// The core of the multiplexer. It stands for the history of its steps, and its journal has the entries.
+#[derive(Drop)]
+pub struct Hub<J: Journal> {
+    alloc: Global,
+    limits: Limits,
+    servers: Vec<Server>,
+    default: u32,
+    tables: Tables,
+    spent: bool,
+    journal: J,
+}
+
+impl<J: Journal> Model for Hub<J> {
+    ghost use Rattle.mux_hub.specs.Hubs.{HubView};
+
+    ghost Value = { HubView J };
+
+    ghost view = { λ h. record { settings = record { limits = h.limits; servers = h.servers.items; default = h.default }; tables = h.tables; spent = h.spent; journal = h.journal } };
+}
+
+impl<J: Journal> Hub<J> {
+    /// A hub without a history. Want of memory hands the journal back.
+    pub fn new(
+        alloc: Global,
+        limits: Limits,
+        servers: Vec<Server>,
+        default: u32,
+        journal: J,
+    ) -> Result<Hub<J>, J>
+        requires { Tells (J.told journal) [] }
+        ensures settings { IfOk result (λ hub. hub.settings ≡ record { limits = limits; servers = servers.items; default = default }) }
+        ensures stands { IfOk result (λ hub. HubStands J.told hub []) }
+        ensures fresh { IfOk result (λ hub. hub.spent ≡ false) }
+        ensures faults { IfOk result (λ hub. J.faults hub.journal ≡ J.faults journal) }
+        ensures back { IfErr result (λ back. back ≡ journal) }
+    {
+        Ok(Hub {
+            alloc,
+            limits,
+            servers,
+            default,
+            tables: Tables {
+                phase: Phase::Absent,
+                id: Body::new(Vec::new(alloc)),
+                opening: Body::new(Vec::new(alloc)),
+                sent: 0,
+                stage: Stage::Unspawned,
+                started: false,
+                next: 1,
+                pending: Vec::new(alloc),
+            },
+            spent: false,
+            journal,
+        })
+    }
+
+    /// The hub's journal.
+    pub fn close(self) -> J
+        ensures { result ≡ self.journal }
+    {
+        let Hub { journal, .. } = self;
+        journal
+    }
+
+    /// Whether this cause can come behind the history.
+    pub fn fits(&self, cause: &Cause) -> bool
+        ensures { (history : List Entry) → HubStands J.told self.now history → self.now.spent ≡ false → result ≡ fits history cause.now }
+    {
+        self.tables.fits(cause)
+    }
+
+    /// Whether this cause, which fits, meets only rows of the routing table that are built.
+    pub fn built(&self, cause: &Cause) -> Result<bool, Memory>
+        requires { body_length cause.now ≤ 268435456 }
+        ensures { (history : List Entry) → HubStands J.told self.now history → self.now.spent ≡ false → IfOk result (λ answer. answer ≡ built history cause.now) }
+    {
+        Err(Memory)
+    }
+
+    /// Takes a cause and gives its outs: those of the routing table. The entry was appended to the journal.
+    pub fn step(&mut self, cause: Cause) -> Result<Outs, StepFault>
+        requires small { body_length cause ≤ 268435456 }
+        requires fits { (history : List Entry) → HubStands J.told self.old history → self.old.spent ≡ false → IsTrue (fits history cause) }
+        requires is_built { (history : List Entry) → HubStands J.told self.old history → self.old.spent ≡ false → IsTrue (built history cause) }
+        ensures settings { self.new.settings ≡ self.old.settings }
+        ensures outs { (history : List Entry) → HubStands J.told self.old history → IfOk result (λ outs. outs ≡ emits self.old.settings history cause) }
+        ensures stands { (history : List Entry) → HubStands J.told self.old history → OnOk result (HubStands J.told self.new (history ++ entry_of self.old.settings history cause ∷ [])) }
+        ensures err { (history : List Entry) → HubStands J.told self.old history → OnErr result (HubStands J.told self.new history) }
+        ensures ready { OnOk result (self.new.spent ≡ false) }
+        ensures spent { OnErr result (self.new.spent ≡ true) }
+        ensures spent_only { IsErrOf result StepFault.Spent ↔ (self.old.spent ≡ true) }
+        ensures journal_only { IsErrOf result StepFault.Journal → Rose (J.faults self.old.journal) (J.faults self.new.journal) }
+        ensures later { J.faults self.old.journal ≤ J.faults self.new.journal }
+    {
+        if self.spent {
+            return Err(StepFault::Spent);
+        }
+        self.spent = true;
+        Err(StepFault::Memory)
+    }
+}

@@ -1,0 +1,12 @@
+//! The core of the multiplexer: one call takes a cause and gives its outs.
+#![tactic(auto)]
+
+mod fault;
+mod hub;
+mod pending;
+mod tables;
+mod turns;
+
+pub use fault::StepFault;
+pub use hub::Hub;
+pub use mux_model::{Limits, Server};

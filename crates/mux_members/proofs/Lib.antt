@@ -1,0 +1,5 @@
+pub mod Bared
+pub mod Encoded
+pub mod Looks
+pub mod Told
+pub mod Walks
