@@ -16,8 +16,8 @@ use Rattle.json_text.proofs.Moves.{Placed, moved}
 use Rattle.json_text.proofs.Put.{depth_bare}
 use Rattle.rpc_message.specs.Message.{request, integer, message_of, slice_of}
 use Rattle.rpc_message.specs.Texts.{initialize_params}
-use Rattle.rpc_message.specs.ValueTexts.{IsValueText, IsOptionText}
-use Rattle.rpc_message.proofs.Initialize.{initialize_law, option_depth}
+use Rattle.rpc_message.specs.ValueTexts.{IsValueText, IsOptionText, option_depth}
+use Rattle.rpc_message.proofs.Opening.{initialize_law}
 use Rattle.mux_model.specs.Members.{named_of, params_of, string_of, or_first, first_uri, listed, root_uri, string_or_null, bytes_if, options_of}
 use Rattle.mux_model.specs.Rows.{initialize_for}
 use Rattle.session_laws.proofs.Quoted.{AreScalars, characters_scalar, IsQuoted, quoted_law}
