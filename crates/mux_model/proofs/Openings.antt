@@ -167,3 +167,14 @@ opening_law body id method ps h = go (tree_of body) refl h
     go : (o : Option Json) → tree_of body ≡ o → message_in o ≡ request id method ps → (qs : Option Json) × (message_of (initialize_for body) ≡ request (integer (codes "1")) (codes "initialize") qs)
     go (Some j) e h = opening_of body j e
     go None e h = absurd (cc)
+
+-- whatever the body is
+pub any_opening_law : (body : List ℕ) → (qs : Option Json) × (message_of (initialize_for body) ≡ request (integer (codes "1")) (codes "initialize") qs)
+any_opening_law body = go (tree_of body) refl
+  where
+    go : (o : Option Json) → tree_of body ≡ o → (qs : Option Json) × (message_of (initialize_for body) ≡ request (integer (codes "1")) (codes "initialize") qs)
+    go (Some j) e = opening_of body j e
+    go None e =
+        let params : None ≡ params_of body = sym (ap (named_of (codes "params")) e) in
+        opening_for (string_or_null (root_uri (params_of body))) (options_of body) (subst (λ p. Written (string_or_null (root_uri p))) params (root_written None tt))
+        (subst (λ p. OptionWritten (bytes_if (codes "initializationOptions") p body)) params (record { tree = None; text = tt; shallow = omega arith }))

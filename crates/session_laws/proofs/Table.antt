@@ -24,10 +24,10 @@ use Rattle.mux_model.specs.Rows.{answer_error, found_group, can_ask, request_row
 use Rattle.mux_model.specs.Settings.{Settings}
 use Rattle.mux_model.specs.Spawns.{groups_of, home_of, group_of}
 use Rattle.mux_model.specs.Stages.{Life, life_of, is_ready, is_first_result}
+use Rattle.mux_model.proofs.Openings.{any_opening_law}
 use Rattle.session_laws.specs.ServerRules.{is_response}
 use Rattle.session_laws.proofs.Bricks.{Brick, takes, begins, greets, spawns, forwards, refuses, welcomes, passes, laid, is_early, is_spawning, is_initializing, moves_on, IsForward, IsRefusal}
 use Rattle.session_laws.proofs.Folds.{desk_more, life_more, opens_more, asking_more}
-use Rattle.session_laws.proofs.Initializes.{initialize_says}
 use Rattle.session_laws.proofs.Keeps.{At, at_nothing, at_send, at_choose, at_look, at_on, behind_both, behind_nothing, EntryKeeps}
 use Rattle.session_laws.proofs.Late.{hears_late}
 use Rattle.session_laws.proofs.Words.{same_number, other_number, open_last}
@@ -225,7 +225,7 @@ module _ (settings : Settings) {I : List Event → Type 0} (lay : (events : List
 
   start_keeps : (before : List Event) (s : ℕ) (stage : Stage) → fits_behind before (Started s) ≡ true → built_behind before (Started s) ≡ true → (life_of s before).stage ≡ stage
       → I before → I (behind (with_cause before (Started s)) (outs (started s before stage) (with_cause before (Started s))))
-  start_keeps before s Spawning fits built at h = let says = initialize_says (founder_body s before) in lay before (begins s (initialize_for (founder_body s before)) says.0 fits at says.1) h
+  start_keeps before s Spawning fits built at h = let says = any_opening_law (founder_body s before) in lay before (begins s (initialize_for (founder_body s before)) says.0 fits at says.1) h
   start_keeps before s Unspawned fits built at h = behind_cause before (Started s) nothing fits built (ap is_spawning at) at_nothing h
   start_keeps before s Initializing fits built at h = behind_cause before (Started s) nothing fits built (ap is_spawning at) at_nothing h
   start_keeps before s Ready fits built at h = behind_cause before (Started s) nothing fits built (ap is_spawning at) at_nothing h
