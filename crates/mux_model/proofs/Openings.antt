@@ -16,7 +16,7 @@ use Rattle.json_text.proofs.Moves.{Placed, moved}
 use Rattle.json_text.proofs.Put.{depth_bare}
 use Rattle.json_token.proofs.Scalars.{scalar_string, utf8_characters}
 use Rattle.json_span.proofs.Quoted.{quoted_body}
-use Rattle.rpc_message.specs.Message.{Id, integer, request, slice_of, message_in, message_of}
+use Rattle.rpc_message.specs.Message.{Id, integer, request, slice_of, message_of}
 use Rattle.rpc_message.specs.ValueTexts.{IsValueText, IsOptionText, option_depth}
 use Rattle.rpc_message.specs.Texts.{initialize_text, initialize_params}
 use Rattle.rpc_message.proofs.Opening.{initialize_law}
@@ -149,21 +149,21 @@ opening_for root options u o = (
 text_stands : (body : List ℕ) (j : Json) → IsText body j → Somewhere j
 text_stands body j h = record { at = 0 + length h.0; bytes = h.4.0; stands = h.4.3 }
 
--- what a start is sent, by the tree of the body
-opening_of : (body : List ℕ) (j : Json) → tree_of body ≡ Some j → (qs : Option Json) × (message_of (initialize_for body) ≡ request (integer (codes "1")) (codes "initialize") qs)
-opening_of body j e =
+-- the root and the options of a body; bytes that are no text have none
+opening_parts : (body : List ℕ) (o : Option Json) → tree_of body ≡ o
+    → Written (string_or_null (root_uri (named_of (codes "params") o))) × OptionWritten (bytes_if (codes "initializationOptions") (named_of (codes "params") o) body)
+opening_parts body None e = (root_written None tt, record { tree = None; text = tt; shallow = omega arith })
+opening_parts body (Some j) e =
     let k : IsText body j × (depth j ≤ 1024) = tree_sound body j e in
-    let params : params_of body ≡ named_in (codes "params") j = ap (named_of (codes "params")) e in
-    opening_for (string_or_null (root_uri (params_of body))) (options_of body)
-    (root_written (root_uri (params_of body)) (root_scalars (params_of body) (subst MayStand (sym params) (named_stands (codes "params") (Some j) (text_stands body j k.0)))))
-    (subst (λ p. OptionWritten (bytes_if (codes "initializationOptions") p body)) (sym params) (options_written body j k.0 k.1))
+    (root_written (root_uri (named_in (codes "params") j)) (root_scalars (named_in (codes "params") j) (named_stands (codes "params") (Some j) (text_stands body j k.0))), options_written body j k.0 k.1)
 
--- and its founder's body is a request
+-- what a start is sent, whatever the body of its group's founder is
+pub any_opening_law : (body : List ℕ) → (qs : Option Json) × (message_of (initialize_for body) ≡ request (integer (codes "1")) (codes "initialize") qs)
+any_opening_law body =
+    let parts : Written (string_or_null (root_uri (params_of body))) × OptionWritten (options_of body) = opening_parts body (tree_of body) refl in
+    opening_for (string_or_null (root_uri (params_of body))) (options_of body) parts.0 parts.1
+
+-- and where that body is a request
 pub opening_law : (body : List ℕ) (id : Id) (method : List ℕ) (ps : Option Json) → message_of body ≡ request id method ps
     → (qs : Option Json) × (message_of (initialize_for body) ≡ request (integer (codes "1")) (codes "initialize") qs)
-unfolding message_of
-opening_law body id method ps h = go (tree_of body) refl h
-  where
-    go : (o : Option Json) → tree_of body ≡ o → message_in o ≡ request id method ps → (qs : Option Json) × (message_of (initialize_for body) ≡ request (integer (codes "1")) (codes "initialize") qs)
-    go (Some j) e h = opening_of body j e
-    go None e h = absurd (cc)
+opening_law body id method ps h = any_opening_law body

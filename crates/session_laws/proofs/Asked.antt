@@ -1,9 +1,8 @@
 -- Each open request at a start is an open request of its editor, which got its result to `initialize`.
-use Rattle.std.proofs.Common.{◌≡◌, ℕ, ◌+◌, ◌≤◌, Bool, true, false, not, ◌&&◌, ◌||◌, List, [], ◌∷◌, ◌++◌, filter, nat_eq, bytes_eq, codes, decimal, if◌then◌else◌, Option, Some, None, refl, sym, ◌∙◌, ap, ap₂, subst, arith, le_refl}
+use Rattle.std.proofs.Common.{◌≡◌, ℕ, Bool, true, false, not, ◌&&◌, List, [], ◌∷◌, ◌++◌, nat_eq, codes, decimal, if◌then◌else◌, Option, Some, None, refl, sym, ◌∙◌, ap, ap₂, subst, arith}
 use Rattle.std.specs.List.{AllByRecursion}
 use Rattle.json_text.specs.Bare.{nowhere}
 use Rattle.json_text.specs.Json.{Json, object, no_members}
-use Rattle.mux_history.specs.declared.cause.Cause.{Cause}
 use Rattle.mux_history.specs.declared.cause.Cause.TheVariants.{Joined, FromEditor, EditorGone, Started, FromServer}
 use Rattle.mux_history.specs.declared.out.Out.TheVariants.{ToEditor, ToServer, Spawn}
 use Rattle.rpc_message.specs.Message.{Message, request, notification, result, error, not_json, not_message, Id, message_of, id_bytes, result_bytes}
@@ -11,14 +10,13 @@ use Rattle.rpc_message.specs.Texts.{ok_text, error_text, initialized_text, with_
 use Rattle.rpc_message.specs.ValueTexts.{IsIdText}
 use Rattle.rpc_message.proofs.Fixed.{initialized_law}
 use Rattle.rpc_message.proofs.Ids.{request_id_bytes}
-use Rattle.mux_model.specs.declared.phase.Phase.{Phase}
 use Rattle.mux_model.specs.declared.phase.Phase.TheVariants.{Absent, New, Gone}
 use Rattle.mux_model.specs.Event.{Event, took, did, heard, said, same_id}
 use Rattle.mux_model.specs.Phases.{Desk, desk_of, desk_behind, desk_hears, phase_told, editors_of}
 use Rattle.mux_model.specs.Requests.{Asker, Asked, Asking, asking_of, asking_behind, asking_sends, numbered, is_own, answers, answered_id, open_of, open_behind, is_open, asks, without}
 use Rattle.mux_model.specs.Settings.{Settings}
 use Rattle.mux_model.specs.Spawns.{starts_of}
-use Rattle.session_laws.proofs.Bricks.{Brick, takes, begins, greets, spawns, forwards, refuses, welcomes, passes, laid, is_early, Lays}
+use Rattle.session_laws.proofs.Bricks.{takes, begins, greets, spawns, forwards, refuses, welcomes, passes, is_early, Lays}
 use Rattle.session_laws.proofs.Editors.{Editors}
 use Rattle.session_laws.proofs.Folds.{desk_more, opens_more, asking_more}
 use Rattle.session_laws.proofs.Late.{hears_late, told_late}
@@ -92,11 +90,11 @@ told_open n (Some id) asked ids other h = go (nat_eq n asked.asker.editor) refl 
   where
     go : (b : Bool) → nat_eq n asked.asker.editor ≡ b → (c : Bool) → same_id id asked.asker.id ≡ c → is_open asked.asker.id (if b then without (Some id) ids else ids) ≡ true
     go true same true e = absurd (
-      let at : nat_eq asked.asker.editor n ≡ true = ap (λ k. nat_eq k n) (sym (number_same n asked.asker.editor same)) ∙ same_number n in
-      let both : (nat_eq asked.asker.editor n && same_id id asked.asker.id) ≡ true = ap₂ (λ x y. x && y) at e in
-      let not_both : not (nat_eq asked.asker.editor n && same_id id asked.asker.id) ≡ false = ap not both in
-      cc
-    )
+        let at : nat_eq asked.asker.editor n ≡ true = ap (λ k. nat_eq k n) (sym (number_same n asked.asker.editor same)) ∙ same_number n in
+        let both : (nat_eq asked.asker.editor n && same_id id asked.asker.id) ≡ true = ap₂ (λ x y. x && y) at e in
+        let not_both : not (nat_eq asked.asker.editor n && same_id id asked.asker.id) ≡ false = ap not both in
+        cc
+        )
     go true same false e = still_open id asked.asker.id ids h e
     go false far c e = h
 

@@ -1,11 +1,11 @@
 -- What the bodies to editors say.
-use Rattle.std.proofs.Common.{◌≡◌, ℕ, Bool, true, false, List, codes, ◌⊎◌, inl, inr, Option, Some, refl}
+use Rattle.std.proofs.Common.{◌≡◌, ℕ, true, List, Option, Some, refl}
 use Rattle.json_text.specs.Json.{Json}
 use Rattle.rpc_message.specs.Message.{Message, request, notification, result, error, not_json, not_message, Id, message_of, id_bytes, result_bytes}
 use Rattle.rpc_message.specs.Texts.{ok_text, error_text, with_id_text, Code, error_tree}
-use Rattle.rpc_message.specs.ValueTexts.{IsIdText, IsResponseIdText}
+use Rattle.rpc_message.specs.ValueTexts.{IsIdText, IsShallowText}
 use Rattle.rpc_message.proofs.Fixed.{ok_law, error_law, id_as_response}
-use Rattle.rpc_message.proofs.Ids.{request_id_bytes, result_with_id, error_with_id, IsShallowText, result_bytes_law}
+use Rattle.rpc_message.proofs.Ids.{request_id_bytes, result_with_id, error_with_id, result_bytes_law}
 use Rattle.session_laws.specs.ServerRules.{is_response}
 
 -- a result for an editor's `initialize`

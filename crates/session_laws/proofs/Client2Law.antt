@@ -1,11 +1,9 @@
 -- Each response to an editor has the id of an open request of it.
-use Rattle.std.proofs.Common.{◌≡◌, ℕ, Bool, true, false, List, [], ◌∷◌, ◌++◌, nat_eq, codes, decimal, Option, Some, if◌then◌else◌, refl, sym, ◌∙◌, ap, subst}
-use Rattle.json_text.specs.Json.{Json}
-use Rattle.mux_history.specs.declared.cause.Cause.{Cause}
+use Rattle.std.proofs.Common.{◌≡◌, ℕ, Bool, true, false, List, [], ◌∷◌, ◌++◌, codes, decimal, if◌then◌else◌, refl, sym, ◌∙◌, ap, subst}
 use Rattle.mux_history.specs.declared.cause.Cause.TheVariants.{Joined, FromEditor, EditorGone, Started, StartFailed, FromServer, ServerGone, Drained, Tick}
 use Rattle.mux_history.specs.declared.entry.Entry.{Entry}
 use Rattle.mux_history.specs.declared.out.Out.TheVariants.{ToEditor, ToServer, Spawn, CloseEditor, EndServer}
-use Rattle.rpc_message.specs.Message.{Message, result, error, Id, not_message, message_of, id_bytes, result_bytes}
+use Rattle.rpc_message.specs.Message.{Message, Id, not_message, message_of, id_bytes, result_bytes}
 use Rattle.rpc_message.specs.Texts.{ok_text, error_text, initialized_text, with_id_text, error_tree}
 use Rattle.mux_model.specs.Event.{Event, took, did, heard, said, events_of}
 use Rattle.mux_model.specs.Legal.{Legal}
@@ -16,9 +14,9 @@ use Rattle.mux_model.specs.Spawns.{starts_of}
 use Rattle.session_laws.specs.Always.{Always}
 use Rattle.session_laws.specs.ClientRules.{IsAnswer, null_errors_of, malformed_of, ClientRule2, KeepsClient2}
 use Rattle.session_laws.specs.Parts.{editor_part, is_of_editor}
-use Rattle.session_laws.proofs.Asked.{IsKnown, IsAsked}
+use Rattle.session_laws.proofs.Asked.{IsKnown}
 use Rattle.session_laws.proofs.Bodies.{welcome_says, refusal_says, IsResponseTo, is_result, is_error, passed_says}
-use Rattle.session_laws.proofs.Bricks.{Brick, takes, begins, greets, spawns, forwards, refuses, welcomes, passes, laid, Lays, Both, lays_both}
+use Rattle.session_laws.proofs.Bricks.{takes, begins, greets, spawns, forwards, refuses, welcomes, passes, Lays, Both, lays_both}
 use Rattle.session_laws.proofs.Facts.{Facts, facts_law, no_facts}
 use Rattle.session_laws.proofs.Keeps.{every_history}
 use Rattle.session_laws.proofs.Rules.{rule_more, word_of_part}

@@ -1,20 +1,19 @@
 -- An editor hears nothing but responses before its session is open, and one `initialize` of it gets a result.
-use Rattle.std.proofs.Common.{◌≡◌, ℕ, Bool, true, false, not, ◌&&◌, ◌||◌, cond, List, [], ◌∷◌, ◌++◌, nat_eq, bytes_eq, codes, decimal, IsTrue, if◌then◌else◌, Option, Some, refl, sym, ◌∙◌, ap, subst, subst₂, arith}
+use Rattle.std.proofs.Common.{◌≡◌, ℕ, Bool, true, false, not, ◌&&◌, cond, List, [], ◌∷◌, ◌++◌, nat_eq, bytes_eq, codes, decimal, if◌then◌else◌, Option, Some, refl, sym, ◌∙◌, ap, subst, subst₂, arith}
 use Rattle.std.proofs.lemmas.Bool.{and_parts}
 use Rattle.std.proofs.lemmas.Slice.Eq.{bytes_eq-Decides}
 use Rattle.json_text.specs.Json.{Json}
 use Rattle.lsp_method.specs.Class.{class_of, own_request, own_notification, goes_nowhere, editor_request, editor_notification}
 use Rattle.lsp_method.specs.declared.variants.Origin.TheVariants.{Editor}
-use Rattle.mux_history.specs.declared.cause.Cause.{Cause}
 use Rattle.mux_history.specs.declared.cause.Cause.TheVariants.{Joined, FromEditor, EditorGone, Started, FromServer}
 use Rattle.mux_history.specs.declared.entry.Entry.{Entry}
-use Rattle.mux_history.specs.declared.out.Out.TheVariants.{ToEditor, ToServer, Spawn, CloseEditor, EndServer}
+use Rattle.mux_history.specs.declared.out.Out.TheVariants.{ToEditor, ToServer, Spawn}
 use Rattle.rpc_message.specs.Message.{Message, request, notification, result, error, not_json, not_message, Id, message_of, id_bytes, result_bytes}
 use Rattle.rpc_message.specs.Texts.{ok_text, error_text, initialized_text, with_id_text, error_tree}
 use Rattle.mux_model.specs.declared.phase.Phase.{Phase}
 use Rattle.mux_model.specs.declared.phase.Phase.TheVariants.{Absent, New, Waiting, Answered, Running, Down, Closed, Gone}
 use Rattle.mux_model.specs.Built.{is_other, is_plain_body, built_from_editor}
-use Rattle.mux_model.specs.Event.{Event, took, did, heard, said, events_of, same_id, requests}
+use Rattle.mux_model.specs.Event.{Event, took, did, heard, said, events_of, requests}
 use Rattle.mux_model.specs.Legal.{Legal}
 use Rattle.mux_model.specs.Members.{has_token}
 use Rattle.mux_model.specs.Phases.{Desk, desk_of, desk_behind, desk_hears, phase_told, editors_of, is_there, makes_running}
@@ -26,7 +25,7 @@ use Rattle.session_laws.specs.ClientRules.{Opening, opening_hears, opening_told,
 use Rattle.session_laws.specs.Parts.{editor_part, is_of_editor}
 use Rattle.session_laws.proofs.Asked.{IsKnown}
 use Rattle.session_laws.proofs.Bodies.{welcome_says, refusal_says, IsResponseTo, is_result, is_error, passed_says}
-use Rattle.session_laws.proofs.Bricks.{Brick, takes, begins, greets, spawns, forwards, refuses, welcomes, passes, laid, is_early, Lays, Both, lays_both}
+use Rattle.session_laws.proofs.Bricks.{takes, begins, greets, spawns, forwards, refuses, welcomes, passes, is_early, Lays, Both, lays_both}
 use Rattle.session_laws.proofs.Facts.{Facts, facts_law, no_facts}
 use Rattle.session_laws.proofs.Folds.{desk_more}
 use Rattle.session_laws.proofs.Keeps.{every_history}

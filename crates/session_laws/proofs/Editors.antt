@@ -1,18 +1,16 @@
 -- An editor that didn't join is absent.
-use Rattle.std.proofs.Common.{◌≡◌, ℕ, ◌+◌, ◌≤◌, Bool, true, false, List, [], ◌∷◌, ◌++◌, nat_eq, decimal, if◌then◌else◌, refl, sym, ◌∙◌, ap, arith}
-use Rattle.mux_history.specs.declared.cause.Cause.{Cause}
+use Rattle.std.proofs.Common.{◌≡◌, ℕ, ◌+◌, ◌≤◌, Bool, true, false, List, [], ◌∷◌, ◌++◌, nat_eq, decimal, if◌then◌else◌, refl, ◌∙◌, ap, arith}
 use Rattle.mux_history.specs.declared.cause.Cause.TheVariants.{Joined, FromEditor, EditorGone, Started, FromServer}
 use Rattle.mux_history.specs.declared.out.Out.TheVariants.{ToEditor, ToServer, Spawn}
 use Rattle.rpc_message.specs.Message.{not_message, message_of, id_bytes, result_bytes}
 use Rattle.rpc_message.specs.Texts.{ok_text, error_text, initialized_text, with_id_text}
-use Rattle.mux_model.specs.declared.phase.Phase.{Phase}
 use Rattle.mux_model.specs.declared.phase.Phase.TheVariants.{Absent, New, Gone}
 use Rattle.mux_model.specs.Event.{Event, took, did, heard, said}
 use Rattle.mux_model.specs.Phases.{Desk, desk_of, desk_behind, desk_hears, phase_told, editors_of, editors_behind, is_linked}
 use Rattle.mux_model.specs.Requests.{asking_of}
 use Rattle.mux_model.specs.Settings.{Settings}
 use Rattle.mux_model.specs.Spawns.{starts_of}
-use Rattle.session_laws.proofs.Bricks.{Brick, takes, begins, greets, spawns, forwards, refuses, welcomes, passes, laid, Lays, Anything}
+use Rattle.session_laws.proofs.Bricks.{takes, begins, greets, spawns, forwards, refuses, welcomes, passes, Lays, Anything}
 use Rattle.session_laws.proofs.Folds.{desk_more, editors_more}
 use Rattle.session_laws.proofs.Rules.{unless}
 use Rattle.session_laws.proofs.Words.{number_same}

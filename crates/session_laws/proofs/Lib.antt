@@ -9,11 +9,9 @@ pub mod Bricks
 pub mod Editors
 pub mod Facts
 pub mod Folds
-pub mod Initializes
 pub mod Keeps
 pub mod Late
 pub mod Lists
-pub mod Quoted
 pub mod Rules
 pub mod ServerLaw
 pub mod Starts

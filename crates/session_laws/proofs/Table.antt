@@ -1,39 +1,36 @@
 -- The routing table, walked once: every entry is made of bricks.
-use Rattle.std.proofs.Common.{◌≡◌, ℕ, zero, suc, ◌≤◌, Bool, true, false, not, ◌&&◌, cond, List, [], ◌∷◌, ◌++◌, filter, nat_eq, nat_lt, codes, bytes_eq, if◌then◌else◌, Option, Some, None, refl, sym, ◌∙◌, ap, ap₂, subst, arith, append_assoc, append-nil}
+use Rattle.std.proofs.Common.{◌≡◌, ℕ, zero, suc, ◌≤◌, Bool, true, false, ◌&&◌, cond, List, [], ◌∷◌, ◌++◌, filter, nat_eq, nat_lt, codes, if◌then◌else◌, Option, Some, None, refl, sym, ◌∙◌, ap, ap₂, subst, arith, append_assoc, append-nil}
 use Rattle.std.proofs.lemmas.Bool.{and_parts}
 use Rattle.std.proofs.lemmas.List.Elements.{filter-append}
 use Rattle.std.proofs.lemmas.Slice.Eq.{bytes_eq-Decides}
 use Rattle.json_text.specs.Json.{Json}
-use Rattle.lsp_method.specs.Class.{class_of}
-use Rattle.lsp_method.specs.declared.variants.Origin.TheVariants.{Editor}
 use Rattle.mux_history.specs.declared.cause.Cause.{Cause}
 use Rattle.mux_history.specs.declared.cause.Cause.TheVariants.{FromEditor, Started, FromServer}
 use Rattle.mux_history.specs.declared.out.Out.{Out}
-use Rattle.mux_history.specs.declared.out.Out.TheVariants.{ToEditor, ToServer, Spawn}
+use Rattle.mux_history.specs.declared.out.Out.TheVariants.{ToEditor, ToServer}
 use Rattle.rpc_message.specs.Message.{Message, request, notification, result, error, not_json, not_message, Id, integer, text, message_of, id_bytes, result_bytes}
-use Rattle.rpc_message.specs.Texts.{ok_text, initialized_text, Code, request_failed}
+use Rattle.rpc_message.specs.Texts.{ok_text, initialized_text, request_failed}
 use Rattle.mux_model.specs.declared.phase.Phase.{Phase}
 use Rattle.mux_model.specs.declared.phase.Phase.TheVariants.{Absent, New, Waiting, Answered, Running, Down, Closed, Gone}
 use Rattle.mux_model.specs.declared.stage.Stage.{Stage}
 use Rattle.mux_model.specs.declared.stage.Stage.TheVariants.{Unspawned, Spawning, Initializing, Ready, Stopping, Ending, Ended}
-use Rattle.mux_model.specs.Built.{built_behind, is_other, is_plain_body, built_from_editor, built_request}
-use Rattle.mux_model.specs.Event.{Event, took, did, heard, said, behind, with_cause, requests}
+use Rattle.mux_model.specs.Built.{built_behind}
+use Rattle.mux_model.specs.Event.{Event, heard, said, behind, with_cause}
 use Rattle.mux_model.specs.Fits.{fits_behind}
-use Rattle.mux_model.specs.Members.{has_token}
-use Rattle.mux_model.specs.Phases.{Desk, desk_of, desk_behind, desk_hears, phase_told, editors_of, is_there, makes_running}
+use Rattle.mux_model.specs.Phases.{Desk, desk_of, desk_behind, desk_hears, phase_told, editors_of, is_there}
 use Rattle.mux_model.specs.Requests.{Asked, Asking, asking_of, asked_by, asker_of, answered_id, open_of, is_open, asks}
-use Rattle.mux_model.specs.Row.{Row, nothing, send, after, choose, look, outs, each, on, ◌⨾◌}
-use Rattle.mux_model.specs.Rows.{answer_error, found_group, forward, start_for, can_ask, request_row, served_row, from_editor, below, is_waiting, is_group, waiting_for, welcome, first_result, pass_on, response_row, from_server, founder_body, initialize_for, started, row_of, outs_of}
+use Rattle.mux_model.specs.Row.{Row, nothing, choose, outs, each}
+use Rattle.mux_model.specs.Rows.{answer_error, found_group, can_ask, request_row, served_row, from_editor, below, is_waiting, is_group, waiting_for, welcome, first_result, response_row, from_server, founder_body, initialize_for, started}
 use Rattle.mux_model.specs.Settings.{Settings}
 use Rattle.mux_model.specs.Spawns.{groups_of, home_of, group_of}
 use Rattle.mux_model.specs.Stages.{Life, life_of, is_ready, is_first_result}
+use Rattle.mux_model.proofs.Openings.{any_opening_law}
 use Rattle.session_laws.specs.ServerRules.{is_response}
-use Rattle.session_laws.proofs.Bricks.{Brick, takes, begins, greets, spawns, forwards, refuses, welcomes, passes, laid, is_early, is_spawning, is_initializing, moves_on, IsForward, IsRefusal, IsWelcome, IsPassedOn}
+use Rattle.session_laws.proofs.Bricks.{Brick, takes, begins, greets, spawns, forwards, refuses, welcomes, passes, laid, is_early, is_spawning, is_initializing, moves_on, IsForward, IsRefusal}
 use Rattle.session_laws.proofs.Folds.{desk_more, life_more, opens_more, asking_more}
-use Rattle.session_laws.proofs.Initializes.{initialize_says}
-use Rattle.session_laws.proofs.Keeps.{At, at_nothing, at_send, at_then, at_choose, at_look, at_on, behind_both, behind_nothing, EntryKeeps}
+use Rattle.session_laws.proofs.Keeps.{At, at_nothing, at_send, at_choose, at_look, at_on, behind_both, behind_nothing, EntryKeeps}
 use Rattle.session_laws.proofs.Late.{hears_late}
-use Rattle.session_laws.proofs.Words.{same_number, number_same, other_number, open_last}
+use Rattle.session_laws.proofs.Words.{same_number, other_number, open_last}
 
 -- Behind a request of e
 
@@ -187,7 +184,7 @@ module _ (settings : Settings) {I : List Event → Type 0} (lay : (events : List
     unfolding welcome_out
     one_more xs n waits w = record {
       kept = subst I (sym (outs_one_more xs n)) (lay (behind events (outs (each (welcome body) xs) events)) (welcomes n body id r (record { waits = ap (λ (d : Desk). d.phase) (w.still n (omega arith)) ∙ waits; says = says })) w.kept);
-      still = λ e more. ap (desk_of e) (outs_one_more xs n) ∙ desk_more e (behind events (outs (each (welcome body) xs) events)) (said (welcome_out n xs)) 
+      still = λ e more. ap (desk_of e) (outs_one_more xs n) ∙ desk_more e (behind events (outs (each (welcome body) xs) events)) (said (welcome_out n xs))
           ∙ desk_untold e n (ok_text (id_bytes (desk_of n (behind events (outs (each (welcome body) xs) events))).initialize) (result_bytes body)) (desk_of e (behind events (outs (each (welcome body) xs) events))) (other_number n e more)
           ∙ w.still e (omega arith);
     }
@@ -228,7 +225,7 @@ module _ (settings : Settings) {I : List Event → Type 0} (lay : (events : List
 
   start_keeps : (before : List Event) (s : ℕ) (stage : Stage) → fits_behind before (Started s) ≡ true → built_behind before (Started s) ≡ true → (life_of s before).stage ≡ stage
       → I before → I (behind (with_cause before (Started s)) (outs (started s before stage) (with_cause before (Started s))))
-  start_keeps before s Spawning fits built at h = let says = initialize_says (founder_body s before) in lay before (begins s (initialize_for (founder_body s before)) says.0 fits at says.1) h
+  start_keeps before s Spawning fits built at h = let says = any_opening_law (founder_body s before) in lay before (begins s (initialize_for (founder_body s before)) says.0 fits at says.1) h
   start_keeps before s Unspawned fits built at h = behind_cause before (Started s) nothing fits built (ap is_spawning at) at_nothing h
   start_keeps before s Initializing fits built at h = behind_cause before (Started s) nothing fits built (ap is_spawning at) at_nothing h
   start_keeps before s Ready fits built at h = behind_cause before (Started s) nothing fits built (ap is_spawning at) at_nothing h

@@ -1,8 +1,7 @@
 -- The initialize of an editor that waits is an open request of it.
-use Rattle.std.proofs.Common.{◌≡◌, ℕ, Bool, true, false, List, [], ◌∷◌, ◌++◌, nat_eq, bytes_eq, codes, decimal, if◌then◌else◌, Option, Some, None, refl, sym, ◌∙◌, ap, subst, subst₂}
+use Rattle.std.proofs.Common.{◌≡◌, ℕ, Bool, true, false, List, [], ◌∷◌, ◌++◌, nat_eq, codes, decimal, if◌then◌else◌, Option, refl, sym, ◌∙◌, ap, subst, subst₂}
 use Rattle.std.proofs.lemmas.Slice.Eq.{bytes_eq-Decides}
 use Rattle.json_text.specs.Json.{Json}
-use Rattle.mux_history.specs.declared.cause.Cause.{Cause}
 use Rattle.mux_history.specs.declared.cause.Cause.TheVariants.{Joined, FromEditor, EditorGone, Started, FromServer}
 use Rattle.mux_history.specs.declared.out.Out.TheVariants.{ToEditor, ToServer, Spawn}
 use Rattle.rpc_message.specs.Message.{Message, request, notification, result, error, not_json, not_message, Id, message_of, id_bytes, result_bytes}
@@ -16,7 +15,7 @@ use Rattle.mux_model.specs.Settings.{Settings}
 use Rattle.mux_model.specs.Spawns.{starts_of}
 use Rattle.session_laws.proofs.Asked.{IsKnown, IsAsked, AllAsked, hears_open}
 use Rattle.session_laws.proofs.Bodies.{welcome_says}
-use Rattle.session_laws.proofs.Bricks.{Brick, takes, begins, greets, spawns, forwards, refuses, welcomes, passes, laid, is_early, Lays, Both, IsPassedOn}
+use Rattle.session_laws.proofs.Bricks.{takes, begins, greets, spawns, forwards, refuses, welcomes, passes, is_early, Lays, Both, IsPassedOn}
 use Rattle.session_laws.proofs.Editors.{Editors}
 use Rattle.session_laws.proofs.Folds.{desk_more, opens_more}
 use Rattle.session_laws.proofs.Lists.{found_is}
