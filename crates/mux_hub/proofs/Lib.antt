@@ -1,11 +1,11 @@
 pub mod Answering
 pub mod Classes
 pub mod Entries
+pub mod Heard
 pub mod Ids
 pub mod Meant
 pub mod Numbers
 pub mod Opening
-pub mod OpeningLaw
 pub mod Places
 pub mod Serving
 pub mod TurnLaw

@@ -1,5 +1,5 @@
 -- What the hub does over its tables, for a cause that meets rows that are built: the outs, and the tables behind them.
-use Rattle.std.specs.Prelude.{◌≡◌, ℕ, suc, ◌+◌, ◌-◌, ◌^◌, min, Bool, true, false, ◌&&◌, List, [], ◌∷◌, ◌++◌, length, codes, decimal, bytes_eq, nat_lt, slice_get, if◌then◌else◌}
+use Rattle.std.specs.Prelude.{◌≡◌, ℕ, suc, ◌+◌, ◌-◌, ◌^◌, min, Bool, true, false, ◌&&◌, List, [], ◌∷◌, ◌++◌, length, codes, decimal, bytes_eq, nat_lt, nat_eq, ◌||◌, slice_get, if◌then◌else◌}
 use Rattle.std.specs.Prelude.{Option, Some, None, option_map}
 use Rattle.std.specs.List.{remove}
 use Rattle.mux_history.specs.declared.cause.Cause.{Cause}
@@ -78,6 +78,15 @@ abbrev pub place_written : List ℕ → List Pending → Option ℕ
 place_written id [] = None
 place_written id (p ∷ ps) = or_next (bytes_eq id (decimal p.number)) (place_written id ps)
 
+-- a string and null are no number
+abbrev pub is_no_number : List ℕ → Bool
+is_no_number [] = false
+is_no_number (b ∷ bs) = nat_eq b 34 || nat_eq b 110
+
+abbrev pub place_if : Bool → List ℕ → List Pending → Option ℕ
+place_if true id ps = None
+place_if false id ps = place_written id ps
+
 abbrev pub pass_on : Kept → List ℕ → ℕ → Option Pending → Turn
 pass_on t body k (Some p) = record { outs = ToEditor 0 (with_id_text body p.id) ∷ []; now = record t { sent = sent_more t.sent (with_id_text body p.id); pending = remove t.pending k } }
 pass_on t body k None = quiet t
@@ -97,10 +106,20 @@ abbrev pub ready_if : Bool → Kept → List ℕ → Turn
 ready_if true t body = record { outs = ToServer 0 initialized_text ∷ ToEditor 0 (welcome_text t body) ∷ []; now = record t { phase = Answered; sent = sent_more t.sent (welcome_text t body); stage = Ready } }
 ready_if false t body = record { outs = ToServer 0 initialized_text ∷ []; now = record t { stage = Ready } }
 
+-- a result, or an error, from the start
+abbrev pub resulted : Kept → List ℕ → Option Id → Stage → Turn
+resulted t body id Initializing = ready_if (is_waiting t.phase) t body
+resulted t body id Ready = answered t body (place_of id t.pending)
+resulted t body id other = quiet t
+
+abbrev pub failed : Kept → List ℕ → Option Id → Stage → Turn
+failed t body id Ready = answered t body (place_of id t.pending)
+failed t body id other = quiet t
+
 abbrev pub from_server : Kept → List ℕ → Message → Stage → Turn
-from_server t body m Initializing = ready_if (is_waiting t.phase) t body
-from_server t body m Ready = answered t body (place_of (answered_id m) t.pending)
-from_server t body m other = quiet t
+from_server t body (result id r) stage = resulted t body id stage
+from_server t body (error id e) stage = failed t body id stage
+from_server t body other stage = quiet t
 
 abbrev pub started : Kept → Stage → Turn
 started t Spawning = record { outs = ToServer 0 t.opening ∷ []; now = record t { stage = Initializing; started = true; next = 2 } }

@@ -56,3 +56,6 @@ integer_found doc d o place n x w b e same is told text h f = go o (subst (λ z.
     go : (o : Option Json) → Found doc o (Some n) → b ≡ is_integer_value o
     go (Some t) a = integer_number t x (span_of t).from w b e (told t a) (text t (subst (λ z. At z n t) (sym is) a)) h
     go None a = absurd a
+
+pub value_found : (doc d : Doc) (place : Option ℕ) (n : ℕ) (t : Json) (w : List ℕ) → Some n ≡ place → d ≡ doc → ((t : Json) → At d n t → value t (span_of t).from w) → Found doc (Some t) place → value t (span_of t).from w
+value_found doc d place n t w same is text f = text t (subst (λ z. At z n t) (sym is) (subst (λ z. Found doc (Some t) z) (sym same) f))

@@ -2,9 +2,13 @@
 #![tactic(auto)]
 
 mod envelope;
+mod id;
 mod look;
 mod method;
+mod outcome;
 mod params;
 
+pub use id::{is_number, same_id};
 pub use method::{class_in, is_initialize, is_initialized};
+pub use outcome::{is_first_result, is_plain_result};
 pub use params::{has_bare_capabilities, has_token};

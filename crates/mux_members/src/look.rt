@@ -2,7 +2,7 @@
 ghost use Rattle.std.specs.Prelude.{◌≡◌, ◌<◌, ℕ, List, ◌∷◌, length, bytes_eq, true, MatchOption, Option, Some};
 ghost use Rattle.std.specs.Option.{option_map};
 ghost use Rattle.json_text.specs.declared.span.Span.{Span};
-ghost use Rattle.json_text.specs.Json.{Json, string};
+ghost use Rattle.json_text.specs.Json.{Json, span_of, string, value};
 ghost use Rattle.json_nodes.specs.At.{At, Found};
 ghost use Rattle.json_nodes.specs.Nodes.{kind_of};
 ghost use Rattle.rpc_message.specs.Message.{is_integer, is_integer_value, is_string_value};
@@ -48,6 +48,16 @@ pub fn spells(tape: &Tape, node: Option<u32>, name: &str) -> bool
     match within(tape, node) {
         Some(node) => spells_text(string_in(tape.bytes(), tape.nodes(), node), name),
         None => false,
+    }
+}
+
+// The bytes of a value, with its quotation marks or brackets.
+pub fn bytes<'a>(tape: &'a Tape, node: Option<u32>) -> &'a [u8]
+    ensures { (t : Json) → Found tape.now (Some t) node → value t (span_of t).from result.now }
+{
+    match within(tape, node) {
+        Some(node) => bytes_in(tape.bytes(), tape.nodes(), node),
+        None => &[],
     }
 }
 
