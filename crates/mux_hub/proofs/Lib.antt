@@ -2,6 +2,7 @@ pub mod Answering
 pub mod Classes
 pub mod Entries
 pub mod Heard
+pub mod HubLaw
 pub mod Ids
 pub mod Meant
 pub mod Numbers
