@@ -1,12 +1,12 @@
 -- How many nodes a text has, and that each value's number is below that.
-use Rattle.std.proofs.Common.{◌≡◌, ℕ, zero, suc, ◌+◌, ◌<◌, ◌≤◌, List, [], ◌∷◌, ◌++◌, length, ◌⊎◌, inl, inr, refl, sym, ◌∙◌, ap, subst, arith, length-append}
-use Rattle.std.specs.Prelude.{Option, Some, None}
-use Rattle.std.specs.List.{slice_get}
+use Rattle.std.proofs.Common.{◌≡◌, Some, zero, suc, ℕ, ◌+◌, ◌<◌, ◌≤◌, List, ◌++◌, length, inl, inr, ap, arith, length-append}
 use Rattle.std.proofs.lemmas.Option.{slice_get_within}
+use Rattle.std.specs.List.{slice_get}
 use Rattle.json_text.specs.declared.span.Span.{Span}
 use Rattle.json_text.specs.declared.kind.Word.{Word}
 use Rattle.json_text.specs.declared.kind.Word.TheVariants.{Null, False, True}
-use Rattle.json_text.specs.Json.{Json, word, number, string, array, object, Items, no_items, item, Members, no_members, member, Rule, ◌then◌, byte, spans, spells, space, quoted, pair, value, items, more_items, members, more_members, letters, IsText}
+use Rattle.json_text.specs.Json.{Json, word, number, string, array, object, Items, no_items, item, Members, no_members, member, Rule, ◌then◌, byte, spans, spells, space, quoted, pair, value, items, more_items, members, more_members, letters, IsText, depth, items_depth, members_depth}
+use Rattle.json_text.specs.Named.{children, items_list, values_list}
 use Rattle.json_text.specs.Number.{IsNumber, IsWhole}
 use Rattle.json_nodes.specs.At.{At}
 use Rattle.json_nodes.specs.Doc.{Doc, Holds}
@@ -14,7 +14,7 @@ use Rattle.json_nodes.specs.Nodes.{size, items_size, members_size, unnamed}
 use Rattle.json_nodes.proofs.Looks.{Here, here_at, head_at}
 use Rattle.json_nodes.specs.Nodes.{head_node}
 use Rattle.json_nodes.proofs.Numbers.{root_at}
-use Rattle.json_nodes.proofs.Tree.{nodes_length}
+use Rattle.json_nodes.proofs.Tree.{everywhere, nodes_length}
 
 -- a value's number is a node's
 pub at_inside : {doc : Doc} {k : ℕ} {t : Json} → At doc k t → k < length doc.nodes
@@ -107,3 +107,25 @@ size_fits bytes j h = weaker (size j) (0 + (size j + 0)) (space then value j the
 -- there are no more nodes than bytes
 pub nodes_fit : (doc : Doc) (j : Json) → Holds doc j → length doc.nodes ≤ length doc.bytes
 nodes_fit doc j h = omega (arith, ap length h.nodes, nodes_length j 0 0 unnamed, size_fits doc.bytes j h.text)
+
+-- a child nests less deep than its parent
+
+items_shallow : (js : Items) (n : ℕ) (c : Json) → slice_get (items_list js) n ≡ Some c → depth c ≤ items_depth js
+items_shallow no_items n c h = cc
+items_shallow (item j js) zero c h = let same : j ≡ c = cc in let e : depth j ≡ depth c = ap depth same in omega arith
+items_shallow (item j js) (suc n) c h = omega (arith, items_shallow js n c h)
+
+members_shallow : (ms : Members) (n : ℕ) (c : Json) → slice_get (values_list ms) n ≡ Some c → depth c ≤ members_depth ms
+members_shallow no_members n c h = cc
+members_shallow (member s cs j ms) zero c h = let same : j ≡ c = cc in let e : depth j ≡ depth c = ap depth same in omega arith
+members_shallow (member s cs j ms) (suc n) c h = omega (arith, members_shallow ms n c h)
+
+pub child_shallow : (t : Json) (n : ℕ) (c : Json) → slice_get (children t) n ≡ Some c → depth c < depth t
+child_shallow (word s w) n c h = cc
+child_shallow (number s ds) n c h = cc
+child_shallow (string s cs) n c h = cc
+child_shallow (array s js) n c h = omega (arith, items_shallow js n c h)
+child_shallow (object s ms) n c h = omega (arith, members_shallow ms n c h)
+
+pub at_shallow : {doc : Doc} {k : ℕ} {t : Json} → At doc k t → depth t ≤ 1024
+at_shallow {doc} {k} {t} a = everywhere (λ m u. depth u ≤ 1024) (λ m n u c d e. (let lt : depth c < depth u = child_shallow u n c e in omega arith)) (size a.tree) 0 k a.tree t (omega arith) a.holds.shallow a.there

@@ -4,7 +4,9 @@ pub mod Members
 pub mod Numbers
 pub mod Parts
 pub mod Places
+pub mod SameLaw
 pub mod Sames
 pub mod Spelled
 pub mod Spelling
 pub mod Tree
+mod Worked

@@ -1,10 +1,10 @@
 -- The numbers of the values in a value.
 use Rattle.std.proofs.Common.{◌≡◌, ℕ, zero, suc, ◌+◌, List, [], ◌∷◌, ◌++◌, length, refl, sym, ◌∙◌, ap, subst, arith, append_assoc, length-append, zero-add, append-nil}
-use Rattle.std.specs.Prelude.{Some}
 use Rattle.std.specs.List.{slice_get, flat_map}
+use Rattle.std.specs.Prelude.{Option, Some, None}
 use Rattle.json_text.specs.Json.{Json}
 use Rattle.json_text.specs.Named.{children}
-use Rattle.json_nodes.specs.At.{At, ChildAt, preorder, tree_at, sizes}
+use Rattle.json_nodes.specs.At.{At, ChildAt, Found, FoundChild, found_child, preorder, tree_at, sizes}
 use Rattle.json_nodes.specs.Doc.{Doc, Holds}
 use Rattle.json_nodes.specs.Nodes.{size}
 use Rattle.json_nodes.proofs.Tree.{preorder_shape, preorder_length, everywhere}
@@ -78,3 +78,13 @@ child_at {doc} {k} {n} {m} {t} {u} c = record {
 -- value 0 is the whole
 pub root_at : (doc : Doc) (j : Json) → Holds doc j → At doc 0 j
 root_at doc j h = record { tree = j; holds = h; there = ap (λ xs. slice_get xs 0) (preorder_shape j) }
+
+-- an answer that gives a child gives the value
+pub child_found : (doc : Doc) (k n : ℕ) (t : Json) (answer : Option ℕ) → FoundChild doc k t n answer → Found doc (slice_get (children t) n) answer
+child_found doc k n t answer h = by (slice_get (children t) n) answer h
+  where
+    by : (o : Option Json) (answer : Option ℕ) → found_child doc k t n o answer → Found doc o answer
+    by (Some u) (Some m) h = child_at h
+    by None None h = tt
+    by (Some u) None h = absurd h
+    by None (Some m) h = absurd h

@@ -46,7 +46,7 @@ pub record Left (cs : List ℕ) (doc : Doc) (k n : ℕ) (s : Span) (ms : Members
   pub found_is : Found doc best found
   pub all : named cs (drop_members n ms) ≡ or_else (named cs (drop_members count ms)) best
 
-named_member : (cs ds : List ℕ) (s : Span) (u : Json) (ms : Members) → named cs (member s ds u ms) ≡ or_else (named cs ms) (if_named (bytes_eq cs ds) u)
+pub named_member : (cs ds : List ℕ) (s : Span) (u : Json) (ms : Members) → named cs (member s ds u ms) ≡ or_else (named cs ms) (if_named (bytes_eq cs ds) u)
 unfolding named
 named_member cs ds s u ms = refl
 
@@ -63,7 +63,7 @@ left_step cs doc k n m s ms next found b w test follows =
       all = w.all ∙ ap (λ xs. or_else (named cs xs) w.best) e.whole ∙ ap (λ o. or_else o w.best) (named_member cs e.name e.place c.0 (drop_members (suc w.count) ms)) ∙ or_else_assoc (named cs (drop_members (suc w.count) ms)) (if_named (bytes_eq cs e.name) c.0) w.best ∙ ap (λ x. or_else (named cs (drop_members (suc w.count) ms)) (or_else (if_named x c.0) w.best)) (sym tested);
     }
 
-named_none : (cs : List ℕ) → named cs no_members ≡ None
+pub named_none : (cs : List ℕ) → named cs no_members ≡ None
 unfolding named
 named_none cs = refl
 

@@ -1,12 +1,13 @@
 ghost use Rattle.json_nodes.specs.At.{At, ChildAt, Found, FoundChild};
 ghost use Rattle.json_nodes.specs.Same.{drop_members, has_name, if_some, names_within, same, same_items, same_kind, same_members};
+ghost use Rattle.json_nodes.specs.SameTree.{Same};
 ghost use Rattle.json_nodes.specs.Values.{doc_of};
 ghost use Rattle.json_nodes.specs.Texts.{names};
 ghost use Rattle.json_text.specs.declared.span.Span.{Span};
 ghost use Rattle.json_text.specs.Json.{Items, Json, Members, array, object};
 ghost use Rattle.json_text.specs.Named.{named};
 ghost use Rattle.json_text.specs.String.{SpellsCharacters};
-ghost use Rattle.std.specs.Prelude.{◌≡◌, ◌+◌, ◌<◌, ◌||◌, ℕ, List, length, bytes_eq, MatchOption, Some};
+ghost use Rattle.std.specs.Prelude.{◌≡◌, ◌+◌, ◌<◌, ◌↔◌, ◌||◌, ℕ, List, length, IsTrue, MatchOption, Some};
 ghost use Rattle.std.specs.List.{slice_get};
 
 use crate::look::{bytes_in, first_in, kind_in, name_in, next_in, string_in};
@@ -33,7 +34,8 @@ pub fn same_in(
 ) -> bool
     requires node { node < length nodes.now }
     requires other { other < length other_nodes.now }
-    ensures { (t u : Json) → At (record { bytes = bytes.now; nodes = nodes.now }) node t → At (record { bytes = other_bytes.now; nodes = other_nodes.now }) other u → result ≡ same t u }
+    ensures test { (t u : Json) → At (record { bytes = bytes.now; nodes = nodes.now }) node t → At (record { bytes = other_bytes.now; nodes = other_nodes.now }) other u → result ≡ same t u }
+    ensures relation { (t u : Json) → At (record { bytes = bytes.now; nodes = nodes.now }) node t → At (record { bytes = other_bytes.now; nodes = other_nodes.now }) other u → (IsTrue result ↔ Same t u) }
 {
     let left = Values { bytes, nodes };
     let right = Values {
@@ -156,8 +158,8 @@ fn same_kind(kind: Kind, other: Kind) -> bool
     )
 }
 
-// The last member, from this one on, whose name is spelled so.
-fn last_spelled(raw: &[u8], bytes: &[u8], nodes: &[Node], from: Option<u32>) -> Option<u32>
+/// The last member, from this one on, whose name is spelled so.
+pub fn last_spelled(raw: &[u8], bytes: &[u8], nodes: &[Node], from: Option<u32>) -> Option<u32>
     requires { MatchOption from (Unit {0}) (λ m. m < length nodes.now) }
     ensures named { (k n : ℕ) (s : Span) (ms : Members) (cs : List ℕ) → SpellsCharacters cs raw.now → FoundChild (record { bytes = bytes.now; nodes = nodes.now }) k (object s ms) n from → Found (record { bytes = bytes.now; nodes = nodes.now }) (named cs (drop_members n ms)) result }
     ensures inside { MatchOption result (Unit {0}) (λ member. member < length nodes.now) }

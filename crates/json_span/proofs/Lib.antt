@@ -9,6 +9,7 @@ pub mod FoundTokens
 pub mod Limits
 pub mod NodeLists
 pub mod Passes
+pub mod Quoted
 pub mod Rules
 pub mod Runs
 pub mod Shape
@@ -17,3 +18,4 @@ pub mod Sound
 pub mod Stuck
 pub mod Tapes
 pub mod Tokens
+pub mod Walks

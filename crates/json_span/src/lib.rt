@@ -6,11 +6,13 @@ mod fault;
 mod nodes;
 mod reader;
 mod state;
+mod string;
 mod tape;
 #[cfg(test)]
 mod tests;
 mod word;
 
 pub use fault::JsonFault;
-pub use json_text::{Body, Kind, Memory, Span};
-pub use tape::Tape;
+pub use json_text::{Body, Change, Kind, Memory, Span, splice};
+pub use string::quote;
+pub use tape::{Tape, same};

@@ -1,14 +1,22 @@
 //! A JSON text with its values.
-ghost use Rattle.std.specs.Prelude.{◌≡◌, ℕ, ◌^◌, ◌≤◌, length, IfOk, MatchResult, Err};
-ghost use Rattle.json_text.specs.Json.{Json, IsText, depth};
+ghost use Rattle.std.specs.Prelude.{◌≡◌, ◌+◌, ◌<◌, ℕ, ◌≤◌, List, length, encode_utf8_all, IfOk, MatchOption, MatchResult, Err};
+ghost use Rattle.std.specs.Str.{chars};
+ghost use Rattle.json_text.specs.declared.span.Span.{Span};
+ghost use Rattle.json_text.specs.Json.{Json, string, IsText, depth, span_of};
 ghost use Rattle.json_text.specs.Faults.{IsSyntaxFault, IsDepthFault};
+ghost use Rattle.json_text.specs.Named.{named_in};
+ghost use Rattle.json_nodes.specs.At.{At, ChildAt, Found, FoundChild};
 ghost use Rattle.json_nodes.specs.Doc.{Holds};
+ghost use Rattle.json_nodes.specs.Nodes.{kind_of};
+ghost use Rattle.json_nodes.specs.Same.{same};
+ghost use Rattle.json_nodes.specs.Texts.{IsSpelledAt};
 ghost use Rattle.json_span.specs.Machine.{start, read};
 ghost use Rattle.json_span.specs.Views.{Reads};
 
 use crate::fault::JsonFault;
 use crate::state::Reader;
-use json_nodes::Node;
+use json_nodes::{Node, first_in, kind_in, member_in, next_in, same_in, span_in, text_in};
+use json_text::{Body, Kind, Memory, Span};
 use std::alloc::Global;
 use std::marker::Model;
 
@@ -20,11 +28,14 @@ pub struct Tape<'a> {
 }
 
 impl<'a> Model for Tape<'a> {
-    ghost use Rattle.json_nodes.specs.Doc.{Doc};
+    ghost use Rattle.json_text.specs.Json.{Json};
+    ghost use Rattle.json_nodes.specs.Doc.{Doc, Holds};
 
     ghost Value = { Doc };
 
     ghost view = { λ t. record { bytes = t.bytes.now; nodes = t.nodes.items } };
+
+    ghost invariant = { λ t. (j : Json) × Holds (record { bytes = t.bytes.now; nodes = t.nodes.items }) j };
 }
 
 #[tactic(auto, unfolding(crate::specs::Machine::read))]
@@ -59,10 +70,91 @@ impl<'a> Tape<'a> {
         self.bytes
     }
 
-    /// Its values in preorder.
+    /// Its values in preorder, each as a node.
     pub fn nodes(&self) -> &[Node]
         ensures { result.now ≡ self.now.nodes }
     {
         self.nodes.as_slice()
     }
+
+    /// The text's value.
+    pub fn root(&self) -> u32
+        ensures first { result ≡ 0 }
+        ensures inside { result < length self.now.nodes }
+        ensures text { (j : Json) × Holds self.now j }
+        ensures value { (j : Json) → Holds self.now j → At self.now result j }
+    {
+        let _ = &self.nodes;
+        0
+    }
+
+    /// What a value is.
+    pub fn kind(&self, node: u32) -> Kind
+        requires { node < length self.now.nodes }
+        ensures { (t : Json) → At self.now node t → result ≡ kind_of t }
+    {
+        kind_in(self.nodes.as_slice(), node)
+    }
+
+    /// Where a value stands, with its quotation marks or brackets.
+    pub fn span(&self, node: u32) -> Span
+        requires { node < length self.now.nodes }
+        ensures span { (t : Json) → At self.now node t → result ≡ span_of t }
+        ensures text { (t : Json) → At self.now node t → IsSpelledAt self.now.bytes t }
+        ensures inside { (result.from ≤ result.to) × (result.to ≤ length self.now.bytes) }
+    {
+        span_in(self.nodes.as_slice(), node)
+    }
+
+    /// The value of the last member of this name; none where the value is no object.
+    pub fn member(&self, node: u32, name: &str) -> Option<u32>
+        requires { node < length self.now.nodes }
+        ensures member { (t : Json) → At self.now node t → Found self.now (named_in (chars name.now) t) result }
+        ensures inside { MatchOption result (Unit {0}) (λ member. member < length self.now.nodes) }
+    {
+        member_in(self.bytes, self.nodes.as_slice(), node, name)
+    }
+
+    /// The first item of an array, or the value of the first member of an object.
+    pub fn first(&self, node: u32) -> Option<u32>
+        requires { node < length self.now.nodes }
+        ensures first { (t : Json) → At self.now node t → FoundChild self.now node t 0 result }
+        ensures inside { MatchOption result (Unit {0}) (λ first. (node < first) × (first < length self.now.nodes)) }
+    {
+        first_in(self.nodes.as_slice(), node)
+    }
+
+    /// The item that follows this one in its array, or the value of the member that follows this one's in its object.
+    pub fn next(&self, node: u32) -> Option<u32>
+        requires { node < length self.now.nodes }
+        ensures next { (k n : ℕ) (t u : Json) → ChildAt self.now k t n node u → FoundChild self.now k t (n + 1) result }
+        ensures inside { MatchOption result (Unit {0}) (λ next. (node < next) × (next < length self.now.nodes)) }
+    {
+        next_in(self.nodes.as_slice(), node)
+    }
+
+    /// The characters of a string, in UTF-8; a surrogate with no partner stands for U+FFFD.
+    pub fn text(&self, alloc: Global, node: u32) -> Result<Body, Memory>
+        requires { node < length self.now.nodes }
+        ensures { (s : Span) (cs : List ℕ) → At self.now node (string s cs) → IfOk result (λ text. text ≡ encode_utf8_all cs) }
+    {
+        text_in(alloc, self.bytes, self.nodes.as_slice(), node)
+    }
+}
+
+/// Whether two values say the same: numbers by their text, strings by their characters, arrays item by item, and objects by
+/// name, in any order, where the last member of a name counts.
+pub fn same(left: &Tape, node: u32, right: &Tape, other: u32) -> bool
+    requires node { node < length left.now.nodes }
+    requires other { other < length right.now.nodes }
+    ensures { (t u : Json) → At left.now node t → At right.now other u → result ≡ same t u }
+{
+    same_in(
+        left.bytes,
+        left.nodes.as_slice(),
+        node,
+        right.bytes,
+        right.nodes.as_slice(),
+        other,
+    )
 }

@@ -1,4 +1,13 @@
-use crate::{JsonFault, Tape};
+ghost use Rattle.std.specs.Prelude.{◌≡◌, ◌<◌, length, codes, option_map};
+ghost use Rattle.std.specs.Str.{chars};
+ghost use Rattle.json_text.specs.declared.span.Span.{Span};
+ghost use Rattle.json_text.specs.Json.{Json, Items, array};
+ghost use Rattle.json_text.specs.Named.{items_list, named_in};
+ghost use Rattle.json_nodes.specs.At.{At};
+ghost use Rattle.json_nodes.specs.Doc.{Holds};
+ghost use Rattle.json_nodes.specs.Nodes.{kind_of};
+
+use crate::{Change, JsonFault, Kind, Memory, Tape, quote, same, splice};
 use std::alloc::{AllocError, Global};
 
 // The fault in a short text; None if it is taken.
@@ -106,22 +115,137 @@ fn nests_so_deep(rt: HostRuntime) -> Result<(), AllocError> {
     Ok(())
 }
 
-#[test]
-fn numbers_its_values(rt: HostRuntime) {
-    let Ok(tape) = Tape::read(rt.alloc(), b"{\"a\": [1, \"b\"]}") else {
-        assert!(rt; false, "not read");
-        return;
+// What the member `id` of a text's value is.
+fn kind_of_id(tape: &Tape) -> Option<Kind>
+    ensures { (j : Json) → Holds tape.now j → result ≡ option_map kind_of (named_in (codes "id") j) }
+{
+    let id = tape.member(tape.root(), "id")?;
+    Some(tape.kind(id))
+}
+
+// How many items an array has.
+fn count_items(tape: &Tape, node: u32) -> usize
+    requires { node < length tape.now.nodes }
+    ensures { (s : Span) (js : Items) → At tape.now node (array s js) → result ≡ length (items_list js) }
+{
+    let mut count = 0;
+    let mut next = tape.first(node);
+    while let Some(item) = next {
+        count += 1;
+        next = tape.next(item);
+    }
+    count
+}
+
+// The second example of RFC 8259, section 13, in short.
+const PLACES: &[u8] =
+    b"[{\"precision\": \"zip\", \"Latitude\": 37.7668, \"City\": \"SAN FRANCISCO\"},
+ {\"precision\": \"zip\", \"Latitude\": 37.371991, \"City\": \"SUNNYVALE\", \"City\": null}]";
+
+// The bytes of the member of this name, in the item of this number.
+fn bytes_of<'a>(tape: &Tape<'a>, number: u32, name: &str) -> &'a [u8] {
+    let Some(mut item) = tape.first(tape.root()) else {
+        return b"no item"
     };
-    assert_eq!(rt; tape.nodes().len(), 4);
-    for (node, want) in tape.nodes().iter().zip([
-        (0, 15, 4, 0, 0),
-        (6, 14, 4, 1, 4),
-        (7, 8, 3, 0, 0),
-        (10, 13, 4, 0, 0),
-    ]) {
+    for _ in 0..number {
+        let Some(next) = tape.next(item) else {
+            return b"too few"
+        };
+        item = next;
+    }
+    let Some(member) = tape.member(item, name) else {
+        return b"no member"
+    };
+    let span = tape.span(member);
+    &tape.bytes()[span.from..span.to]
+}
+
+#[test]
+fn looks_up(rt: HostRuntime) -> Result<(), Memory> {
+    let Ok(tape) = Tape::read(rt.alloc(), PLACES) else {
+        return Err(Memory)
+    };
+    let root = tape.root();
+    assert!(rt; matches!(tape.kind(root), Kind::Array));
+    assert_eq!(rt; count_items(&tape, root), 2);
+    for (number, name, want) in [
+        (0, "precision", &b"\"zip\""[..]),
+        (0, "Latitude", b"37.7668"),
+        (0, "City", b"\"SAN FRANCISCO\""),
+        (0, "Zip", b"no member"),
+        (1, "Latitude", b"37.371991"),
+        (1, "City", b"null"),
+        (2, "City", b"too few"),
+    ] {
+        assert_eq!(rt; bytes_of(&tape, number, name), want);
+    }
+    let first = tape.first(root).ok_or(Memory)?;
+    let second = tape.next(first).ok_or(Memory)?;
+    let zip = tape.member(first, "precision").ok_or(Memory)?;
+    let other = tape.member(second, "precision").ok_or(Memory)?;
+    assert_eq!(rt; tape.text(rt.alloc(), zip)?.bytes(), b"zip".as_slice());
+    assert!(rt; same(&tape, zip, &tape, other));
+    assert!(rt; !same(&tape, first, &tape, second));
+    Ok(())
+}
+
+#[test]
+fn tells_what_an_id_is(rt: HostRuntime) {
+    let texts: [(&[u8], bool); 4] = [
+        (b"{\"id\": 116}", true),
+        (b"{\"id\": \"116\"}", false),
+        (b"{\"i\\u0064\": 116}", true),
+        (b"[116, 943, 234, 38793]", false),
+    ];
+    for (text, is_number) in texts {
+        let Ok(tape) = Tape::read(rt.alloc(), text) else {
+            assert!(rt; false, "not read");
+            return;
+        };
+        assert_eq!(rt; matches!(kind_of_id(&tape), Some(Kind::Number)), is_number);
+    }
+}
+
+#[test]
+fn quotes(rt: HostRuntime) -> Result<(), Memory> {
+    for (text, want) in [
+        ("", "\"\""),
+        ("a/b", "\"a/b\""),
+        ("say \"\\\"", "\"say \\\"\\\\\\\"\""),
+        ("\u{8}\t\n\u{c}\r", "\"\\b\\t\\n\\f\\r\""),
+        ("\0\u{1f}\u{7f}", "\"\\u0000\\u001f\u{7f}\""),
+        ("é€", "\"é€\""),
+        ("\u{1d11e}", "\"\u{1d11e}\""),
+    ] {
+        let body = quote(rt.alloc(), text.as_bytes())?;
+        assert_eq!(rt; body.bytes(), want.as_bytes());
+        let Ok(tape) = Tape::read(rt.alloc(), body.bytes()) else {
+            return Err(Memory)
+        };
         assert_eq!(rt;
-            (node.from, node.to, node.after, node.name.from, node.name.to),
-            want
+            tape.text(rt.alloc(), tape.root())?.bytes(),
+            text.as_bytes()
         );
     }
+    Ok(())
+}
+
+#[test]
+fn splices(rt: HostRuntime) -> Result<(), Memory> {
+    let bytes = b"{\"id\":1,\"method\":\"exit\"}";
+    let Ok(tape) = Tape::read(rt.alloc(), bytes) else {
+        return Err(Memory)
+    };
+    let id = tape.member(tape.root(), "id").ok_or(Memory)?;
+    let change = Change {
+        span: tape.span(id),
+        text: quote(rt.alloc(), b"a")?,
+    };
+    let body = splice(rt.alloc(), bytes, &[change])?;
+    assert_eq!(rt;
+        body.bytes(),
+        b"{\"id\":\"a\",\"method\":\"exit\"}".as_slice()
+    );
+    assert_eq!(rt; body.copy(rt.alloc())?.bytes(), body.bytes());
+    Ok(())
 }

@@ -5,6 +5,8 @@ mod body;
 mod change;
 mod kind;
 mod span;
+#[cfg(test)]
+mod tests;
 mod tree;
 
 pub use body::{Body, Memory};

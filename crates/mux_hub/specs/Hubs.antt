@@ -6,12 +6,12 @@ use Rattle.mux_history.specs.declared.entry.Entry.{Entry}
 use Rattle.mux_model.specs.Event.{events_of}
 use Rattle.mux_model.specs.Legal.{Legal}
 use Rattle.mux_model.specs.Settings.{Settings}
-use Rattle.mux_hub.specs.declared.tables.Tables.{Tables}
+use Rattle.mux_hub.specs.Tables.{Kept}
 use Rattle.mux_hub.specs.Stands.{Stands}
 
 pub record HubView (J : Type 0) : Type 0 where
   pub settings : Settings
-  pub tables : Tables
+  pub tables : Kept
   pub spent : Bool
   pub journal : J
 

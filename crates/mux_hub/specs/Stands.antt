@@ -1,30 +1,67 @@
 -- When the hub's tables stand for events.
-use Rattle.std.specs.Prelude.{◌≡◌, ℕ, ◌-◌, ◌^◌, ◌<◌, min, List, map, Some, None, IsSome}
+use Rattle.std.specs.Prelude.{◌≡◌, ℕ, ◌-◌, ◌^◌, ◌<◌, ◌≤◌, min, List, [], ◌∷◌, map, false, codes, Option}
 use Rattle.std.specs.List.{AllByRecursion}
-use Rattle.rpc_message.specs.Message.{id_bytes}
+use Rattle.json_text.specs.Json.{Json}
+use Rattle.rpc_message.specs.Message.{id_bytes, message_of, request, integer}
+use Rattle.rpc_message.specs.ValueTexts.{IsIdText}
+use Rattle.mux_model.specs.declared.phase.Phase.{Phase}
+use Rattle.mux_model.specs.declared.phase.Phase.TheVariants.{Absent, New, Waiting, Answered, Running, Down, Closed, Gone}
+use Rattle.mux_model.specs.declared.stage.Stage.{Stage}
+use Rattle.mux_model.specs.declared.stage.Stage.TheVariants.{Unspawned, Spawning, Initializing, Ready, Stopping, Ending, Ended}
 use Rattle.mux_model.specs.Event.{Event}
 use Rattle.mux_model.specs.Phases.{desk_of, no_desk, editors_of, backlog_of}
-use Rattle.mux_model.specs.Requests.{open_of, asking_of}
+use Rattle.mux_model.specs.Requests.{open_of, asking_of, is_open}
+use Rattle.mux_model.specs.Rows.{initialize_for}
 use Rattle.mux_model.specs.Spawns.{starts_of, groups_of, start_of, home_of, founding_of, group_of}
 use Rattle.mux_model.specs.Stages.{life_of, no_life}
-use Rattle.json_text.specs.Tree.{tree_of}
-use Rattle.mux_hub.specs.declared.tables.Tables.{Tables}
-use Rattle.mux_hub.specs.Tables.{asked_for, joined_in, spawned_in, first_in, open_in, id_in}
+use Rattle.mux_hub.specs.declared.pending.Pending.{Pending}
+use Rattle.mux_hub.specs.Tables.{Kept, asked_for, joined_in, spawned_in, first_in, open_in, id_meant}
 
-pub record Stands (tables : Tables) (events : List Event) : Type 0 where
-  pub desk : desk_of 0 events ≡ record { phase = tables.phase; initialize = tables.initialize }
+-- the bytes are an id's
+abbrev pub MeansId : List ℕ → Type 0
+MeansId bytes = IsIdText (id_meant bytes) bytes
+
+-- before its initialize was answered, no request of the editor was sent on; before that came, no start was spawned
+abbrev pub PhaseTies : Phase → Stage → List Pending → List ℕ → List ℕ → Type 0
+PhaseTies Absent stage ps id body = (stage ≡ Unspawned) × (ps ≡ [])
+PhaseTies New stage ps id body = (stage ≡ Unspawned) × (ps ≡ [])
+PhaseTies Waiting stage ps id body = (ps ≡ []) × MeansId id × (id ≡ id_bytes body)
+PhaseTies other stage ps id body = Unit {0}
+
+-- the text is the request initialize, with the number 1
+abbrev pub Opens : List ℕ → Type 0
+Opens text = (ps : Option Json) × (message_of text ≡ request (integer (codes "1")) (codes "initialize") ps)
+
+-- before its program ran, nothing was sent to the start; what it will be sent first is ready when it is spawned
+abbrev pub StageTies : Stage → ℕ → List ℕ → List ℕ → Type 0
+StageTies Unspawned next text body = next ≡ 1
+StageTies Spawning next text body = (next ≡ 1) × (text ≡ initialize_for body) × Opens text
+StageTies other next text body = Unit {0}
+
+-- no two kept requests have the same id
+abbrev pub Distinct : List Pending → Type 0
+Distinct [] = Unit {0}
+Distinct (p ∷ ps) = (is_open (id_meant p.id) (map (λ q. id_meant q.id) ps) ≡ false) × Distinct ps
+
+-- `initialize` is the body of the editor's initialize
+pub record Stands (kept : Kept) (events : List Event) : Type 0 where
+  pub initialize : List ℕ
+  pub desk : desk_of 0 events ≡ record { phase = kept.phase; initialize = initialize }
   pub other_desks : (e : ℕ) → 0 < e → desk_of e events ≡ no_desk
-  pub editors : editors_of events ≡ joined_in tables.phase
-  pub sent : tables.sent ≡ min (backlog_of 0 events) (2 ^ 64 - 1)
-  pub life : life_of 0 events ≡ record { stage = tables.stage; started = tables.started }
+  pub editors : editors_of events ≡ joined_in kept.phase
+  pub sent : kept.sent ≡ min (backlog_of 0 events) (2 ^ 64 - 1)
+  pub life : life_of 0 events ≡ record { stage = kept.stage; started = kept.started }
   pub other_lives : (s : ℕ) → 0 < s → life_of s events ≡ no_life
-  pub starts : starts_of events ≡ spawned_in tables.stage
-  pub groups : groups_of events ≡ spawned_in tables.stage
-  pub start : start_of 0 events ≡ first_in tables.stage
-  pub group : group_of 0 events ≡ first_in tables.stage
-  pub home : (home_of 0 events).group ≡ first_in tables.stage
-  pub founder : (founding_of 0 events).founder ≡ first_in tables.stage
-  pub next : (asking_of 0 events).next ≡ tables.next
-  pub pending : (asking_of 0 events).open_requests ≡ asked_for tables.pending.items
-  pub ids : AllByRecursion (λ p. IsSome (id_in (tree_of p.id))) tables.pending.items
-  pub opened : open_of 0 events ≡ open_in tables.phase tables.pending.items (id_bytes tables.initialize)
+  pub starts : starts_of events ≡ spawned_in kept.stage
+  pub groups : groups_of events ≡ spawned_in kept.stage
+  pub start : start_of 0 events ≡ first_in kept.stage
+  pub group : group_of 0 events ≡ first_in kept.stage
+  pub home : (home_of 0 events).group ≡ first_in kept.stage
+  pub founder : (founding_of 0 events).founder ≡ first_in kept.stage
+  pub next : (asking_of 0 events).next ≡ kept.next
+  pub pending : (asking_of 0 events).open_requests ≡ asked_for kept.pending
+  pub ids : AllByRecursion (λ p. MeansId p.id) kept.pending
+  pub distinct : Distinct kept.pending
+  pub phase_ties : PhaseTies kept.phase kept.stage kept.pending kept.id initialize
+  pub stage_ties : StageTies kept.stage kept.next kept.opening initialize
+  pub opened : open_of 0 events ≡ open_in kept.phase kept.pending kept.id

@@ -58,7 +58,8 @@ impl<J: Journal> Hub<J> {
             default,
             tables: Tables {
                 phase: Phase::Absent,
-                initialize: Body::new(Vec::new(alloc)),
+                id: Body::new(Vec::new(alloc)),
+                opening: Body::new(Vec::new(alloc)),
                 sent: 0,
                 stage: Stage::Unspawned,
                 started: false,

@@ -3,7 +3,9 @@
 
 mod fault;
 mod hub;
+mod pending;
 mod tables;
+mod turns;
 
 pub use fault::StepFault;
 pub use hub::Hub;

@@ -9,6 +9,9 @@ ghost use Rattle.mux_hub.specs.Tables.{joined_in};
 use json_text::Body;
 use mux_history::Cause;
 use mux_model::{Phase, Stage};
+use std::marker::Model;
+
+use crate::pending::Pending;
 
 // How many editors joined.
 fn joined_in(phase: Phase) -> u64
@@ -41,20 +44,14 @@ fn runs(stage: Stage, started: bool) -> bool
     started && !matches!(stage, Stage::Ended)
 }
 
-/// A request that was sent to the start for the editor and isn't answered: its number there, and the bytes of the id
-/// that the editor gave it.
-#[derive(Debug, Drop)]
-pub struct Pending {
-    pub number: u32,
-    pub id: Body,
-}
-
 #[derive(Debug, Drop)]
 pub struct Tables {
     /// Where the editor stands.
     pub phase: Phase,
-    /// The body of its initialize; empty before it came.
-    pub initialize: Body,
+    /// The bytes of the id of its initialize; empty before that came.
+    pub id: Body,
+    /// What the start is sent first; empty before it was spawned.
+    pub opening: Body,
     /// The bytes of bodies sent to it, up to 2^64 - 1.
     pub sent: u64,
     /// Where the start stands.
@@ -65,6 +62,14 @@ pub struct Tables {
     pub next: u32,
     /// Numbers rising.
     pub pending: Vec<Pending>,
+}
+
+impl Model for Tables {
+    ghost use Rattle.mux_hub.specs.Tables.{Kept};
+
+    ghost Value = { Kept };
+
+    ghost view = { λ t. record { phase = t.phase; id = t.id; opening = t.opening; sent = t.sent; stage = t.stage; started = t.started; next = t.next; pending = t.pending.items } };
 }
 
 impl Tables {

@@ -33,12 +33,12 @@ abbrev pub forward : ℕ → List ℕ → Row
 forward s body = look (λ events. send (ToServer s (with_id_text body (decimal (asking_of s events).next))))
 
 -- the start of the editor's group
+abbrev pub start_in : Option ℕ → List Event → Option ℕ
+start_in None events = None
+start_in (Some g) events = start_of g events
+
 abbrev pub start_for : ℕ → List Event → Option ℕ
-start_for e events = start_in (home_of e events).group
-  where
-    start_in : Option ℕ → Option ℕ
-    start_in None = None
-    start_in (Some g) = start_of g events
+start_for e events = start_in (home_of e events).group events
 
 -- it is ready, and a number is left
 abbrev pub can_ask : Settings → ℕ → List Event → Bool
@@ -93,16 +93,16 @@ from_server s before body m Ready = response_row s before body m
 from_server s before body m other = nothing
 
 -- the daemon's initialize to a start: the root and the options of the group's founder
-abbrev pub founder_body : ℕ → List Event → List ℕ
-founder_body s events = body_for (group_of s events)
-  where
-    body_by : Option ℕ → List ℕ
-    body_by None = []
-    body_by (Some e) = (desk_of e events).initialize
+abbrev pub initialize_by : Option ℕ → List Event → List ℕ
+initialize_by None events = []
+initialize_by (Some e) events = (desk_of e events).initialize
 
-    body_for : Option ℕ → List ℕ
-    body_for None = []
-    body_for (Some g) = body_by (founding_of g events).founder
+abbrev pub initialize_in : Option ℕ → List Event → List ℕ
+initialize_in None events = []
+initialize_in (Some g) events = initialize_by (founding_of g events).founder events
+
+abbrev pub founder_body : ℕ → List Event → List ℕ
+founder_body s events = initialize_in (group_of s events) events
 
 abbrev pub initialize_for : List ℕ → List ℕ
 initialize_for body = initialize_text (string_or_null (root_uri (params_of body))) (options_of body) (codes "{}") None

@@ -1,9 +1,9 @@
 -- What `decimal` writes is the text of an integer id.
-use Rattle.std.proofs.Common.{◌≡◌, ℕ, zero, suc, ◌+◌, ◌/◌, ◌%◌, ◌^◌, ◌<◌, ◌≤◌, Bool, true, false, ◌&&◌, ◌||◌, ◌==◌, List, [], ◌∷◌, ◌++◌, Option, Some, None, IsTrue, nat_le, ◌⊎◌, inl, inr, length, decimal, refl, sym, ◌∙◌, ap, ap₂, subst, arith, append-nil}
+use Rattle.std.proofs.Common.{◌≡◌, ℕ, zero, suc, ◌+◌, ◌/◌, ◌%◌, ◌^◌, ◌<◌, ◌≤◌, true, ◌&&◌, ◌||◌, ◌==◌, List, [], ◌∷◌, ◌++◌, IsTrue, nat_le, inl, inr, length, decimal, refl, sym, ap, subst, arith, append-nil}
 use Rattle.std.proofs.lemmas.Bool.{and_parts, and_from, le-leb}
 use Rattle.std.proofs.lemmas.Fmt.{decimal_by_steps, decimal_digit}
 use Rattle.json_text.specs.Json.{number}
-use Rattle.json_text.specs.Number.{is_digit, Digits, IsNumber}
+use Rattle.json_text.specs.Number.{is_digit, IsNumber}
 use Rattle.json_text.specs.Read.{all_digits}
 use Rattle.rpc_message.specs.Message.{integer, is_integer, integer_if}
 use Rattle.rpc_message.specs.ValueTexts.{IsIdText}
@@ -32,14 +32,28 @@ record Spelt (n : ℕ) (ds : List ℕ) : Type 0 where
 
 spelt_one : (n : ℕ) → n < 10 → Spelt n ((48 + n) ∷ [])
 unfolding all_digits
-spelt_one n h = record { digits = and_from (is_digit (48 + n)) true (digit n h) refl;
-  leading = λ p. record { first = 48 + n; rest = []; digits = refl; is = refl;
-    positive = and_from (nat_le 49 (48 + n)) (nat_le (48 + n) 57) (le-leb 49 (48 + n) (omega (arith, p))) (le-leb (48 + n) 57 (omega arith)) } }
+spelt_one n h = record {
+  digits = and_from (is_digit (48 + n)) true (digit n h) refl;
+  leading = λ p. record {
+    first = 48 + n;
+    rest = [];
+    digits = refl;
+    is = refl;
+    positive = and_from (nat_le 49 (48 + n)) (nat_le (48 + n) 57) (le-leb 49 (48 + n) (omega (arith, p))) (le-leb (48 + n) 57 (omega arith));
+  };
+}
 
 spelt_more : (n : ℕ) (ds : List ℕ) → 10 ≤ n → Spelt (n / 10) ds → Spelt n (ds ++ ((48 + n % 10) ∷ []))
-spelt_more n ds h s = record { digits = digits_then ds (48 + n % 10) s.digits (digit (n % 10) (omega arith));
-  leading = λ p. let l : Leading ds = s.leading (omega arith) in record { first = l.first; rest = l.rest ++ ((48 + n % 10) ∷ []); positive = l.positive;
-    digits = digits_then l.rest (48 + n % 10) l.digits (digit (n % 10) (omega arith)); is = ap (λ z. z ++ ((48 + n % 10) ∷ [])) l.is } }
+spelt_more n ds h s = record {
+  digits = digits_then ds (48 + n % 10) s.digits (digit (n % 10) (omega arith));
+  leading = λ p. let l : Leading ds = s.leading (omega arith) in record {
+    first = l.first;
+    rest = l.rest ++ ((48 + n % 10) ∷ []);
+    positive = l.positive;
+    digits = digits_then l.rest (48 + n % 10) l.digits (digit (n % 10) (omega arith));
+    is = ap (λ z. z ++ ((48 + n % 10) ∷ [])) l.is;
+  };
+}
 
 spelt : (n : ℕ) → n < 2 ^ 64 → Spelt n (decimal n)
 spelt n h = decimal_by_steps Spelt spelt_one spelt_more n h
@@ -62,5 +76,8 @@ integer_digits (d ∷ ds) h = let k : (is_digit d ≡ true) × (all_digits ds �
 
 -- `decimal n` is the text of the id `integer (decimal n)`
 pub decimal_law : (n : ℕ) → n < 2 ^ 64 → IsIdText (integer (decimal n)) (decimal n)
-decimal_law n h = record { tree = number (record { from = 0; to = 0 + length (decimal n) }) (decimal n); stands = ((refl, decimal_number n h), refl);
-  is = ap (λ b. integer_if b (decimal n)) (integer_digits (decimal n) (spelt n h).digits) }
+decimal_law n h = record {
+  tree = number (record { from = 0; to = 0 + length (decimal n) }) (decimal n);
+  stands = ((refl, decimal_number n h), refl);
+  is = ap (λ b. integer_if b (decimal n)) (integer_digits (decimal n) (spelt n h).digits);
+}

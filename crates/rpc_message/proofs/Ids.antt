@@ -18,8 +18,9 @@ use Rattle.json_text.proofs.Put.{depth_bare}
 use Rattle.json_text.proofs.Swaps.{Replaced}
 use Rattle.rpc_message.specs.Message.{Id, request, result, error, id_of, is_null, are_params, given, result_tree, is_error, request_if, response_id, error_if, outcome, response_with, answered, message_of, place_in, slice_of, member_bytes, id_bytes, result_bytes}
 use Rattle.rpc_message.specs.Texts.{with_id_at, with_id_text}
-use Rattle.rpc_message.specs.ValueTexts.{IsValueText, IsIdText, IsResponseIdText}
-use Rattle.rpc_message.proofs.Envelope.{by_names, has_id, Envelope, envelope, put_id}
+use Rattle.rpc_message.specs.ValueTexts.{IsShallowText, IsIdText, IsResponseIdText}
+use Rattle.rpc_message.specs.Envelopes.{by_names}
+use Rattle.rpc_message.proofs.Bodies.{has_id, Envelope, envelope, put_id}
 use Rattle.rpc_message.proofs.Fixed.{response_flat, response_is_id}
 use Rattle.rpc_message.proofs.Meaning.{message_says, id_bare, response_id_bare}
 
@@ -267,11 +268,6 @@ error_id_bytes body i r e =
     let s : IsErrorOf i r (named (codes "method") v.members) (named (codes "params") v.members) (named (codes "error") v.members) (named (codes "result") v.members) v.id
     = error_of i r (named (codes "method") v.members) (named (codes "params") v.members) (named (codes "error") v.members) (named (codes "result") v.members) v.id (sym v.is ∙ e) in
     response_moved v.id i (id_bytes body) (member_bytes_law (codes "id") body v.span v.members v.id v.tree v.named_id) s.same
-
--- the text of a value that nests so deep at most
-pub record IsShallowText (d : ℕ) (v : Json) (bytes : List ℕ) : Type 0 where
-  pub text : IsValueText v bytes
-  pub shallow : depth v ≤ d
 
 null_text : IsShallowText 1023 (word nowhere Null) (codes "null")
 null_text = record { text = record { tree = word (record { from = 0; to = 4 }) Null; stands = (refl, refl); same = refl }; shallow = omega arith }

@@ -1,7 +1,11 @@
+mod Worked
+pub mod Bodies
 pub mod Decimals
-pub mod Envelope
+pub mod Enveloped
 pub mod Fixed
 pub mod Ids
-pub mod Initialize
+pub mod KindTests
 pub mod Meaning
-mod Worked
+pub mod Opening
+pub mod Reading
+pub mod Standing

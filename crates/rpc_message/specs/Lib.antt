@@ -1,3 +1,6 @@
+pub mod Codes
+pub mod Envelopes
 pub mod Message
+pub mod Parsed
 pub mod Texts
 pub mod ValueTexts

@@ -1,2 +1,17 @@
 //! The messages of JSON-RPC 2.0, and the fixed texts that are written.
 #![tactic(auto)]
+
+mod code;
+mod envelope;
+mod laws;
+mod message;
+mod parts;
+#[cfg(test)]
+mod tests;
+mod texts;
+
+pub use code::ErrorCode;
+pub use envelope::Envelope;
+pub use laws::{answers_law, opening_law, parts_law, renamed_law};
+pub use message::Message;
+pub use texts::{error_answer, initialize, initialized, ok_answer};

@@ -23,3 +23,6 @@ returns-clause-ok c = (refl, some_holds c.args.bytes.now c.in_ok-nodes.nodes.ite
 
 pub returns-clause-only : goal.returns-clause-only
 returns-clause-only c = λ j text fits. read_holds c.args.bytes.now c.in_ok-nodes.nodes.items j c.in_ok-nodes.ensures text fits
+
+pub invariant_of-result : goal.invariant_of-result
+invariant_of-result c = some_holds c.args.bytes.now c.in_ok-nodes.nodes.items c.in_ok-nodes.ensures

@@ -6,16 +6,8 @@ use Rattle.json_text.specs.Named.{named}
 use Rattle.json_text.specs.Paths.{put_named}
 use Rattle.json_text.specs.Tree.{tree_of}
 use Rattle.json_text.proofs.Put.{named_put, named_put_other, some_put}
-use Rattle.rpc_message.specs.Message.{Message, not_json, not_message, request, notification, result, error, no_name_twice, is_two, are_params, given, notification_if, called, answered, by_method, message_in, message_of}
-
--- what the members of these names make
-abbrev pub by_names : Option Json → Option Json → Option Json → Option Json → Option Json → Message
-by_names (Some (string s method)) id params failure value = called method id params
-by_names (Some (word s w)) id params failure value = not_message
-by_names (Some (number s ds)) id params failure value = not_message
-by_names (Some (array s js)) id params failure value = not_message
-by_names (Some (object s ms)) id params failure value = not_message
-by_names None id params failure value = answered id failure value
+use Rattle.rpc_message.specs.Envelopes.{by_names}
+use Rattle.rpc_message.specs.Message.{Message, not_json, not_message, request, notification, result, error, no_name_twice, is_two, are_params, given, notification_if, by_method, message_in, message_of}
 
 pub method_names : (o : Option Json) (ms : Members) → by_method o ms ≡ by_names o (named (codes "id") ms) (named (codes "params") ms) (named (codes "error") ms) (named (codes "result") ms)
 method_names (Some (string s method)) ms = refl

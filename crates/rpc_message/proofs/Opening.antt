@@ -10,7 +10,7 @@ use Rattle.json_text.proofs.Forms.{says, says_of, says_bare}
 use Rattle.json_text.proofs.Put.{bare_bare}
 use Rattle.rpc_message.specs.Message.{integer, request, no_name_twice, is_integer, message_in, message_of}
 use Rattle.rpc_message.specs.Texts.{optional_text, optional_member, initialize_text, initialize_params}
-use Rattle.rpc_message.specs.ValueTexts.{IsValueText, IsOptionText}
+use Rattle.rpc_message.specs.ValueTexts.{IsValueText, IsOptionText, option_depth}
 use Rattle.rpc_message.proofs.Meaning.{message_says}
 
 -- what a value's text says
@@ -99,11 +99,6 @@ params_bare u d o f root capabilities options folders h g k l =
     ap₂ (λ x y. object nowhere (member nowhere (codes "processId") (word nowhere Null) (member nowhere (codes "clientInfo") (object nowhere (member nowhere (codes "name") (string nowhere (codes "lspmux")) no_members)) (member nowhere (codes "rootUri") x y))))
     (value_bare u root h)
     (optional_bare (codes "initializationOptions") o options (member nowhere (codes "capabilities") d (member nowhere (codes "trace") (string nowhere (codes "off")) (optional_member (codes "workspaceFolders") f no_members))) g rest)
-
--- how deep a value nests, where it is there
-abbrev pub option_depth : Option Json → ℕ
-option_depth None = 0
-option_depth (Some j) = depth j
 
 optional_depth : (cs : List ℕ) (o : Option Json) (ms : Members) → members_depth (optional_member cs o ms) ≡ max (option_depth o) (members_depth ms)
 optional_depth cs None ms = omega arith

@@ -1,0 +1,4 @@
+use Rattle.json_span.proofs.tape.Tape.next.Goals as goal
+
+pub returns-clause-next : goal.returns-clause-next
+returns-clause-next c = rw (← c.self.view_is, ← c.as_slice.ensures.value) (c.next_in.ensures.next c.self.inside.bytes.now)

@@ -1,0 +1,75 @@
+-- An entry's events behind those for which the tables stood.
+use Rattle.std.proofs.Common.{◌≡◌, ℕ, ◌+◌, ◌-◌, ◌^◌, ◌<◌, ◌≤◌, min, List, [], ◌∷◌, ◌++◌, map, fold, refl, ap, sym, subst, ◌∙◌, append_assoc}
+use Rattle.std.specs.Prelude.{Option, Some, None}
+use Rattle.std.specs.List.{AllByRecursion}
+use Rattle.std.proofs.lemmas.List.Sums.{fold-append}
+use Rattle.rpc_message.specs.Message.{id_bytes, Id}
+use Rattle.mux_history.specs.declared.cause.Cause.{Cause}
+use Rattle.mux_history.specs.declared.out.Out.{Out}
+use Rattle.mux_model.specs.Rows.{outs_of}
+use Rattle.mux_model.specs.Settings.{Settings}
+use Rattle.mux_hub.specs.Steps.{Steps}
+use Rattle.mux_model.specs.Event.{Event, behind, with_cause, heard, said}
+use Rattle.mux_model.specs.Phases.{Desk, desk_of, desk_behind, no_desk, editors_of, editors_behind, backlog_of, backlog_behind}
+use Rattle.mux_model.specs.Requests.{Asking, open_of, open_behind, asking_of, asking_behind}
+use Rattle.mux_model.specs.Spawns.{Home, Founding, starts_of, starts_behind, groups_of, groups_behind, start_of, start_behind, home_of, home_behind, founding_of, founding_behind, group_of, group_behind}
+use Rattle.mux_model.specs.Stages.{Life, life_of, life_behind, no_life}
+use Rattle.mux_hub.specs.declared.pending.Pending.{Pending}
+use Rattle.mux_hub.specs.Tables.{Kept, asked_for, joined_in, spawned_in, first_in, open_in}
+use Rattle.mux_hub.specs.Stands.{Stands, Distinct, MeansId, PhaseTies, StageTies}
+
+-- these events lead the tables t to u, and the initialize b to c
+pub record Goes (b : List ℕ) (t : Kept) (evs : List Event) (c : List ℕ) (u : Kept) : Type 0 where
+  pub desk : fold (desk_behind 0) (record { phase = t.phase; initialize = b }) evs ≡ record { phase = u.phase; initialize = c }
+  pub other_desks : (e : ℕ) → 0 < e → fold (desk_behind e) no_desk evs ≡ no_desk
+  pub editors : fold editors_behind (joined_in t.phase) evs ≡ joined_in u.phase
+  pub sent : (n : ℕ) → t.sent ≡ min n (2 ^ 64 - 1) → u.sent ≡ min (fold (backlog_behind 0) n evs) (2 ^ 64 - 1)
+  pub life : fold (life_behind 0) (record { stage = t.stage; started = t.started }) evs ≡ record { stage = u.stage; started = u.started }
+  pub other_lives : (s : ℕ) → 0 < s → fold (life_behind s) no_life evs ≡ no_life
+  pub starts : fold starts_behind (spawned_in t.stage) evs ≡ spawned_in u.stage
+  pub groups : fold groups_behind (spawned_in t.stage) evs ≡ spawned_in u.stage
+  pub start : fold (start_behind 0) (first_in t.stage) evs ≡ first_in u.stage
+  pub group : fold (group_behind 0) (first_in t.stage) evs ≡ first_in u.stage
+  pub home : (h : Home) → h.group ≡ first_in t.stage → (fold (home_behind 0) h evs).group ≡ first_in u.stage
+  pub founder : (f : Founding) → f.founder ≡ first_in t.stage → (fold (founding_behind 0) f evs).founder ≡ first_in u.stage
+  pub next : (a : Asking) → a.next ≡ t.next → a.open_requests ≡ asked_for t.pending → (fold (asking_behind 0) a evs).next ≡ u.next
+  pub pending : (a : Asking) → a.next ≡ t.next → a.open_requests ≡ asked_for t.pending → (fold (asking_behind 0) a evs).open_requests ≡ asked_for u.pending
+  pub opened : fold (open_behind 0) (open_in t.phase t.pending t.id) evs ≡ open_in u.phase u.pending u.id
+  pub ids : AllByRecursion (λ p. MeansId p.id) u.pending
+  pub distinct : Distinct u.pending
+  pub phase_ties : PhaseTies u.phase u.stage u.pending u.id c
+  pub stage_ties : StageTies u.stage u.next u.opening c
+
+further : {A : Type 0} (f : A → Event → A) (b x : A) (events evs : List Event) → fold f b events ≡ x → fold f b (events ++ evs) ≡ fold f x evs
+further f b x events evs e = fold-append f b events evs ∙ ap (λ y. fold f y evs) e
+
+pub stands_further : (t u : Kept) (events evs : List Event) (c : List ℕ) (s : Stands t events) → Goes s.initialize t evs c u → Stands u (events ++ evs)
+stands_further t u events evs c s g = record {
+  initialize = c;
+  desk = further (desk_behind 0) no_desk _ events evs s.desk ∙ g.desk;
+  other_desks = λ e h. further (desk_behind e) no_desk _ events evs (s.other_desks e h) ∙ g.other_desks e h;
+  editors = further editors_behind 0 _ events evs s.editors ∙ g.editors;
+  sent = g.sent (backlog_of 0 events) s.sent ∙ ap (λ n. min n (2 ^ 64 - 1)) (sym (fold-append (backlog_behind 0) 0 events evs));
+  life = further (life_behind 0) no_life _ events evs s.life ∙ g.life;
+  other_lives = λ n h. further (life_behind n) no_life _ events evs (s.other_lives n h) ∙ g.other_lives n h;
+  starts = further starts_behind 0 _ events evs s.starts ∙ g.starts;
+  groups = further groups_behind 0 _ events evs s.groups ∙ g.groups;
+  start = further (start_behind 0) None _ events evs s.start ∙ g.start;
+  group = further (group_behind 0) None _ events evs s.group ∙ g.group;
+  home = ap (λ h. h.group) (fold-append (home_behind 0) _ events evs) ∙ g.home (home_of 0 events) s.home;
+  founder = ap (λ f. f.founder) (fold-append (founding_behind 0) _ events evs) ∙ g.founder (founding_of 0 events) s.founder;
+  next = ap (λ a. a.next) (fold-append (asking_behind 0) _ events evs) ∙ g.next (asking_of 0 events) s.next s.pending;
+  pending = ap (λ a. a.open_requests) (fold-append (asking_behind 0) _ events evs) ∙ g.pending (asking_of 0 events) s.next s.pending;
+  ids = g.ids;
+  distinct = g.distinct;
+  phase_ties = g.phase_ties;
+  stage_ties = g.stage_ties;
+  opened = further (open_behind 0) [] _ events evs s.opened ∙ g.opened;
+}
+
+-- an entry is its cause and then its outs
+pub steps_so : (settings : Settings) (events : List Event) (cause : Cause) (xs : List Out) (t u : Kept) (c : List ℕ) (s : Stands t events) → Goes s.initialize t (heard cause ∷ map said xs) c u → xs ≡ outs_of settings events cause → Steps settings events cause xs u
+steps_so settings events cause xs t u c s g e = record {
+  outs = e;
+  stands = subst (λ evs. Stands u evs) (sym (append_assoc events (heard cause ∷ []) (map said xs))) (stands_further t u events (heard cause ∷ map said xs) c s g);
+}

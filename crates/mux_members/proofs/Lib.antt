@@ -1,0 +1,7 @@
+pub mod Bared
+pub mod Encoded
+pub mod Ids
+pub mod Looks
+pub mod Results
+pub mod Told
+pub mod Walks

@@ -1,0 +1,4 @@
+pub mod Envelopes
+pub mod Finds
+pub mod Ids
+pub mod Results

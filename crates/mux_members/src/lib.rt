@@ -1,0 +1,14 @@
+//! What the routing table reads in bodies: methods, ids, and the members of params and of results.
+#![tactic(auto)]
+
+mod envelope;
+mod id;
+mod look;
+mod method;
+mod outcome;
+mod params;
+
+pub use id::{is_number, same_id};
+pub use method::{class_in, is_initialize, is_initialized};
+pub use outcome::{is_first_result, is_plain_result, reads_versions};
+pub use params::{has_bare_capabilities, has_token};

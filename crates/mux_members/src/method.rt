@@ -1,0 +1,43 @@
+//! The methods that the routing table knows (LSP 3.17, Lifecycle Messages).
+ghost use Rattle.std.specs.Prelude.{◌≡◌, ℕ, List, false, codes, IfOk, Option};
+ghost use Rattle.json_text.specs.Json.{Json};
+ghost use Rattle.lsp_method.specs.Class.{class_of};
+ghost use Rattle.lsp_method.specs.declared.variants.Origin.TheVariants.{Editor};
+ghost use Rattle.rpc_message.specs.Message.{Id, message_of, request};
+ghost use Rattle.rpc_message.specs.Parsed.{IsRead};
+ghost use Rattle.mux_model.specs.Event.{notifies, requests};
+
+use crate::envelope::{notification_method, request_method};
+use crate::look::spells;
+use json_text::Memory;
+use lsp_method::{Class, Origin, class};
+use rpc_message::Message;
+use std::alloc::Global;
+
+/// The class of an editor's request, by its method.
+pub fn class_in(alloc: Global, m: &Message) -> Result<Class, Memory>
+    ensures { (bytes method : List ℕ) (id : Id) (params : Option Json) → IsRead m.now bytes → message_of bytes ≡ request id method params → IfOk result (λ class. class ≡ class_of method Editor false) }
+{
+    let method = m.method(alloc)?;
+    Ok(class(method.bytes(), Origin::Editor, false))
+}
+
+/// Whether it is the notification `initialized` (LSP 3.17, Initialized Notification).
+pub fn is_initialized(m: &Message) -> bool
+    ensures { (bytes : List ℕ) → IsRead m.now bytes → result ≡ notifies (codes "initialized") (message_of bytes) }
+{
+    match notification_method(m) {
+        Some(method) => spells(m.tape(), Some(method), "initialized"),
+        None => false,
+    }
+}
+
+/// Whether it is the request `initialize` (LSP 3.17, Initialize Request).
+pub fn is_initialize(m: &Message) -> bool
+    ensures { (bytes : List ℕ) → IsRead m.now bytes → result ≡ requests (codes "initialize") (message_of bytes) }
+{
+    match request_method(m) {
+        Some(method) => spells(m.tape(), Some(method), "initialize"),
+        None => false,
+    }
+}

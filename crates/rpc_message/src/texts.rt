@@ -1,0 +1,81 @@
+//! The fixed texts that are written: answers, errors, `initialize` and `initialized`.
+ghost use Rattle.std.specs.Prelude.{◌≡◌, ◌++◌, IfOk};
+ghost use Rattle.std.specs.Option.{option_map};
+ghost use Rattle.rpc_message.specs.Codes.{code_of};
+ghost use Rattle.rpc_message.specs.Texts.{error_text, initialize_text, initialized_text, ok_text, optional_text};
+
+use crate::code::ErrorCode;
+use json_text::{Body, Memory};
+use std::alloc::Global;
+
+/// The answer of a request: its id, and the result's bytes (JSON-RPC 2.0, section 5).
+pub fn ok_answer(alloc: Global, id: &[u8], value: &[u8]) -> Result<Body, Memory>
+    ensures { IfOk result (λ body. body ≡ ok_text id.now value.now) }
+{
+    let mut text = Vec::new(alloc);
+    text.extend_from_slice("{\"jsonrpc\":\"2.0\",\"id\":".as_bytes())?;
+    text.extend_from_slice(id)?;
+    text.extend_from_slice(",\"result\":".as_bytes())?;
+    text.extend_from_slice(value)?;
+    text.extend_from_slice("}".as_bytes())?;
+    Ok(Body::new(text))
+}
+
+/// An answer that tells of an error (JSON-RPC 2.0, section 5.1).
+pub fn error_answer(alloc: Global, id: &[u8], code: ErrorCode) -> Result<Body, Memory>
+    ensures { IfOk result (λ body. body ≡ error_text id.now (code_of code)) }
+{
+    let mut text = Vec::new(alloc);
+    text.extend_from_slice("{\"jsonrpc\":\"2.0\",\"id\":".as_bytes())?;
+    text.extend_from_slice(id)?;
+    text.extend_from_slice(",\"error\":{\"code\":".as_bytes())?;
+    text.extend_from_slice(code.number().as_bytes())?;
+    text.extend_from_slice(",\"message\":\"".as_bytes())?;
+    text.extend_from_slice(code.message().as_bytes())?;
+    text.extend_from_slice("\"}}".as_bytes())?;
+    Ok(Body::new(text))
+}
+
+/// The notification `initialized` (LSP 3.17, Initialized Notification).
+pub fn initialized(alloc: Global) -> Result<Body, Memory>
+    ensures { IfOk result (λ body. body ≡ initialized_text) }
+{
+    let text = "{\"jsonrpc\":\"2.0\",\"method\":\"initialized\",\"params\":{}}";
+    Ok(Body::new(Vec::from_slice(alloc, text.as_bytes())?))
+}
+
+/// The request `initialize`, under the id 1 (LSP 3.17, Initialize Request): with the root (null or a URI), the client's options,
+/// its capabilities and its workspace folders, as their bytes came.
+pub fn initialize(
+    alloc: Global,
+    root: &[u8],
+    options: Option<&[u8]>,
+    capabilities: &[u8],
+    folders: Option<&[u8]>,
+) -> Result<Body, Memory>
+    ensures { IfOk result (λ body. body ≡ initialize_text root.now (option_map (λ b. b.now) options.entry) capabilities.now (option_map (λ b. b.now) folders.entry)) }
+{
+    let mut text = Vec::new(alloc);
+    text.extend_from_slice(
+        "{\"jsonrpc\":\"2.0\",\"id\":1,\"method\":\"initialize\",\"params\":{\"processId\":null,\"clientInfo\":{\"name\":\"lspmux\"},\"rootUri\":".as_bytes(),
+    )?;
+    text.extend_from_slice(root)?;
+    add_optional(&mut text, ",\"initializationOptions\":", options)?;
+    text.extend_from_slice(",\"capabilities\":".as_bytes())?;
+    text.extend_from_slice(capabilities)?;
+    text.extend_from_slice(",\"trace\":\"off\"".as_bytes())?;
+    add_optional(&mut text, ",\"workspaceFolders\":", folders)?;
+    text.extend_from_slice("}}".as_bytes())?;
+    Ok(Body::new(text))
+}
+
+// A member that may be there or not.
+fn add_optional(text: &mut Vec<u8>, name: &str, value: Option<&[u8]>) -> Result<(), Memory>
+    ensures { IfOk result (λ done. text.new.items ≡ text.old.items ++ optional_text name.now (option_map (λ b. b.now) value.entry)) }
+{
+    if let Some(value) = value {
+        text.extend_from_slice(name.as_bytes())?;
+        text.extend_from_slice(value)?;
+    }
+    Ok(())
+}

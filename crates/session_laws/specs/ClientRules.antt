@@ -1,0 +1,90 @@
+-- What an editor may expect as the one client of a server. Each rule speaks of a body to it, behind the events of its part before that body.
+use Rattle.std.specs.Prelude.{ℕ, ◌+◌, ◌<◌, Bool, true, false, not, ◌&&◌, ◌||◌, List, [], fold, codes, IsTrue, if◌then◌else◌}
+use Rattle.std.specs.Prelude.{Some, None}
+use Rattle.mux_history.specs.declared.cause.Cause.TheVariants.{FromEditor}
+use Rattle.mux_history.specs.declared.entry.Entry.{Entry}
+use Rattle.mux_history.specs.declared.out.Out.TheVariants.{ToEditor}
+use Rattle.rpc_message.specs.Message.{Message, request, notification, result, error, not_json, not_message, Id}
+use Rattle.mux_model.specs.Event.{Event, took, did, events_of, requests}
+use Rattle.mux_model.specs.Phases.{is_malformed}
+use Rattle.mux_model.specs.Requests.{open_of, is_open, without, asks}
+use Rattle.session_laws.specs.Always.{Always}
+use Rattle.session_laws.specs.Parts.{editor_part}
+
+-- Rule 2 (JSON-RPC 2.0, section 5, and LSP 3.17, Response Message): a response has the id of an open request, which it closes;
+-- an error with a null id answers a body that was no message; and every body is a message.
+abbrev pub malformed_behind : ℕ → Event → ℕ
+malformed_behind n (took (FromEditor e body) m) = if is_malformed m then n + 1 else n
+malformed_behind n other = n
+
+abbrev pub malformed_of : List Event → ℕ
+malformed_of part = fold malformed_behind 0 part
+
+abbrev pub null_errors_behind : ℕ → Event → ℕ
+null_errors_behind n (did (ToEditor e body) (error None x)) = n + 1
+null_errors_behind n other = n
+
+abbrev pub null_errors_of : List Event → ℕ
+null_errors_of part = fold null_errors_behind 0 part
+
+-- what is open, and the null-id errors and malformed bodies so far
+abbrev pub IsAnswer : List Id → ℕ → ℕ → Message → Type 0
+IsAnswer ids sent malformed (result (Some id) r) = IsTrue (is_open id ids)
+IsAnswer ids sent malformed (error (Some id) e) = IsTrue (is_open id ids)
+IsAnswer ids sent malformed (error None e) = sent < malformed
+IsAnswer ids sent malformed (result None r) = ⊥
+IsAnswer ids sent malformed not_json = ⊥
+IsAnswer ids sent malformed not_message = ⊥
+IsAnswer ids sent malformed (request id method params) = Unit {0}
+IsAnswer ids sent malformed (notification method params) = Unit {0}
+
+abbrev pub ClientRule2 : ℕ → List Event → Event → Type 0
+ClientRule2 e before (did (ToEditor n body) m) = IsAnswer (open_of e before) (null_errors_of before) (malformed_of before) m
+ClientRule2 e before other = Unit {0}
+
+-- Rule 3 (LSP 3.17, Initialize Request): until a result has answered a request `initialize` and the editor has sent a later message,
+-- it gets nothing but responses; and at most one `initialize` gets a result.
+pub record Opening : Type 0 where
+  -- the ids of its open requests `initialize`
+  pub initializes : List Id
+  -- one of them got a result
+  pub answered : Bool
+  -- and a message came since
+  pub spoke : Bool
+
+abbrev pub opening_hears : Opening → Message → Opening
+opening_hears o m = record {
+  initializes = if requests (codes "initialize") m then asks m o.initializes else o.initializes;
+  answered = o.answered;
+  spoke = o.spoke || (o.answered && not (is_malformed m));
+}
+
+abbrev pub opening_told : Opening → Message → Opening
+opening_told o (result (Some id) r) = record { initializes = without (Some id) o.initializes; answered = o.answered || is_open id o.initializes; spoke = o.spoke }
+opening_told o (error id e) = record { initializes = without id o.initializes; answered = o.answered; spoke = o.spoke }
+opening_told o other = o
+
+abbrev pub opening_behind : Opening → Event → Opening
+opening_behind o (took (FromEditor e body) m) = opening_hears o m
+opening_behind o (did (ToEditor e body) m) = opening_told o m
+opening_behind o other = o
+
+abbrev pub opening_of : List Event → Opening
+opening_of part = fold opening_behind (record { initializes = []; answered = false; spoke = false }) part
+
+abbrev pub may_hear : Opening → Message → Bool
+may_hear o (result (Some id) r) = not (o.answered && is_open id o.initializes)
+may_hear o (result None r) = true
+may_hear o (error id e) = true
+may_hear o other = o.spoke
+
+abbrev pub ClientRule3 : List Event → Event → Type 0
+ClientRule3 before (did (ToEditor n body) m) = IsTrue (may_hear (opening_of before) m)
+ClientRule3 before other = Unit {0}
+
+-- the parts of all editors keep the rule
+abbrev pub KeepsClient2 : List Entry → Type 0
+KeepsClient2 history = (e : ℕ) → Always (ClientRule2 e) (editor_part e (events_of history))
+
+abbrev pub KeepsClient3 : List Entry → Type 0
+KeepsClient3 history = (e : ℕ) → Always ClientRule3 (editor_part e (events_of history))

@@ -1,0 +1,5 @@
+pub mod Always
+pub mod ClientRules
+pub mod Parts
+pub mod Ranges
+pub mod ServerRules

@@ -1,0 +1,96 @@
+-- What a start of a server may expect of its one client. Each rule speaks of a body to it, behind the events of its part before that body.
+use Rattle.std.specs.Prelude.{◌≡◌, ℕ, ◌+◌, Bool, true, false, not, ◌&&◌, List, fold, codes, decimal, IsTrue, if◌then◌else◌}
+use Rattle.mux_history.specs.declared.cause.Cause.TheVariants.{Started, FromServer, ServerGone}
+use Rattle.mux_history.specs.declared.entry.Entry.{Entry}
+use Rattle.mux_history.specs.declared.out.Out.TheVariants.{ToServer, EndServer}
+use Rattle.rpc_message.specs.Message.{Message, request, result, error, integer}
+use Rattle.mux_model.specs.Event.{Event, took, did, events_of, same_id, requests, notifies}
+use Rattle.mux_model.specs.Stages.{is_first_result}
+use Rattle.session_laws.specs.Always.{Always}
+use Rattle.session_laws.specs.Parts.{server_part}
+
+-- Rule 1 (LSP 3.17, Lifecycle Messages): bodies go to a program while it runs, and not once it is to be ended.
+pub record Program : Type 0 where
+  pub started : Bool
+  pub over : Bool
+
+abbrev pub program_behind : Program → Event → Program
+program_behind p (took (Started s) m) = record { started = true; over = p.over }
+program_behind p (took (ServerGone s) m) = record { started = p.started; over = true }
+program_behind p (did (EndServer s) m) = record { started = p.started; over = true }
+program_behind p other = p
+
+abbrev pub program_of : List Event → Program
+program_of part = fold program_behind (record { started = false; over = false }) part
+
+abbrev pub ServerRule1 : List Event → Event → Type 0
+ServerRule1 before (did (ToServer s body) m) = IsTrue ((program_of before).started && not (program_of before).over)
+ServerRule1 before other = Unit {0}
+
+-- Rule 2 (LSP 3.17, Initialize Request and Initialized Notification): the first body is the request `initialize`, here with the id 1.
+-- Until its result only responses follow. The first body after the result is the notification `initialized`, which is sent once.
+pub data Handshake : Type 0 where
+  silent : Handshake
+  asked : Handshake
+  answered : Handshake
+  open_to_all : Handshake
+
+abbrev pub handshake_behind : Handshake → Event → Handshake
+handshake_behind silent (did (ToServer s body) m) = asked
+handshake_behind asked (took (FromServer s body) m) = if is_first_result m then answered else asked
+handshake_behind answered (did (ToServer s body) m) = open_to_all
+handshake_behind h other = h
+
+abbrev pub handshake_of : List Event → Handshake
+handshake_of part = fold handshake_behind silent part
+
+-- a result or an error
+abbrev pub is_response : Message → Bool
+is_response (result id r) = true
+is_response (error id e) = true
+is_response _ = false
+
+-- of the number 1
+abbrev pub is_first_request : Message → Bool
+is_first_request (request id method params) = same_id id (integer (codes "1")) && requests (codes "initialize") (request id method params)
+is_first_request _ = false
+
+abbrev pub allows : Handshake → Message → Bool
+allows silent m = is_first_request m
+allows asked m = is_response m
+allows answered m = notifies (codes "initialized") m
+allows open_to_all m = not (notifies (codes "initialized") m)
+
+abbrev pub ServerRule2 : List Event → Event → Type 0
+ServerRule2 before (did (ToServer s body) m) = IsTrue (allows (handshake_of before) m)
+ServerRule2 before other = Unit {0}
+
+-- Rule 3 (JSON-RPC 2.0, section 4: an id is the client's own): the n-th request has the id n.
+abbrev pub requests_behind : ℕ → Event → ℕ
+requests_behind n (did (ToServer s body) (request id method params)) = n + 1
+requests_behind n other = n
+
+abbrev pub requests_of : List Event → ℕ
+requests_of part = fold requests_behind 0 part
+
+-- a request has this number
+abbrev pub HasNumber : ℕ → Message → Type 0
+HasNumber n (request id method params) = id ≡ integer (decimal n)
+HasNumber n other = Unit {0}
+
+abbrev pub ServerRule3 : List Event → Event → Type 0
+ServerRule3 before (did (ToServer s body) m) = HasNumber (requests_of before + 1) m
+ServerRule3 before other = Unit {0}
+
+-- the parts of all starts keep the rule
+abbrev pub KeepsServer : (List Event → Event → Type 0) → List Entry → Type 0
+KeepsServer Rule history = (s : ℕ) → Always Rule (server_part s (events_of history))
+
+abbrev pub KeepsServer1 : List Entry → Type 0
+KeepsServer1 history = KeepsServer ServerRule1 history
+
+abbrev pub KeepsServer2 : List Entry → Type 0
+KeepsServer2 history = KeepsServer ServerRule2 history
+
+abbrev pub KeepsServer3 : List Entry → Type 0
+KeepsServer3 history = KeepsServer ServerRule3 history

@@ -1,0 +1,37 @@
+// The rules of `specs/ClientRules.antt` and `specs/ServerRules.antt`, each a law of every legal history.
+ghost use Rattle.std.specs.Prelude.{List};
+ghost use Rattle.mux_history.specs.declared.entry.Entry.{Entry};
+ghost use Rattle.mux_model.specs.Legal.{Legal};
+ghost use Rattle.mux_model.specs.Settings.{Settings};
+ghost use Rattle.session_laws.specs.ClientRules.{KeepsClient2, KeepsClient3};
+ghost use Rattle.session_laws.specs.Ranges.{InRange};
+ghost use Rattle.session_laws.specs.ServerRules.{KeepsServer1, KeepsServer2, KeepsServer3};
+
+/// A law: each response to an editor has the id of an open request of it, which it closes, or answers a body that was
+/// no message with a null id (JSON-RPC 2.0, section 5; LSP 3.17, Response Message).
+pub fn client_2()
+    ensures { (settings : Settings) (history : List Entry) → Legal settings history → KeepsClient2 history }
+{}
+
+/// A law: an editor gets nothing but responses until its `initialize` has a result and it sent a later message, and
+/// one `initialize` of it at most gets a result (LSP 3.17, Initialize Request).
+pub fn client_3()
+    ensures { (settings : Settings) (history : List Entry) → Legal settings history → KeepsClient3 history }
+{}
+
+/// A law: bodies go to a server's program while it runs, and not once it is to be ended (LSP 3.17, Lifecycle
+/// Messages).
+pub fn server_1()
+    ensures { (settings : Settings) (history : List Entry) → Legal settings history → KeepsServer1 history }
+{}
+
+/// A law: a server first gets the request `initialize`, until its result only responses, and then once the
+/// notification `initialized` (LSP 3.17, Initialize Request and Initialized Notification).
+pub fn server_2()
+    ensures { (settings : Settings) → InRange settings → (history : List Entry) → Legal settings history → KeepsServer2 history }
+{}
+
+/// A law: the n-th request to a server has the id n (JSON-RPC 2.0, section 4).
+pub fn server_3()
+    ensures { (settings : Settings) → InRange settings → (history : List Entry) → Legal settings history → KeepsServer3 history }
+{}
