@@ -1,4 +1,4 @@
-//! The command `drive`: cause lines in, one hub, out lines out.
+//! The program: its words, and the command `drive`, which reads cause lines, steps one hub and writes out lines.
 #![tactic(auto)]
 
 mod buffer;
@@ -12,3 +12,5 @@ mod step;
 mod stop;
 mod word;
 mod write;
+
+pub use program::{Outside, lspmux};
