@@ -85,9 +85,9 @@ fn takes_no_words_but_drive(rt: HostRuntime) -> Result<(), Fail> {
     let alloc = rt.alloc();
     let mut words = drive_word(alloc)?;
     words.push(String::from_str(alloc, "x")?)?;
-    for count in [0, 2] {
+    for given in [[].as_slice(), words.as_slice()] {
         let mut outside = outside_of(alloc, "hello\n", sound(alloc))?;
-        assert_eq!(rt; lspmux(alloc, &words[..count], &mut outside), 2);
+        assert_eq!(rt; lspmux(alloc, given, &mut outside), 2);
         assert_eq!(rt; outside.output.bytes(), b"!words\n".as_slice());
         assert_eq!(rt; outside.input.taken(), b"".as_slice());
         assert_eq!(rt; entries(&outside), 0);
@@ -176,7 +176,7 @@ fn keeps_the_lines_before_a_failed_append(rt: HostRuntime) -> Result<(), Fail> {
 fn stops_at_a_failed_write(rt: HostRuntime) -> Result<(), Fail> {
     let alloc = rt.alloc();
     let words = drive_word(alloc)?;
-    let mut write = 0;
+    let mut write = 0u64;
     for (i, (_, out)) in SESSION.iter().enumerate() {
         if out.is_empty() {
             continue;
@@ -190,7 +190,7 @@ fn stops_at_a_failed_write(rt: HostRuntime) -> Result<(), Fail> {
         assert_eq!(rt; lspmux(alloc, &words, &mut outside), 8);
         assert_eq!(rt; outside.output.bytes(), want.as_bytes());
         assert_eq!(rt; entries(&outside), i + 1);
-        write += 1;
+        write = write.saturating_add(1);
     }
     Ok(())
 }
