@@ -15,7 +15,7 @@ use json_text::Kind;
 use json_token::spells_text;
 
 // The number, where it is that of a value.
-fn within(tape: &Tape, node: Option<u32>) -> Option<u32>
+pub fn within(tape: &Tape, node: Option<u32>) -> Option<u32>
     ensures same { (o : Option Json) → Found tape.now o node → result ≡ node }
     ensures inside { MatchOption result (Unit {0}) (λ n. n < length tape.now.nodes) }
 {
