@@ -16,3 +16,6 @@ pub use opening::initialize_request;
 pub use outcome::{is_first_result, is_plain_result, reads_versions};
 pub use params::{has_bare_capabilities, has_token};
 pub use plain::is_plain_body;
+
+#[cfg(test)]
+mod tests;

@@ -20,11 +20,7 @@ fn text_member(tape: &Tape, node: Option<u32>, name: &str) -> Option<u32>
     ensures { is_ascii name.now ≡ true → (o : Option Json) → Found tape.now o node → FoundText tape.now (string_of (named_of name.now o)) result }
 {
     let member = member(tape, node, name);
-    if is_text(tape, member) {
-        member
-    } else {
-        None
-    }
+    if is_text(tape, member) { member } else { None }
 }
 
 // The first `uri` of a list of folders that is a string (LSP 3.17, WorkspaceFolder).
