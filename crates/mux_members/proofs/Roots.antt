@@ -1,20 +1,17 @@
 -- The root and the options that an `initialize` names.
-use Rattle.std.proofs.Common.{◌≡◌, ℕ, Bool, true, false, List, [], ◌∷◌, codes, Result, Ok, Err, IfOk, refl, sym, ◌∙◌, ap, ap₂, subst, Some, None, Option}
+use Rattle.std.proofs.Common.{◌≡◌, ℕ, true, false, List, codes, Result, IfOk, refl, sym, ◌∙◌, ap, ap₂, subst, Some, None, Option}
 use Rattle.std.specs.Prelude.{IsUtf8, encode_utf8_all, is_some}
-use Rattle.std.specs.Option.{option_map}
 use Rattle.json.specs.Print.{quoted}
 use Rattle.json_text.specs.declared.span.Span.{Span}
 use Rattle.json_text.specs.Json.{Json, string}
-use Rattle.json_text.specs.Named.{named_in}
 use Rattle.json_text.specs.Tree.{tree_of}
 use Rattle.json_nodes.specs.At.{At, Found}
 use Rattle.json_nodes.specs.Doc.{Doc}
-use Rattle.json_nodes.proofs.Numbers.{root_at}
 use Rattle.json_nodes.proofs.Spelled.{string_text}
 use Rattle.rpc_message.specs.Parsed.{Parsed, IsRead}
 use Rattle.rpc_message.specs.Texts.{initialize_text}
 use Rattle.rpc_message.proofs.Reading.{held_tree}
-use Rattle.mux_model.specs.Members.{bytes_if, first_uri, named_of, options_of, or_first, params_of, root_uri, string_of, string_or_null}
+use Rattle.mux_model.specs.Members.{bytes_if, named_of, options_of, or_first, params_of, root_uri, string_of, string_or_null}
 use Rattle.mux_model.specs.Rows.{initialize_for}
 use Rattle.mux_members.specs.Finds.{FoundText}
 use Rattle.mux_members.proofs.Scalars.{characters_utf8}

@@ -1,6 +1,6 @@
 -- The characters of a string are Unicode scalar values.
-use Rattle.std.proofs.Common.{◌≡◌, ℕ, ◌+◌, ◌-◌, ◌*◌, ◌/◌, ◌%◌, ◌<◌, ◌≤◌, Bool, true, false, ◌&&◌, ◌⊎◌, inl, inr, List, [], ◌∷◌, ◌++◌, map, refl, sym, ◌∙◌, ap, subst, arith}
-use Rattle.std.specs.Prelude.{Some, IsTrue, IsUtf8, flat_map, nat_lt, encode_utf8_all, if◌then◌else◌}
+use Rattle.std.proofs.Common.{◌≡◌, ℕ, ◌<◌, ◌≤◌, Bool, true, false, ◌&&◌, ◌⊎◌, inl, inr, List, [], ◌∷◌, ◌++◌, map, refl, sym, ◌∙◌, ap, subst, arith}
+use Rattle.std.specs.Prelude.{Some, IsTrue, IsUtf8, flat_map, encode_utf8_all, if◌then◌else◌}
 use Rattle.std.specs.Char.{IsScalar, digit_value}
 use Rattle.std.specs.Char.Escape.{encode_utf16}
 use Rattle.std.specs.Char.Utf16.{is_high_surrogate, is_low_surrogate, surrogate_pair_char, lone_unit_char, utf16_chars, utf16_lossy_chars}
@@ -10,8 +10,8 @@ use Rattle.std.proofs.lemmas.Bool.{cases_lt}
 use Rattle.std.proofs.lemmas.Bool.Decides.{nat_tests}
 use Rattle.std.proofs.str.Utf16.{one_unit, two_units}
 use lib.Utf8.{scalar, scalars}
-use Rattle.json_text.specs.String.{Piece, plain, short, unit, is_hex, is_short, short_character, IsPiece, units, SpellsCharacters}
-use Rattle.json_token.proofs.Encoded.{scalar_low, scalar_high, scalar_sides}
+use Rattle.json_text.specs.String.{Piece, plain, short, unit, is_hex, short_character, IsPiece, units, SpellsCharacters}
+use Rattle.json_token.proofs.Encoded.{scalar_high, scalar_sides}
 
 -- units of UTF-16
 abbrev Units : List ℕ → Type 0

@@ -1,6 +1,6 @@
-use Rattle.std.proofs.Common.{◌≡◌, ℕ, List, Option, Some, ◌∙◌, sym, ap, ap₂, subst, codes, refl, option_map}
+use Rattle.std.proofs.Common.{Option, Some, ◌∙◌, sym, ap, subst, codes, refl, option_map}
 use Rattle.json_text.specs.Json.{Json}
-use Rattle.json_nodes.specs.At.{At, Found}
+use Rattle.json_nodes.specs.At.{Found}
 use Rattle.json_nodes.specs.Doc.{Doc, Holds}
 use Rattle.mux_model.specs.Members.{bytes_if, named_of, root_uri}
 use Rattle.mux_members.proofs.Roots.{opening_is, read_params}

@@ -1,5 +1,4 @@
-use Rattle.std.proofs.Common.{◌≡◌, ◌∙◌, sym, ap, subst, IfOk}
-use Rattle.json.specs.Print.{quoted}
+use Rattle.std.proofs.Common.{◌∙◌}
 use Rattle.mux_members.proofs.Roots.{quoted_found, null_found, text_value}
 use Rattle.mux_members.proofs.opening.string_or_null.Goals as goal
 
