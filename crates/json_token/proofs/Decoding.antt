@@ -41,7 +41,7 @@ four_decodes a b c d n rest from is s = go (ap replaced is ∙ replaced_scalar n
     go : replaced (four_code a b c d) ≡ n → next_character (a ∷ b ∷ c ∷ d ∷ rest) ≡ Some (n, rest)
     go e = grind (arith, nat_tests)
 
-scalar_below : (c : ℕ) → IsScalar c → c < 1114112
+pub scalar_below : (c : ℕ) → IsScalar c → c < 1114112
 scalar_below c s = go (scalar_sides c s)
   where
     go : (c < 55296) ⊎ ((57344 ≤ c) × (c < 1114112)) → c < 1114112
@@ -60,7 +60,7 @@ plain_decodes c rest s k = plain_sides c rest s k (cases_lt c 128) (cases_lt c 2
 short_is : (b : ℕ) → IsTrue (is_short b) → (b == 117) ≡ false
 short_is b h = grind (arith, nat_tests)
 
-short_below : (b : ℕ) → short_character b < 128
+pub short_below : (b : ℕ) → short_character b < 128
 short_below b = grind (arith, nat_tests)
 
 short_decodes : (b : ℕ) (rest : List ℕ) → IsTrue (is_short b) → next_character (92 ∷ b ∷ rest) ≡ Some (short_character b, rest)
@@ -99,7 +99,7 @@ escaped_is (unit a b c d ∷ ps) h = refl
 
 -- units of UTF-16 and their characters
 
-unit_below : (a b c d : ℕ) → IsTrue (is_hex a) → IsTrue (is_hex b) → IsTrue (is_hex c) → IsTrue (is_hex d) → unit_value a b c d < 65536
+pub unit_below : (a b c d : ℕ) → IsTrue (is_hex a) → IsTrue (is_hex b) → IsTrue (is_hex c) → IsTrue (is_hex d) → unit_value a b c d < 65536
 unit_below a b c d ha hb hc hd =
     let la : digit_value a < 16 = hex_below a ha in
     let lb : digit_value b < 16 = hex_below b hb in

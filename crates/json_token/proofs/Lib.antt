@@ -4,6 +4,7 @@ pub mod Encoded
 pub mod NumberBytes
 pub mod Numbers
 pub mod Pieces
+pub mod Scalars
 pub mod Shorter
 pub mod TextBytes
 pub mod Walks

@@ -36,9 +36,9 @@ not_unspawned : Initializing ≡ Unspawned → ⊥
 not_unspawned e = cc
 
 -- the start is ready, and told so
-readied : (t : Kept) (body : List ℕ) (r : Json) (ps : Option Json) (events : List Event) → Stands t events → t.stage ≡ Initializing
+readied : (t : Kept) (body : List ℕ) (r : Json) (ps : Option Json) (events : List Event) (s : Stands t events) → t.stage ≡ Initializing
     → message_of body ≡ result (Some (integer (codes "1"))) r → message_of initialized_text ≡ notification (codes "initialized") ps
-    → Goes t (heard (FromServer 0 body) ∷ map said (ToServer 0 initialized_text ∷ [])) (record t { stage = Ready })
+    → Goes s.initialize t (heard (FromServer 0 body) ∷ map said (ToServer 0 initialized_text ∷ [])) s.initialize (record t { stage = Ready })
 readied t body r ps events s g m w = record {
   desk = refl;
   other_desks = λ n h. refl;
@@ -57,7 +57,7 @@ readied t body r ps events s g m w = record {
   opened = refl;
   ids = s.ids;
   distinct = s.distinct;
-  phase_ties = spawned_tie t.phase t.stage Ready t.pending t.initialize s.phase_ties (λ q. not_unspawned (sym g ∙ q));
+  phase_ties = spawned_tie t.phase t.stage Ready t.pending t.id s.initialize s.phase_ties (λ q. not_unspawned (sym g ∙ q));
   stage_ties = tt;
 }
 
@@ -70,7 +70,7 @@ stands_ready : (t : Kept) (body : List ℕ) (r : Json) (ps : Option Json) (event
     → Stands (record t { stage = Ready }) (told_ready events body)
 stands_ready t body r ps events s g m w =
     subst (λ evs. Stands (record t { stage = Ready }) evs) (sym (append_assoc events (heard (FromServer 0 body) ∷ []) (map said (ToServer 0 initialized_text ∷ []))))
-    (stands_further t (record t { stage = Ready }) events (heard (FromServer 0 body) ∷ map said (ToServer 0 initialized_text ∷ [])) s (readied t body r ps events s g m w))
+    (stands_further t (record t { stage = Ready }) events (heard (FromServer 0 body) ∷ map said (ToServer 0 initialized_text ∷ [])) s.initialize s (readied t body r ps events s g m w))
 
 -- nobody waits in the other phases
 nobody : (p : Phase) (evs : List Event) → (is_waiting p ≡ false) → editors_of evs ≡ joined_in p → (desk_of 0 evs).phase ≡ p → waiting_for 0 evs ≡ []
@@ -95,15 +95,15 @@ readied_steps settings events t body r ps s g m w p =
     let l : (life_of 0 events).stage ≡ Initializing = ap (λ l. l.stage) s.life ∙ g in
     let u = stands_ready t body r ps events s g m w in
     let none : waiting_for 0 (told_ready events body) ≡ [] = nobody t.phase (told_ready events body) p u.editors (ap (λ d. d.phase) u.desk) in
-    steps_so settings events (FromServer 0 body) (ToServer 0 initialized_text ∷ []) t (record t { stage = Ready }) s (readied t body r ps events s g m w)
+    steps_so settings events (FromServer 0 body) (ToServer 0 initialized_text ∷ []) t (record t { stage = Ready }) s.initialize s (readied t body r ps events s g m w)
     (sym (first_row settings events body r l m ∙ ap (λ es. ToServer 0 initialized_text ∷ outs (each (welcome body) es) (told_ready events body)) none))
 
-waiting_ties : (t : Kept) (events : List Event) → Stands t events → t.phase ≡ Waiting → (t.pending ≡ []) × MeansId (id_bytes t.initialize)
-waiting_ties t events s e = let P : Phase → Type 0 = λ p. PhaseTies p t.stage t.pending t.initialize in subst P e s.phase_ties
+waiting_ties : (t : Kept) (events : List Event) (s : Stands t events) → t.phase ≡ Waiting → (t.pending ≡ []) × MeansId t.id × (t.id ≡ id_bytes s.initialize)
+waiting_ties t events s e = let P : Phase → Type 0 = λ p. PhaseTies p t.stage t.pending t.id s.initialize in subst P e s.phase_ties
 
 -- the waiting editor is answered
-welcomed : (t : Kept) (text : List ℕ) (v : Json) (events : List Event) → Stands t events → t.phase ≡ Waiting → message_of text ≡ result (Some (id_meant (id_bytes t.initialize))) v
-    → Goes t (map said (ToEditor 0 text ∷ [])) (record t { phase = Answered; sent = min (t.sent + length text) (2 ^ 64 - 1) })
+welcomed : (t : Kept) (text : List ℕ) (v : Json) (events : List Event) (s : Stands t events) → t.phase ≡ Waiting → message_of text ≡ result (Some (id_meant t.id)) v
+    → Goes s.initialize t (map said (ToEditor 0 text ∷ [])) s.initialize (record t { phase = Answered; sent = min (t.sent + length text) (2 ^ 64 - 1) })
 welcomed t text v events s e w =
     let ties = waiting_ties t events s e in
     let none : t.pending ≡ [] = ties.0 in
@@ -122,7 +122,7 @@ welcomed t text v events s e w =
       founder = λ f q. q;
       next = λ a q r. q;
       pending = λ a q r. rw (w, r, none) refl;
-      opened = rw (w, e, none) (closes (id_meant (id_bytes t.initialize)) [] refl);
+      opened = rw (w, e, none) (closes (id_meant t.id) [] refl);
       ids = s.ids;
       distinct = s.distinct;
       phase_ties = tt;
@@ -135,19 +135,19 @@ one_waits evs n d h g = rw (n, d, h, g) refl
 -- S2: the editor that waits gets the result
 pub welcomed_steps : (settings : Settings) (events : List Event) (t : Kept) (body text : List ℕ) (r v : Json) (ps : Option Json) → Stands t events → t.stage ≡ Initializing
     → message_of body ≡ result (Some (integer (codes "1"))) r → message_of initialized_text ≡ notification (codes "initialized") ps → t.phase ≡ Waiting
-    → text ≡ ok_text (id_bytes t.initialize) (result_bytes body) → message_of text ≡ result (Some (id_meant (id_bytes t.initialize))) v
+    → text ≡ ok_text t.id (result_bytes body) → message_of text ≡ result (Some (id_meant t.id)) v
     → Steps settings events (FromServer 0 body) (ToServer 0 initialized_text ∷ ToEditor 0 text ∷ []) (record t { phase = Answered; sent = min (t.sent + length text) (2 ^ 64 - 1); stage = Ready })
 welcomed_steps settings events t body text r v ps s g m w p x n =
     let l : (life_of 0 events).stage ≡ Initializing = ap (λ l. l.stage) s.life ∙ g in
     let u = stands_ready t body r ps events s g m w in
     let evs : List Event = told_ready events body in
     let waits : waiting_for 0 evs ≡ 0 ∷ [] = one_waits evs (u.editors ∙ ap joined_in p) (ap (λ d. d.phase) u.desk ∙ p) u.home u.group in
-    let text_is : ok_text (id_bytes (desk_of 0 evs).initialize) (result_bytes body) ≡ text = ap (λ d. ok_text (id_bytes d.initialize) (result_bytes body)) u.desk ∙ sym x in
+    let text_is : ok_text (id_bytes (desk_of 0 evs).initialize) (result_bytes body) ≡ text = ap (λ d. ok_text (id_bytes d.initialize) (result_bytes body)) u.desk ∙ (ap (λ i. ok_text i (result_bytes body)) (sym (waiting_ties (record t { stage = Ready }) evs u p).2) ∙ sym x) in
     record {
       outs = sym (first_row settings events body r l m ∙ (ap (λ es. ToServer 0 initialized_text ∷ outs (each (welcome body) es) evs) waits ∙ ap (λ b. ToServer 0 initialized_text ∷ ToEditor 0 b ∷ []) text_is));
       stands = subst (λ xs. Stands (record t { phase = Answered; sent = min (t.sent + length text) (2 ^ 64 - 1); stage = Ready }) xs)
         (append_assoc (with_cause events (FromServer 0 body)) (said (ToServer 0 initialized_text) ∷ []) (said (ToEditor 0 text) ∷ []))
-        (stands_further (record t { stage = Ready }) (record t { phase = Answered; sent = min (t.sent + length text) (2 ^ 64 - 1); stage = Ready }) evs (map said (ToEditor 0 text ∷ [])) u
+        (stands_further (record t { stage = Ready }) (record t { phase = Answered; sent = min (t.sent + length text) (2 ^ 64 - 1); stage = Ready }) evs (map said (ToEditor 0 text ∷ [])) u.initialize u
           (welcomed (record t { stage = Ready }) text v evs u p n));
     }
 
@@ -157,7 +157,7 @@ responds i (result id r) = id ≡ i
 responds i (error id e) = id ≡ i
 responds i other = ⊥
 
-heard_response : (t : Kept) (events : List Event) (body : List ℕ) → Stands t events → t.stage ≡ Ready → Goes t (heard (FromServer 0 body) ∷ map said []) t
+heard_response : (t : Kept) (events : List Event) (body : List ℕ) (s : Stands t events) → t.stage ≡ Ready → Goes s.initialize t (heard (FromServer 0 body) ∷ map said []) s.initialize t
 heard_response t events body s g = record {
   desk = refl;
   other_desks = λ n h. refl;
@@ -186,7 +186,7 @@ pub unasked_steps : (settings : Settings) (events : List Event) (t : Kept) (body
 unasked_steps settings events t body s g a =
     let l : (life_of 0 events).stage ≡ Ready = ap (λ l. l.stage) s.life ∙ g in
     let none : asked_by (answered_id (message_of body)) (asking_of 0 events).open_requests ≡ None = ap (asked_by (answered_id (message_of body))) s.pending ∙ a in
-    steps_so settings events (FromServer 0 body) [] t t s (heard_response t events body s g) (rw (l, none) refl)
+    steps_so settings events (FromServer 0 body) [] t t s.initialize s (heard_response t events body s g) (rw (l, none) refl)
 
 -- S5 where the editor isn't there
 pub left_steps : (settings : Settings) (events : List Event) (t : Kept) (body : List ℕ) (p : Pending) → Stands t events → t.stage ≡ Ready
@@ -195,7 +195,7 @@ left_steps settings events t body p s g a gone =
     let l : (life_of 0 events).stage ≡ Ready = ap (λ l. l.stage) s.life ∙ g in
     let some : asked_by (answered_id (message_of body)) (asking_of 0 events).open_requests ≡ Some (asked_of p) = ap (asked_by (answered_id (message_of body))) s.pending ∙ a in
     let d : is_there (desk_of 0 events).phase ≡ false = ap (λ d. is_there d.phase) s.desk ∙ gone in
-    steps_so settings events (FromServer 0 body) [] t t s (heard_response t events body s g) (rw (l, some, d) refl)
+    steps_so settings events (FromServer 0 body) [] t t s.initialize s (heard_response t events body s g) (rw (l, some, d) refl)
 
 -- the phases of an editor whose request was sent on
 abbrev pub WasServed : Phase → Type 0
@@ -204,15 +204,15 @@ WasServed New = ⊥
 WasServed Waiting = ⊥
 WasServed _ = Unit {0}
 
-was_served : (q : Phase) (g : Stage) (ps : List Pending) (i : List ℕ) (k : ℕ) (p : Pending) → PhaseTies q g ps i → slice_get ps k ≡ Some p → WasServed q
-was_served Absent g ps i k p t e = no_place k p (ap (λ l. slice_get l k) (sym t.1) ∙ e)
-was_served New g ps i k p t e = no_place k p (ap (λ l. slice_get l k) (sym t.1) ∙ e)
-was_served Waiting g ps i k p t e = no_place k p (ap (λ l. slice_get l k) (sym t.0) ∙ e)
-was_served Answered g ps i k p t e = tt
-was_served Running g ps i k p t e = tt
-was_served Down g ps i k p t e = tt
-was_served Closed g ps i k p t e = tt
-was_served Gone g ps i k p t e = tt
+was_served : (q : Phase) (g : Stage) (ps : List Pending) (i b : List ℕ) (k : ℕ) (p : Pending) → PhaseTies q g ps i b → slice_get ps k ≡ Some p → WasServed q
+was_served Absent g ps i b k p t e = no_place k p (ap (λ l. slice_get l k) (sym t.1) ∙ e)
+was_served New g ps i b k p t e = no_place k p (ap (λ l. slice_get l k) (sym t.1) ∙ e)
+was_served Waiting g ps i b k p t e = no_place k p (ap (λ l. slice_get l k) (sym t.0) ∙ e)
+was_served Answered g ps i b k p t e = tt
+was_served Running g ps i b k p t e = tt
+was_served Down g ps i b k p t e = tt
+was_served Closed g ps i b k p t e = tt
+was_served Gone g ps i b k p t e = tt
 
 told_phase : (q : Phase) (m : Message) → WasServed q → phase_told q m ≡ q
 told_phase Absent m w = absurd w
@@ -234,15 +234,15 @@ served_open Down ps i w = refl
 served_open Closed ps i w = refl
 served_open Gone ps i w = refl
 
-served_ties : (q : Phase) (g : Stage) (ps : List Pending) (i : List ℕ) → WasServed q → PhaseTies q g ps i
-served_ties Absent g ps i w = absurd w
-served_ties New g ps i w = absurd w
-served_ties Waiting g ps i w = absurd w
-served_ties Answered g ps i w = tt
-served_ties Running g ps i w = tt
-served_ties Down g ps i w = tt
-served_ties Closed g ps i w = tt
-served_ties Gone g ps i w = tt
+served_ties : (q : Phase) (g : Stage) (ps : List Pending) (i b : List ℕ) → WasServed q → PhaseTies q g ps i b
+served_ties Absent g ps i b w = absurd w
+served_ties New g ps i b w = absurd w
+served_ties Waiting g ps i b w = absurd w
+served_ties Answered g ps i b w = tt
+served_ties Running g ps i b w = tt
+served_ties Down g ps i b w = tt
+served_ties Closed g ps i b w = tt
+served_ties Gone g ps i b w = tt
 
 abbrev desk_record : Phase → List ℕ → Desk
 desk_record q i = record { phase = q; initialize = i }
@@ -257,10 +257,10 @@ passed_steps settings events t body text k p s g a e here x w =
     let some : asked_by (answered_id (message_of body)) (asking_of 0 events).open_requests ≡ Some (asked_of p) = ap (asked_by (answered_id (message_of body))) s.pending ∙ a in
     let d : is_there (desk_of 0 events).phase ≡ true = ap (λ d. is_there d.phase) s.desk ∙ here in
     let j : Id = id_meant p.id in
-    let served : WasServed t.phase = was_served t.phase t.stage t.pending t.initialize k p s.phase_ties e in
-    let opens : open_in t.phase t.pending (id_bytes t.initialize) ≡ ids_of t.pending = served_open t.phase t.pending (id_bytes t.initialize) served in
-    steps_so settings events (FromServer 0 body) (ToEditor 0 text ∷ []) t (record t { sent = min (t.sent + length text) (2 ^ 64 - 1); pending = remove t.pending k }) s (record {
-      desk = ap (λ q. desk_record q t.initialize) (told_phase t.phase (message_of text) served);
+    let served : WasServed t.phase = was_served t.phase t.stage t.pending t.id s.initialize k p s.phase_ties e in
+    let opens : open_in t.phase t.pending t.id ≡ ids_of t.pending = served_open t.phase t.pending t.id served in
+    steps_so settings events (FromServer 0 body) (ToEditor 0 text ∷ []) t (record t { sent = min (t.sent + length text) (2 ^ 64 - 1); pending = remove t.pending k }) s.initialize s (record {
+      desk = ap (λ q. desk_record q s.initialize) (told_phase t.phase (message_of text) served);
       other_desks = λ n h. rw (not_zero n h) refl;
       editors = refl;
       sent = λ n h. more_sent n t.sent (length text) h;
@@ -274,9 +274,9 @@ passed_steps settings events t body text k p s g a e here x w =
       founder = λ f q. q;
       next = λ a q r. q;
       pending = λ a q r. rw (w, r) (removed asked_of (λ asked. not (answers 0 (Some j) asked)) j t.pending k p (λ q. refl) s.distinct e refl);
-      opened = rw (w, opens) (removed (λ q. id_meant q.id) (λ o. not (same_id j o)) j t.pending k p (λ q. refl) s.distinct e refl ∙ sym (served_open t.phase (remove t.pending k) (id_bytes t.initialize) served));
+      opened = rw (w, opens) (removed (λ q. id_meant q.id) (λ o. not (same_id j o)) j t.pending k p (λ q. refl) s.distinct e refl ∙ sym (served_open t.phase (remove t.pending k) t.id served));
       ids = all_removed t.pending k p e s.ids;
       distinct = distinct_removed t.pending k p e s.distinct;
-      phase_ties = served_ties t.phase t.stage (remove t.pending k) t.initialize served;
+      phase_ties = served_ties t.phase t.stage (remove t.pending k) t.id s.initialize served;
       stage_ties = s.stage_ties;
     }) (rw (l, some, d) (ap (λ b. ToEditor 0 b ∷ []) x))

@@ -18,9 +18,9 @@ use Rattle.mux_hub.specs.declared.pending.Pending.{Pending}
 use Rattle.mux_hub.specs.Tables.{Kept, asked_for, joined_in, spawned_in, first_in, open_in}
 use Rattle.mux_hub.specs.Stands.{Stands, Distinct, MeansId, PhaseTies, StageTies}
 
--- these events lead the tables t to u
-pub record Goes (t : Kept) (evs : List Event) (u : Kept) : Type 0 where
-  pub desk : fold (desk_behind 0) (record { phase = t.phase; initialize = t.initialize }) evs ≡ record { phase = u.phase; initialize = u.initialize }
+-- these events lead the tables t to u, and the initialize b to c
+pub record Goes (b : List ℕ) (t : Kept) (evs : List Event) (c : List ℕ) (u : Kept) : Type 0 where
+  pub desk : fold (desk_behind 0) (record { phase = t.phase; initialize = b }) evs ≡ record { phase = u.phase; initialize = c }
   pub other_desks : (e : ℕ) → 0 < e → fold (desk_behind e) no_desk evs ≡ no_desk
   pub editors : fold editors_behind (joined_in t.phase) evs ≡ joined_in u.phase
   pub sent : (n : ℕ) → t.sent ≡ min n (2 ^ 64 - 1) → u.sent ≡ min (fold (backlog_behind 0) n evs) (2 ^ 64 - 1)
@@ -34,17 +34,18 @@ pub record Goes (t : Kept) (evs : List Event) (u : Kept) : Type 0 where
   pub founder : (f : Founding) → f.founder ≡ first_in t.stage → (fold (founding_behind 0) f evs).founder ≡ first_in u.stage
   pub next : (a : Asking) → a.next ≡ t.next → a.open_requests ≡ asked_for t.pending → (fold (asking_behind 0) a evs).next ≡ u.next
   pub pending : (a : Asking) → a.next ≡ t.next → a.open_requests ≡ asked_for t.pending → (fold (asking_behind 0) a evs).open_requests ≡ asked_for u.pending
-  pub opened : fold (open_behind 0) (open_in t.phase t.pending (id_bytes t.initialize)) evs ≡ open_in u.phase u.pending (id_bytes u.initialize)
+  pub opened : fold (open_behind 0) (open_in t.phase t.pending t.id) evs ≡ open_in u.phase u.pending u.id
   pub ids : AllByRecursion (λ p. MeansId p.id) u.pending
   pub distinct : Distinct u.pending
-  pub phase_ties : PhaseTies u.phase u.stage u.pending u.initialize
-  pub stage_ties : StageTies u.stage u.next u.opening u.initialize
+  pub phase_ties : PhaseTies u.phase u.stage u.pending u.id c
+  pub stage_ties : StageTies u.stage u.next u.opening c
 
 further : {A : Type 0} (f : A → Event → A) (b x : A) (events evs : List Event) → fold f b events ≡ x → fold f b (events ++ evs) ≡ fold f x evs
 further f b x events evs e = fold-append f b events evs ∙ ap (λ y. fold f y evs) e
 
-pub stands_further : (t u : Kept) (events evs : List Event) → Stands t events → Goes t evs u → Stands u (events ++ evs)
-stands_further t u events evs s g = record {
+pub stands_further : (t u : Kept) (events evs : List Event) (c : List ℕ) (s : Stands t events) → Goes s.initialize t evs c u → Stands u (events ++ evs)
+stands_further t u events evs c s g = record {
+  initialize = c;
   desk = further (desk_behind 0) no_desk _ events evs s.desk ∙ g.desk;
   other_desks = λ e h. further (desk_behind e) no_desk _ events evs (s.other_desks e h) ∙ g.other_desks e h;
   editors = further editors_behind 0 _ events evs s.editors ∙ g.editors;
@@ -67,8 +68,8 @@ stands_further t u events evs s g = record {
 }
 
 -- an entry is its cause and then its outs
-pub steps_so : (settings : Settings) (events : List Event) (cause : Cause) (xs : List Out) (t u : Kept) → Stands t events → Goes t (heard cause ∷ map said xs) u → xs ≡ outs_of settings events cause → Steps settings events cause xs u
-steps_so settings events cause xs t u s g e = record {
+pub steps_so : (settings : Settings) (events : List Event) (cause : Cause) (xs : List Out) (t u : Kept) (c : List ℕ) (s : Stands t events) → Goes s.initialize t (heard cause ∷ map said xs) c u → xs ≡ outs_of settings events cause → Steps settings events cause xs u
+steps_so settings events cause xs t u c s g e = record {
   outs = e;
-  stands = subst (λ evs. Stands u evs) (sym (append_assoc events (heard cause ∷ []) (map said xs))) (stands_further t u events (heard cause ∷ map said xs) s g);
+  stands = subst (λ evs. Stands u evs) (sym (append_assoc events (heard cause ∷ []) (map said xs))) (stands_further t u events (heard cause ∷ map said xs) c s g);
 }

@@ -1,10 +1,12 @@
 pub mod Answering
 pub mod Classes
 pub mod Entries
+pub mod Heard
+pub mod HubLaw
 pub mod Ids
 pub mod Meant
 pub mod Numbers
 pub mod Opening
-pub mod OpeningLaw
+pub mod Places
 pub mod Serving
 pub mod TurnLaw

@@ -26,31 +26,31 @@ use Rattle.mux_hub.proofs.Entries.{Goes, steps_so}
 use Rattle.mux_hub.proofs.Numbers.{not_zero}
 
 absent_ties : (t : Kept) (events : List Event) → Stands t events → t.phase ≡ Absent → (t.stage ≡ Unspawned) × (t.pending ≡ [])
-absent_ties t events s e = let P : Phase → Type 0 = λ p. PhaseTies p t.stage t.pending t.initialize in subst P e s.phase_ties
+absent_ties t events s e = let P : Phase → Type 0 = λ p. PhaseTies p t.stage t.pending t.id s.initialize in subst P e s.phase_ties
 
 new_ties : (t : Kept) (events : List Event) → Stands t events → t.phase ≡ New → (t.stage ≡ Unspawned) × (t.pending ≡ [])
-new_ties t events s e = let P : Phase → Type 0 = λ p. PhaseTies p t.stage t.pending t.initialize in subst P e s.phase_ties
+new_ties t events s e = let P : Phase → Type 0 = λ p. PhaseTies p t.stage t.pending t.id s.initialize in subst P e s.phase_ties
 
 unspawned_ties : (t : Kept) (events : List Event) → Stands t events → t.stage ≡ Unspawned → t.next ≡ 1
-unspawned_ties t events s g = let P : Stage → Type 0 = λ p. StageTies p t.next t.opening t.initialize in subst P g s.stage_ties
+unspawned_ties t events s g = let P : Stage → Type 0 = λ p. StageTies p t.next t.opening s.initialize in subst P g s.stage_ties
 
-spawning_ties : (t : Kept) (events : List Event) → Stands t events → t.stage ≡ Spawning → (t.next ≡ 1) × (t.opening ≡ initialize_for t.initialize) × Opens t.opening
-spawning_ties t events s g = let P : Stage → Type 0 = λ p. StageTies p t.next t.opening t.initialize in subst P g s.stage_ties
+spawning_ties : (t : Kept) (events : List Event) (s : Stands t events) → t.stage ≡ Spawning → (t.next ≡ 1) × (t.opening ≡ initialize_for s.initialize) × Opens t.opening
+spawning_ties t events s g = let P : Stage → Type 0 = λ p. StageTies p t.next t.opening s.initialize in subst P g s.stage_ties
 
 -- where a start was spawned, the ties of the phase say nothing of its stage
-pub spawned_tie : (p : Phase) (g h : Stage) (ps : List Pending) (body : List ℕ) → PhaseTies p g ps body → (g ≡ Unspawned → ⊥) → PhaseTies p h ps body
-spawned_tie Absent g h ps body t n = absurd (n t.0)
-spawned_tie New g h ps body t n = absurd (n t.0)
-spawned_tie Waiting g h ps body t n = t
-spawned_tie Answered g h ps body t n = tt
-spawned_tie Running g h ps body t n = tt
-spawned_tie Down g h ps body t n = tt
-spawned_tie Closed g h ps body t n = tt
-spawned_tie Gone g h ps body t n = tt
+pub spawned_tie : (p : Phase) (g h : Stage) (ps : List Pending) (id body : List ℕ) → PhaseTies p g ps id body → (g ≡ Unspawned → ⊥) → PhaseTies p h ps id body
+spawned_tie Absent g h ps id body t n = absurd (n t.0)
+spawned_tie New g h ps id body t n = absurd (n t.0)
+spawned_tie Waiting g h ps id body t n = t
+spawned_tie Answered g h ps id body t n = tt
+spawned_tie Running g h ps id body t n = tt
+spawned_tie Down g h ps id body t n = tt
+spawned_tie Closed g h ps id body t n = tt
+spawned_tie Gone g h ps id body t n = tt
 
 -- J1
-pub joined_steps : (settings : Settings) (events : List Event) (t : Kept) → Stands t events → t.phase ≡ Absent → Steps settings events (Joined 0) [] (record t { phase = New; initialize = [] })
-joined_steps settings events t s e = steps_so settings events (Joined 0) [] t (record t { phase = New; initialize = [] }) s (record {
+pub joined_steps : (settings : Settings) (events : List Event) (t : Kept) → Stands t events → t.phase ≡ Absent → Steps settings events (Joined 0) [] (record t { phase = New })
+joined_steps settings events t s e = steps_so settings events (Joined 0) [] t (record t { phase = New }) [] s (record {
   desk = refl;
   other_desks = λ n h. rw (not_zero n h) refl;
   editors = rw e refl;
@@ -75,7 +75,7 @@ joined_steps settings events t s e = steps_so settings events (Joined 0) [] t (r
 -- E7: the editor's initialize founds a group
 pub founded_steps : (settings : Settings) (events : List Event) (t : Kept) (body : List ℕ) (id : Id) (ps : Option Json) → Stands t events → t.phase ≡ New
     → message_of body ≡ request id (codes "initialize") ps → id ≡ id_meant (id_bytes body) → MeansId (id_bytes body) → Opens (initialize_for body)
-    → Steps settings events (FromEditor 0 body) (Spawn 0 0 ∷ []) (record t { phase = Waiting; initialize = body; opening = initialize_for body; stage = Spawning; started = false })
+    → Steps settings events (FromEditor 0 body) (Spawn 0 0 ∷ []) (record t { phase = Waiting; id = id_bytes body; opening = initialize_for body; stage = Spawning; started = false })
 founded_steps settings events t body id ps s e m i means opens =
     let none = new_ties t events s e in
     let g : t.stage ≡ Unspawned = none.0 in
@@ -83,7 +83,7 @@ founded_steps settings events t body id ps s e m i means opens =
     let event : Event = took (FromEditor 0 body) (request id (codes "initialize") ps) in
     let a : starts_of (events ++ event ∷ []) ≡ 0 = fold-append starts_behind 0 events (event ∷ []) ∙ (s.starts ∙ ap spawned_in g) in
     let b : groups_of (events ++ event ∷ []) ≡ 0 = fold-append groups_behind 0 events (event ∷ []) ∙ (s.groups ∙ ap spawned_in g) in
-    steps_so settings events (FromEditor 0 body) (Spawn 0 0 ∷ []) t (record t { phase = Waiting; initialize = body; opening = initialize_for body; stage = Spawning; started = false }) s (record {
+    steps_so settings events (FromEditor 0 body) (Spawn 0 0 ∷ []) t (record t { phase = Waiting; id = id_bytes body; opening = initialize_for body; stage = Spawning; started = false }) body s (record {
       desk = rw (m, e) refl;
       other_desks = λ n h. rw (not_zero n h) refl;
       editors = rw e refl;
@@ -101,19 +101,19 @@ founded_steps settings events t body id ps s e m i means opens =
       opened = rw (m, e) (ap (λ x. x ∷ []) i);
       ids = s.ids;
   distinct = s.distinct;
-      phase_ties = (none.1, means);
+      phase_ties = (none.1, means, refl);
       stage_ties = (unspawned_ties t events s g, refl, opens);
     }) (rw (p, m, a, b) refl)
 
 -- the tables stand where the start's program may run, and it is spawning
-started_with : (settings : Settings) (events : List Event) (t : Kept) (ps : Option Json) → Stands t events → t.stage ≡ Spawning → t.next ≡ 1 → t.opening ≡ initialize_for t.initialize
+started_with : (settings : Settings) (events : List Event) (t : Kept) (ps : Option Json) (s : Stands t events) → t.stage ≡ Spawning → t.next ≡ 1 → t.opening ≡ initialize_for s.initialize
     → message_of t.opening ≡ request (integer (codes "1")) (codes "initialize") ps → Steps settings events (Started 0) (ToServer 0 t.opening ∷ []) (record t { stage = Initializing; started = true; next = 2 })
 started_with settings events t ps s g n x m =
     let l : (life_of 0 events).stage ≡ Spawning = ap (λ l. l.stage) s.life ∙ g in
     let gr : group_of 0 events ≡ Some 0 = s.group ∙ ap first_in g in
     let fo : (founding_of 0 events).founder ≡ Some 0 = s.founder ∙ ap first_in g in
-    let founder : founder_body 0 events ≡ t.initialize = ap (λ g. initialize_in g events) gr ∙ (ap (λ f. initialize_by f events) fo ∙ ap (λ d. d.initialize) s.desk) in
-    steps_so settings events (Started 0) (ToServer 0 t.opening ∷ []) t (record t { stage = Initializing; started = true; next = 2 }) s (record {
+    let founder : founder_body 0 events ≡ s.initialize = ap (λ g. initialize_in g events) gr ∙ (ap (λ f. initialize_by f events) fo ∙ ap (λ d. d.initialize) s.desk) in
+    steps_so settings events (Started 0) (ToServer 0 t.opening ∷ []) t (record t { stage = Initializing; started = true; next = 2 }) s.initialize s (record {
       desk = refl;
       other_desks = λ n h. refl;
       editors = refl;
@@ -131,7 +131,7 @@ started_with settings events t ps s g n x m =
       opened = refl;
       ids = s.ids;
   distinct = s.distinct;
-      phase_ties = spawned_tie t.phase t.stage Initializing t.pending t.initialize s.phase_ties (λ q. let z : Spawning ≡ Unspawned = sym g ∙ q in cc);
+      phase_ties = spawned_tie t.phase t.stage Initializing t.pending t.id s.initialize s.phase_ties (λ q. let z : Spawning ≡ Unspawned = sym g ∙ q in cc);
       stage_ties = tt;
     }) (rw l (ap (λ b. ToServer 0 b ∷ []) (x ∙ ap initialize_for (sym founder))))
 
@@ -143,7 +143,7 @@ started_steps settings events t s g = let ties = spawning_ties t events s g in s
 pub ending_steps : (settings : Settings) (events : List Event) (t : Kept) → Stands t events → t.stage ≡ Ending → Steps settings events (Started 0) [] (record t { started = true })
 ending_steps settings events t s g =
     let l : (life_of 0 events).stage ≡ Ending = ap (λ l. l.stage) s.life ∙ g in
-    steps_so settings events (Started 0) [] t (record t { started = true }) s (record {
+    steps_so settings events (Started 0) [] t (record t { started = true }) s.initialize s (record {
       desk = refl;
       other_desks = λ n h. refl;
       editors = refl;

@@ -63,15 +63,15 @@ note_open Down ps i = refl
 note_open Closed ps i = refl
 note_open Gone ps i = refl
 
-note_ties : (p : Phase) (g : Stage) (ps : List Pending) (i : List ℕ) → PhaseTies p g ps i → PhaseTies (after_message p) g ps i
-note_ties Absent g ps i t = t
-note_ties New g ps i t = t
-note_ties Waiting g ps i t = t
-note_ties Answered g ps i t = tt
-note_ties Running g ps i t = tt
-note_ties Down g ps i t = tt
-note_ties Closed g ps i t = tt
-note_ties Gone g ps i t = tt
+note_ties : (p : Phase) (g : Stage) (ps : List Pending) (i b : List ℕ) → PhaseTies p g ps i b → PhaseTies (after_message p) g ps i b
+note_ties Absent g ps i b t = t
+note_ties New g ps i b t = t
+note_ties Waiting g ps i b t = t
+note_ties Answered g ps i b t = tt
+note_ties Running g ps i b t = tt
+note_ties Down g ps i b t = tt
+note_ties Closed g ps i b t = tt
+note_ties Gone g ps i b t = tt
 
 note_outs : (settings : Settings) (events evs : List Event) (body : List ℕ) (ps : Option Json) (p : Phase) → [] ≡ outs (from_editor settings events 0 body (notification (codes "initialized") ps) p) evs
 note_outs settings events evs body ps Absent = refl
@@ -88,8 +88,8 @@ pub noted_steps : (settings : Settings) (events : List Event) (t : Kept) (body :
     → message_of body ≡ notification (codes "initialized") ps → Steps settings events (FromEditor 0 body) [] (record t { phase = after_message t.phase })
 noted_steps settings events t body ps s m =
     let d : (desk_of 0 events).phase ≡ t.phase = ap (λ d. d.phase) s.desk in
-    steps_so settings events (FromEditor 0 body) [] t (record t { phase = after_message t.phase }) s (record {
-      desk = rw m (note_desk t.phase t.initialize body ps);
+    steps_so settings events (FromEditor 0 body) [] t (record t { phase = after_message t.phase }) s.initialize s (record {
+      desk = rw m (note_desk t.phase s.initialize body ps);
       other_desks = λ n h. rw (not_zero n h) refl;
       editors = note_joined t.phase;
       sent = λ n h. h;
@@ -103,10 +103,10 @@ noted_steps settings events t body ps s m =
       founder = λ f q. q;
       next = λ a q r. q;
       pending = λ a q r. r;
-      opened = rw m (note_open t.phase t.pending (id_bytes t.initialize));
+      opened = rw m (note_open t.phase t.pending t.id);
       ids = s.ids;
   distinct = s.distinct;
-      phase_ties = note_ties t.phase t.stage t.pending t.initialize s.phase_ties;
+      phase_ties = note_ties t.phase t.stage t.pending t.id s.initialize s.phase_ties;
       stage_ties = s.stage_ties;
     }) (rw (d, m) (note_outs settings events _ body ps t.phase))
 
@@ -196,9 +196,9 @@ refused_steps settings events t body text method id ps tree s p m n o x w c =
     let row : outs (from_editor settings events 0 body (request id method ps) t.phase) evs ≡ ToEditor 0 (error_text (id_bytes body) request_failed) ∷ [] =
       ask_row settings events evs body id method ps t.phase p ∙ refusing settings events evs body t.stage t.next f l s.next c in
     let sv = serves method n in
-    let opens : open_in t.phase t.pending (id_bytes t.initialize) ≡ ids_of t.pending = ask_open t.phase t.pending (id_bytes t.initialize) p in
-    let desk : desk_hears t.phase t.initialize body (request id method ps) ≡ record { phase = Running; initialize = t.initialize } = ask_desk t.phase t.initialize body id method ps p sv in
-    steps_so settings events (FromEditor 0 body) (ToEditor 0 text ∷ []) t (record t { phase = Running; sent = min (t.sent + length text) (2 ^ 64 - 1) }) s (record {
+    let opens : open_in t.phase t.pending t.id ≡ ids_of t.pending = ask_open t.phase t.pending t.id p in
+    let desk : desk_hears t.phase s.initialize body (request id method ps) ≡ record { phase = Running; initialize = s.initialize } = ask_desk t.phase s.initialize body id method ps p sv in
+    steps_so settings events (FromEditor 0 body) (ToEditor 0 text ∷ []) t (record t { phase = Running; sent = min (t.sent + length text) (2 ^ 64 - 1) }) s.initialize s (record {
       desk = rw (m, w, desk) refl;
       other_desks = λ n h. rw (not_zero n h) refl;
       editors = ask_joined t.phase p;
@@ -251,9 +251,9 @@ forwarded_steps settings events t body text method bytes id ps s p m n o b i mea
     let own : is_own method ≡ false = sv.passed in
     let stays : bytes_eq (codes "shutdown") method ≡ false = sv.stays in
     let asker : asker_record 0 id (id_bytes body) ≡ asker_record 0 (id_meant bytes) bytes = ap (λ j. asker_record 0 j (id_bytes body)) i ∙ ap (asker_record 0 (id_meant bytes)) (sym b) in
-    let opens : open_in t.phase t.pending (id_bytes t.initialize) ≡ ids_of t.pending = ask_open t.phase t.pending (id_bytes t.initialize) p in
-    let desk : desk_hears t.phase t.initialize body (request id method ps) ≡ record { phase = Running; initialize = t.initialize } = ask_desk t.phase t.initialize body id method ps p sv in
-    steps_so settings events (FromEditor 0 body) (ToServer 0 text ∷ []) t (record t { phase = Running; next = t.next + 1; pending = t.pending ++ record { number = t.next; id = bytes } ∷ [] }) s (record {
+    let opens : open_in t.phase t.pending t.id ≡ ids_of t.pending = ask_open t.phase t.pending t.id p in
+    let desk : desk_hears t.phase s.initialize body (request id method ps) ≡ record { phase = Running; initialize = s.initialize } = ask_desk t.phase s.initialize body id method ps p sv in
+    steps_so settings events (FromEditor 0 body) (ToServer 0 text ∷ []) t (record t { phase = Running; next = t.next + 1; pending = t.pending ++ record { number = t.next; id = bytes } ∷ [] }) s.initialize s (record {
       desk = rw (m, desk) refl;
       other_desks = λ n h. rw (not_zero n h) refl;
       editors = ask_joined t.phase p;
@@ -272,5 +272,5 @@ forwarded_steps settings events t body text method bytes id ps s p m n o b i mea
       ids = snoc_all t.pending _ s.ids means;
       distinct = distinct_snoc t.pending _ s.distinct (subst (λ j. is_open j (ids_of t.pending) ≡ false) i o);
       phase_ties = tt;
-      stage_ties = let P : Stage → Type 0 = λ g. StageTies g (t.next + 1) t.opening t.initialize in subst P (sym g) tt;
+      stage_ties = let P : Stage → Type 0 = λ g. StageTies g (t.next + 1) t.opening s.initialize in subst P (sym g) tt;
     }) (rw (d, m) (ap (λ b. ToServer 0 b ∷ []) x ∙ sym row))

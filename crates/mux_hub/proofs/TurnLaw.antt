@@ -7,7 +7,7 @@ use Rattle.std.proofs.lemmas.Slice.Eq.{bytes_eq-Decides}
 use Rattle.json_text.specs.Json.{Json}
 use Rattle.lsp_method.specs.Class.{class_of}
 use Rattle.lsp_method.specs.declared.variants.Origin.TheVariants.{Editor}
-use Rattle.mux_hub.proofs.OpeningLaw.{opening_law}
+use Rattle.mux_model.proofs.Openings.{opening_law}
 use Rattle.mux_history.specs.declared.cause.Cause.{Cause}
 use Rattle.mux_history.specs.declared.cause.Cause.TheVariants.{Joined, FromEditor, EditorGone, Started, StartFailed, FromServer, ServerGone, Drained, Tick}
 use Rattle.rpc_message.specs.Message.{Message, request, notification, result, error, not_json, not_message, Id, integer, text, message_of, id_bytes, result_bytes}
@@ -32,7 +32,7 @@ use Rattle.mux_hub.specs.declared.pending.Pending.{Pending}
 use Rattle.mux_hub.specs.Stands.{Stands, MeansId, PhaseTies}
 use Rattle.mux_hub.specs.Steps.{Steps}
 use Rattle.mux_hub.specs.Tables.{Kept, asked_of, asked_for, joined_in, open_in, id_meant}
-use Rattle.mux_hub.specs.Turns.{Turn, turn, from_editor, from_server, requested, place_of, or_next, answered, pass_if, pass_on, welcome_text, can_go, ask_if, found, started, ready_if}
+use Rattle.mux_hub.specs.Turns.{Turn, turn, from_editor, from_server, resulted, failed, requested, place_of, or_next, answered, pass_if, pass_on, welcome_text, can_go, ask_if, found, started, ready_if}
 use Rattle.mux_hub.proofs.Answering.{readied_steps, welcomed_steps, unasked_steps, left_steps, passed_steps}
 use Rattle.mux_hub.proofs.Classes.{not_own}
 use Rattle.mux_hub.proofs.Ids.{ids_of, means_at}
@@ -61,7 +61,7 @@ joined_right : (settings : Settings) (events : List Event) (t : Kept) (e : ℕ) 
 joined_right settings events t e s b f =
     let z : e ≡ 0 = is_zero e b in
     let p : t.phase ≡ Absent = no_number t.phase (ap (λ n. nat_eq 0 n) (sym s.editors) ∙ (ap (λ n. nat_eq n (editors_of events)) (sym z) ∙ f)) in
-    subst (λ n. Steps settings events (Joined n) [] (record t { phase = New; initialize = [] })) (sym z) (joined_steps settings events t s p)
+    subst (λ n. Steps settings events (Joined n) [] (record t { phase = New })) (sym z) (joined_steps settings events t s p)
 
 and_left : (a b : Bool) → (a && b) ≡ true → a ≡ true
 and_left true b h = refl
@@ -140,7 +140,7 @@ founding settings events t body method id ps s e m i =
     founded_steps settings events t body id ps s e (m ∙ ap (λ w. request id w ps) i) (meant id (id_bytes body) is) (means id (id_bytes body) is) (opening_law body id method ps m)
 
 requesting : (settings : Settings) (events : List Event) (t : Kept) (body method : List ℕ) (id : Id) (ps : Option Json) (p : Phase) → settings.limits.requests < 2 ^ 32 → Stands t events → t.phase ≡ p
-    → message_of body ≡ request id method ps → built_request p (open_in p t.pending (id_bytes t.initialize)) id method ps ≡ true
+    → message_of body ≡ request id method ps → built_request p (open_in p t.pending t.id) id method ps ≡ true
     → Right settings events (FromEditor 0 body) (requested settings.limits.requests t body p)
 requesting settings events t body method id ps New l s e m b =
     let init : bytes_eq (codes "initialize") method ≡ true = and_left _ _ b in
@@ -158,7 +158,7 @@ requesting settings events t body method id ps Closed l s e m b = never b
 requesting settings events t body method id ps Gone l s e m b = never b
 
 hearing : (settings : Settings) (events : List Event) (t : Kept) (body : List ℕ) (m : Message) → settings.limits.requests < 2 ^ 32 → Stands t events → message_of body ≡ m
-    → built_from_editor t.phase (open_in t.phase t.pending (id_bytes t.initialize)) m ≡ true → Right settings events (FromEditor 0 body) (from_editor settings.limits.requests t body m)
+    → built_from_editor t.phase (open_in t.phase t.pending t.id) m ≡ true → Right settings events (FromEditor 0 body) (from_editor settings.limits.requests t body m)
 hearing settings events t body (request id method ps) l s m b = requesting settings events t body method id ps t.phase l s refl m b
 hearing settings events t body (notification method ps) l s m b = noted_steps settings events t body ps s (m ∙ ap (λ w. notification w ps) (sym (same_text (codes "initialized") method b)))
 hearing settings events t body (result id r) l s m b = never b
@@ -251,8 +251,8 @@ waiting_is Down h = never h
 waiting_is Closed h = never h
 waiting_is Gone h = never h
 
-waiting_means : (p : Phase) (g : Stage) (ps : List Pending) (i : List ℕ) → PhaseTies p g ps i → p ≡ Waiting → MeansId (id_bytes i)
-waiting_means p g ps i t e = let P : Phase → Type 0 = λ q. PhaseTies q g ps i in (subst P e t).1
+waiting_means : (p : Phase) (g : Stage) (ps : List Pending) (i b : List ℕ) → PhaseTies p g ps i b → p ≡ Waiting → MeansId i
+waiting_means p g ps i b t e = let P : Phase → Type 0 = λ q. PhaseTies q g ps i b in (subst P e t).1
 
 readying : (settings : Settings) (events : List Event) (t : Kept) (body : List ℕ) (r : Json) (b : Bool) → Stands t events → t.stage ≡ Initializing → message_of body ≡ result (Some (integer (codes "1"))) r → is_waiting t.phase ≡ b
     → Right settings events (FromServer 0 body) (ready_if b t body)
@@ -261,7 +261,7 @@ readying settings events t body r true s g m w =
     let p = waiting_is t.phase w in
     let shallow = result_bytes_law body (Some (integer (codes "1"))) r m in
     welcomed_steps settings events t body (welcome_text t body) r r _ s g m initialized_law p refl
-      (ok_law (Some (id_meant (id_bytes t.initialize))) r (id_bytes t.initialize) (result_bytes body) (id_as_response _ _ (waiting_means t.phase t.stage t.pending t.initialize s.phase_ties p)) shallow.text shallow.shallow)
+      (ok_law (Some (id_meant t.id)) r t.id (result_bytes body) (id_as_response _ _ (waiting_means t.phase t.stage t.pending t.id s.initialize s.phase_ties p)) shallow.text shallow.shallow)
 
 first_is : (body : List ℕ) (m : Message) → message_of body ≡ m → is_first_result m ≡ true → (r : Json) × (message_of body ≡ result (Some (integer (codes "1"))) r)
 first_is body (result (Some (integer n)) r) m f = (r, m ∙ ap (λ n. result (Some (integer n)) r) (same_text n (codes "1") f))
@@ -273,24 +273,85 @@ first_is body (notification method ps) m f = never f
 first_is body not_json m f = never f
 first_is body not_message m f = never f
 
-serving : (settings : Settings) (events : List Event) (t : Kept) (body : List ℕ) (g : Stage) → Stands t events → t.stage ≡ g → built_from_server g (asked_for t.pending) (message_of body) ≡ true
-    → Right settings events (FromServer 0 body) (from_server t body (message_of body) g)
-serving settings events t body Initializing s e b =
-    let r = first_is body (message_of body) refl (and_left _ _ b) in
-    readying settings events t body r.0 (is_waiting t.phase) s e r.1 refl
-serving settings events t body Ready s e b = answering settings events t body (place_of (answered_id (message_of body)) t.pending) s e refl (responds (asked_for t.pending) (message_of body) b)
-serving settings events t body Unspawned s e b = never b
-serving settings events t body Spawning s e b = never b
-serving settings events t body Stopping s e b = never b
-serving settings events t body Ending s e b = never b
-serving settings events t body Ended s e b = never b
+-- only responses of a start are built
+abbrev pub IsResponse : Message → Type 0
+IsResponse (result id r) = Unit {0}
+IsResponse (error id e) = Unit {0}
+IsResponse other = ⊥
+
+only_responses : (g : Stage) (os : List Asked) (m : Message) → built_from_server g os m ≡ true → IsResponse m
+only_responses g os (result id r) b = tt
+only_responses g os (error id e) b = tt
+only_responses Unspawned os (request id method ps) b = never b
+only_responses Spawning os (request id method ps) b = never b
+only_responses Initializing os (request id method ps) b = never b
+only_responses Ready os (request id method ps) b = never b
+only_responses Stopping os (request id method ps) b = never b
+only_responses Ending os (request id method ps) b = never b
+only_responses Ended os (request id method ps) b = never b
+only_responses Unspawned os (notification method ps) b = never b
+only_responses Spawning os (notification method ps) b = never b
+only_responses Initializing os (notification method ps) b = never b
+only_responses Ready os (notification method ps) b = never b
+only_responses Stopping os (notification method ps) b = never b
+only_responses Ending os (notification method ps) b = never b
+only_responses Ended os (notification method ps) b = never b
+only_responses Unspawned os not_json b = never b
+only_responses Spawning os not_json b = never b
+only_responses Initializing os not_json b = never b
+only_responses Ready os not_json b = never b
+only_responses Stopping os not_json b = never b
+only_responses Ending os not_json b = never b
+only_responses Ended os not_json b = never b
+only_responses Unspawned os not_message b = never b
+only_responses Spawning os not_message b = never b
+only_responses Initializing os not_message b = never b
+only_responses Ready os not_message b = never b
+only_responses Stopping os not_message b = never b
+only_responses Ending os not_message b = never b
+only_responses Ended os not_message b = never b
+
+resulting : (settings : Settings) (events : List Event) (t : Kept) (body : List ℕ) (id : Option Id) (r : Json) (g : Stage) → Stands t events → t.stage ≡ g → message_of body ≡ result id r → built_from_server g (asked_for t.pending) (result id r) ≡ true
+    → Right settings events (FromServer 0 body) (resulted t body id g)
+resulting settings events t body id r Initializing s e m b =
+    let f = first_is body (result id r) m (and_left _ _ b) in
+    readying settings events t body f.0 (is_waiting t.phase) s e f.1 refl
+resulting settings events t body id r Ready s e m b =
+    subst (λ i. Right settings events (FromServer 0 body) (answered t body (place_of i t.pending))) (ap answered_id m)
+      (answering settings events t body (place_of (answered_id (message_of body)) t.pending) s e refl (subst (λ n. built_response [] n ≡ true) (sym m) refl))
+resulting settings events t body id r Unspawned s e m b = never b
+resulting settings events t body id r Spawning s e m b = never b
+resulting settings events t body id r Stopping s e m b = never b
+resulting settings events t body id r Ending s e m b = never b
+resulting settings events t body id r Ended s e m b = never b
+
+failing : (settings : Settings) (events : List Event) (t : Kept) (body : List ℕ) (id : Option Id) (r : Json) (g : Stage) → Stands t events → t.stage ≡ g → message_of body ≡ error id r → built_from_server g (asked_for t.pending) (error id r) ≡ true
+    → Right settings events (FromServer 0 body) (failed t body id g)
+failing settings events t body id r Ready s e m b =
+    subst (λ i. Right settings events (FromServer 0 body) (answered t body (place_of i t.pending))) (ap answered_id m)
+      (answering settings events t body (place_of (answered_id (message_of body)) t.pending) s e refl (subst (λ n. built_response [] n ≡ true) (sym m) refl))
+failing settings events t body id r Unspawned s e m b = never b
+failing settings events t body id r Spawning s e m b = never b
+failing settings events t body id r Initializing s e m b = never b
+failing settings events t body id r Stopping s e m b = never b
+failing settings events t body id r Ending s e m b = never b
+failing settings events t body id r Ended s e m b = never b
+
+serving : (settings : Settings) (events : List Event) (t : Kept) (body : List ℕ) (m : Message) → IsResponse m → Stands t events → message_of body ≡ m → built_from_server t.stage (asked_for t.pending) m ≡ true
+    → Right settings events (FromServer 0 body) (from_server t body m t.stage)
+serving settings events t body (result id r) i s m b = resulting settings events t body id r t.stage s refl m b
+serving settings events t body (error id e) i s m b = failing settings events t body id e t.stage s refl m b
+serving settings events t body (request id method ps) i s m b = absurd i
+serving settings events t body (notification method ps) i s m b = absurd i
+serving settings events t body not_json i s m b = absurd i
+serving settings events t body not_message i s m b = absurd i
 
 server_right : (settings : Settings) (events : List Event) (t : Kept) (n : ℕ) (body : List ℕ) → Number n → Stands t events → runs (life_of n events) ≡ true
     → built_from_server (life_of n events).stage (asking_of n events).open_requests (message_of body) ≡ true → Right settings events (FromServer n body) (turn settings.limits.requests t (FromServer n body))
 server_right settings events t _ body (later n h) s f b = never (sym (ap runs (s.other_lives n h)) ∙ f)
 server_right settings events t _ body first s f b =
-    serving settings events t body t.stage s refl
-      (sym (ap (λ l. built_from_server l.stage (asking_of 0 events).open_requests (message_of body)) s.life ∙ ap (λ o. built_from_server t.stage o (message_of body)) s.pending) ∙ b)
+    let c = sym (ap (λ l. built_from_server l.stage (asking_of 0 events).open_requests (message_of body)) s.life ∙ ap (λ o. built_from_server t.stage o (message_of body)) s.pending) ∙ b in
+    serving settings events t body (message_of body) (only_responses t.stage (asked_for t.pending) (message_of body) c) s refl c
 
 -- the law: from tables that stand for events, a turn for a cause that fits and is built is a step
 pub turn_right : (settings : Settings) (events : List Event) (t : Kept) (cause : Cause) → settings.limits.requests < 2 ^ 32 → Stands t events → IsTrue (fits_behind events cause) → IsTrue (built_behind events cause)

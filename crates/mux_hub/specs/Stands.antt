@@ -22,11 +22,11 @@ abbrev pub MeansId : List ℕ → Type 0
 MeansId bytes = IsIdText (id_meant bytes) bytes
 
 -- before its initialize was answered, no request of the editor was sent on; before that came, no start was spawned
-abbrev pub PhaseTies : Phase → Stage → List Pending → List ℕ → Type 0
-PhaseTies Absent stage ps body = (stage ≡ Unspawned) × (ps ≡ [])
-PhaseTies New stage ps body = (stage ≡ Unspawned) × (ps ≡ [])
-PhaseTies Waiting stage ps body = (ps ≡ []) × MeansId (id_bytes body)
-PhaseTies other stage ps body = Unit {0}
+abbrev pub PhaseTies : Phase → Stage → List Pending → List ℕ → List ℕ → Type 0
+PhaseTies Absent stage ps id body = (stage ≡ Unspawned) × (ps ≡ [])
+PhaseTies New stage ps id body = (stage ≡ Unspawned) × (ps ≡ [])
+PhaseTies Waiting stage ps id body = (ps ≡ []) × MeansId id × (id ≡ id_bytes body)
+PhaseTies other stage ps id body = Unit {0}
 
 -- the text is the request initialize, with the number 1
 abbrev pub Opens : List ℕ → Type 0
@@ -43,8 +43,10 @@ abbrev pub Distinct : List Pending → Type 0
 Distinct [] = Unit {0}
 Distinct (p ∷ ps) = (is_open (id_meant p.id) (map (λ q. id_meant q.id) ps) ≡ false) × Distinct ps
 
+-- `initialize` is the body of the editor's initialize
 pub record Stands (kept : Kept) (events : List Event) : Type 0 where
-  pub desk : desk_of 0 events ≡ record { phase = kept.phase; initialize = kept.initialize }
+  pub initialize : List ℕ
+  pub desk : desk_of 0 events ≡ record { phase = kept.phase; initialize = initialize }
   pub other_desks : (e : ℕ) → 0 < e → desk_of e events ≡ no_desk
   pub editors : editors_of events ≡ joined_in kept.phase
   pub sent : kept.sent ≡ min (backlog_of 0 events) (2 ^ 64 - 1)
@@ -60,6 +62,6 @@ pub record Stands (kept : Kept) (events : List Event) : Type 0 where
   pub pending : (asking_of 0 events).open_requests ≡ asked_for kept.pending
   pub ids : AllByRecursion (λ p. MeansId p.id) kept.pending
   pub distinct : Distinct kept.pending
-  pub phase_ties : PhaseTies kept.phase kept.stage kept.pending kept.initialize
-  pub stage_ties : StageTies kept.stage kept.next kept.opening kept.initialize
-  pub opened : open_of 0 events ≡ open_in kept.phase kept.pending (id_bytes kept.initialize)
+  pub phase_ties : PhaseTies kept.phase kept.stage kept.pending kept.id initialize
+  pub stage_ties : StageTies kept.stage kept.next kept.opening initialize
+  pub opened : open_of 0 events ≡ open_in kept.phase kept.pending kept.id

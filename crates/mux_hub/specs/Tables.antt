@@ -19,7 +19,7 @@ use Rattle.mux_hub.specs.declared.pending.Pending.{Pending}
 -- what the hub keeps: of editor 0, of start 0, and the open requests between them
 pub record Kept : Type 0 where
   pub phase : Phase
-  pub initialize : List ℕ
+  pub id : List ℕ
   pub opening : List ℕ
   pub sent : ℕ
   pub stage : Stage
@@ -61,10 +61,10 @@ first_in _ = Some 0
 
 -- the ids of the editor's open requests
 abbrev pub open_in : Phase → List Pending → List ℕ → List Id
-open_in Absent ps body = []
-open_in New ps body = []
-open_in Waiting ps body = id_meant body ∷ []
-open_in other ps body = map (λ p. id_meant p.id) ps
+open_in Absent ps id = []
+open_in New ps id = []
+open_in Waiting ps id = id_meant id ∷ []
+open_in other ps id = map (λ p. id_meant p.id) ps
 
 -- a message that the editor sends behind its answered initialize makes it run
 abbrev pub after_message : Phase → Phase

@@ -1,5 +1,5 @@
 -- What the hub does over its tables, for a cause that meets rows that are built: the outs, and the tables behind them.
-use Rattle.std.specs.Prelude.{ℕ, suc, ◌+◌, ◌-◌, ◌^◌, min, Bool, true, false, ◌&&◌, List, [], ◌∷◌, ◌++◌, length, codes, decimal, nat_lt, slice_get, if◌then◌else◌}
+use Rattle.std.specs.Prelude.{◌≡◌, ℕ, suc, ◌+◌, ◌-◌, ◌^◌, min, Bool, true, false, ◌&&◌, List, [], ◌∷◌, ◌++◌, length, codes, decimal, bytes_eq, nat_lt, nat_eq, ◌||◌, slice_get, if◌then◌else◌}
 use Rattle.std.specs.Prelude.{Option, Some, None, option_map}
 use Rattle.std.specs.List.{remove}
 use Rattle.mux_history.specs.declared.cause.Cause.{Cause}
@@ -34,8 +34,14 @@ sent_more n text = min (n + length text) (2 ^ 64 - 1)
 abbrev pub can_go : ℕ → Stage → ℕ → Bool
 can_go requests stage next = is_ready stage && nat_lt next requests
 
+abbrev pub joined : Kept → Turn
+joined t = quiet (record t { phase = New })
+
+abbrev pub noted : Kept → Turn
+noted t = quiet (record t { phase = after_message t.phase })
+
 abbrev pub found : Kept → List ℕ → Turn
-found t body = record { outs = Spawn 0 0 ∷ []; now = record t { phase = Waiting; initialize = body; opening = initialize_for body; stage = Spawning; started = false } }
+found t body = record { outs = Spawn 0 0 ∷ []; now = record t { phase = Waiting; id = id_bytes body; opening = initialize_for body; stage = Spawning; started = false } }
 
 abbrev pub refuse : Kept → List ℕ → Turn
 refuse t text = record { outs = ToEditor 0 text ∷ []; now = record t { phase = Running; sent = sent_more t.sent text } }
@@ -55,7 +61,7 @@ requested requests t body other = quiet t
 
 abbrev pub from_editor : ℕ → Kept → List ℕ → Message → Turn
 from_editor requests t body (request id method params) = requested requests t body t.phase
-from_editor requests t body (notification method params) = quiet (record t { phase = after_message t.phase })
+from_editor requests t body (notification method params) = noted t
 from_editor requests t body other = quiet t
 
 -- the place of the request of the number that this id writes
@@ -66,6 +72,20 @@ or_next false k = option_map suc k
 abbrev pub place_of : Option Id → List Pending → Option ℕ
 place_of id [] = None
 place_of id (p ∷ ps) = or_next (has_number id (asked_of p)) (place_of id ps)
+
+-- the same by the bytes of the id
+abbrev pub place_written : List ℕ → List Pending → Option ℕ
+place_written id [] = None
+place_written id (p ∷ ps) = or_next (bytes_eq id (decimal p.number)) (place_written id ps)
+
+-- a string and null are no number
+abbrev pub is_no_number : List ℕ → Bool
+is_no_number [] = false
+is_no_number (b ∷ bs) = nat_eq b 34 || nat_eq b 110
+
+abbrev pub place_if : Bool → List ℕ → List Pending → Option ℕ
+place_if true id ps = None
+place_if false id ps = place_written id ps
 
 abbrev pub pass_on : Kept → List ℕ → ℕ → Option Pending → Turn
 pass_on t body k (Some p) = record { outs = ToEditor 0 (with_id_text body p.id) ∷ []; now = record t { sent = sent_more t.sent (with_id_text body p.id); pending = remove t.pending k } }
@@ -80,24 +100,38 @@ answered t body None = quiet t
 answered t body (Some k) = pass_if (is_there t.phase) t body k
 
 abbrev pub welcome_text : Kept → List ℕ → List ℕ
-welcome_text t body = ok_text (id_bytes t.initialize) (result_bytes body)
+welcome_text t body = ok_text t.id (result_bytes body)
 
 abbrev pub ready_if : Bool → Kept → List ℕ → Turn
 ready_if true t body = record { outs = ToServer 0 initialized_text ∷ ToEditor 0 (welcome_text t body) ∷ []; now = record t { phase = Answered; sent = sent_more t.sent (welcome_text t body); stage = Ready } }
 ready_if false t body = record { outs = ToServer 0 initialized_text ∷ []; now = record t { stage = Ready } }
 
+-- a result, or an error, from the start
+abbrev pub resulted : Kept → List ℕ → Option Id → Stage → Turn
+resulted t body id Initializing = ready_if (is_waiting t.phase) t body
+resulted t body id Ready = answered t body (place_of id t.pending)
+resulted t body id other = quiet t
+
+abbrev pub failed : Kept → List ℕ → Option Id → Stage → Turn
+failed t body id Ready = answered t body (place_of id t.pending)
+failed t body id other = quiet t
+
 abbrev pub from_server : Kept → List ℕ → Message → Stage → Turn
-from_server t body m Initializing = ready_if (is_waiting t.phase) t body
-from_server t body m Ready = answered t body (place_of (answered_id m) t.pending)
-from_server t body m other = quiet t
+from_server t body (result id r) stage = resulted t body id stage
+from_server t body (error id e) stage = failed t body id stage
+from_server t body other stage = quiet t
 
 abbrev pub started : Kept → Stage → Turn
 started t Spawning = record { outs = ToServer 0 t.opening ∷ []; now = record t { stage = Initializing; started = true; next = 2 } }
 started t other = quiet (record t { started = true })
 
 abbrev pub turn : ℕ → Kept → Cause → Turn
-turn requests t (Joined e) = quiet (record t { phase = New; initialize = [] })
+turn requests t (Joined e) = joined t
 turn requests t (FromEditor e body) = from_editor requests t body (message_of body)
 turn requests t (Started s) = started t t.stage
 turn requests t (FromServer s body) = from_server t body (message_of body) t.stage
 turn requests t other = quiet t
+
+-- these outs and these tables are a turn's
+abbrev pub Gives : Turn → List Out → Kept → Type 0
+Gives x outs now = (outs ≡ x.outs) × (now ≡ x.now)

@@ -2,6 +2,7 @@
 ghost use Rattle.std.specs.Prelude.{◌≡◌, ℕ, ◌≤◌, ◌<◌, ◌↔◌, List, [], ◌∷◌, ◌++◌, Bool, true, false, length, IsTrue, IfOk, OnOk, OnErr, IsErrOf, IfErr};
 ghost use Rattle.outside_io.specs.Faults.{Rose};
 ghost use Rattle.mux_history.specs.declared.entry.Entry.{Entry};
+ghost use Rattle.mux_history.specs.Journals.{append_told};
 ghost use Rattle.mux_model.specs.Built.{built};
 ghost use Rattle.mux_model.specs.Fits.{fits};
 ghost use Rattle.mux_model.specs.Rows.{emits, entry_of};
@@ -14,6 +15,19 @@ use mux_history::{Cause, Entry, Journal, Outs};
 use mux_model::{Limits, Phase, Server, Stage};
 use std::alloc::Global;
 use std::marker::Model;
+
+// Appends an entry to a journal.
+fn keep<J: Journal>(journal: &mut J, cause: Cause, outs: Outs) -> Result<(), StepFault>
+    ensures ok { OnOk result (J.told journal.new ≡ append_told (J.told journal.old) (record { cause = cause; outs = outs } ∷ [])) }
+    ensures err { OnErr result (J.told journal.new ≡ J.told journal.old) }
+    ensures not_spent { IsErrOf result StepFault.Spent → ⊥ }
+    ensures journal_only { IsErrOf result StepFault.Journal → Rose (J.faults journal.old) (J.faults journal.new) }
+    ensures later { J.faults journal.old ≤ J.faults journal.new }
+{
+    let entry = Entry { cause, outs };
+    journal.append(&entry)?;
+    Ok(())
+}
 
 /// The core of the multiplexer. It stands for the history of its steps, and its journal has the entries.
 #[derive(Drop)]
@@ -58,7 +72,7 @@ impl<J: Journal> Hub<J> {
             default,
             tables: Tables {
                 phase: Phase::Absent,
-                initialize: Body::new(Vec::new(alloc)),
+                id: Body::new(Vec::new(alloc)),
                 opening: Body::new(Vec::new(alloc)),
                 sent: 0,
                 stage: Stage::Unspawned,
@@ -113,6 +127,10 @@ impl<J: Journal> Hub<J> {
             return Err(StepFault::Spent);
         }
         self.spent = true;
-        Err(StepFault::Memory)
+        let outs = self.tables.take(self.alloc, self.limits.requests, &cause)?;
+        let answer = outs.copy(self.alloc)?;
+        keep(&mut self.journal, cause, outs)?;
+        self.spent = false;
+        Ok(answer)
     }
 }

@@ -5,6 +5,7 @@ mod fault;
 mod hub;
 mod pending;
 mod tables;
+mod turns;
 
 pub use fault::StepFault;
 pub use hub::Hub;

@@ -48,8 +48,8 @@ fn runs(stage: Stage, started: bool) -> bool
 pub struct Tables {
     /// Where the editor stands.
     pub phase: Phase,
-    /// The body of its initialize; empty before it came.
-    pub initialize: Body,
+    /// The bytes of the id of its initialize; empty before that came.
+    pub id: Body,
     /// What the start is sent first; empty before it was spawned.
     pub opening: Body,
     /// The bytes of bodies sent to it, up to 2^64 - 1.
@@ -69,7 +69,7 @@ impl Model for Tables {
 
     ghost Value = { Kept };
 
-    ghost view = { λ t. record { phase = t.phase; initialize = t.initialize; opening = t.opening; sent = t.sent; stage = t.stage; started = t.started; next = t.next; pending = t.pending.items } };
+    ghost view = { λ t. record { phase = t.phase; id = t.id; opening = t.opening; sent = t.sent; stage = t.stage; started = t.started; next = t.next; pending = t.pending.items } };
 }
 
 impl Tables {

@@ -13,7 +13,8 @@ use Rattle.rpc_message.specs.Message.{place_in, slice_of, member_bytes}
 use Rattle.rpc_message.specs.Texts.{with_id_at, with_id_text}
 use Rattle.rpc_message.proofs.Reading.{held_tree}
 
-place_named : (cs : List ℕ) (j : Json) → place_in cs (Some j) ≡ option_map span_of (named_in cs j)
+-- where a member stands
+pub place_named : (cs : List ℕ) (j : Json) → place_in cs (Some j) ≡ option_map span_of (named_in cs j)
 place_named cs (object s ms) = go (named cs ms)
   where
     go : (o : Option Json) → (elim o [ None ↦ None | Some k ↦ Some (span_of k) ]) ≡ option_map span_of o

@@ -1,25 +1,23 @@
 -- What every row of the routing table is made of: the causes, and the outs with what is known where they are sent.
-use Rattle.std.proofs.Common.{◌≡◌, ℕ, Bool, true, false, ◌&&◌, List, [], ◌∷◌, Option, Some, None, codes, nat_lt, decimal}
+use Rattle.std.proofs.Common.{◌≡◌, ℕ, Bool, true, false, ◌&&◌, List, [], ◌∷◌, Option, Some, codes, nat_lt, decimal}
 use Rattle.json_text.specs.Json.{Json}
-use Rattle.lsp_method.specs.Class.{class_of}
-use Rattle.lsp_method.specs.declared.variants.Origin.TheVariants.{Editor}
 use Rattle.mux_history.specs.declared.cause.Cause.{Cause}
 use Rattle.mux_history.specs.declared.cause.Cause.TheVariants.{Started, FromServer}
 use Rattle.mux_history.specs.declared.out.Out.TheVariants.{ToEditor, ToServer, Spawn}
-use Rattle.rpc_message.specs.Message.{Message, request, result, Id, integer, message_of, id_bytes, result_bytes}
+use Rattle.rpc_message.specs.Message.{request, result, Id, integer, message_of, id_bytes, result_bytes}
 use Rattle.rpc_message.specs.Texts.{ok_text, error_text, initialized_text, with_id_text, Code}
 use Rattle.mux_model.specs.declared.phase.Phase.{Phase}
 use Rattle.mux_model.specs.declared.phase.Phase.TheVariants.{Absent, New, Waiting}
 use Rattle.mux_model.specs.declared.stage.Stage.{Stage}
 use Rattle.mux_model.specs.declared.stage.Stage.TheVariants.{Spawning, Initializing, Ready}
-use Rattle.mux_model.specs.Built.{built_behind, is_other}
+use Rattle.mux_model.specs.Built.{built_behind}
 use Rattle.mux_model.specs.Event.{Event, behind, with_cause}
 use Rattle.mux_model.specs.Fits.{fits_behind}
 use Rattle.mux_model.specs.Phases.{desk_of, is_there}
 use Rattle.mux_model.specs.Requests.{Asked, asking_of, asked_by, answered_id, open_of, is_open}
 use Rattle.mux_model.specs.Settings.{Settings}
 use Rattle.mux_model.specs.Spawns.{starts_of}
-use Rattle.mux_model.specs.Stages.{life_of, may_start, runs, is_first_result}
+use Rattle.mux_model.specs.Stages.{life_of, is_first_result}
 use Rattle.session_laws.specs.ServerRules.{is_response}
 
 -- it got no result to its `initialize` yet
@@ -51,7 +49,6 @@ pub record IsForward (settings : Settings) (events : List Event) (s e : ℕ) (bo
   pub served : is_early (desk_of e events).phase ≡ false
   pub ready : (life_of s events).stage ≡ Ready
   pub room : nat_lt (asking_of s events).next settings.limits.requests ≡ true
-  pub other : is_other (class_of method Editor false) ≡ true
 
 -- e's request in this body is open, and e doesn't wait
 pub record IsRefusal (events : List Event) (e : ℕ) (body : List ℕ) (id : Id) (method : List ℕ) (params : Option Json) : Type 0 where

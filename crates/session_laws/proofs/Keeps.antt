@@ -1,5 +1,5 @@
 -- What every row of the routing table keeps, whatever row it is, and so every legal history.
-use Rattle.std.proofs.Common.{◌≡◌, Bool, true, false, List, [], ◌∷◌, ◌++◌, map, fold, Option, Some, None, IsTrue, refl, sym, ◌∙◌, ap, subst, append_assoc, append-nil}
+use Rattle.std.proofs.Common.{◌≡◌, Bool, true, false, List, [], ◌∷◌, ◌++◌, map, Option, Some, None, IsTrue, refl, sym, ◌∙◌, ap, subst, append_assoc, append-nil}
 use Rattle.std.proofs.lemmas.List.{map-append}
 use Rattle.std.proofs.lemmas.List.Sums.{fold-append}
 use Rattle.mux_history.specs.declared.cause.Cause.{Cause}
@@ -9,7 +9,7 @@ use Rattle.mux_model.specs.Built.{built_behind}
 use Rattle.mux_model.specs.Event.{Event, said, behind, with_cause, with_entry, events_of}
 use Rattle.mux_model.specs.Fits.{fits_behind}
 use Rattle.mux_model.specs.Legal.{Legal, LegalFrom}
-use Rattle.mux_model.specs.Row.{Row, nothing, send, after, choose, look, outs, each, on}
+use Rattle.mux_model.specs.Row.{Row, nothing, send, after, choose, look, outs, on}
 use Rattle.mux_model.specs.Rows.{outs_of}
 use Rattle.mux_model.specs.Settings.{Settings}
 

@@ -1,13 +1,20 @@
+mod Client2Law
+mod Client3Law
 mod Server1Law
 mod Server2Law
 mod Server3Law
+pub mod Asked
+pub mod Bodies
 pub mod Bricks
+pub mod Editors
+pub mod Facts
 pub mod Folds
-pub mod Initializes
 pub mod Keeps
-pub mod Quoted
+pub mod Late
+pub mod Lists
 pub mod Rules
 pub mod ServerLaw
 pub mod Starts
 pub mod Table
+pub mod Waits
 pub mod Words

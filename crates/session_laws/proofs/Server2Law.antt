@@ -1,18 +1,18 @@
 -- The handshake with a start.
-use Rattle.std.proofs.Common.{◌≡◌, ℕ, ◌+◌, ◌<◌, ◌^◌, Bool, true, false, not, ◌&&◌, List, codes, decimal, nat_lt, IsTrue, if◌then◌else◌, Option, Some, refl, sym, ◌∙◌, ap, ap₂, subst, arith, ltb-true}
+use Rattle.std.proofs.Common.{◌≡◌, ℕ, ◌<◌, ◌^◌, Bool, true, false, ◌&&◌, List, codes, decimal, nat_lt, IsTrue, if◌then◌else◌, Option, Some, refl, sym, ap, ap₂, subst, arith, ltb-true}
 use Rattle.json_text.specs.Json.{Json}
-use Rattle.mux_history.specs.declared.cause.Cause.TheVariants.{Started, StartFailed, FromServer, ServerGone}
+use Rattle.mux_history.specs.declared.cause.Cause.TheVariants.{Started, FromServer}
 use Rattle.mux_history.specs.declared.entry.Entry.{Entry}
 use Rattle.mux_history.specs.declared.out.Out.TheVariants.{ToEditor, ToServer, Spawn, CloseEditor, EndServer}
 use Rattle.rpc_message.specs.Message.{Message, request, notification, result, not_message, integer}
 use Rattle.mux_model.specs.declared.stage.Stage.{Stage}
 use Rattle.mux_model.specs.declared.stage.Stage.TheVariants.{Unspawned, Spawning, Initializing, Ready, Stopping, Ending, Ended}
-use Rattle.mux_model.specs.Event.{Event, took, did, requests, notifies}
+use Rattle.mux_model.specs.Event.{Event, took, did, requests}
 use Rattle.mux_model.specs.Legal.{Legal}
 use Rattle.mux_model.specs.Settings.{Settings}
 use Rattle.mux_model.specs.Stages.{stage_started, stage_hears, stage_told, is_first_result}
 use Rattle.session_laws.specs.Ranges.{InRange}
-use Rattle.session_laws.specs.ServerRules.{Handshake, silent, asked, answered, open_to_all, handshake_behind, is_first_request, allows, ServerRule2, KeepsServer2}
+use Rattle.session_laws.specs.ServerRules.{Handshake, silent, asked, answered, open_to_all, handshake_behind, allows, ServerRule2, KeepsServer2}
 use Rattle.session_laws.proofs.Bricks.{is_spawning, is_initializing}
 use Rattle.session_laws.proofs.ServerLaw.{Moves, server_history, is_to_server}
 
@@ -64,8 +64,10 @@ hears Ended w n body m other h = tt
 
 begins : (w : Handshake) (n : ℕ) (body : List ℕ) (m : Message) (params : Option Json) → m ≡ request (integer (codes "1")) (codes "initialize") params → w ≡ silent
     → Allows (handshake_behind w (took (Started n) not_message)) m × Link Initializing (handshake_behind (handshake_behind w (took (Started n) not_message)) (did (ToServer n body) m))
-begins w n body m params says h = (ap₂ (λ z k. allows (handshake_behind z (took (Started n) not_message)) k) h says,
-    ap (λ z. handshake_behind (handshake_behind z (took (Started n) not_message)) (did (ToServer n body) m)) h)
+begins w n body m params says h = (
+  ap₂ (λ z k. allows (handshake_behind z (took (Started n) not_message)) k) h says,
+  ap (λ z. handshake_behind (handshake_behind z (took (Started n) not_message)) (did (ToServer n body) m)) h,
+)
 
 greets : (w : Handshake) (n : ℕ) (body other : List ℕ) (m k : Message) (r : Json) (params : Option Json) → m ≡ result (Some (integer (codes "1"))) r → k ≡ notification (codes "initialized") params → w ≡ asked
     → Allows (handshake_behind w (took (FromServer n body) m)) k × Link Ready (handshake_behind (handshake_behind w (took (FromServer n body) m)) (did (ToServer n other) k))

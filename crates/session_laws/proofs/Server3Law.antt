@@ -1,5 +1,5 @@
 -- The requests to a start are numbered from 1.
-use Rattle.std.proofs.Common.{◌≡◌, ℕ, ◌+◌, ◌<◌, ◌^◌, Bool, true, false, cond, List, [], ◌∷◌, filter, fold, nat_eq, nat_lt, codes, decimal, if◌then◌else◌, Option, Some, refl, sym, ◌∙◌, ap, subst, arith, ltb-true}
+use Rattle.std.proofs.Common.{◌≡◌, ℕ, ◌+◌, ◌<◌, ◌^◌, Bool, true, false, cond, List, [], ◌∷◌, filter, fold, nat_eq, nat_lt, codes, decimal, if◌then◌else◌, Option, refl, sym, ◌∙◌, ap, subst, arith, ltb-true}
 use Rattle.std.specs.Fmt.{digits}
 use Rattle.json_text.specs.Json.{Json}
 use Rattle.mux_history.specs.declared.cause.Cause.TheVariants.{Joined, FromEditor, EditorGone, Started, StartFailed, FromServer, ServerGone, Drained, Tick}
@@ -10,12 +10,12 @@ use Rattle.mux_model.specs.declared.stage.Stage.{Stage}
 use Rattle.mux_model.specs.declared.stage.Stage.TheVariants.{Unspawned, Spawning, Initializing, Ready, Stopping, Ending, Ended}
 use Rattle.mux_model.specs.Event.{Event, took, did, requests}
 use Rattle.mux_model.specs.Legal.{Legal}
-use Rattle.mux_model.specs.Requests.{Asking, asking_of, asking_behind, asking_sends, no_asking}
+use Rattle.mux_model.specs.Requests.{Asking, asking_behind, asking_sends, no_asking}
 use Rattle.mux_model.specs.Settings.{Settings}
-use Rattle.mux_model.specs.Stages.{stage_started, stage_hears, stage_told, is_first_result}
-use Rattle.session_laws.specs.Parts.{is_of_server, server_part}
+use Rattle.mux_model.specs.Stages.{stage_started, stage_hears, is_first_result}
+use Rattle.session_laws.specs.Parts.{is_of_server}
 use Rattle.session_laws.specs.Ranges.{InRange}
-use Rattle.session_laws.specs.ServerRules.{requests_behind, requests_of, HasNumber, ServerRule3, KeepsServer3}
+use Rattle.session_laws.specs.ServerRules.{requests_behind, HasNumber, ServerRule3, KeepsServer3}
 use Rattle.session_laws.proofs.Bricks.{is_spawning}
 use Rattle.session_laws.proofs.Rules.{word_first}
 use Rattle.session_laws.proofs.ServerLaw.{Moves, server_history, is_to_server}

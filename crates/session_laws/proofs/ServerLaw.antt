@@ -1,13 +1,11 @@
 -- How a rule of the starts' parts becomes a law: by a word over the part that is tied to the start's stage.
-use Rattle.std.proofs.Common.{◌≡◌, ℕ, ◌<◌, ◌^◌, Bool, true, false, ◌&&◌, cond, List, [], ◌∷◌, ◌++◌, fold, nat_eq, nat_lt, codes, decimal, Option, Some, None, if◌then◌else◌, refl, sym, ◌∙◌, ap, ap₂, subst, subst₂, arith}
+use Rattle.std.proofs.Common.{◌≡◌, ℕ, ◌<◌, ◌^◌, Bool, true, false, ◌&&◌, cond, List, [], ◌∷◌, ◌++◌, fold, nat_eq, nat_lt, codes, decimal, Option, Some, if◌then◌else◌, refl, sym, ◌∙◌, ap, ap₂, subst, subst₂, arith}
 use Rattle.json_text.specs.Bare.{nowhere}
 use Rattle.json_text.specs.Json.{Json, object, no_members}
-use Rattle.mux_history.specs.declared.cause.Cause.{Cause}
-use Rattle.mux_history.specs.declared.cause.Cause.TheVariants.{Joined, FromEditor, EditorGone, Started, StartFailed, FromServer, ServerGone, Drained, Tick}
+use Rattle.mux_history.specs.declared.cause.Cause.TheVariants.{Started, StartFailed, FromServer, ServerGone}
 use Rattle.mux_history.specs.declared.entry.Entry.{Entry}
-use Rattle.mux_history.specs.declared.out.Out.{Out}
-use Rattle.mux_history.specs.declared.out.Out.TheVariants.{ToEditor, ToServer, Spawn, CloseEditor, EndServer}
-use Rattle.rpc_message.specs.Message.{Message, request, notification, result, Id, integer, not_message, message_of, id_bytes, result_bytes}
+use Rattle.mux_history.specs.declared.out.Out.TheVariants.{ToEditor, ToServer, Spawn}
+use Rattle.rpc_message.specs.Message.{Message, request, notification, result, integer, not_message, message_of, id_bytes, result_bytes}
 use Rattle.rpc_message.specs.Texts.{ok_text, error_text, initialized_text, with_id_text}
 use Rattle.rpc_message.proofs.Decimals.{decimal_law}
 use Rattle.rpc_message.proofs.Fixed.{initialized_law}
@@ -20,10 +18,10 @@ use Rattle.mux_model.specs.Phases.{desk_of}
 use Rattle.mux_model.specs.Requests.{asking_of}
 use Rattle.mux_model.specs.Settings.{Settings}
 use Rattle.mux_model.specs.Spawns.{starts_of}
-use Rattle.mux_model.specs.Stages.{Life, life_of, life_behind, no_life, stage_started, stage_hears, stage_told, is_first_result}
+use Rattle.mux_model.specs.Stages.{Life, life_of, life_behind, stage_started, stage_hears, stage_told, is_first_result}
 use Rattle.session_laws.specs.Always.{Always}
 use Rattle.session_laws.specs.Parts.{server_part, is_of_server}
-use Rattle.session_laws.proofs.Bricks.{Brick, takes, begins, greets, spawns, forwards, refuses, welcomes, passes, laid, is_spawning, is_initializing, Lays, Both, lays_both}
+use Rattle.session_laws.proofs.Bricks.{takes, begins, greets, spawns, forwards, refuses, welcomes, passes, is_spawning, is_initializing, Lays, Both, lays_both}
 use Rattle.session_laws.proofs.Folds.{life_more}
 use Rattle.session_laws.proofs.Keeps.{every_history}
 use Rattle.session_laws.proofs.Rules.{rule_more, word_more}

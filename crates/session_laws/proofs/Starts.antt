@@ -1,7 +1,6 @@
 -- A start that wasn't spawned has no life.
-use Rattle.std.proofs.Common.{◌≡◌, ℕ, ◌+◌, ◌≤◌, Bool, true, false, List, [], ◌∷◌, ◌++◌, nat_eq, refl, sym, ◌∙◌, ap, subst, arith, decimal, if◌then◌else◌}
-use Rattle.mux_history.specs.declared.cause.Cause.{Cause}
-use Rattle.mux_history.specs.declared.cause.Cause.TheVariants.{Joined, FromEditor, EditorGone, Started, StartFailed, FromServer, ServerGone, Drained, Tick}
+use Rattle.std.proofs.Common.{◌≡◌, ℕ, ◌+◌, ◌≤◌, Bool, true, false, List, [], ◌∷◌, ◌++◌, nat_eq, refl, ◌∙◌, ap, arith, decimal, if◌then◌else◌}
+use Rattle.mux_history.specs.declared.cause.Cause.TheVariants.{Started, StartFailed, FromServer, ServerGone}
 use Rattle.mux_history.specs.declared.out.Out.TheVariants.{ToEditor, ToServer, Spawn}
 use Rattle.mux_model.specs.declared.stage.Stage.TheVariants.{Unspawned, Spawning, Ended}
 use Rattle.rpc_message.specs.Message.{not_message, message_of, id_bytes, result_bytes}
@@ -11,8 +10,8 @@ use Rattle.mux_model.specs.Phases.{desk_of}
 use Rattle.mux_model.specs.Requests.{asking_of}
 use Rattle.mux_model.specs.Settings.{Settings}
 use Rattle.mux_model.specs.Spawns.{starts_of, starts_behind}
-use Rattle.mux_model.specs.Stages.{Life, life_of, life_behind, no_life, may_start, runs, stage_started, stage_hears}
-use Rattle.session_laws.proofs.Bricks.{Brick, takes, begins, greets, spawns, forwards, refuses, welcomes, passes, laid, Lays, Anything}
+use Rattle.mux_model.specs.Stages.{Life, life_of, life_behind, no_life, may_start, runs}
+use Rattle.session_laws.proofs.Bricks.{takes, begins, greets, spawns, forwards, refuses, welcomes, passes, Lays, Anything}
 use Rattle.session_laws.proofs.Folds.{life_more, starts_more}
 use Rattle.session_laws.proofs.Rules.{unless}
 use Rattle.session_laws.proofs.Words.{number_same}

@@ -1,59 +1,38 @@
 -- The routing table, walked once: every entry is made of bricks.
-use Rattle.std.proofs.Common.{◌≡◌, ℕ, zero, suc, ◌≤◌, Bool, true, false, not, ◌&&◌, cond, List, [], ◌∷◌, ◌++◌, filter, nat_eq, nat_lt, codes, bytes_eq, if◌then◌else◌, Option, Some, None, refl, sym, ◌∙◌, ap, ap₂, subst, arith, append_assoc, append-nil}
+use Rattle.std.proofs.Common.{◌≡◌, ℕ, zero, suc, ◌≤◌, Bool, true, false, ◌&&◌, cond, List, [], ◌∷◌, ◌++◌, filter, nat_eq, nat_lt, codes, if◌then◌else◌, Option, Some, None, refl, sym, ◌∙◌, ap, ap₂, subst, arith, append_assoc, append-nil}
 use Rattle.std.proofs.lemmas.Bool.{and_parts}
 use Rattle.std.proofs.lemmas.List.Elements.{filter-append}
 use Rattle.std.proofs.lemmas.Slice.Eq.{bytes_eq-Decides}
 use Rattle.json_text.specs.Json.{Json}
-use Rattle.lsp_method.specs.Class.{class_of}
-use Rattle.lsp_method.specs.declared.variants.Origin.TheVariants.{Editor}
 use Rattle.mux_history.specs.declared.cause.Cause.{Cause}
 use Rattle.mux_history.specs.declared.cause.Cause.TheVariants.{FromEditor, Started, FromServer}
 use Rattle.mux_history.specs.declared.out.Out.{Out}
-use Rattle.mux_history.specs.declared.out.Out.TheVariants.{ToEditor, ToServer, Spawn}
+use Rattle.mux_history.specs.declared.out.Out.TheVariants.{ToEditor, ToServer}
 use Rattle.rpc_message.specs.Message.{Message, request, notification, result, error, not_json, not_message, Id, integer, text, message_of, id_bytes, result_bytes}
-use Rattle.rpc_message.specs.Texts.{ok_text, initialized_text, Code, request_failed}
+use Rattle.rpc_message.specs.Texts.{ok_text, initialized_text, request_failed}
 use Rattle.mux_model.specs.declared.phase.Phase.{Phase}
 use Rattle.mux_model.specs.declared.phase.Phase.TheVariants.{Absent, New, Waiting, Answered, Running, Down, Closed, Gone}
 use Rattle.mux_model.specs.declared.stage.Stage.{Stage}
 use Rattle.mux_model.specs.declared.stage.Stage.TheVariants.{Unspawned, Spawning, Initializing, Ready, Stopping, Ending, Ended}
-use Rattle.mux_model.specs.Built.{built_behind, is_other, is_plain_body, built_from_editor, built_request}
-use Rattle.mux_model.specs.Event.{Event, took, did, heard, said, behind, with_cause, requests}
+use Rattle.mux_model.specs.Built.{built_behind}
+use Rattle.mux_model.specs.Event.{Event, heard, said, behind, with_cause}
 use Rattle.mux_model.specs.Fits.{fits_behind}
-use Rattle.mux_model.specs.Members.{has_token}
-use Rattle.mux_model.specs.Phases.{Desk, desk_of, desk_behind, desk_hears, phase_told, editors_of, is_there, makes_running}
+use Rattle.mux_model.specs.Phases.{Desk, desk_of, desk_behind, desk_hears, phase_told, editors_of, is_there}
 use Rattle.mux_model.specs.Requests.{Asked, Asking, asking_of, asked_by, asker_of, answered_id, open_of, is_open, asks}
-use Rattle.mux_model.specs.Row.{Row, nothing, send, after, choose, look, outs, each, on, ◌⨾◌}
-use Rattle.mux_model.specs.Rows.{answer_error, found_group, forward, start_for, can_ask, request_row, served_row, from_editor, below, is_waiting, is_group, waiting_for, welcome, first_result, pass_on, response_row, from_server, founder_body, initialize_for, started, row_of, outs_of}
+use Rattle.mux_model.specs.Row.{Row, nothing, choose, outs, each}
+use Rattle.mux_model.specs.Rows.{answer_error, found_group, can_ask, request_row, served_row, from_editor, below, is_waiting, is_group, waiting_for, welcome, first_result, response_row, from_server, founder_body, initialize_for, started}
 use Rattle.mux_model.specs.Settings.{Settings}
 use Rattle.mux_model.specs.Spawns.{groups_of, home_of, group_of}
 use Rattle.mux_model.specs.Stages.{Life, life_of, is_ready, is_first_result}
+use Rattle.mux_model.proofs.Openings.{any_opening_law}
 use Rattle.session_laws.specs.ServerRules.{is_response}
-use Rattle.session_laws.proofs.Bricks.{Brick, takes, begins, greets, spawns, forwards, refuses, welcomes, passes, laid, is_early, is_spawning, is_initializing, moves_on, IsForward, IsRefusal, IsWelcome, IsPassedOn}
+use Rattle.session_laws.proofs.Bricks.{Brick, takes, begins, greets, spawns, forwards, refuses, welcomes, passes, laid, is_early, is_spawning, is_initializing, moves_on, IsForward, IsRefusal}
 use Rattle.session_laws.proofs.Folds.{desk_more, life_more, opens_more, asking_more}
-use Rattle.session_laws.proofs.Initializes.{initialize_says}
-use Rattle.session_laws.proofs.Keeps.{At, at_nothing, at_send, at_then, at_choose, at_look, at_on, behind_both, behind_nothing, EntryKeeps}
-use Rattle.session_laws.proofs.Words.{same_number, number_same, other_number, open_last}
+use Rattle.session_laws.proofs.Keeps.{At, at_nothing, at_send, at_choose, at_look, at_on, behind_both, behind_nothing, EntryKeeps}
+use Rattle.session_laws.proofs.Late.{hears_late}
+use Rattle.session_laws.proofs.Words.{same_number, other_number, open_last}
 
 -- Behind a request of e
-
-hears_late : (phase : Phase) (initialize body : List ℕ) (m : Message) → is_early phase ≡ false → is_early (desk_hears phase initialize body m).phase ≡ false
-hears_late Absent initialize body m h = absurd (cc)
-hears_late New initialize body m h = absurd (cc)
-hears_late Waiting initialize body m h = absurd (cc)
-hears_late Answered initialize body m h = go (requests (codes "shutdown") m) (makes_running m)
-  where
-    go : (a b : Bool) → is_early (if a then Down else if b then Running else Answered) ≡ false
-    go true b = refl
-    go false true = refl
-    go false false = refl
-hears_late Running initialize body m h = go (requests (codes "shutdown") m)
-  where
-    go : (a : Bool) → is_early (if a then Down else Running) ≡ false
-    go true = refl
-    go false = refl
-hears_late Down initialize body m h = refl
-hears_late Closed initialize body m h = refl
-hears_late Gone initialize body m h = refl
 
 module _ (before : List Event) (e : ℕ) (body : List ℕ) where
   late_taken : is_early (desk_of e before).phase ≡ false → is_early (desk_of e (with_cause before (FromEditor e body))).phase ≡ false
@@ -72,9 +51,9 @@ module _ (before : List Event) (e : ℕ) (body : List ℕ) where
     refusal : is_early (desk_of e before).phase ≡ false → IsRefusal (with_cause before (FromEditor e body)) e body id method params
     refusal late = record { says = says; is_open = open_taken; served = late_taken late }
 
-    may_forward : (settings : Settings) (s : ℕ) → is_early (desk_of e before).phase ≡ false → is_other (class_of method Editor false) ≡ true → can_ask settings s before ≡ true
+    may_forward : (settings : Settings) (s : ℕ) → is_early (desk_of e before).phase ≡ false → can_ask settings s before ≡ true
         → IsForward settings (with_cause before (FromEditor e body)) s e body id method params
-    may_forward settings s late other can = let k : (is_ready (life_of s before).stage ≡ true) × (nat_lt (asking_of s before).next settings.limits.requests ≡ true)
+    may_forward settings s late can = let k : (is_ready (life_of s before).stage ≡ true) × (nat_lt (asking_of s before).next settings.limits.requests ≡ true)
         = and_parts (is_ready (life_of s before).stage) (nat_lt (asking_of s before).next settings.limits.requests) can in
         record {
           says = says;
@@ -83,7 +62,6 @@ module _ (before : List Event) (e : ℕ) (body : List ℕ) where
           served = late_taken late;
           ready = ap (λ (l : Life). l.stage) (life_more s before (heard (FromEditor e body))) ∙ ready (life_of s before).stage k.0;
           room = ap (λ (a : Asking). nat_lt a.next settings.limits.requests) (asking_more s before (heard (FromEditor e body))) ∙ k.1;
-          other = other;
         }
       where
         ready : (stage : Stage) → is_ready stage ≡ true → stage ≡ Ready
@@ -146,25 +124,6 @@ waiting_is Down h = absurd (cc)
 waiting_is Closed h = absurd (cc)
 waiting_is Gone h = absurd (cc)
 
--- a request that is taken, once its editor was answered, is one that goes to servers
-other_request : (before : List Event) (e : ℕ) (body : List ℕ) → built_behind before (FromEditor e body) ≡ true → (phase : Phase) → (desk_of e before).phase ≡ phase
-    → (id : Id) (method : List ℕ) (params : Option Json) → message_of body ≡ request id method params → is_early phase ≡ false → is_other (class_of method Editor false) ≡ true
-other_request before e body built phase at id method params says late = by_phase phase late
-    (sym (ap₂ (λ z m. built_from_editor z (open_of e before) m) at says) ∙ (and_parts (is_plain_body body) (built_from_editor (desk_of e before).phase (open_of e before) (message_of body)) built).1)
-  where
-    class : (ids : List Id) → ((not (is_open id ids) && is_other (class_of method Editor false)) && not (has_token params)) ≡ true → is_other (class_of method Editor false) ≡ true
-    class ids h = (and_parts (not (is_open id ids)) (is_other (class_of method Editor false)) (and_parts (not (is_open id ids) && is_other (class_of method Editor false)) (not (has_token params)) h).0).1
-
-    by_phase : (phase : Phase) → is_early phase ≡ false → built_request phase (open_of e before) id method params ≡ true → is_other (class_of method Editor false) ≡ true
-    by_phase Answered late h = class (open_of e before) h
-    by_phase Running late h = class (open_of e before) h
-    by_phase Absent late h = absurd (cc)
-    by_phase New late h = absurd (cc)
-    by_phase Waiting late h = absurd (cc)
-    by_phase Down late h = absurd (cc)
-    by_phase Closed late h = absurd (cc)
-    by_phase Gone late h = absurd (cc)
-
 -- a body to another editor leaves it alone
 desk_untold : (e n : ℕ) (body : List ℕ) (desk : Desk) → nat_eq n e ≡ false → desk_behind e desk (said (ToEditor n body)) ≡ desk
 desk_untold e n body desk h = ap (λ b. if b then record { phase = phase_told desk.phase (message_of body); initialize = desk.initialize } else desk) h
@@ -179,35 +138,31 @@ module _ (settings : Settings) {I : List Event → Type 0} (lay : (events : List
   founds events = at_look (at_send (λ h. lay events (spawns (groups_of events)) h))
 
   request_keeps : (before : List Event) (e : ℕ) (body : List ℕ) (id : Id) (method : List ℕ) (params : Option Json) → message_of body ≡ request id method params → is_early (desk_of e before).phase ≡ false
-      → is_other (class_of method Editor false) ≡ true → At I (with_cause before (FromEditor e body)) (request_row settings before e body)
-  request_keeps before e body id method params says late other = at_on (λ none. fails) (λ s found. at_choose
-      (λ can. at_look (at_send (λ h. lay (with_cause before (FromEditor e body)) (forwards s e body id method params (may_forward before e body id method params says settings s late other can)) h)))
+      → At I (with_cause before (FromEditor e body)) (request_row settings before e body)
+  request_keeps before e body id method params says late = at_on (λ none. fails) (λ s found. at_choose
+      (λ can. at_look (at_send (λ h. lay (with_cause before (FromEditor e body)) (forwards s e body id method params (may_forward before e body id method params says settings s late can)) h)))
       (λ cannot. fails))
     where
       fails : At I (with_cause before (FromEditor e body)) (answer_error e body request_failed)
       fails = at_send (λ h. lay (with_cause before (FromEditor e body)) (refuses e body id method params request_failed (refusal before e body id method params says late)) h)
 
-  served_keeps : (before : List Event) (e : ℕ) (body : List ℕ) (m : Message) → message_of body ≡ m → is_early (desk_of e before).phase ≡ false
-      → ((id : Id) (method : List ℕ) (params : Option Json) → m ≡ request id method params → is_other (class_of method Editor false) ≡ true)
-      → At I (with_cause before (FromEditor e body)) (served_row settings before e body m)
-  served_keeps before e body (request id method params) says late other = request_keeps before e body id method params says late (other id method params refl)
-  served_keeps before e body (notification method params) says late other = at_nothing
-  served_keeps before e body (result id r) says late other = at_nothing
-  served_keeps before e body (error id x) says late other = at_nothing
-  served_keeps before e body not_json says late other = at_nothing
-  served_keeps before e body not_message says late other = at_nothing
+  served_keeps : (before : List Event) (e : ℕ) (body : List ℕ) (m : Message) → message_of body ≡ m → is_early (desk_of e before).phase ≡ false → At I (with_cause before (FromEditor e body)) (served_row settings before e body m)
+  served_keeps before e body (request id method params) says late = request_keeps before e body id method params says late
+  served_keeps before e body (notification method params) says late = at_nothing
+  served_keeps before e body (result id r) says late = at_nothing
+  served_keeps before e body (error id x) says late = at_nothing
+  served_keeps before e body not_json says late = at_nothing
+  served_keeps before e body not_message says late = at_nothing
 
-  editor_keeps : (before : List Event) (e : ℕ) (body : List ℕ) (phase : Phase) → (desk_of e before).phase ≡ phase
-      → ((id : Id) (method : List ℕ) (params : Option Json) → message_of body ≡ request id method params → is_early phase ≡ false → is_other (class_of method Editor false) ≡ true)
-      → At I (with_cause before (FromEditor e body)) (from_editor settings before e body (message_of body) phase)
-  editor_keeps before e body New at other = at_choose (λ yes. founds (with_cause before (FromEditor e body))) (λ no. at_nothing)
-  editor_keeps before e body Answered at other = served_keeps before e body (message_of body) refl (ap is_early at) (λ id method params says. other id method params says refl)
-  editor_keeps before e body Running at other = served_keeps before e body (message_of body) refl (ap is_early at) (λ id method params says. other id method params says refl)
-  editor_keeps before e body Absent at other = at_nothing
-  editor_keeps before e body Waiting at other = at_nothing
-  editor_keeps before e body Down at other = at_nothing
-  editor_keeps before e body Closed at other = at_nothing
-  editor_keeps before e body Gone at other = at_nothing
+  editor_keeps : (before : List Event) (e : ℕ) (body : List ℕ) (phase : Phase) → (desk_of e before).phase ≡ phase → At I (with_cause before (FromEditor e body)) (from_editor settings before e body (message_of body) phase)
+  editor_keeps before e body New at = at_choose (λ yes. founds (with_cause before (FromEditor e body))) (λ no. at_nothing)
+  editor_keeps before e body Answered at = served_keeps before e body (message_of body) refl (ap is_early at)
+  editor_keeps before e body Running at = served_keeps before e body (message_of body) refl (ap is_early at)
+  editor_keeps before e body Absent at = at_nothing
+  editor_keeps before e body Waiting at = at_nothing
+  editor_keeps before e body Down at = at_nothing
+  editor_keeps before e body Closed at = at_nothing
+  editor_keeps before e body Gone at = at_nothing
 
   response_keeps : (s : ℕ) (before : List Event) (body : List ℕ) → At I (with_cause before (FromServer s body)) (response_row s before body (message_of body))
   response_keeps s before body = at_on (λ none. at_nothing) (λ asked found. at_choose (λ there. at_send (λ h. lay (with_cause before (FromServer s body)) (passes s asked body (record {
@@ -229,7 +184,7 @@ module _ (settings : Settings) {I : List Event → Type 0} (lay : (events : List
     unfolding welcome_out
     one_more xs n waits w = record {
       kept = subst I (sym (outs_one_more xs n)) (lay (behind events (outs (each (welcome body) xs) events)) (welcomes n body id r (record { waits = ap (λ (d : Desk). d.phase) (w.still n (omega arith)) ∙ waits; says = says })) w.kept);
-      still = λ e more. ap (desk_of e) (outs_one_more xs n) ∙ desk_more e (behind events (outs (each (welcome body) xs) events)) (said (welcome_out n xs)) 
+      still = λ e more. ap (desk_of e) (outs_one_more xs n) ∙ desk_more e (behind events (outs (each (welcome body) xs) events)) (said (welcome_out n xs))
           ∙ desk_untold e n (ok_text (id_bytes (desk_of n (behind events (outs (each (welcome body) xs) events))).initialize) (result_bytes body)) (desk_of e (behind events (outs (each (welcome body) xs) events))) (other_number n e more)
           ∙ w.still e (omega arith);
     }
@@ -270,7 +225,7 @@ module _ (settings : Settings) {I : List Event → Type 0} (lay : (events : List
 
   start_keeps : (before : List Event) (s : ℕ) (stage : Stage) → fits_behind before (Started s) ≡ true → built_behind before (Started s) ≡ true → (life_of s before).stage ≡ stage
       → I before → I (behind (with_cause before (Started s)) (outs (started s before stage) (with_cause before (Started s))))
-  start_keeps before s Spawning fits built at h = let says = initialize_says (founder_body s before) in lay before (begins s (initialize_for (founder_body s before)) says.0 fits at says.1) h
+  start_keeps before s Spawning fits built at h = let says = any_opening_law (founder_body s before) in lay before (begins s (initialize_for (founder_body s before)) says.0 fits at says.1) h
   start_keeps before s Unspawned fits built at h = behind_cause before (Started s) nothing fits built (ap is_spawning at) at_nothing h
   start_keeps before s Initializing fits built at h = behind_cause before (Started s) nothing fits built (ap is_spawning at) at_nothing h
   start_keeps before s Ready fits built at h = behind_cause before (Started s) nothing fits built (ap is_spawning at) at_nothing h
@@ -281,7 +236,7 @@ module _ (settings : Settings) {I : List Event → Type 0} (lay : (events : List
   -- every entry keeps what its bricks keep
   pub table_keeps : EntryKeeps settings I
   table_keeps before (FromEditor e body) fits built h = behind_cause before (FromEditor e body) (from_editor settings before e body (message_of body) (desk_of e before).phase) fits built refl
-      (editor_keeps before e body (desk_of e before).phase refl (other_request before e body built (desk_of e before).phase refl)) h
+      (editor_keeps before e body (desk_of e before).phase refl) h
   table_keeps before (FromServer s body) fits built h = server_keeps before s body (life_of s before).stage fits built refl h
   table_keeps before (Started s) fits built h = start_keeps before s (life_of s before).stage fits built refl h
   table_keeps before cause fits built h = behind_cause before cause nothing fits built refl at_nothing h

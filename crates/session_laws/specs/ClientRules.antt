@@ -1,6 +1,6 @@
 -- What an editor may expect as the one client of a server. Each rule speaks of a body to it, behind the events of its part before that body.
-use Rattle.std.specs.Prelude.{ℕ, ◌+◌, ◌<◌, Bool, true, false, not, ◌&&◌, ◌||◌, List, [], ◌++◌, ◌∷◌, fold, codes, bytes_eq, IsTrue, if◌then◌else◌}
-use Rattle.std.specs.Prelude.{Option, Some, None}
+use Rattle.std.specs.Prelude.{ℕ, ◌+◌, ◌<◌, Bool, true, false, not, ◌&&◌, ◌||◌, List, [], fold, codes, IsTrue, if◌then◌else◌}
+use Rattle.std.specs.Prelude.{Some, None}
 use Rattle.mux_history.specs.declared.cause.Cause.TheVariants.{FromEditor}
 use Rattle.mux_history.specs.declared.entry.Entry.{Entry}
 use Rattle.mux_history.specs.declared.out.Out.TheVariants.{ToEditor}

@@ -3,9 +3,8 @@ use Rattle.std.specs.Prelude.{◌≡◌, ℕ, ◌+◌, Bool, true, false, not, �
 use Rattle.mux_history.specs.declared.cause.Cause.TheVariants.{Started, FromServer, ServerGone}
 use Rattle.mux_history.specs.declared.entry.Entry.{Entry}
 use Rattle.mux_history.specs.declared.out.Out.TheVariants.{ToServer, EndServer}
-use Rattle.rpc_message.specs.Message.{Message, request, notification, result, error, not_json, not_message, Id, integer}
+use Rattle.rpc_message.specs.Message.{Message, request, result, error, integer}
 use Rattle.mux_model.specs.Event.{Event, took, did, events_of, same_id, requests, notifies}
-use Rattle.mux_model.specs.Settings.{Settings}
 use Rattle.mux_model.specs.Stages.{is_first_result}
 use Rattle.session_laws.specs.Always.{Always}
 use Rattle.session_laws.specs.Parts.{server_part}

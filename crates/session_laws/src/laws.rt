@@ -3,8 +3,21 @@ ghost use Rattle.std.specs.Prelude.{List};
 ghost use Rattle.mux_history.specs.declared.entry.Entry.{Entry};
 ghost use Rattle.mux_model.specs.Legal.{Legal};
 ghost use Rattle.mux_model.specs.Settings.{Settings};
+ghost use Rattle.session_laws.specs.ClientRules.{KeepsClient2, KeepsClient3};
 ghost use Rattle.session_laws.specs.Ranges.{InRange};
 ghost use Rattle.session_laws.specs.ServerRules.{KeepsServer1, KeepsServer2, KeepsServer3};
+
+/// A law: each response to an editor has the id of an open request of it, which it closes, or answers a body that was
+/// no message with a null id (JSON-RPC 2.0, section 5; LSP 3.17, Response Message).
+pub fn client_2()
+    ensures { (settings : Settings) (history : List Entry) → Legal settings history → KeepsClient2 history }
+{}
+
+/// A law: an editor gets nothing but responses until its `initialize` has a result and it sent a later message, and
+/// one `initialize` of it at most gets a result (LSP 3.17, Initialize Request).
+pub fn client_3()
+    ensures { (settings : Settings) (history : List Entry) → Legal settings history → KeepsClient3 history }
+{}
 
 /// A law: bodies go to a server's program while it runs, and not once it is to be ended (LSP 3.17, Lifecycle
 /// Messages).

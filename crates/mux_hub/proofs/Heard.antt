@@ -1,0 +1,92 @@
+-- What a body that was read says of the turn.
+use Rattle.std.proofs.Common.{◌≡◌, ℕ, suc, ◌≤◌, List, [], ◌∷◌, ◌++◌, length, refl, ap, sym, subst, ◌∙◌, Bool, true, false, arith}
+use Rattle.std.specs.Prelude.{Option, Some, None, bytes_eq, decimal, codes, nat_eq, option_map, ◌&&◌, ◌||◌, if◌then◌else◌}
+use Rattle.json_text.specs.Json.{Json, word, number, string, array, object, value, quoted}
+use Rattle.json_text.specs.Number.{is_digit}
+use Rattle.std.proofs.lemmas.Bool.Decides.{nat_tests}
+use Rattle.json_text.specs.declared.kind.Word.TheVariants.{Null, False, True}
+use Rattle.rpc_message.specs.Message.{Message, request, notification, result, error, not_json, not_message, Id, integer, text, message_of, id_bytes, response_id, is_integer}
+use Rattle.rpc_message.specs.ValueTexts.{IsResponseIdText}
+use Rattle.rpc_message.specs.Parsed.{Parsed, IsRead}
+use Rattle.rpc_message.specs.Envelopes.{Tells, IsRequest, IsNotification, IsOutcome, IsFailure}
+use Rattle.rpc_message.specs.declared.envelope.Envelope.{Envelope}
+use Rattle.rpc_message.specs.declared.envelope.Envelope.TheVariants as envelope
+use Rattle.rpc_message.proofs.Ids.{result_id_bytes, error_id_bytes}
+use Rattle.mux_model.specs.Requests.{answered_id, has_number}
+use Rattle.mux_model.specs.declared.stage.Stage.TheVariants.{Ready}
+use Rattle.mux_hub.specs.declared.pending.Pending.{Pending}
+use Rattle.mux_hub.specs.Tables.{Kept, asked_of}
+use Rattle.mux_hub.specs.Turns.{Turn, from_editor, from_server, requested, noted, quiet, place_of, place_written, place_if, is_no_number, or_next, answered}
+
+pub request_turn : (requests : ℕ) (t : Kept) (body : List ℕ) (doc : Parsed) (id method : ℕ) (params : Option ℕ) → IsRead doc body → doc.envelope ≡ envelope.Request id method params
+    → from_editor requests t body (message_of body) ≡ requested requests t body t.phase
+request_turn requests t body doc id method params r e =
+    let tells : IsRequest doc.doc id method params (message_of body) = subst (λ v. Tells doc.doc v (message_of body)) e r.tells in
+    rw tells.is refl
+
+some_same : {A : Type 0} {x y : A} → ◌≡◌ {A = Option A} (Some x) (Some y) → x ≡ y
+some_same e = cc
+
+none_some : {A : Type 0} {x : A} → ◌≡◌ {A = Option A} None (Some x) → ⊥
+none_some e = cc
+
+and_left : (a b : Bool) → (a && b) ≡ true → a ≡ true
+and_left true b h = refl
+and_left false b h = h
+
+-- a string begins with its quotation mark
+quote_front : (w : List ℕ) → {cs : List ℕ} → quoted cs 0 w → is_no_number w ≡ true
+quote_front w q = ap is_no_number (q.2 ∙ ap (λ a. a ++ q.1) q.3)
+
+-- the byte in front of an integer is no quotation mark and no letter
+integer_front : (ds : List ℕ) → is_integer ds ≡ true → is_no_number ds ≡ false
+unfolding is_integer
+integer_front [] h = refl
+integer_front (b ∷ bs) h = front b (and_left (is_digit b || nat_eq b 45) (is_integer bs) h)
+  where
+    front : (b : ℕ) → (is_digit b || nat_eq b 45) ≡ true → (nat_eq b 34 || nat_eq b 110) ≡ false
+    front b h = grind (arith, nat_tests)
+
+no_place_for : (o : Option Id) (ps : List Pending) → ((p : Pending) → has_number o (asked_of p) ≡ false) → None ≡ place_of o ps
+no_place_for o [] h = refl
+no_place_for o (p ∷ ps) h = let e = h p in rw e (ap (option_map suc) (no_place_for o ps h))
+
+same_places : (ds : List ℕ) (ps : List Pending) → place_written ds ps ≡ place_of (Some (integer ds)) ps
+same_places ds [] = refl
+same_places ds (p ∷ ps) = ap (or_next (bytes_eq ds (decimal p.number))) (same_places ds ps)
+
+place_in : (t : Json) (o : Option Id) (w : List ℕ) (ps : List Pending) → value t 0 w → response_id t ≡ Some o → place_if (is_no_number w) w ps ≡ place_of o ps
+place_in (word s Null) o w ps v e =
+    let n : None ≡ o = some_same e in
+    subst (λ i. place_if (is_no_number w) w ps ≡ place_of i ps) n (ap (λ b. place_if b w ps) (ap is_no_number v.0) ∙ no_place_for None ps (λ p. refl))
+place_in (word s False) o w ps v e = absurd (none_some e)
+place_in (word s True) o w ps v e = absurd (none_some e)
+place_in (number s ds) o w ps v e = go (is_integer ds) refl e
+  where
+    go : (b : Bool) → is_integer ds ≡ b → (if b then Some (Some (integer ds)) else None) ≡ Some o → place_if (is_no_number w) w ps ≡ place_of o ps
+    go false i e = absurd (none_some e)
+    go true i e =
+      subst (λ j. place_if (is_no_number w) w ps ≡ place_of j ps) (some_same e)
+        (ap (λ b. place_if b w ps) (ap is_no_number v.0.0 ∙ integer_front ds i) ∙ (ap (λ x. place_written x ps) v.0.0 ∙ same_places ds ps))
+place_in (string s cs) o w ps v e =
+    let n : Some (text cs) ≡ o = some_same e in
+    subst (λ i. place_if (is_no_number w) w ps ≡ place_of i ps) n (ap (λ b. place_if b w ps) (quote_front w v.0) ∙ no_place_for (Some (text cs)) ps (λ p. refl))
+place_in (array s js) o w ps v e = absurd (none_some e)
+place_in (object s ms) o w ps v e = absurd (none_some e)
+
+-- the place of a response's request, by the bytes of its id
+pub place_by_id : (o : Option Id) (w : List ℕ) (ps : List Pending) → IsResponseIdText o w → place_if (is_no_number w) w ps ≡ place_of o ps
+place_by_id o w ps t = place_in t.tree o w ps t.stands t.is
+
+-- a response to a ready start
+pub outcome_turn : (t : Kept) (body : List ℕ) (doc : Parsed) (at : ℕ) (value_at : Option ℕ) → IsRead doc body → doc.envelope ≡ envelope.Outcome at value_at
+    → from_server t body (message_of body) Ready ≡ answered t body (place_if (is_no_number (id_bytes body)) (id_bytes body) t.pending)
+outcome_turn t body doc at value_at r e =
+    let tells : IsOutcome doc.doc at value_at (message_of body) = subst (λ v. Tells doc.doc v (message_of body)) e r.tells in
+    ap (λ m. from_server t body m Ready) tells.is ∙ ap (answered t body) (sym (place_by_id tells.id (id_bytes body) t.pending (result_id_bytes body tells.id _ tells.is)))
+
+pub failure_turn : (t : Kept) (body : List ℕ) (doc : Parsed) (at error_at : ℕ) → IsRead doc body → doc.envelope ≡ envelope.Failure at error_at
+    → from_server t body (message_of body) Ready ≡ answered t body (place_if (is_no_number (id_bytes body)) (id_bytes body) t.pending)
+failure_turn t body doc at error_at r e =
+    let tells : IsFailure doc.doc at error_at (message_of body) = subst (λ v. Tells doc.doc v (message_of body)) e r.tells in
+    ap (λ m. from_server t body m Ready) tells.is ∙ ap (answered t body) (sym (place_by_id tells.id (id_bytes body) t.pending (error_id_bytes body tells.id _ tells.is)))

@@ -1,0 +1,148 @@
+-- The initialize of an editor that waits is an open request of it.
+use Rattle.std.proofs.Common.{◌≡◌, ℕ, Bool, true, false, List, [], ◌∷◌, ◌++◌, nat_eq, codes, decimal, if◌then◌else◌, Option, refl, sym, ◌∙◌, ap, subst, subst₂}
+use Rattle.std.proofs.lemmas.Slice.Eq.{bytes_eq-Decides}
+use Rattle.json_text.specs.Json.{Json}
+use Rattle.mux_history.specs.declared.cause.Cause.TheVariants.{Joined, FromEditor, EditorGone, Started, FromServer}
+use Rattle.mux_history.specs.declared.out.Out.TheVariants.{ToEditor, ToServer, Spawn}
+use Rattle.rpc_message.specs.Message.{Message, request, notification, result, error, not_json, not_message, Id, message_of, id_bytes, result_bytes}
+use Rattle.rpc_message.specs.Texts.{ok_text, error_text, initialized_text, with_id_text}
+use Rattle.mux_model.specs.declared.phase.Phase.{Phase}
+use Rattle.mux_model.specs.declared.phase.Phase.TheVariants.{Absent, New, Waiting, Answered, Running, Down, Closed, Gone}
+use Rattle.mux_model.specs.Event.{Event, took, did, heard, said, requests}
+use Rattle.mux_model.specs.Phases.{Desk, desk_of, desk_behind, desk_hears, phase_told, makes_running}
+use Rattle.mux_model.specs.Requests.{Asked, asking_of, has_number, answered_id, open_of, open_behind, is_open, asks, without}
+use Rattle.mux_model.specs.Settings.{Settings}
+use Rattle.mux_model.specs.Spawns.{starts_of}
+use Rattle.session_laws.proofs.Asked.{IsKnown, IsAsked, AllAsked, hears_open}
+use Rattle.session_laws.proofs.Bodies.{welcome_says}
+use Rattle.session_laws.proofs.Bricks.{takes, begins, greets, spawns, forwards, refuses, welcomes, passes, is_early, Lays, Both, IsPassedOn}
+use Rattle.session_laws.proofs.Editors.{Editors}
+use Rattle.session_laws.proofs.Folds.{desk_more, opens_more}
+use Rattle.session_laws.proofs.Lists.{found_is}
+use Rattle.session_laws.proofs.Words.{number_same, open_last}
+
+-- a body that is an open request `initialize`
+pub record Waits (initialize : List ℕ) (ids : List Id) : Type 0 where
+  pub id : Id
+  pub params : Option Json
+  pub asks : message_of initialize ≡ request id (codes "initialize") params
+  pub waits : is_open id ids ≡ true
+
+abbrev pub WaitsIf : Phase → List ℕ → List Id → Type 0
+WaitsIf Waiting initialize ids = Waits initialize ids
+WaitsIf other initialize ids = Unit {0}
+
+abbrev pub WaitsAt : Desk → List Id → Type 0
+WaitsAt desk ids = WaitsIf desk.phase desk.initialize ids
+
+abbrev pub AllWaiting : List Event → Type 0
+AllWaiting events = (e : ℕ) → WaitsAt (desk_of e events) (open_of e events)
+
+-- what waits in this phase
+pub waits_at : (events : List Event) (e : ℕ) → (desk_of e events).phase ≡ Waiting → AllWaiting events → Waits (desk_of e events).initialize (open_of e events)
+waits_at events e at h = subst (λ z. WaitsIf z (desk_of e events).initialize (open_of e events)) at (h e)
+
+-- the editor of an open request doesn't wait
+pub asked_is : (events : List Event) (s : ℕ) (asked : Asked) (body : List ℕ) → IsPassedOn events s asked body → AllAsked events → IsAsked events asked
+asked_is events s asked body k h = found_is (IsAsked events) (has_number (answered_id (message_of body))) asked (asking_of s events).open_requests (h s) k.found
+
+more : (events : List Event) (event : Event) → ((e : ℕ) → WaitsAt (desk_behind e (desk_of e events) event) (open_behind e (open_of e events) event)) → AllWaiting (events ++ event ∷ [])
+more events event f e = subst₂ WaitsAt (sym (desk_more e events event)) (sym (opens_more e events event)) (f e)
+
+pick : (b : Bool) (x y : Desk) (ids others : List Id) → (b ≡ true → WaitsAt x ids) → WaitsAt y others → WaitsAt (if b then x else y) (if b then ids else others)
+pick true x y ids others f g = f refl
+pick false x y ids others f g = g
+
+pick_desk : (b : Bool) (x y : Desk) (ids : List Id) → (b ≡ true → WaitsAt x ids) → WaitsAt y ids → WaitsAt (if b then x else y) ids
+pick_desk true x y ids f g = f refl
+pick_desk false x y ids f g = g
+
+-- A message of the editor
+
+asks_initialize : (body : List ℕ) (ids : List Id) (m : Message) → message_of body ≡ m → requests (codes "initialize") m ≡ true → Waits body (asks m ids)
+asks_initialize body ids (request id method params) e h =
+    let same : codes "initialize" ≡ method = (bytes_eq-Decides (codes "initialize") method).0 h in
+    record { id = id; params = params; asks = e ∙ ap (λ z. request id z params) (sym same); waits = open_last id ids }
+asks_initialize body ids (notification method params) e h = absurd (cc)
+asks_initialize body ids (result k r) e h = absurd (cc)
+asks_initialize body ids (error k x) e h = absurd (cc)
+asks_initialize body ids not_json e h = absurd (cc)
+asks_initialize body ids not_message e h = absurd (cc)
+
+hears_waits : (phase : Phase) (initialize body : List ℕ) (ids : List Id) (m : Message) → message_of body ≡ m → WaitsIf phase initialize ids → WaitsAt (desk_hears phase initialize body m) (asks m ids)
+hears_waits Absent initialize body ids m e h = tt
+hears_waits New initialize body ids m e h = go (requests (codes "initialize") m) refl
+  where
+    go : (b : Bool) → requests (codes "initialize") m ≡ b → WaitsAt (if b then record { phase = Waiting; initialize = body } else record { phase = New; initialize = initialize }) (asks m ids)
+    go true r = asks_initialize body ids m e r
+    go false r = tt
+hears_waits Waiting initialize body ids m e h = record { id = h.id; params = h.params; asks = h.asks; waits = hears_open true m ids h.id h.waits }
+hears_waits Answered initialize body ids m e h = go (requests (codes "shutdown") m) (makes_running m)
+  where
+    go : (a b : Bool) → WaitsIf (if a then Down else if b then Running else Answered) initialize (asks m ids)
+    go true b = tt
+    go false true = tt
+    go false false = tt
+hears_waits Running initialize body ids m e h = go (requests (codes "shutdown") m)
+  where
+    go : (a : Bool) → WaitsIf (if a then Down else Running) initialize (asks m ids)
+    go true = tt
+    go false = tt
+hears_waits Down initialize body ids m e h = tt
+hears_waits Closed initialize body ids m e h = tt
+hears_waits Gone initialize body ids m e h = tt
+
+-- A body to the editor
+
+abbrev is_a_result : Message → Bool
+is_a_result (result id r) = true
+is_a_result other = false
+
+answers_it : (m : Message) (initialize : List ℕ) (ids : List Id) → is_a_result m ≡ true → WaitsIf (phase_told Waiting m) initialize ids
+answers_it (result id r) initialize ids h = tt
+answers_it (error id x) initialize ids h = absurd (cc)
+answers_it (request id method params) initialize ids h = absurd (cc)
+answers_it (notification method params) initialize ids h = absurd (cc)
+answers_it not_json initialize ids h = absurd (cc)
+answers_it not_message initialize ids h = absurd (cc)
+
+told_waits : (phase : Phase) (m : Message) (initialize : List ℕ) (ids : List Id) → (phase ≡ Waiting → is_a_result m ≡ true) → WaitsIf (phase_told phase m) initialize ids
+told_waits Waiting m initialize ids f = answers_it m initialize ids (f refl)
+told_waits Absent m initialize ids f = tt
+told_waits New m initialize ids f = tt
+told_waits Answered m initialize ids f = tt
+told_waits Running m initialize ids f = tt
+told_waits Down m initialize ids f = tt
+told_waits Closed m initialize ids f = tt
+told_waits Gone m initialize ids f = tt
+
+to_editor : (events : List Event) (n : ℕ) (body : List ℕ) → AllWaiting events → ((desk_of n events).phase ≡ Waiting → is_a_result (message_of body) ≡ true) → AllWaiting (events ++ said (ToEditor n body) ∷ [])
+to_editor events n body h f = more events (said (ToEditor n body)) (λ e. pick (nat_eq n e)
+    (record { phase = phase_told (desk_of e events).phase (message_of body); initialize = (desk_of e events).initialize }) (desk_of e events) (without (answered_id (message_of body)) (open_of e events)) (open_of e events)
+    (λ same. told_waits (desk_of e events).phase (message_of body) (desk_of e events).initialize (without (answered_id (message_of body)) (open_of e events))
+    (λ at. f (ap (λ k. (desk_of k events).phase) (number_same n e same) ∙ at))) (h e))
+
+to_server : (events : List Event) (n : ℕ) (body : List ℕ) → AllWaiting events → AllWaiting (events ++ said (ToServer n body) ∷ [])
+to_server events n body h = more events (said (ToServer n body)) h
+
+late_not : (phase : Phase) → is_early phase ≡ false → phase ≡ Waiting → ⊥
+late_not phase h at = let e : is_early phase ≡ true = ap is_early at in cc
+
+pub waits_law : (settings : Settings) → Lays settings (Both Editors AllAsked) AllWaiting
+waits_law settings events (takes (Joined n) fits built still) known h = more events (took (Joined n) not_message) (λ e. pick_desk (nat_eq n e) (record { phase = New; initialize = [] }) (desk_of e events) (open_of e events) (λ same. tt) (h e))
+waits_law settings events (takes (FromEditor n body) fits built still) known h = more events (took (FromEditor n body) (message_of body)) (λ e. pick (nat_eq n e)
+    (desk_hears (desk_of e events).phase (desk_of e events).initialize body (message_of body)) (desk_of e events) (asks (message_of body) (open_of e events)) (open_of e events)
+    (λ same. hears_waits (desk_of e events).phase (desk_of e events).initialize body (open_of e events) (message_of body) refl (h e)) (h e))
+waits_law settings events (takes (EditorGone n why) fits built still) known h = more events (took (EditorGone n why) not_message)
+    (λ e. pick_desk (nat_eq n e) (record { phase = Gone; initialize = (desk_of e events).initialize }) (desk_of e events) (open_of e events) (λ same. tt) (h e))
+waits_law settings events (takes cause fits built still) known h = more events (heard cause) h
+waits_law settings events (begins n body params fits stage says) known h = to_server (events ++ took (Started n) not_message ∷ []) n body (more events (took (Started n) not_message) h)
+waits_law settings events (greets n body r fits built stage says) known h = to_server (events ++ took (FromServer n body) (message_of body) ∷ []) n initialized_text (more events (took (FromServer n body) (message_of body)) h)
+waits_law settings events (spawns g) known h = more events (did (Spawn (starts_of events) g) not_message) h
+waits_law settings events (forwards n e body id method params k) known h = to_server events n (with_id_text body (decimal (asking_of n events).next)) h
+waits_law settings events (refuses e body id method params code k) known h = to_editor events e (error_text (id_bytes body) code) h (λ at. absurd (late_not (desk_of e events).phase k.served at))
+waits_law settings events (welcomes e body id r k) known h = to_editor events e (ok_text (id_bytes (desk_of e events).initialize) (result_bytes body)) h
+    (λ at. let w : Waits (desk_of e events).initialize (open_of e events) = waits_at events e at h in
+    ap is_a_result (welcome_says (desk_of e events).initialize body w.id (codes "initialize") w.params id r w.asks k.says))
+waits_law settings events (passes n asked body k) known h = to_editor events asked.asker.editor (with_id_text body asked.asker.bytes) h
+    (λ at. absurd (let a : IsKnown events asked.asker = asked_is events n asked body k known.1 in late_not (desk_of asked.asker.editor events).phase a.late at))
