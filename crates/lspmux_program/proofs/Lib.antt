@@ -1,0 +1,8 @@
+pub mod Bodies
+pub mod Cuts
+pub mod Driving
+pub mod Ends
+pub mod Reports
+pub mod Steps
+pub mod Windows
+pub mod Words

@@ -1,0 +1,41 @@
+-- A buffer before a source: the bytes that were read and aren't used, and how many were used.
+use Rattle.std.specs.Prelude.{◌≡◌, ℕ, ◌+◌, ◌*◌, ◌^◌, ◌<◌, ◌≤◌, List, [], ◌∷◌, ◌++◌, length, take, drop, nat_eq, position, option_map}
+use Rattle.std.specs.Prelude.{Option, Some, None}
+use Rattle.std.specs.Io.KnownBytes.{prepend_known}
+use Rattle.lspmux_program.specs.Lines.{Line, lines_from, onto_line}
+
+pub record BufferView : Type 0 where
+  pub pending : List ℕ
+  pub used : ℕ
+
+-- the bytes that weren't used, where the source tells what it has left
+abbrev pub unused : BufferView → Option (List ℕ) → Option (List ℕ)
+unused buffer left = prepend_known buffer.pending left
+
+-- the lines of them
+abbrev pub known_lines : BufferView → Option (List ℕ) → Option (List Line)
+known_lines buffer left = option_map (lines_from buffer.used) (unused buffer left)
+
+-- a line, and then the known lines
+abbrev pub onto_known : Line → Option (List Line) → Option (List Line)
+onto_known line known = option_map (λ lines. line ∷ lines) known
+
+-- these bytes, and behind them the known ones, as lines
+abbrev pub begun_lines : List ℕ → BufferView → Option (List ℕ) → Option (List Line)
+begun_lines line buffer left = option_map (onto_line buffer.used line) (known_lines buffer left)
+
+-- the place of the first line feed
+abbrev pub line_feed : List ℕ → Option ℕ
+line_feed bytes = position (λ b. nat_eq b 10) bytes
+
+-- in the first of these lines the input passes 2^40 bytes
+abbrev pub FirstPasses : List Line → Type 0
+FirstPasses [] = ⊥
+FirstPasses (line ∷ lines) = 2 ^ 40 < line.upto
+
+-- so many bytes went to a line, and so many more were passed over
+pub record Taken (count skipped : ℕ) (before now : BufferView) (line_before line_now : List ℕ) : Type 0 where
+  pub line : line_now ≡ line_before ++ take count before.pending
+  pub pending : now.pending ≡ drop (count + skipped) before.pending
+  pub used : now.used ≡ before.used + (count + skipped)
+  pub small : now.used ≤ 2 ^ 40

@@ -1,0 +1,13 @@
+pub mod Buffers
+pub mod Causes
+pub mod Faults
+pub mod Lines
+pub mod Marks
+pub mod Numbers
+pub mod Options
+pub mod Outs
+pub mod Program
+pub mod Reports
+pub mod Runs
+pub mod Steps
+pub mod Stops

@@ -1,0 +1,77 @@
+-- What driving the lines of an input gives: a history, and the first line that is refused.
+use Rattle.std.specs.Prelude.{◌≡◌, ℕ, ◌+◌, ◌^◌, Bool, true, false, List, [], ◌∷◌, ◌++◌, nat_lt, codes, IfSome, if◌then◌else◌, option_map, take}
+use Rattle.std.specs.Prelude.{Option, Some, None, Result, Ok, Err}
+use Rattle.std.specs.Io.KnownBytes.{append_known}
+use Rattle.mux_history.specs.declared.cause.Cause.{Cause}
+use Rattle.mux_history.specs.declared.entry.Entry.{Entry}
+use Rattle.mux_hub.specs.Hubs.{body_length}
+use Rattle.mux_model.specs.Built.{built}
+use Rattle.mux_model.specs.Fits.{fits}
+use Rattle.mux_model.specs.Rows.{entry_of}
+use Rattle.mux_model.specs.Settings.{Settings}
+use Rattle.lspmux_program.specs.declared.refusal.Refusal.{Refusal}
+use Rattle.lspmux_program.specs.declared.refusal.Refusal.TheVariants.{Form, Absent, Unbuilt}
+use Rattle.lspmux_program.specs.Causes.{cause_of}
+use Rattle.lspmux_program.specs.Lines.{Line, lines_of}
+
+-- the built-in settings
+abbrev pub built_in : Settings
+built_in = record {
+  limits = record { groups = 8; restarts = 5; idle = 300; grace = 5; backlog = 134217728; requests = 2147483647; versions = 2147483647 };
+  servers = record { name = codes "main"; ceiling = None } ∷ [];
+  default = 0;
+}
+
+-- the most bytes of a body
+abbrev pub content : ℕ
+content = 67108864
+
+abbrev pub judged : List Entry → Option Cause → Result Cause Refusal
+judged history None = Err Form
+judged history (Some cause) = if nat_lt content (body_length cause) then Err Form else (if fits history cause then (if built history cause then Ok cause else Err Unbuilt) else Err Absent)
+
+-- the cause that these bytes write, or why the line is refused
+unfoldable pub reading_bytes : List Entry → List ℕ → Result Cause Refusal
+reading_bytes history bytes = judged history (cause_of bytes)
+
+-- the same of a line; one in which the input passes 2^40 bytes is in no form
+abbrev pub reading : List Entry → Line → Result Cause Refusal
+reading history line = if nat_lt (2 ^ 40) line.upto then Err Form else reading_bytes history line.bytes
+
+-- a history with the entry of this cause behind it
+unfoldable pub after : Settings → List Entry → Cause → List Entry
+after settings history cause = history ++ entry_of settings history cause ∷ []
+
+-- a refused line, counted from 1
+pub record Refused : Type 0 where
+  pub line : ℕ
+  pub refusal : Refusal
+
+pub record Outcome : Type 0 where
+  pub history : List Entry
+  pub refused : Option Refused
+
+abbrev pub on_reading : {A : Type 0} → Result Cause Refusal → (Refusal → A) → (Cause → A) → A
+on_reading (Err refusal) f g = f refusal
+on_reading (Ok cause) f g = g cause
+
+-- these lines, of which the first has this number, driven behind a history
+abbrev pub drive_from : Settings → ℕ → List Entry → List Line → Outcome
+drive_from settings k history [] = record { history = history; refused = None }
+drive_from settings k history (line ∷ lines) = on_reading (reading history line)
+    (λ refusal. record { history = history; refused = Some (record { line = k; refusal = refusal }) })
+    (λ cause. drive_from settings (k + 1) (after settings history cause) lines)
+
+abbrev pub drive_of : Settings → List ℕ → Outcome
+drive_of settings input = drive_from settings 1 [] (lines_of input)
+
+-- the history is that of some first lines, of which none is refused
+pub record IsRunOf (settings : Settings) (all rest : Option (List Line)) (history : List Entry) : Type 0 where
+  pub front : List Line
+  pub whole : all ≡ option_map (λ lines. front ++ lines) rest
+  pub runs : drive_from settings 1 [] front ≡ record { history = history; refused = None }
+
+-- a front of the text was written
+pub record WroteFront (before now : Option (List ℕ)) (text : List ℕ) : Type 0 where
+  pub count : ℕ
+  pub wrote : now ≡ append_known before (take count text)

@@ -1,0 +1,60 @@
+-- Why a run stops, and what it has done by then.
+use Rattle.std.specs.Prelude.{◌≡◌, ℕ, ◌+◌, List, [], length, IfSome, OnOk, IfErr}
+use Rattle.std.specs.Prelude.{Option, Some, None, Result}
+use Rattle.std.specs.Io.KnownBytes.{append_known}
+use Rattle.mux_history.specs.declared.entry.Entry.{Entry}
+use Rattle.mux_hub.specs.Hubs.{HubView, HubStands}
+use Rattle.mux_model.specs.Settings.{Settings}
+use Rattle.lspmux_program.specs.declared.line.LineStop.{LineStop}
+use Rattle.lspmux_program.specs.declared.line.LineStop.TheVariants as line_stop
+use Rattle.lspmux_program.specs.declared.refusal.Refusal.{Refusal}
+use Rattle.lspmux_program.specs.declared.refusal.Refusal.TheVariants.{Form}
+use Rattle.lspmux_program.specs.declared.step.LineFault.{LineFault}
+use Rattle.lspmux_program.specs.declared.step.LineFault.TheVariants as line_fault
+use Rattle.lspmux_program.specs.declared.stop.Stop.{Stop}
+use Rattle.lspmux_program.specs.declared.stop.Stop.TheVariants as stop
+use Rattle.lspmux_program.specs.Lines.{Line}
+use Rattle.lspmux_program.specs.Outs.{outs_text}
+use Rattle.lspmux_program.specs.Runs.{Refused, Outcome, drive_from, IsRunOf, WroteFront}
+
+abbrev pub stop_at : ℕ → LineStop → Stop
+stop_at number line_stop.Memory = stop.Memory
+stop_at number line_stop.Input = stop.Input
+stop_at number line_stop.Passed = stop.Refused number Form
+
+abbrev pub fault_at : ℕ → LineFault → Stop
+fault_at number line_fault.Memory = stop.Memory
+fault_at number line_fault.Journal = stop.Journal
+fault_at number line_fault.Output = stop.Output
+fault_at number (line_fault.Refused refusal) = stop.Refused number refusal
+
+-- where a run goes on: the history is that of the lines before, and its outs are written
+pub record Driving {J : Type 0} (told : J → Option (List Entry)) (settings : Settings) (all rest : Option (List Line)) (taken : ℕ) (written now : Option (List ℕ)) (hub : HubView J) : Type 0 where
+  pub history : List Entry
+  pub stands : HubStands told hub history
+  pub run : IsRunOf settings all rest history
+  pub count : taken ≡ length run.front
+  pub wrote : now ≡ append_known written (outs_text history)
+
+-- driving all lines gives this
+abbrev pub Gives : Settings → Option (List Line) → Outcome → Type 0
+Gives settings all outcome = IfSome all (λ lines. drive_from settings 1 [] lines ≡ outcome)
+
+-- what a stop says of the history and of what was written
+abbrev pub StopsAt : Settings → Option (List Line) → Option (List ℕ) → Option (List ℕ) → List Entry → Stop → Type 0
+StopsAt settings all written now history stop.Memory = Unit {0}
+StopsAt settings all written now history stop.Output = Unit {0}
+StopsAt settings all written now history stop.Journal = now ≡ append_known written (outs_text history)
+StopsAt settings all written now history stop.Input = now ≡ append_known written (outs_text history)
+StopsAt settings all written now history (stop.Refused k r) =
+    (now ≡ append_known written (outs_text history)) × Gives settings all (record { history = history; refused = Some (record { line = k; refusal = r }) })
+
+-- where a run ended
+pub record Driven {J : Type 0} (told : J → Option (List Entry)) (settings : Settings) (all : Option (List Line)) (written now : Option (List ℕ)) (hub : HubView J) (result : Result (Unit {0}) Stop) : Type 0 where
+  pub history : List Entry
+  pub stands : HubStands told hub history
+  pub rest : Option (List Line)
+  pub run : IsRunOf settings all rest history
+  pub wrote : WroteFront written now (outs_text history)
+  pub done : OnOk result ((now ≡ append_known written (outs_text history)) × Gives settings all (record { history = history; refused = None }))
+  pub stopped : IfErr result (StopsAt settings all written now history)

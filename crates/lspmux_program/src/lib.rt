@@ -1,0 +1,16 @@
+//! The program: its words, and the command `drive`, which reads cause lines, steps one hub and writes out lines.
+#![tactic(auto)]
+
+mod buffer;
+mod drive;
+mod line;
+mod program;
+mod read;
+mod refusal;
+mod report;
+mod step;
+mod stop;
+mod word;
+mod write;
+
+pub use program::{Outside, lspmux};

@@ -1,0 +1,82 @@
+// The lines of a source.
+ghost use Rattle.std.specs.Prelude.{◌≡◌, ℕ, ◌^◌, ◌<◌, ◌≤◌, List, [], IfOk, IfErr, IfSome, IfNone, IsErrOf, Some, None, Option};
+ghost use Rattle.outside_io.specs.Faults.{Rose};
+ghost use Rattle.lspmux_program.specs.Buffers.{FirstPasses, known_lines, onto_known};
+ghost use Rattle.lspmux_program.specs.Lines.{Line};
+
+use std::alloc::Global;
+
+use json_text::Memory;
+use outside_io::{ReadFault, Source};
+
+use crate::buffer::{Buffer, Piece, filled, take_piece};
+
+/// Why no line came.
+#[derive(Clone, Copy, Debug, PartialEq, Eq)]
+pub enum LineStop {
+    /// Memory was wanted.
+    Memory,
+    /// A read failed.
+    Input,
+    /// In the line the input passes its limit.
+    Passed,
+}
+
+impl From<Memory> for LineStop {
+    ghost use Rattle.std.specs.Prelude.{◌≡◌};
+    ghost use Rattle.lspmux_program.specs.declared.line.LineStop.TheVariants as line_stop;
+
+    ghost from_gives = { λ _ e. e ≡ line_stop.Memory };
+
+    fn from(_: Memory) -> Self {
+        LineStop::Memory
+    }
+}
+
+impl From<ReadFault> for LineStop {
+    ghost use Rattle.std.specs.Prelude.{◌≡◌};
+    ghost use Rattle.lspmux_program.specs.declared.line.LineStop.TheVariants as line_stop;
+
+    ghost from_gives = { λ _ e. e ≡ line_stop.Input };
+
+    fn from(_: ReadFault) -> Self {
+        LineStop::Input
+    }
+}
+
+// What the end of the input leaves of the line that has begun.
+fn last_line(line: Vec<u8>) -> Option<Vec<u8>>
+    ensures some { IfSome result (λ last. (last.items ≡ line.items) × (last.items ≡ [] → ⊥)) }
+    ensures none { IfNone result (line.items ≡ []) }
+{
+    if line.is_empty() { None } else { Some(line) }
+}
+
+/// The next line of the input, without its line feed, or none at the end.
+pub fn next_line<I: Source>(
+    alloc: Global,
+    input: &mut I,
+    buffer: &mut Buffer,
+) -> Result<Option<Vec<u8>>, LineStop>
+    requires small { buffer.old.used ≤ 2 ^ 40 }
+    ensures line { IfOk result (λ r. IfSome r (λ line. known_lines buffer.old (I.left input.old) ≡ onto_known (record { bytes = line.items; upto = buffer.new.used }) (known_lines buffer.new (I.left input.new)))) }
+    ensures end { IfOk result (λ r. IfNone r (IfSome (known_lines buffer.old (I.left input.old)) (λ lines. lines ≡ []))) }
+    ensures left { IfOk result (λ r. IfNone r (IfSome (I.left input.new) (λ bytes. bytes ≡ []))) }
+    ensures used { IfOk result (λ r. IfSome r (λ line. buffer.old.used < buffer.new.used)) }
+    ensures small { IfOk result (λ r. IfSome r (λ line. buffer.new.used ≤ 2 ^ 40)) }
+    ensures passed { IsErrOf result LineStop.Passed → IfSome (known_lines buffer.old (I.left input.old)) FirstPasses }
+    ensures failed { IsErrOf result LineStop.Input → Rose (I.faults input.old) (I.faults input.new) }
+    ensures later { I.faults input.old ≤ I.faults input.new }
+{
+    let mut line = Vec::new(alloc);
+    'pieces: loop {
+        if !filled(input, buffer)? {
+            return Ok(last_line(line));
+        }
+        match take_piece(buffer, &mut line)? {
+            Piece::Whole => return Ok(Some(line)),
+            Piece::Part => {}
+            Piece::Passed => return Err(LineStop::Passed),
+        }
+    }
+}

@@ -1,0 +1,73 @@
+// Statuses and fault lines.
+ghost use Rattle.std.specs.Prelude.{◌≡◌, ◌≢◌, ℕ, ◌≤◌, ◌++◌, List, IfOk, string_bytes, ◌⊎◌};
+ghost use Rattle.std.specs.Io.KnownBytes.{append_known};
+ghost use Rattle.outside_io.specs.Faults.{Rose};
+ghost use Rattle.lspmux_program.specs.Program.{status_of, refusal_word, refused_line, journal_line, input_line, fault_line};
+ghost use Rattle.lspmux_program.specs.Runs.{WroteFront};
+ghost use Rattle.lspmux_program.specs.Reports.{Wrote, Reported};
+
+use std::alloc::Global;
+
+use json_text::Memory;
+use outside_io::{Sink, write_whole};
+
+use crate::refusal::Refusal;
+use crate::stop::Stop;
+
+fn refusal_word(refusal: Refusal) -> &'static str
+    ensures { result.now ≡ refusal_word refusal }
+{
+    match refusal {
+        Refusal::Form => "form",
+        Refusal::Absent => "absent",
+        Refusal::Unbuilt => "unbuilt",
+    }
+}
+
+// The line about a refused line.
+fn refused_line(alloc: Global, line: u64, refusal: Refusal) -> Result<String, Memory>
+    ensures { IfOk result (λ text. string_bytes text ≡ refused_line (record { line = line; refusal = refusal })) }
+{
+    let word = refusal_word(refusal);
+    Ok(format!(in alloc; "!line {line} {word}\n")?)
+}
+
+/// Writes a fault line. Its own fault changes no status.
+pub fn write_fault<O: Sink>(output: &mut O, line: &[u8])
+    ensures wrote { Wrote (O.written output.old) (O.written output.new) line.now (Rose (O.faults output.old) (O.faults output.new)) }
+    ensures later { O.faults output.old ≤ O.faults output.new }
+{
+    let _ = write_whole(output, line);
+}
+
+fn write_refused<O: Sink>(alloc: Global, output: &mut O, line: u64, refusal: Refusal) -> u8
+    ensures reported { Reported result 1 (O.written output.old) (O.written output.new) (refused_line (record { line = line; refusal = refusal })) (Rose (O.faults output.old) (O.faults output.new)) }
+    ensures later { O.faults output.old ≤ O.faults output.new }
+{
+    let Ok(text) = refused_line(alloc, line, refusal) else {
+        return 5;
+    };
+    write_fault(output, text.as_bytes());
+    1
+}
+
+/// Writes the fault line of a stop and answers the status: 1 and the number of a refused line, 5 for want of memory,
+/// 6, 7 and 8 for faults of journal, input and output.
+pub fn report<O: Sink>(alloc: Global, output: &mut O, stop: Stop) -> u8
+    ensures reported { Reported result (status_of stop) (O.written output.old) (O.written output.new) (fault_line stop) (Rose (O.faults output.old) (O.faults output.new)) }
+    ensures later { O.faults output.old ≤ O.faults output.new }
+{
+    match stop {
+        Stop::Refused(line, refusal) => write_refused(alloc, output, line, refusal),
+        Stop::Memory => 5,
+        Stop::Journal => {
+            write_fault(output, b"!journal\n");
+            6
+        }
+        Stop::Input => {
+            write_fault(output, b"!input\n");
+            7
+        }
+        Stop::Output => 8,
+    }
+}

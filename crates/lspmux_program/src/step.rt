@@ -1,0 +1,122 @@
+// One line: read, stepped, and its outs written.
+ghost use Rattle.std.specs.Prelude.{◌≡◌, ℕ, ◌≤◌, Ok, Err, false, true, IsTrue, IfOk, OnOk, IfErr, OnErr, IsErrOf, List};
+ghost use Rattle.outside_io.specs.Faults.{Rose};
+ghost use Rattle.mux_history.specs.declared.entry.Entry.{Entry};
+ghost use Rattle.mux_hub.specs.Hubs.{HubView, HubStands, body_length};
+ghost use Rattle.mux_model.specs.Built.{built};
+ghost use Rattle.mux_model.specs.Fits.{fits};
+ghost use Rattle.lspmux_program.specs.Runs.{reading_bytes};
+ghost use Rattle.lspmux_program.specs.Steps.{LineTaken, LineLeft};
+ghost use Rattle.lspmux_program.specs.Faults.{LeavesWritten};
+ghost use Rattle.lspmux_program.specs.declared.refusal.Refusal.{Refusal};
+
+use std::alloc::Global;
+
+use json_text::Memory;
+use mux_history::{Cause, Journal};
+use mux_hub::{Hub, StepFault};
+use outside_io::{Cut, Sink, write_whole};
+
+use crate::read::cause_of;
+use crate::refusal::{Refusal, refusal_of};
+use crate::write::out_lines;
+
+/// Why a line wasn't taken and answered.
+#[derive(Clone, Copy, Debug, PartialEq, Eq)]
+pub enum LineFault {
+    /// Memory was wanted.
+    Memory,
+    /// The journal's append failed.
+    Journal,
+    /// A write to the output failed.
+    Output,
+    /// The line is refused.
+    Refused(Refusal),
+}
+
+impl From<Memory> for LineFault {
+    ghost use Rattle.std.specs.Prelude.{◌≡◌};
+    ghost use Rattle.lspmux_program.specs.declared.step.LineFault.TheVariants as line_fault;
+
+    ghost from_gives = { λ _ e. e ≡ line_fault.Memory };
+
+    fn from(_: Memory) -> Self {
+        LineFault::Memory
+    }
+}
+
+impl From<StepFault> for LineFault {
+    ghost use Rattle.std.specs.Prelude.{◌≡◌};
+    ghost use Rattle.lspmux_program.specs.Faults.{line_fault_of};
+
+    ghost from_gives = { λ fault e. e ≡ line_fault_of fault };
+
+    fn from(fault: StepFault) -> Self {
+        match fault {
+            StepFault::Memory | StepFault::Spent => LineFault::Memory,
+            StepFault::Journal => LineFault::Journal,
+        }
+    }
+}
+
+impl From<Cut> for LineFault {
+    ghost use Rattle.std.specs.Prelude.{◌≡◌};
+    ghost use Rattle.lspmux_program.specs.declared.step.LineFault.TheVariants as line_fault;
+
+    ghost from_gives = { λ _ e. e ≡ line_fault.Output };
+
+    fn from(_: Cut) -> Self {
+        LineFault::Output
+    }
+}
+
+#[tactic(auto, unfolding(crate::specs::Runs::reading_bytes))]
+// The cause that a line writes, or why the line is refused.
+fn read_line<J: Journal>(
+    alloc: Global,
+    line: &[u8],
+    hub: &Hub<J>,
+) -> Result<Result<Cause, Refusal>, Memory>
+    requires ready { hub.now.spent ≡ false }
+    ensures reads { (history : List Entry) → HubStands J.told hub.now history → IfOk result (λ read. read ≡ reading_bytes history line.now) }
+    ensures fits { (history : List Entry) → HubStands J.told hub.now history → IfOk result (λ read. IfOk read (λ cause. IsTrue (fits history cause))) }
+    ensures is_built { (history : List Entry) → HubStands J.told hub.now history → IfOk result (λ read. IfOk read (λ cause. IsTrue (built history cause))) }
+    ensures small { IfOk result (λ read. IfOk read (λ cause. body_length cause ≤ 67108864)) }
+{
+    let Some(cause) = cause_of(alloc, line)? else {
+        return Ok(Err(Refusal::Form));
+    };
+    match refusal_of(&cause, hub)? {
+        Some(refusal) => Ok(Err(refusal)),
+        None => Ok(Ok(cause)),
+    }
+}
+
+/// Reads a line, steps the hub and writes the outs.
+pub fn take_line<J: Journal, O: Sink>(
+    alloc: Global,
+    line: &[u8],
+    hub: &mut Hub<J>,
+    output: &mut O,
+) -> Result<(), LineFault>
+    requires ready { hub.old.spent ≡ false }
+    ensures taken { (history : List Entry) → HubStands J.told hub.old history → OnOk result (LineTaken J.told history line.now hub.old hub.new (O.written output.old) (O.written output.new)) }
+    ensures refused { (history : List Entry) (r : Refusal) → HubStands J.told hub.old history → IsErrOf result (LineFault.Refused r) → reading_bytes history line.now ≡ Err r }
+    ensures left { (history : List Entry) → HubStands J.told hub.old history → OnErr result (LineLeft J.told history line.now hub.old hub.new (O.written output.old) (O.written output.new)) }
+    ensures kept { (history : List Entry) → HubStands J.told hub.old history → IfErr result (λ fault. LeavesWritten fault → HubStands J.told hub.new history × (O.written output.new ≡ O.written output.old)) }
+    ensures settings { hub.new.settings ≡ hub.old.settings }
+    ensures ready { OnOk result (hub.new.spent ≡ false) }
+    ensures journal { IsErrOf result LineFault.Journal → Rose (J.faults hub.old.journal) (J.faults hub.new.journal) }
+    ensures output { IsErrOf result LineFault.Output → Rose (O.faults output.old) (O.faults output.new) }
+    ensures journal_later { J.faults hub.old.journal ≤ J.faults hub.new.journal }
+    ensures output_later { O.faults output.old ≤ O.faults output.new }
+{
+    let cause = match read_line(alloc, line, hub)? {
+        Ok(cause) => cause,
+        Err(refusal) => return Err(LineFault::Refused(refusal)),
+    };
+    let outs = hub.step(cause)?;
+    let text = out_lines(alloc, &outs)?;
+    write_whole(output, &text)?;
+    Ok(())
+}

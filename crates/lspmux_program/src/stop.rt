@@ -1,0 +1,58 @@
+// Why a run stops before the end of its input.
+ghost use Rattle.std.specs.Prelude.{◌≡◌};
+ghost use Rattle.lspmux_program.specs.Stops.{stop_at, fault_at};
+
+use json_text::Memory;
+
+use crate::line::LineStop;
+use crate::refusal::Refusal;
+use crate::step::LineFault;
+
+/// Why a run stops before the end of its input.
+#[derive(Clone, Copy, Debug, PartialEq, Eq)]
+pub enum Stop {
+    /// Memory was wanted.
+    Memory,
+    /// The journal's append failed.
+    Journal,
+    /// A read of the input failed.
+    Input,
+    /// A write to the output failed.
+    Output,
+    /// The line with this number, counted from 1, is refused.
+    Refused(u64, Refusal),
+}
+
+impl From<Memory> for Stop {
+    ghost use Rattle.std.specs.Prelude.{◌≡◌};
+    ghost use Rattle.lspmux_program.specs.declared.stop.Stop.TheVariants as stop;
+
+    ghost from_gives = { λ _ e. e ≡ stop.Memory };
+
+    fn from(_: Memory) -> Self {
+        Stop::Memory
+    }
+}
+
+/// Why the run stops where no line comes.
+pub fn stop_at(number: u64, stop: LineStop) -> Stop
+    ensures { result ≡ stop_at number stop }
+{
+    match stop {
+        LineStop::Memory => Stop::Memory,
+        LineStop::Input => Stop::Input,
+        LineStop::Passed => Stop::Refused(number, Refusal::Form),
+    }
+}
+
+/// Why the run stops where a line isn't taken and answered.
+pub fn fault_at(number: u64, fault: LineFault) -> Stop
+    ensures { result ≡ fault_at number fault }
+{
+    match fault {
+        LineFault::Memory => Stop::Memory,
+        LineFault::Journal => Stop::Journal,
+        LineFault::Output => Stop::Output,
+        LineFault::Refused(refusal) => Stop::Refused(number, refusal),
+    }
+}

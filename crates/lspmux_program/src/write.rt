@@ -1,0 +1,68 @@
+// Out lines.
+ghost use Rattle.std.specs.Prelude.{◌≡◌, ◌++◌, IfOk, OnOk, string_bytes};
+ghost use Rattle.lspmux_program.specs.Marks.{marked, text_of_body};
+ghost use Rattle.lspmux_program.specs.Outs.{head_of, out_line, out_lines};
+
+use std::alloc::Global;
+
+use json_text::Memory;
+use mux_history::{Out, Outs};
+
+// Writes one byte of a body.
+fn write_marked(text: &mut Vec<u8>, byte: u8) -> Result<(), Memory>
+    ensures { OnOk result (text.new.items ≡ text.old.items ++ marked byte) }
+{
+    match byte {
+        b'^' => text.extend_from_slice(b"^^")?,
+        b'\n' => text.extend_from_slice(b"^n")?,
+        b'\r' => text.extend_from_slice(b"^r")?,
+        _ => text.push(byte)?,
+    }
+    Ok(())
+}
+
+fn write_body(text: &mut Vec<u8>, body: &[u8]) -> Result<(), Memory>
+    ensures { OnOk result (text.new.items ≡ text.old.items ++ text_of_body body.now) }
+{
+    for byte in body {
+        write_marked(text, *byte)?;
+    }
+    Ok(())
+}
+
+// The front of the line, before the body or the line feed.
+fn head_of(alloc: Global, out: &Out) -> Result<String, Memory>
+    ensures { IfOk result (λ head. string_bytes head ≡ head_of out.now) }
+{
+    match out {
+        Out::ToEditor(editor, _) => Ok(format!(in alloc; ">ed {editor} ")?),
+        Out::ToServer(start, _) => Ok(format!(in alloc; ">sv {start} ")?),
+        Out::Spawn(start, group) => Ok(format!(in alloc; ">spawn {start} {group}")?),
+        Out::CloseEditor(editor) => Ok(format!(in alloc; ">close {editor}")?),
+        Out::EndServer(start) => Ok(format!(in alloc; ">end {start}")?),
+    }
+}
+
+fn write_out(alloc: Global, text: &mut Vec<u8>, out: &Out) -> Result<(), Memory>
+    ensures { OnOk result (text.new.items ≡ text.old.items ++ out_line out.now) }
+{
+    let head = head_of(alloc, out)?;
+    text.extend_from_slice(head.as_bytes())?;
+    match out {
+        Out::ToEditor(_, body) | Out::ToServer(_, body) => write_body(text, body.bytes())?,
+        Out::Spawn(..) | Out::CloseEditor(_) | Out::EndServer(_) => {}
+    }
+    text.push(b'\n')?;
+    Ok(())
+}
+
+/// The out lines of these outs.
+pub fn out_lines(alloc: Global, outs: &Outs) -> Result<Vec<u8>, Memory>
+    ensures { IfOk result (λ text. text.items ≡ out_lines outs.now) }
+{
+    let mut text = Vec::new(alloc);
+    for out in outs.as_slice() {
+        write_out(alloc, &mut text, out)?;
+    }
+    Ok(text)
+}
