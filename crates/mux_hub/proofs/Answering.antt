@@ -146,8 +146,8 @@ welcomed_steps settings events t body text r v ps s g m w p x n =
     record {
       outs = sym (first_row settings events body r l m ∙ (ap (λ es. ToServer 0 initialized_text ∷ outs (each (welcome body) es) evs) waits ∙ ap (λ b. ToServer 0 initialized_text ∷ ToEditor 0 b ∷ []) text_is));
       stands = subst (λ xs. Stands (record t { phase = Answered; sent = min (t.sent + length text) (2 ^ 64 - 1); stage = Ready }) xs)
-        (append_assoc (with_cause events (FromServer 0 body)) (said (ToServer 0 initialized_text) ∷ []) (said (ToEditor 0 text) ∷ []))
-        (stands_further (record t { stage = Ready }) (record t { phase = Answered; sent = min (t.sent + length text) (2 ^ 64 - 1); stage = Ready }) evs (map said (ToEditor 0 text ∷ [])) u.initialize u
+          (append_assoc (with_cause events (FromServer 0 body)) (said (ToServer 0 initialized_text) ∷ []) (said (ToEditor 0 text) ∷ []))
+          (stands_further (record t { stage = Ready }) (record t { phase = Answered; sent = min (t.sent + length text) (2 ^ 64 - 1); stage = Ready }) evs (map said (ToEditor 0 text ∷ [])) u.initialize u
           (welcomed (record t { stage = Ready }) text v evs u p n));
     }
 

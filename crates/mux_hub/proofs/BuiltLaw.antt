@@ -1,23 +1,26 @@
 -- What is built by the tables is what is built of the history.
 use Rattle.std.proofs.Common.{◌≡◌, ℕ, zero, suc, ◌+◌, ◌<◌, ◌≤◌, List, [], ◌∷◌, length, drop, get_or, Bool, true, false, refl, ap, sym, subst, ◌∙◌, arith, add-one}
-use Rattle.std.specs.Prelude.{Option, nat_eq, ◌&&◌, ◌||◌, not}
+use Rattle.std.specs.Prelude.{Option, Some, None, is_some, nat_eq, ◌&&◌, ◌||◌, not}
 use Rattle.std.specs.List.{AllByRecursion}
 use Rattle.std.proofs.Math.Seq.{drop-cons, drop-length}
 use Rattle.std.proofs.lemmas.Bool.Decides.{nat_tests}
 use Rattle.mux_history.specs.declared.cause.Cause.{Cause}
 use Rattle.mux_history.specs.declared.cause.Cause.TheVariants.{Joined, FromEditor, EditorGone, Started, StartFailed, FromServer, ServerGone, Drained, Tick}
+use Rattle.json_text.specs.Json.{Json}
+use Rattle.mux_model.specs.Members.{reads_versions}
+use Rattle.mux_hub.specs.Turns.{place_of}
 use Rattle.rpc_message.specs.Message.{Message, request, notification, result, error, not_json, not_message, Id, message_of}
 use Rattle.mux_model.specs.declared.phase.Phase.TheVariants.{Absent}
 use Rattle.mux_model.specs.declared.stage.Stage.TheVariants.{Unspawned}
-use Rattle.mux_model.specs.Built.{built_behind, built_from_editor, built_from_server, is_plain_body}
+use Rattle.mux_model.specs.Built.{is_passed_plainly, built_behind, built_from_editor, built_from_server, is_plain_body}
 use Rattle.mux_model.specs.Event.{Event, same_id}
 use Rattle.mux_model.specs.Phases.{desk_of}
-use Rattle.mux_model.specs.Requests.{open_of, is_open, asking_of, Asked}
+use Rattle.mux_model.specs.Requests.{open_of, is_open, asking_of, asked_by, Asked}
 use Rattle.mux_model.specs.Stages.{life_of}
 use Rattle.mux_hub.specs.declared.pending.Pending.{Pending}
 use Rattle.mux_hub.specs.Stands.{Stands, MeansId}
 use Rattle.mux_hub.specs.Tables.{Kept, asked_for, ids_of, open_in, built_in, phase_at, stage_at, id_meant}
-use Rattle.mux_hub.proofs.TurnLaw.{Number, first, later, number}
+use Rattle.mux_hub.proofs.TurnLaw.{none_place, some_place, Number, first, later, number}
 
 other_number : (n : ℕ) → 0 < n → nat_eq n 0 ≡ false
 other_number n h = grind (arith, nat_tests)
@@ -78,3 +81,12 @@ pub each_means : (ps : List Pending) (k : ℕ) (p : Pending) → AllByRecursion 
 each_means [] k p a l e = absurd (omega arith)
 each_means (q ∷ ps) zero p a l e = subst (λ r. MeansId r.id) (sym e) a.0
 each_means (q ∷ ps) (suc k) p a l e = each_means ps k p a.1 (omega arith) e
+
+-- a result for no open request, and one for an open request
+pub plain_none : (id : Option Id) (ps : List Pending) (value : Json) (o : Option ℕ) → place_of id ps ≡ o → is_some o ≡ false → is_passed_plainly (asked_by id (asked_for ps)) value ≡ true
+plain_none id ps value None p e = ap (λ a. is_passed_plainly a value) (none_place id ps p)
+plain_none id ps value (Some k) p e = let z : true ≡ false = e in cc
+
+pub plain_some : (id : Option Id) (ps : List Pending) (value : Json) (o : Option ℕ) → place_of id ps ≡ o → is_some o ≡ true → is_passed_plainly (asked_by id (asked_for ps)) value ≡ not (reads_versions value)
+plain_some id ps value None p e = let z : false ≡ true = e in cc
+plain_some id ps value (Some k) p e = ap (λ a. is_passed_plainly a value) (some_place id ps k p).asked

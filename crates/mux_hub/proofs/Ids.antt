@@ -64,9 +64,10 @@ ids_snoc (q ∷ ps) p = ap (λ l. id_meant q.id ∷ l) (ids_snoc ps p)
 
 pub distinct_snoc : (ps : List Pending) (p : Pending) → Distinct ps → is_open (id_meant p.id) (ids_of ps) ≡ false → Distinct (ps ++ p ∷ [])
 distinct_snoc [] p d h = (refl, tt)
-distinct_snoc (q ∷ ps) p d h =
-    (ap (is_open (id_meant q.id)) (ids_snoc ps p) ∙ open_snoc (id_meant q.id) (id_meant p.id) (ids_of ps) d.0 (same_swapped (id_meant p.id) (id_meant q.id) (or_left _ _ h)),
-    distinct_snoc ps p d.1 (or_right (same_id (id_meant p.id) (id_meant q.id)) _ h))
+distinct_snoc (q ∷ ps) p d h = (
+  ap (is_open (id_meant q.id)) (ids_snoc ps p) ∙ open_snoc (id_meant q.id) (id_meant p.id) (ids_of ps) d.0 (same_swapped (id_meant p.id) (id_meant q.id) (or_left _ _ h)),
+  distinct_snoc ps p d.1 (or_right (same_id (id_meant p.id) (id_meant q.id)) _ h),
+)
 
 -- nothing is at a place of an empty list
 pub no_place : (k : ℕ) (p : Pending) → slice_get [] k ≡ Some p → ⊥

@@ -18,7 +18,13 @@ use std::alloc::Global;
 use std::marker::Model;
 
 // A turn over the tables, and its entry in the journal.
-fn commit<J: Journal>(alloc: Global, requests: u32, tables: &mut Tables, journal: &mut J, cause: Cause) -> Result<Outs, StepFault>
+fn commit<J: Journal>(
+    alloc: Global,
+    requests: u32,
+    tables: &mut Tables,
+    journal: &mut J,
+    cause: Cause,
+) -> Result<Outs, StepFault>
     requires { body_length cause ≤ 268435456 }
     ensures range { requests < 2 ^ 32 }
     ensures turn { IfOk result (λ outs. Gives (turn requests tables.old cause) outs tables.new) }
@@ -107,11 +113,12 @@ impl<J: Journal> Hub<J> {
     }
 
     /// Whether this cause, which fits, meets only rows of the routing table that are built.
+    #[tactic(auto, using(crate::proofs::HubLaw::built_answer))]
     pub fn built(&self, cause: &Cause) -> Result<bool, Memory>
         requires { body_length cause.now ≤ 268435456 }
         ensures { (history : List Entry) → HubStands J.told self.now history → self.now.spent ≡ false → IfOk result (λ answer. answer ≡ built history cause.now) }
     {
-        Err(Memory)
+        self.tables.built(self.alloc, cause)
     }
 
     /// Takes a cause and gives its outs: those of the routing table. The entry was appended to the journal.
@@ -133,7 +140,13 @@ impl<J: Journal> Hub<J> {
             return Err(StepFault::Spent);
         }
         self.spent = true;
-        let outs = commit(self.alloc, self.limits.requests, &mut self.tables, &mut self.journal, cause)?;
+        let outs = commit(
+            self.alloc,
+            self.limits.requests,
+            &mut self.tables,
+            &mut self.journal,
+            cause,
+        )?;
         self.spent = false;
         Ok(outs)
     }

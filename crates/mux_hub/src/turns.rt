@@ -11,8 +11,8 @@ ghost use Rattle.rpc_message.specs.Parsed.{IsRead};
 ghost use Rattle.mux_hub.specs.Hubs.{body_length};
 ghost use Rattle.mux_hub.specs.Turns.{Turn, turn, joined, noted, found, forward, refuse, requested, from_editor, from_server, ready_if, started, answered, pass_on, place_of, place_written, place_if, is_no_number, can_go, ask_if, Gives};
 
-use std::alloc::Global;
-
+use crate::pending::Pending;
+use crate::tables::Tables;
 use itoa::Buffer;
 use json_span::JsonFault;
 use json_text::{Body, Memory};
@@ -20,9 +20,7 @@ use mux_history::{Cause, Out, Outs};
 use mux_members::initialize_request;
 use mux_model::{Phase, Stage};
 use rpc_message::{Envelope, ErrorCode, Message, error_answer, initialized, ok_answer};
-
-use crate::pending::Pending;
-use crate::tables::Tables;
+use std::alloc::Global;
 
 // One out.
 fn one(alloc: Global, out: Out) -> Result<Outs, Memory>
@@ -77,7 +75,7 @@ fn is_no_number(id: &[u8]) -> bool
 }
 
 // The place of the request whose number is this id of a response.
-fn place_by_id(pending: &[Pending], id: &[u8]) -> Option<usize>
+pub fn place_by_id(pending: &[Pending], id: &[u8]) -> Option<usize>
     ensures place { result ≡ place_if (is_no_number id.now) id.now pending.now }
     ensures inside { IfSome result (λ k. k < length pending.now) }
 {
@@ -230,7 +228,12 @@ impl Tables {
     }
 
     /// A request came from the editor.
-    fn hear_request(&mut self, alloc: Global, requests: u32, message: &Message) -> Result<Outs, Memory>
+    fn hear_request(
+        &mut self,
+        alloc: Global,
+        requests: u32,
+        message: &Message,
+    ) -> Result<Outs, Memory>
         ensures { (body method : List ℕ) (id : Id) (params : Option Json) → IsRead message.now body → message_of body ≡ request id method params → IfOk result (λ outs. Gives (requested requests self.old body self.old.phase) outs self.new) }
     {
         match self.phase {
