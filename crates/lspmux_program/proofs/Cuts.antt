@@ -157,4 +157,4 @@ passed_part n before line (Some rest) f e p h =
     let v : ℕ = before.used + length before.pending in
     let o : 2 ^ 40 < v = omega (arith, h, e) in
     subst FirstPasses (sym (part_list before.used v before.pending line (line ++ before.pending) rest (no_feed_none before.pending f) p refl refl))
-        (passes_onto v (line ++ before.pending) (lines_from v rest) (grown_nonempty line before.pending p) o (later v rest))
+    (passes_onto v (line ++ before.pending) (lines_from v rest) (grown_nonempty line before.pending p) o (later v rest))

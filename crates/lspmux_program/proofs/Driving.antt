@@ -90,7 +90,7 @@ given_refused : (settings : Settings) (all rest : Option (List Line)) (history :
 given_refused settings all None history front line refusal e r h = subst (λ a. Gives settings a (record { history = history; refused = Some (record { line = 1 + length front; refusal = refusal }) })) (sym e) tt
 given_refused settings all (Some ls) history front line refusal e r h =
     subst (λ a. Gives settings a (record { history = history; refused = Some (record { line = 1 + length front; refusal = refusal }) })) (sym e)
-        (drive_append settings 1 [] history front (line ∷ ls) r ∙ ap (driven_by settings (1 + length front) history ls) h)
+    (drive_append settings 1 [] history front (line ∷ ls) r ∙ ap (driven_by settings (1 + length front) history ls) h)
 
 given_passed : (settings : Settings) (all now : Option (List Line)) (history : List Entry) (front : List Line) → all ≡ option_map (λ ls. front ++ ls) now
     → drive_from settings 1 [] front ≡ record { history = history; refused = None } → IfSome now FirstPasses
@@ -247,9 +247,11 @@ faults told settings all now rest taken number w v u hub next bytes upto line_fa
     kept_at told settings all now taken w v u hub next stop.Journal d k.0 k.1 (k.1 ∙ d.wrote)
 faults told settings all now rest taken number w v u hub next bytes upto (line_fault.Refused r) d q e m n left kept refused =
     let k : HubStands told next d.history × (u ≡ v) = kept tt in
-    kept_at told settings all now taken w v u hub next (stop.Refused number r) d k.0 k.1
-        (k.1 ∙ d.wrote, numbered_as settings all d.history d.run.front r number taken n d.count
-            (given_refused settings all rest d.history d.run.front (record { bytes = bytes; upto = upto }) r (d.run.whole ∙ ap (option_map (λ ls. d.run.front ++ ls)) e) d.run.runs (reading_near d.history bytes upto m ∙ refused r refl)))
+    kept_at told settings all now taken w v u hub next (stop.Refused number r) d k.0 k.1 (
+      k.1 ∙ d.wrote,
+      numbered_as settings all d.history d.run.front r number taken n d.count
+          (given_refused settings all rest d.history d.run.front (record { bytes = bytes; upto = upto }) r (d.run.whole ∙ ap (option_map (λ ls. d.run.front ++ ls)) e) d.run.runs (reading_near d.history bytes upto m ∙ refused r refl)),
+    )
 
 memory_not_passed : line_stop.Memory ≡ line_stop.Passed → ⊥
 memory_not_passed e = cc
@@ -258,4 +260,4 @@ memory_not_passed e = cc
 pub never_begins : {J : Type 0} (told : J → Option (List Entry)) (settings : Settings) (hub : HubView J) (left w : Option (List ℕ)) → HubStands told hub [] → Driven told settings (option_map lines_of left) w w hub (Err stop.Memory)
 never_begins told settings hub left w s =
     stops told settings (option_map lines_of left) (known_lines (record { pending = []; used = 0 }) left) 0 1 w w hub line_stop.Memory
-        (begins told settings hub (record { pending = []; used = 0 }) left w s refl) refl (λ e. absurd (memory_not_passed e))
+    (begins told settings hub (record { pending = []; used = 0 }) left w s refl) refl (λ e. absurd (memory_not_passed e))

@@ -6,3 +6,4 @@ pub mod Reports
 pub mod Steps
 pub mod Windows
 pub mod Words
+mod Worked

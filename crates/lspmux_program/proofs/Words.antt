@@ -11,7 +11,8 @@ pub one_word : {A : Type 0} (f : A → List ℕ) (xs : List A) (x : A) (b : Bool
     → (IsTrue b → map f xs ≡ word ∷ []) × (map f xs ≡ word ∷ [] → IsTrue b)
 one_word f [] x b text word m l i t e = absurd (omega (arith, m))
 one_word f (y ∷ []) x b text word m l i t e =
-    let w : text ≡ f y = t ∙ ap f i in
-    ((λ h. ap (λ q. q ∷ []) (sym w ∙ (bytes_eq-Decides text word).0 (sym e ∙ h))),
-     (λ h. e ∙ (bytes_eq-Decides text word).1 (w ∙ head_of (f y) word h)))
+    let w : text ≡ f y = t ∙ ap f i in (
+      (λ h. ap (λ q. q ∷ []) (sym w ∙ (bytes_eq-Decides text word).0 (sym e ∙ h))),
+      (λ h. e ∙ (bytes_eq-Decides text word).1 (w ∙ head_of (f y) word h)),
+    )
 one_word f (y ∷ z ∷ ys) x b text word m l i t e = absurd (omega (arith, l))

@@ -4,11 +4,10 @@ ghost use Rattle.std.specs.Io.KnownBytes.{prepend_known};
 ghost use Rattle.outside_io.specs.Faults.{HasCause};
 ghost use Rattle.lspmux_program.specs.Buffers.{BufferView, Taken, FirstPasses, unused, known_lines, begun_lines, onto_known, line_feed};
 
-use std::alloc::Global;
-use std::marker::Model;
-
 use json_text::Memory;
 use outside_io::{ReadFault, Source};
+use std::alloc::Global;
+use std::marker::Model;
 
 // How much is asked of a source at once.
 const ROOM: usize = 65536;
@@ -85,12 +84,7 @@ impl Buffer {
 
     /// Puts the first `count` pending bytes behind `line` and passes over `skipped` more; or answers false where the
     /// input would pass its limit.
-    pub fn take(
-        &mut self,
-        line: &mut Vec<u8>,
-        count: usize,
-        skipped: usize,
-    ) -> Result<bool, Memory>
+    pub fn take(&mut self, line: &mut Vec<u8>, count: usize, skipped: usize) -> Result<bool, Memory>
         requires there { count + skipped ≤ length self.old.pending }
         requires small { self.old.used ≤ 2 ^ 40 }
         ensures taken { IfOk result (λ fits. fits ≡ true → Taken count skipped self.old self.new line.old.items line.new.items) }

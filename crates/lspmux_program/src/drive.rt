@@ -5,16 +5,14 @@ ghost use Rattle.mux_hub.specs.Hubs.{HubView, HubStands};
 ghost use Rattle.lspmux_program.specs.Lines.{lines_of};
 ghost use Rattle.lspmux_program.specs.Stops.{Driven};
 
-use std::alloc::Global;
-
-use mux_history::Journal;
-use mux_hub::Hub;
-use outside_io::{Sink, Source};
-
 use crate::buffer::Buffer;
 use crate::line::next_line;
 use crate::step::take_line;
 use crate::stop::{Stop, fault_at, stop_at};
+use mux_history::Journal;
+use mux_hub::Hub;
+use outside_io::{Sink, Source};
+use std::alloc::Global;
 
 /// Takes the lines of the input, one by one, and writes their outs, up to the end or the first stop.
 pub fn drive<J: Journal, I: Source, O: Sink>(

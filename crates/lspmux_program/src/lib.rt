@@ -14,3 +14,6 @@ mod word;
 mod write;
 
 pub use program::{Outside, lspmux};
+
+#[cfg(test)]
+mod tests;

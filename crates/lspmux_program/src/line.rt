@@ -4,12 +4,10 @@ ghost use Rattle.outside_io.specs.Faults.{Rose};
 ghost use Rattle.lspmux_program.specs.Buffers.{FirstPasses, known_lines, onto_known};
 ghost use Rattle.lspmux_program.specs.Lines.{Line};
 
-use std::alloc::Global;
-
+use crate::buffer::{Buffer, Piece, filled, take_piece};
 use json_text::Memory;
 use outside_io::{ReadFault, Source};
-
-use crate::buffer::{Buffer, Piece, filled, take_piece};
+use std::alloc::Global;
 
 /// Why no line came.
 #[derive(Clone, Copy, Debug, PartialEq, Eq)]

@@ -6,16 +6,14 @@ ghost use Rattle.lspmux_program.specs.Lines.{lines_of};
 ghost use Rattle.lspmux_program.specs.Program.{drive_words, JournalTells, JournalRose, Ran, Drove, IsStatus, Undisturbed};
 ghost use Rattle.lspmux_program.specs.Runs.{built_in, drive_of};
 
-use std::alloc::Global;
-
+use crate::drive::drive;
+use crate::report::{report, write_fault};
+use crate::stop::Stop;
 use json_text::{Body, Memory};
 use mux_history::Journal;
 use mux_hub::{Hub, Limits, Server};
 use outside_io::{Sink, Source};
-
-use crate::drive::drive;
-use crate::report::{report, write_fault};
-use crate::stop::Stop;
+use std::alloc::Global;
 
 /// All that the program meets outside of itself.
 #[derive(Drop)]

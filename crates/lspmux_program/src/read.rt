@@ -7,12 +7,10 @@ ghost use Rattle.lspmux_program.specs.Marks.{body_of_text, is_break, mark_of};
 ghost use Rattle.lspmux_program.specs.Numbers.{with_digit, is_padded, number_of};
 ghost use Rattle.lspmux_program.specs.Causes.{why_of};
 
-use std::alloc::Global;
-
+use crate::word::{Word, why_of, word_of};
 use json_text::{Body, Memory};
 use mux_history::Cause;
-
-use crate::word::{Word, why_of, word_of};
+use std::alloc::Global;
 
 // The number with one more digit.
 fn with_digit(number: u64, digit: u8) -> Option<u64>

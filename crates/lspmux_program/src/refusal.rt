@@ -6,13 +6,11 @@ ghost use Rattle.mux_model.specs.Built.{built};
 ghost use Rattle.mux_model.specs.Fits.{fits};
 ghost use Rattle.lspmux_program.specs.Runs.{content, judged, reading_bytes};
 
-use std::alloc::Global;
-
+use crate::read::cause_of;
 use json_text::Memory;
 use mux_history::{Cause, Journal};
 use mux_hub::Hub;
-
-use crate::read::cause_of;
+use std::alloc::Global;
 
 /// The most bytes of a body.
 const CONTENT: usize = 67_108_864;

@@ -6,13 +6,11 @@ ghost use Rattle.lspmux_program.specs.Program.{status_of, refusal_word, refused_
 ghost use Rattle.lspmux_program.specs.Runs.{WroteFront};
 ghost use Rattle.lspmux_program.specs.Reports.{Wrote, Reported};
 
-use std::alloc::Global;
-
-use json_text::Memory;
-use outside_io::{Sink, write_whole};
-
 use crate::refusal::Refusal;
 use crate::stop::Stop;
+use json_text::Memory;
+use outside_io::{Sink, write_whole};
+use std::alloc::Global;
 
 fn refusal_word(refusal: Refusal) -> &'static str
     ensures { result.now ≡ refusal_word refusal }

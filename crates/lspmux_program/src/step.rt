@@ -10,16 +10,14 @@ ghost use Rattle.lspmux_program.specs.Steps.{LineTaken, LineLeft};
 ghost use Rattle.lspmux_program.specs.Faults.{LeavesWritten};
 ghost use Rattle.lspmux_program.specs.declared.refusal.Refusal.{Refusal};
 
-use std::alloc::Global;
-
+use crate::read::cause_of;
+use crate::refusal::{Refusal, refusal_of};
+use crate::write::out_lines;
 use json_text::Memory;
 use mux_history::{Cause, Journal};
 use mux_hub::{Hub, StepFault};
 use outside_io::{Cut, Sink, write_whole};
-
-use crate::read::cause_of;
-use crate::refusal::{Refusal, refusal_of};
-use crate::write::out_lines;
+use std::alloc::Global;
 
 /// Why a line wasn't taken and answered.
 #[derive(Clone, Copy, Debug, PartialEq, Eq)]

@@ -2,11 +2,10 @@
 ghost use Rattle.std.specs.Prelude.{◌≡◌};
 ghost use Rattle.lspmux_program.specs.Stops.{stop_at, fault_at};
 
-use json_text::Memory;
-
 use crate::line::LineStop;
 use crate::refusal::Refusal;
 use crate::step::LineFault;
+use json_text::Memory;
 
 /// Why a run stops before the end of its input.
 #[derive(Clone, Copy, Debug, PartialEq, Eq)]

@@ -3,10 +3,9 @@ ghost use Rattle.std.specs.Prelude.{◌≡◌, ◌++◌, IfOk, OnOk, string_byte
 ghost use Rattle.lspmux_program.specs.Marks.{marked, text_of_body};
 ghost use Rattle.lspmux_program.specs.Outs.{head_of, out_line, out_lines};
 
-use std::alloc::Global;
-
 use json_text::Memory;
 use mux_history::{Out, Outs};
+use std::alloc::Global;
 
 // Writes one byte of a body.
 fn write_marked(text: &mut Vec<u8>, byte: u8) -> Result<(), Memory>

@@ -31,27 +31,27 @@ pub returns-in-Ok-None-clause-driven : goal.returns-in-Ok-None-clause-driven
 returns-in-Ok-None-clause-driven g c =
     let e = rw c.in-Ok-None.field-0-is at c.in-Ok-None.ensures.end in
     ends g.J.Journal.told c.args.hub.now.settings (option_map lines_of (g.I.Source.left c.args.input.now)) (known_lines c.lines.buffer (g.I.Source.left c.lines.input)) c.lines.taken
-        (g.O.Sink.written c.args.output.now) (g.O.Sink.written c.lines.output) c.lines.hub c.lines.invariant.driving e
+    (g.O.Sink.written c.args.output.now) (g.O.Sink.written c.lines.output) c.lines.hub c.lines.invariant.driving e
 
 pub returns-in-Err-clause-driven : goal.returns-in-Err-clause-driven
 returns-in-Err-clause-driven g c =
     rw c.stop_at.ensures
-        (stops g.J.Journal.told c.args.hub.now.settings (option_map lines_of (g.I.Source.left c.args.input.now)) (known_lines c.lines.buffer (g.I.Source.left c.lines.input)) c.lines.taken (c.lines.taken + 1)
-            (g.O.Sink.written c.args.output.now) (g.O.Sink.written c.lines.output) c.lines.hub c.in-Err.stop c.lines.invariant.driving refl (λ e. c.in-Err.ensures.passed (ap (λ (s : LineStop). Err s) e)))
+    (stops g.J.Journal.told c.args.hub.now.settings (option_map lines_of (g.I.Source.left c.args.input.now)) (known_lines c.lines.buffer (g.I.Source.left c.lines.input)) c.lines.taken (c.lines.taken + 1)
+    (g.O.Sink.written c.args.output.now) (g.O.Sink.written c.lines.output) c.lines.hub c.in-Err.stop c.lines.invariant.driving refl (λ e. c.in-Err.ensures.passed (ap (λ (s : LineStop). Err s) e)))
 
 pub returns-in-Err-take_line-clause-driven : goal.returns-in-Err-take_line-clause-driven
 returns-in-Err-take_line-clause-driven g c =
     let first = rw c.in-Ok-Some.field-0-is at c.in-Ok-Some.ensures.line in
     let small = rw c.in-Ok-Some.field-0-is at c.in-Ok-Some.ensures.small in
     rw c.fault_at.ensures
-        (faults g.J.Journal.told c.args.hub.now.settings (option_map lines_of (g.I.Source.left c.args.input.now)) (known_lines c.lines.buffer (g.I.Source.left c.lines.input))
-            (known_lines c.next_line.new.buffer (g.I.Source.left c.next_line.new.input)) c.lines.taken (c.lines.taken + 1)
-            (g.O.Sink.written c.args.output.now) (g.O.Sink.written c.lines.output) (g.O.Sink.written c.take_line.new.output) c.lines.hub c.take_line.new.hub c.deref.result.now c.next_line.new.buffer.used c.in-Err-take_line.fault
-            c.lines.invariant.driving c.lines.invariant.settings
-            (first ∙ ap (λ (b : List ℕ). onto_known (record { bytes = b; upto = c.next_line.new.buffer.used }) (known_lines c.next_line.new.buffer (g.I.Source.left c.next_line.new.input))) (sym c.deref.ensures.value))
-            small refl (c.in-Err-take_line.ensures.left c.lines.invariant.driving.history c.lines.invariant.driving.stands)
-            (c.in-Err-take_line.ensures.kept c.lines.invariant.driving.history c.lines.invariant.driving.stands)
-            (λ r e. c.in-Err-take_line.ensures.refused c.lines.invariant.driving.history r c.lines.invariant.driving.stands (ap (λ (s : LineFault). Err s) e)))
+    (faults g.J.Journal.told c.args.hub.now.settings (option_map lines_of (g.I.Source.left c.args.input.now)) (known_lines c.lines.buffer (g.I.Source.left c.lines.input))
+    (known_lines c.next_line.new.buffer (g.I.Source.left c.next_line.new.input)) c.lines.taken (c.lines.taken + 1)
+    (g.O.Sink.written c.args.output.now) (g.O.Sink.written c.lines.output) (g.O.Sink.written c.take_line.new.output) c.lines.hub c.take_line.new.hub c.deref.result.now c.next_line.new.buffer.used c.in-Err-take_line.fault
+    c.lines.invariant.driving c.lines.invariant.settings
+    (first ∙ ap (λ (b : List ℕ). onto_known (record { bytes = b; upto = c.next_line.new.buffer.used }) (known_lines c.next_line.new.buffer (g.I.Source.left c.next_line.new.input))) (sym c.deref.ensures.value))
+    small refl (c.in-Err-take_line.ensures.left c.lines.invariant.driving.history c.lines.invariant.driving.stands)
+    (c.in-Err-take_line.ensures.kept c.lines.invariant.driving.history c.lines.invariant.driving.stands)
+    (λ r e. c.in-Err-take_line.ensures.refused c.lines.invariant.driving.history r c.lines.invariant.driving.stands (ap (λ (s : LineFault). Err s) e)))
 
 pub lines-preserved : goal.lines-preserved
 lines-preserved g c =

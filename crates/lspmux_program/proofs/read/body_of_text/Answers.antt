@@ -6,9 +6,10 @@ use Rattle.lspmux_program.proofs.read.body_of_text.Goals.{then-in_mark+in-Some+i
 
 pub loop-byte-preserved : goal.loop-byte-preserved
 loop-byte-preserved c = elim c.if-in_mark.branch [
-    then-in_mark+in-Some+in_ok-push w ↦ meant_more _ c.loop-byte.bytes.items c.if-in_mark.bytes.items c.args.text.now c.loop-byte.byte-index w.in-Some.meant c.loop-byte.in_mark c.if-in_mark.in_mark
-        c.loop-byte-test.true c.loop-byte.invariant w.if-in_mark.true (sym w.mark_of.ensures ∙ w.in-Some.is) (ap (λ (v : Vec ℕ Global). v.items) w.bytes-is ∙ w.in_ok-push.ensures.items) w.in_mark-is
+  | then-in_mark+in-Some+in_ok-push w ↦ meant_more _ c.loop-byte.bytes.items c.if-in_mark.bytes.items c.args.text.now c.loop-byte.byte-index w.in-Some.meant c.loop-byte.in_mark c.if-in_mark.in_mark
+      c.loop-byte-test.true c.loop-byte.invariant w.if-in_mark.true (sym w.mark_of.ensures ∙ w.in-Some.is) (ap (λ (v : Vec ℕ Global). v.items) w.bytes-is ∙ w.in_ok-push.ensures.items) w.in_mark-is
   | else-in_mark+then-byte-eq94 w ↦ begun_more _ c.loop-byte.bytes.items c.if-in_mark.bytes.items c.args.text.now c.loop-byte.byte-index c.loop-byte.in_mark c.if-in_mark.in_mark
-        c.loop-byte-test.true c.loop-byte.invariant w.if-in_mark.false (search rules) (ap (λ (v : Vec ℕ Global). v.items) w.bytes-is) w.in_mark-is
+      c.loop-byte-test.true c.loop-byte.invariant w.if-in_mark.false (search rules) (ap (λ (v : Vec ℕ Global). v.items) w.bytes-is) w.in_mark-is
   | else-in_mark+else-byte-eq94+else-is_break+in_ok-push-2 w ↦ plain_more _ c.loop-byte.bytes.items c.if-in_mark.bytes.items c.args.text.now c.loop-byte.byte-index c.loop-byte.in_mark c.if-in_mark.in_mark
-        c.loop-byte-test.true c.loop-byte.invariant w.if-in_mark.false (ne_eqb _ _ w.if-byte-eq94.false) (sym w.is_break.ensures ∙ w.if-is_break.false) (ap (λ (v : Vec ℕ Global). v.items) w.bytes-is ∙ w.in_ok-push-2.ensures.items) (w.in_mark-is ∙ w.if-in_mark.false) ]
+      c.loop-byte-test.true c.loop-byte.invariant w.if-in_mark.false (ne_eqb _ _ w.if-byte-eq94.false) (sym w.is_break.ensures ∙ w.if-is_break.false) (ap (λ (v : Vec ℕ Global). v.items) w.bytes-is ∙ w.in_ok-push-2.ensures.items) (w.in_mark-is ∙ w.if-in_mark.false)
+]

@@ -1,0 +1,210 @@
+ghost use Rattle.std.specs.Prelude.{[], IfOk};
+ghost use Rattle.lspmux_program.specs.Program.{JournalTells};
+
+use super::*;
+use mux_history::{Journal, MemJournal};
+use outside_io::{MemSink, MemSource};
+use std::alloc::{AllocError, Global};
+use std::test::Fail;
+
+// Each line of a plain session, with the lines that it brings.
+const SESSION: [(&str, &str); 7] = [
+    ("join 0\n", ""),
+    (
+        "ed 0 {\"jsonrpc\":\"2.0\",\"id\":\"a\",\"method\":\"initialize\",\"params\":{\"processId\":7,\"rootUri\":\"file:///w\",\"capabilities\":{}}}\n",
+        ">spawn 0 0\n",
+    ),
+    (
+        "up 0\n",
+        ">sv 0 {\"jsonrpc\":\"2.0\",\"id\":1,\"method\":\"initialize\",\"params\":{\"processId\":null,\"clientInfo\":{\"name\":\"lspmux\"},\"rootUri\":\"file:///w\",\"capabilities\":{},\"trace\":\"off\"}}\n",
+    ),
+    (
+        "sv 0 {\"jsonrpc\":\"2.0\",\"id\":1,\"result\":{\"capabilities\":{\"hoverProvider\":true}}}\n",
+        ">sv 0 {\"jsonrpc\":\"2.0\",\"method\":\"initialized\",\"params\":{}}\n>ed 0 {\"jsonrpc\":\"2.0\",\"id\":\"a\",\"result\":{\"capabilities\":{\"hoverProvider\":true}}}\n",
+    ),
+    (
+        "ed 0 {\"jsonrpc\":\"2.0\",\"method\":\"initialized\",\"params\":{}}\n",
+        "",
+    ),
+    (
+        "ed 0 {\"jsonrpc\":\"2.0\", \"id\":7, \"method\":\"textDocument/hover\", \"params\":{\"x\":1.50 }}\n",
+        ">sv 0 {\"jsonrpc\":\"2.0\", \"id\":2, \"method\":\"textDocument/hover\", \"params\":{\"x\":1.50 }}\n",
+    ),
+    (
+        "sv 0 {\"jsonrpc\":\"2.0\",\"id\":2,\"result\":{\"contents\":\"c\"}}\n",
+        ">ed 0 {\"jsonrpc\":\"2.0\",\"id\":7,\"result\":{\"contents\":\"c\"}}\n",
+    ),
+];
+
+type InMemory = Outside<MemJournal, MemSource, MemSink>;
+
+// The input in memory, where the appends, reads and writes with these numbers fail.
+fn outside_of(alloc: Global, input: &str, fails: [Vec<u64>; 3]) -> Result<InMemory, AllocError>
+    ensures { IfOk result (λ outside. JournalTells ⟦<MemJournal as Journal>⟧.told outside.journal []) }
+{
+    let [appends, reads, writes] = fails;
+    Ok(Outside {
+        journal: Some(MemJournal::new(alloc, appends)),
+        input: MemSource::new(Vec::from_slice(alloc, input.as_bytes())?, reads),
+        output: MemSink::new(alloc, writes),
+    })
+}
+
+fn drive_word(alloc: Global) -> Result<Vec<String>, AllocError> {
+    Ok(vec![in alloc; String::from_str(alloc, "drive")?]?)
+}
+
+// How many entries the journal has.
+fn entries(outside: &InMemory) -> usize {
+    outside
+        .journal
+        .as_ref()
+        .map_or(0, |journal| journal.entries().len())
+}
+
+// The lines of the session, and the first `count` of what they bring.
+fn session(alloc: Global, count: usize) -> Result<(String, String), AllocError> {
+    let mut lines = String::new(alloc);
+    let mut outs = String::new(alloc);
+    for (i, (line, out)) in SESSION.iter().enumerate() {
+        lines.push_str(line)?;
+        if i < count {
+            outs.push_str(out)?;
+        }
+    }
+    Ok((lines, outs))
+}
+
+// No call fails.
+fn sound(alloc: Global) -> [Vec<u64>; 3] {
+    [Vec::new(alloc), Vec::new(alloc), Vec::new(alloc)]
+}
+
+#[test]
+fn takes_no_words_but_drive(rt: HostRuntime) -> Result<(), Fail> {
+    let alloc = rt.alloc();
+    let mut words = drive_word(alloc)?;
+    words.push(String::from_str(alloc, "x")?)?;
+    for given in [[].as_slice(), words.as_slice()] {
+        let mut outside = outside_of(alloc, "hello\n", sound(alloc))?;
+        assert_eq!(rt; lspmux(alloc, given, &mut outside), 2);
+        assert_eq!(rt; outside.output.bytes(), b"!words\n".as_slice());
+        assert_eq!(rt; outside.input.taken(), b"".as_slice());
+        assert_eq!(rt; entries(&outside), 0);
+    }
+    Ok(())
+}
+
+#[test]
+fn refuses_the_first_line_that_it_cannot_take(rt: HostRuntime) -> Result<(), Fail> {
+    let alloc = rt.alloc();
+    let words = drive_word(alloc)?;
+    for (input, status, output, count) in [
+        ("", 0, "", 0),
+        ("join 1\n", 1, "!line 1 absent\n", 0),
+        ("hello\n", 1, "!line 1 form\n", 0),
+        ("\n", 1, "!line 1 form\n", 0),
+        ("join 0\ned 0 {\njoin 0\n", 1, "!line 2 unbuilt\n", 1),
+        ("join 0\njoin 0", 1, "!line 2 absent\n", 1),
+        ("join 0\ned 0", 1, "!line 2 form\n", 1),
+    ] {
+        let mut outside = outside_of(alloc, input, sound(alloc))?;
+        assert_eq!(rt; lspmux(alloc, &words, &mut outside), status, "at {input}");
+        assert_eq!(rt; outside.output.bytes(), output.as_bytes(), "at {input}");
+        assert_eq!(rt; entries(&outside), count, "at {input}");
+    }
+    Ok(())
+}
+
+#[test]
+fn drives_a_session(rt: HostRuntime) -> Result<(), Fail> {
+    let alloc = rt.alloc();
+    let words = drive_word(alloc)?;
+    let (lines, outs) = session(alloc, SESSION.len())?;
+    for input in [lines.as_str(), lines.as_str().trim_end()] {
+        let mut outside = outside_of(alloc, input, sound(alloc))?;
+        assert_eq!(rt; lspmux(alloc, &words, &mut outside), 0);
+        assert_eq!(rt; outside.output.bytes(), outs.as_bytes());
+        assert_eq!(rt; entries(&outside), SESSION.len());
+    }
+    Ok(())
+}
+
+#[test]
+fn keeps_the_lines_before_a_failed_read(rt: HostRuntime) -> Result<(), Fail> {
+    let alloc = rt.alloc();
+    let words = drive_word(alloc)?;
+    for (read, count) in [(0, 0), (1, SESSION.len())] {
+        let (lines, mut want) = session(alloc, count)?;
+        want.push_str("!input\n")?;
+        let mut outside = outside_of(
+            alloc,
+            &lines,
+            [Vec::new(alloc), vec![in alloc; read]?, Vec::new(alloc)],
+        )?;
+        assert_eq!(rt; lspmux(alloc, &words, &mut outside), 7);
+        assert_eq!(rt; outside.output.bytes(), want.as_bytes());
+        assert_eq!(rt; entries(&outside), count);
+    }
+    Ok(())
+}
+
+#[test]
+fn keeps_the_lines_before_a_failed_append(rt: HostRuntime) -> Result<(), Fail> {
+    let alloc = rt.alloc();
+    let words = drive_word(alloc)?;
+    for count in 0..SESSION.len() {
+        let (lines, mut want) = session(alloc, count)?;
+        want.push_str("!journal\n")?;
+        let mut outside = outside_of(
+            alloc,
+            &lines,
+            [
+                vec![in alloc; count as u64]?,
+                Vec::new(alloc),
+                Vec::new(alloc),
+            ],
+        )?;
+        assert_eq!(rt; lspmux(alloc, &words, &mut outside), 6);
+        assert_eq!(rt; outside.output.bytes(), want.as_bytes());
+        assert_eq!(rt; entries(&outside), count);
+    }
+    Ok(())
+}
+
+#[test]
+fn stops_at_a_failed_write(rt: HostRuntime) -> Result<(), Fail> {
+    let alloc = rt.alloc();
+    let words = drive_word(alloc)?;
+    let mut write = 0u64;
+    for (i, (_, out)) in SESSION.iter().enumerate() {
+        if out.is_empty() {
+            continue;
+        }
+        let (lines, want) = session(alloc, i)?;
+        let mut outside = outside_of(
+            alloc,
+            &lines,
+            [Vec::new(alloc), Vec::new(alloc), vec![in alloc; write]?],
+        )?;
+        assert_eq!(rt; lspmux(alloc, &words, &mut outside), 8);
+        assert_eq!(rt; outside.output.bytes(), want.as_bytes());
+        assert_eq!(rt; entries(&outside), i + 1);
+        write = write.saturating_add(1);
+    }
+    Ok(())
+}
+
+#[test]
+fn keeps_its_status_where_the_fault_line_fails(rt: HostRuntime) -> Result<(), Fail> {
+    let alloc = rt.alloc();
+    let words = drive_word(alloc)?;
+    let mut outside = outside_of(
+        alloc,
+        "hello",
+        [Vec::new(alloc), Vec::new(alloc), vec![in alloc; 0]?],
+    )?;
+    assert_eq!(rt; lspmux(alloc, &words, &mut outside), 1);
+    assert_eq!(rt; outside.output.bytes(), b"".as_slice());
+    Ok(())
+}
