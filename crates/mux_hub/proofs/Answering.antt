@@ -25,9 +25,9 @@ use Rattle.mux_model.specs.Stages.{life_of, is_first_result}
 use Rattle.mux_hub.specs.declared.pending.Pending.{Pending}
 use Rattle.mux_hub.specs.Stands.{Stands, MeansId, PhaseTies, StageTies, Distinct}
 use Rattle.mux_hub.specs.Steps.{Steps}
-use Rattle.mux_hub.specs.Tables.{Kept, asked_of, asked_for, joined_in, spawned_in, first_in, open_in, id_meant}
+use Rattle.mux_hub.specs.Tables.{Kept, ids_of, asked_of, asked_for, joined_in, spawned_in, first_in, open_in, id_meant}
 use Rattle.mux_hub.proofs.Entries.{Goes, steps_so, stands_further}
-use Rattle.mux_hub.proofs.Ids.{ids_of, closes, removed, all_removed, distinct_removed, no_place}
+use Rattle.mux_hub.proofs.Ids.{closes, removed, all_removed, distinct_removed, no_place}
 use Rattle.mux_hub.proofs.Numbers.{not_zero}
 use Rattle.mux_hub.proofs.Opening.{spawned_tie}
 use Rattle.mux_hub.proofs.Serving.{more_sent}

@@ -26,10 +26,10 @@ use Rattle.mux_hub.specs.declared.pending.Pending.{Pending}
 use Rattle.mux_hub.specs.Stands.{Stands, MeansId, PhaseTies, StageTies}
 use Rattle.mux_hub.specs.Steps.{Steps}
 use Rattle.mux_hub.specs.Turns.{can_go}
-use Rattle.mux_hub.specs.Tables.{Kept, asked_of, asked_for, joined_in, spawned_in, first_in, open_in, id_meant, after_message}
+use Rattle.mux_hub.specs.Tables.{Kept, ids_of, asked_of, asked_for, joined_in, spawned_in, first_in, open_in, id_meant, after_message}
 use Rattle.mux_hub.proofs.Classes.{NotOwn, Serves, serves}
 use Rattle.mux_hub.proofs.Entries.{Goes, steps_so}
-use Rattle.mux_hub.proofs.Ids.{ids_of, closes, untouched, distinct_snoc}
+use Rattle.mux_hub.proofs.Ids.{closes, untouched, distinct_snoc}
 use Rattle.mux_hub.proofs.Numbers.{not_zero}
 
 -- the phase behind `initialized`

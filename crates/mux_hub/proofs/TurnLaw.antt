@@ -31,11 +31,11 @@ use Rattle.mux_model.specs.Stages.{life_of, may_start, runs, is_ready, is_first_
 use Rattle.mux_hub.specs.declared.pending.Pending.{Pending}
 use Rattle.mux_hub.specs.Stands.{Stands, MeansId, PhaseTies}
 use Rattle.mux_hub.specs.Steps.{Steps}
-use Rattle.mux_hub.specs.Tables.{Kept, asked_of, asked_for, joined_in, open_in, id_meant}
+use Rattle.mux_hub.specs.Tables.{Kept, ids_of, asked_of, asked_for, joined_in, open_in, id_meant}
 use Rattle.mux_hub.specs.Turns.{Turn, turn, from_editor, from_server, resulted, failed, requested, place_of, or_next, answered, pass_if, pass_on, welcome_text, can_go, ask_if, found, started, ready_if}
 use Rattle.mux_hub.proofs.Answering.{readied_steps, welcomed_steps, unasked_steps, left_steps, passed_steps}
 use Rattle.mux_hub.proofs.Classes.{not_own}
-use Rattle.mux_hub.proofs.Ids.{ids_of, means_at}
+use Rattle.mux_hub.proofs.Ids.{means_at}
 use Rattle.mux_hub.proofs.Meant.{meant, means}
 use Rattle.mux_hub.proofs.Opening.{joined_steps, founded_steps, started_steps, ending_steps}
 use Rattle.mux_hub.proofs.Serving.{noted_steps, refused_steps, forwarded_steps, IsServed}
@@ -81,11 +81,11 @@ never h = absurd (clash h)
     clash : false ≡ true → ⊥
     clash h = cc
 
-data Number : ℕ → Type 0 where
+pub data Number : ℕ → Type 0 where
   first : Number 0
   later : (n : ℕ) → 0 < n → Number n
 
-number : (n : ℕ) → Number n
+pub number : (n : ℕ) → Number n
 number zero = first
 number (suc n) = later (suc n) (omega arith)
 

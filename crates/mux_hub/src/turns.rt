@@ -1,7 +1,7 @@
 // What the hub does for a cause, over its tables.
 ghost use Rattle.std.specs.Prelude.{◌≡◌, ℕ, ◌≤◌, ◌<◌, ◌∷◌, [], List, length, IfOk, IfErr, IfSome, Option, slice_get, decimal, bytes_eq};
 ghost use Rattle.mux_model.specs.Phases.{is_there};
-ghost use Rattle.mux_model.specs.Rows.{is_waiting, initialize_for};
+ghost use Rattle.mux_model.specs.Rows.{is_waiting};
 ghost use Rattle.mux_model.specs.Requests.{answered_id};
 ghost use Rattle.mux_model.specs.Stages.{is_ready};
 ghost use Rattle.json_text.specs.Json.{Json};
@@ -17,17 +17,12 @@ use itoa::Buffer;
 use json_span::JsonFault;
 use json_text::{Body, Memory};
 use mux_history::{Cause, Out, Outs};
+use mux_members::initialize_request;
 use mux_model::{Phase, Stage};
 use rpc_message::{Envelope, ErrorCode, Message, error_answer, initialized, ok_answer};
 
 use crate::pending::Pending;
 use crate::tables::Tables;
-
-fn initialize_request(alloc: Global, m: &Message) -> Result<Body, Memory>
-    ensures { (bytes method : List ℕ) (id : Id) (params : Option Json) → IsRead m.now bytes → message_of bytes ≡ request id method params → IfOk result (λ text. text ≡ initialize_for bytes) }
-{
-    Err(Memory)
-}
 
 // One out.
 fn one(alloc: Global, out: Out) -> Result<Outs, Memory>

@@ -32,46 +32,51 @@ fn reads_an_editors_requests(rt: HostRuntime) {
 
 #[test]
 fn reads_a_servers_results(rt: HostRuntime) {
-    // a body; whether it is the first result, is plain, and has versions
-    let bodies: [(&[u8], bool, bool, bool); 5] = [
+    // a body; whether it is the first result, and whether it is plain
+    let bodies: [(&[u8], bool, bool); 2] = [
         (
             b"{\"jsonrpc\":\"2.0\",\"id\":1,\"result\":{\"capabilities\":{\"hoverProvider\":true}}}",
             true,
             true,
-            false,
         ),
         (
             b"{\"jsonrpc\":\"2.0\",\"id\":\"1\",\"result\":{\"capabilities\":{\"workspace\":null}}}",
             false,
             false,
-            false,
-        ),
-        (
-            b"{\"jsonrpc\":\"2.0\",\"id\":12,\"result\":{\"documentChanges\":[{},{\"textDocument\":{\"uri\":\"f\",\"version\":3}}]}}",
-            false,
-            true,
-            true,
-        ),
-        (
-            b"{\"jsonrpc\":\"2.0\",\"id\":2,\"result\":[{},{\"edit\":{\"documentChanges\":[{\"textDocument\":{\"uri\":\"f\",\"version\":3}}]}}]}",
-            false,
-            true,
-            true,
-        ),
-        (
-            b"{\"jsonrpc\":\"2.0\",\"id\":3,\"result\":{\"edit\":{\"documentChanges\":[{\"textDocument\":{\"uri\":\"f\",\"version\":null}}]}}}",
-            false,
-            true,
-            false,
         ),
     ];
-    for (body, first, plain, versions) in bodies {
+    for (body, first, plain) in bodies {
         assert!(rt; body.len() < 200);
         let Ok(m) = Message::read(rt.alloc(), body) else {
             panic!(rt; "no text");
         };
         assert_eq!(rt; is_first_result(&m), first, "at {body:?}");
         assert_eq!(rt; is_plain_result(&m), plain, "at {body:?}");
+    }
+}
+
+#[test]
+fn finds_versions(rt: HostRuntime) {
+    let bodies: [(&[u8], bool); 4] = [
+        (
+            b"{\"jsonrpc\":\"2.0\",\"id\":12,\"result\":{\"documentChanges\":[{},{\"textDocument\":{\"uri\":\"f\",\"version\":3}}]}}",
+            true,
+        ),
+        (
+            b"{\"jsonrpc\":\"2.0\",\"id\":2,\"result\":[{},{\"edit\":{\"documentChanges\":[{\"textDocument\":{\"uri\":\"f\",\"version\":3}}]}}]}",
+            true,
+        ),
+        (
+            b"{\"jsonrpc\":\"2.0\",\"id\":3,\"result\":{\"edit\":{\"documentChanges\":[{\"textDocument\":{\"uri\":\"f\",\"version\":null}}]}}}",
+            false,
+        ),
+        (b"{\"jsonrpc\":\"2.0\",\"id\":4}", false),
+    ];
+    for (body, versions) in bodies {
+        assert!(rt; body.len() < 200);
+        let Ok(m) = Message::read(rt.alloc(), body) else {
+            panic!(rt; "no text");
+        };
         assert_eq!(rt; reads_versions(&m), versions, "at {body:?}");
     }
 }
