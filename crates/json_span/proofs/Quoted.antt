@@ -1,5 +1,5 @@
 -- A text as it is quoted is a string of its characters (RFC 8259, section 7).
-use Rattle.std.proofs.Common.{◌≡◌, ℕ, zero, suc, ◌+◌, ◌<◌, ◌≤◌, ◌/◌, ◌%◌, Bool, true, false, ◌&&◌, nat_lt, List, [], ◌∷◌, ◌++◌, length, map, IsUtf8, IsTrue, ◌⊎◌, inl, inr, refl, sym, ap, ap₂, ◌∙◌, subst, arith, append-nil, zero-add, rules, String, Global, string_bytes}
+use Rattle.std.proofs.Common.{◌≡◌, ℕ, zero, suc, ◌+◌, ◌<◌, ◌≤◌, ◌/◌, ◌%◌, Bool, true, false, ◌&&◌, nat_lt, List, [], ◌∷◌, ◌++◌, length, map, IsUtf8, IsTrue, inl, inr, refl, sym, ap, ap₂, ◌∙◌, subst, arith, append-nil, zero-add, rules, String, Global, string_bytes}
 use Rattle.std.specs.Prelude.{if◌then◌else◌, flat_map, bytes_eq, unwrap_or}
 use Rattle.std.specs.Char.{IsScalar, digit_char}
 use Rattle.std.specs.Char.Escape.{encode_utf16}

@@ -1,5 +1,5 @@
 //! A JSON text with its values.
-ghost use Rattle.std.specs.Prelude.{◌≡◌, ◌+◌, ◌<◌, ℕ, ◌≤◌, List, length, encode_utf8_all, IfOk, MatchOption, MatchResult, Err};
+ghost use Rattle.std.specs.Prelude.{◌≡◌, ◌↔◌, ◌+◌, ◌<◌, ℕ, ◌≤◌, List, length, encode_utf8_all, IsTrue, IfOk, MatchOption, MatchResult, Err};
 ghost use Rattle.std.specs.Str.{chars};
 ghost use Rattle.json_text.specs.declared.span.Span.{Span};
 ghost use Rattle.json_text.specs.Json.{Json, string, IsText, depth, span_of};
@@ -9,6 +9,7 @@ ghost use Rattle.json_nodes.specs.At.{At, ChildAt, Found, FoundChild};
 ghost use Rattle.json_nodes.specs.Doc.{Holds};
 ghost use Rattle.json_nodes.specs.Nodes.{kind_of};
 ghost use Rattle.json_nodes.specs.Same.{same};
+ghost use Rattle.json_nodes.specs.SameTree.{Same};
 ghost use Rattle.json_nodes.specs.Texts.{IsSpelledAt};
 ghost use Rattle.json_span.specs.Machine.{start, read};
 ghost use Rattle.json_span.specs.Views.{Reads};
@@ -147,7 +148,8 @@ impl<'a> Tape<'a> {
 pub fn same(left: &Tape, node: u32, right: &Tape, other: u32) -> bool
     requires node { node < length left.now.nodes }
     requires other { other < length right.now.nodes }
-    ensures { (t u : Json) → At left.now node t → At right.now other u → result ≡ same t u }
+    ensures test { (t u : Json) → At left.now node t → At right.now other u → result ≡ same t u }
+    ensures relation { (t u : Json) → At left.now node t → At right.now other u → (IsTrue result ↔ Same t u) }
 {
     same_in(
         left.bytes,

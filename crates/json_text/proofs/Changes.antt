@@ -1,8 +1,8 @@
 -- One change after the other.
-use Rattle.std.proofs.Common.{◌≡◌, ℕ, zero, suc, ◌+◌, ◌-◌, ◌<◌, ◌≤◌, List, [], ◌∷◌, ◌++◌, length, get_or, take, drop, refl, sym, ◌∙◌, ap, subst, arith, append_assoc, drop-cons, add-one, drop_of_length-le}
+use Rattle.std.proofs.Common.{◌≡◌, ℕ, suc, ◌+◌, ◌<◌, ◌≤◌, List, [], ◌∷◌, length, get_or, drop, sym, ◌∙◌, ap, subst, arith, drop-cons, add-one}
 use Rattle.json_text.specs.declared.change.Change.{Change}
 use Rattle.json_text.specs.Changes.{edits_of}
-use Rattle.json_text.specs.Replace.{Edit, replace, replace_from, RiseFrom}
+use Rattle.json_text.specs.Replace.{Edit, RiseFrom}
 
 -- the change at i, and those behind it
 left : (cs : List Change) (i : ℕ) (c : Change) → i < length cs → c ≡ get_or cs i c → edits_of (drop i cs) ≡ record { span = c.span; text = c.text } ∷ edits_of (drop (i + 1) cs)

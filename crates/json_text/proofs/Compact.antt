@@ -1,19 +1,18 @@
 -- Objects written with no whitespace: what they say, member by member.
-use Rattle.std.proofs.Common.{◌≡◌, ℕ, ◌+◌, ◌<◌, Bool, true, false, ◌&&◌, List, [], ◌∷◌, ◌++◌, length, map, flat_map, IsTrue, nat_lt, refl, sym, ◌∙◌, ap, ap₂, arith, append_assoc, append-nil, codes}
-use Rattle.std.proofs.lemmas.Bool.{and_parts, and_from, lt-ltb, lt-leb, ltb-true}
+use Rattle.std.proofs.Common.{◌≡◌, ℕ, ◌<◌, Bool, true, ◌&&◌, List, [], ◌∷◌, ◌++◌, map, flat_map, IsTrue, nat_lt, refl, sym, ◌∙◌, ap, ap₂, arith, append_assoc, append-nil, codes}
+use Rattle.std.proofs.lemmas.Bool.{and_parts, lt-ltb, lt-leb, ltb-true}
 use Rattle.std.proofs.lemmas.Str.{utf16_chars_lone, utf16_chars-nil}
 use Rattle.std.specs.Option.{unwrap_or}
-use Rattle.std.specs.Prelude.{Option, Some, None}
-use Rattle.std.specs.Char.{IsScalar}
+use Rattle.std.specs.Prelude.{Some}
 use Rattle.std.specs.Char.Escape.{encode_utf16}
 use Rattle.std.specs.Char.Utf16.{utf16_chars, utf16_lossy_chars, lone_unit_char}
 use Rattle.std.specs.List.{AllByRecursion}
-use lib.Utf8.{encode, scalar, low_scalar}
+use lib.Utf8.{encode, low_scalar}
 use Rattle.json_text.specs.declared.span.Span.{Span}
-use Rattle.json_text.specs.declared.kind.Word.TheVariants.{Null, False, True}
-use Rattle.json_text.specs.String.{Piece, plain, IsPiece, is_plain, spelled, units, characters, SpellsCharacters}
-use Rattle.json_text.specs.Json.{Json, word, number, string, array, object, Items, no_items, item, Members, no_members, member, letters}
-use Rattle.json_text.proofs.Forms.{Form, ◌along◌, one, blank, quotes, name_and, says, says_members, says_more_members, SaysText}
+use Rattle.json_text.specs.declared.kind.Word.TheVariants.{Null}
+use Rattle.json_text.specs.String.{plain, IsPiece, is_plain, spelled, units, SpellsCharacters}
+use Rattle.json_text.specs.Json.{Json, word, string, object, Members, no_members, member}
+use Rattle.json_text.proofs.Forms.{Form, ◌along◌, one, quotes, name_and, says, says_more_members, SaysText}
 
 -- characters of ASCII that stand for themselves in a string
 abbrev pub all_simple : List ℕ → Bool

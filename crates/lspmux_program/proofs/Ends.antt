@@ -1,5 +1,5 @@
 -- The program's answers, from where its run ended.
-use Rattle.std.proofs.Common.{◌≡◌, ℕ, zero, suc, ◌+◌, ◌≤◌, ◌<◌, List, [], ◌∷◌, ◌++◌, length, take, refl, ap, sym, subst, ◌∙◌, arith, option_map, IfSome, inl, inr, ◌⊎◌}
+use Rattle.std.proofs.Common.{lit<, ◌≡◌, ℕ, zero, suc, ◌+◌, ◌≤◌, ◌<◌, List, [], ◌∷◌, ◌++◌, length, take, refl, ap, sym, subst, ◌∙◌, arith, option_map, IfSome, inl, inr, ◌⊎◌}
 use Rattle.std.specs.Prelude.{Option, Some, None, Result, Ok, Err}
 use Rattle.std.specs.Io.KnownBytes.{append_known}
 use Rattle.std.proofs.lemmas.List.{append-nil}
@@ -14,6 +14,7 @@ use Rattle.lspmux_program.specs.declared.stop.Stop.TheVariants as stop
 use Rattle.lspmux_program.proofs.Driving.{append_both, take_more, front_of_all}
 use Rattle.lspmux_program.specs.Lines.{Line, lines_of}
 use Rattle.lspmux_program.specs.Outs.{outs_text}
+use Rattle.session_laws.proofs.Sessions.{sessions_kept}
 use Rattle.lspmux_program.specs.Program.{status_of, fault_line, status_line, refused_line, Ran, Finished, RefusedAt, CutOff, Drove, JournalTells, words_line, IsUnrefused, Undisturbed}
 use Rattle.lspmux_program.specs.Reports.{Wrote, Reported, said, unsaid}
 use Rattle.lspmux_program.specs.Runs.{built_in, Refused, Outcome, drive_from, drive_of, IsRunOf, WroteFront}
@@ -67,6 +68,7 @@ pub drove_done : {J : Type 0} (told : J → Option (List Entry)) (journal : J) (
 drove_done told journal input w v failed r = record {
   history = r.history;
   legal = r.legal;
+  sessions = sessions_kept built_in (lit< tt) r.history r.legal;
   told_by = r.told_by;
   finished = λ _. record { gives = given_input input (record { history = r.history; refused = None }) r.done.1; wrote = r.done.0 };
   refused = λ e. absurd (omega (arith, e));
@@ -101,6 +103,7 @@ silent : {J : Type 0} (told : J → Option (List Entry)) (journal : J) (input w 
 silent told journal input w v u failed s status r m l e = record {
   history = r.history;
   legal = r.legal;
+  sessions = sessions_kept built_in (lit< tt) r.history r.legal;
   told_by = r.told_by;
   finished = λ e. absurd (omega (arith, e, m));
   refused = λ e. absurd (omega (arith, e, m));
@@ -114,6 +117,7 @@ spoken : {J : Type 0} (told : J → Option (List Entry)) (journal : J) (input w 
 spoken told journal input w v u failed s status r m o f = record {
   history = r.history;
   legal = r.legal;
+  sessions = sessions_kept built_in (lit< tt) r.history r.legal;
   told_by = r.told_by;
   finished = λ e. absurd (omega (arith, e, m));
   refused = λ e. absurd (omega (arith, e, m));
@@ -130,6 +134,7 @@ refused_at : {J : Type 0} (told : J → Option (List Entry)) (journal : J) (inpu
 refused_at told journal input w v u failed k refusal r f = record {
   history = r.history;
   legal = r.legal;
+  sessions = sessions_kept built_in (lit< tt) r.history r.legal;
   told_by = r.told_by;
   finished = λ e. absurd (omega (arith, e));
   refused = λ _. record {
@@ -163,6 +168,7 @@ pub drove_words : {J : Type 0} (told : J → Option (List Entry)) (journal : Opt
 drove_words told journal input w v failed t f = record {
   history = [];
   legal = tt;
+  sessions = sessions_kept built_in (lit< tt) [] tt;
   told_by = t;
   finished = λ e. absurd (omega (arith, e));
   refused = λ e. absurd (omega (arith, e));

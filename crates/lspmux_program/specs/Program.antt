@@ -4,6 +4,7 @@ use Rattle.std.specs.Prelude.{Option, Some, None, Result, ◌⊎◌}
 use Rattle.std.specs.Io.KnownBytes.{append_known}
 use Rattle.mux_history.specs.declared.entry.Entry.{Entry}
 use Rattle.mux_hub.specs.Hubs.{Tells}
+use Rattle.session_laws.specs.Sessions.{KeepsSessions}
 use Rattle.mux_model.specs.Legal.{Legal}
 use Rattle.mux_model.specs.Settings.{Settings}
 use Rattle.outside_io.specs.Faults.{Rose}
@@ -98,10 +99,11 @@ pub record CutOff (input before now : Option (List ℕ)) (status : ℕ) (history
   pub run : IsRunOf built_in (option_map lines_of input) rest history
   pub wrote : WroteFront before now (outs_text history ++ status_line status)
 
--- a run of the program: there is a legal history, which the journal tells where it tells
+-- a run of the program: there is a legal history of conforming sessions, which the journal tells where it tells
 pub record Drove {J : Type 0} (told : J → Option (List Entry)) (journal : Option J) (input before now : Option (List ℕ)) (failed : Type 0) (status : ℕ) : Type 0 where
   pub history : List Entry
   pub legal : Legal built_in history
+  pub sessions : KeepsSessions history
   pub told_by : JournalTells told journal history
   pub finished : status ≡ 0 → Finished input before now history
   pub refused : status ≡ 1 → RefusedAt input before now failed history

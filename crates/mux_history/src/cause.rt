@@ -1,9 +1,8 @@
 // What the multiplexer is told.
 ghost use Rattle.std.specs.Prelude.{◌≡◌, IfOk};
 
-use std::alloc::Global;
-
 use json_text::{Body, Memory};
+use std::alloc::Global;
 
 /// Why an editor's link ended.
 #[derive(Clone, Copy, Debug, PartialEq, Eq)]

@@ -18,6 +18,7 @@ impl DropJournal {
 
 impl Journal for DropJournal {
     ghost told = { λ _. None };
+
     ghost faults = { λ _. 0 };
 
     fn append(&mut self, _entry: &Entry) -> Result<(), JournalFault>

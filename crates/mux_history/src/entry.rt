@@ -1,12 +1,10 @@
 // One step of the multiplexer: what it was told, and what it said.
 ghost use Rattle.std.specs.Prelude.{◌≡◌, IfOk};
 
-use std::alloc::Global;
-
-use json_text::Memory;
-
 use crate::cause::Cause;
 use crate::outs::Outs;
+use json_text::Memory;
+use std::alloc::Global;
 
 /// A cause and its outs. The list of the entries is the history.
 #[derive(Debug, Drop)]

@@ -1,10 +1,9 @@
 // A journal in memory.
 ghost use Rattle.std.specs.Prelude.{◌≡◌, Some, []};
 
-use std::alloc::Global;
-
 use crate::entry::Entry;
 use crate::journal::{Journal, JournalFault};
+use std::alloc::Global;
 
 /// A journal that keeps its entries and tells them; the appends whose numbers, from 0, stand in `fails` fail.
 #[derive(Debug, Drop)]
@@ -40,6 +39,7 @@ impl MemJournal {
 
 impl Journal for MemJournal {
     ghost told = { λ j. Some j.list.items };
+
     ghost faults = { λ j. j.faults };
 
     fn append(&mut self, entry: &Entry) -> Result<(), JournalFault> {

@@ -1,9 +1,8 @@
 // What the multiplexer says.
 ghost use Rattle.std.specs.Prelude.{◌≡◌, IfOk};
 
-use std::alloc::Global;
-
 use json_text::{Body, Memory};
+use std::alloc::Global;
 
 /// One order of the multiplexer.
 #[derive(Debug, Drop)]

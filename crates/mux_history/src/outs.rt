@@ -1,12 +1,10 @@
 // A list of outs.
 ghost use Rattle.std.specs.Prelude.{◌≡◌, [], ◌∷◌, ◌++◌, length, take, IfOk, OnOk, OnErr, option_copied, slice_get, nat_eq};
 
+use crate::out::Out;
+use json_text::Memory;
 use std::alloc::Global;
 use std::marker::Model;
-
-use json_text::Memory;
-
-use crate::out::Out;
 
 /// Outs in their order.
 #[derive(Debug, Drop)]

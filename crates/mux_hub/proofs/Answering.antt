@@ -25,9 +25,9 @@ use Rattle.mux_model.specs.Stages.{life_of, is_first_result}
 use Rattle.mux_hub.specs.declared.pending.Pending.{Pending}
 use Rattle.mux_hub.specs.Stands.{Stands, MeansId, PhaseTies, StageTies, Distinct}
 use Rattle.mux_hub.specs.Steps.{Steps}
-use Rattle.mux_hub.specs.Tables.{Kept, asked_of, asked_for, joined_in, spawned_in, first_in, open_in, id_meant}
+use Rattle.mux_hub.specs.Tables.{Kept, ids_of, asked_of, asked_for, joined_in, spawned_in, first_in, open_in, id_meant}
 use Rattle.mux_hub.proofs.Entries.{Goes, steps_so, stands_further}
-use Rattle.mux_hub.proofs.Ids.{ids_of, closes, removed, all_removed, distinct_removed, no_place}
+use Rattle.mux_hub.proofs.Ids.{closes, removed, all_removed, distinct_removed, no_place}
 use Rattle.mux_hub.proofs.Numbers.{not_zero}
 use Rattle.mux_hub.proofs.Opening.{spawned_tie}
 use Rattle.mux_hub.proofs.Serving.{more_sent}
@@ -146,8 +146,8 @@ welcomed_steps settings events t body text r v ps s g m w p x n =
     record {
       outs = sym (first_row settings events body r l m ∙ (ap (λ es. ToServer 0 initialized_text ∷ outs (each (welcome body) es) evs) waits ∙ ap (λ b. ToServer 0 initialized_text ∷ ToEditor 0 b ∷ []) text_is));
       stands = subst (λ xs. Stands (record t { phase = Answered; sent = min (t.sent + length text) (2 ^ 64 - 1); stage = Ready }) xs)
-        (append_assoc (with_cause events (FromServer 0 body)) (said (ToServer 0 initialized_text) ∷ []) (said (ToEditor 0 text) ∷ []))
-        (stands_further (record t { stage = Ready }) (record t { phase = Answered; sent = min (t.sent + length text) (2 ^ 64 - 1); stage = Ready }) evs (map said (ToEditor 0 text ∷ [])) u.initialize u
+          (append_assoc (with_cause events (FromServer 0 body)) (said (ToServer 0 initialized_text) ∷ []) (said (ToEditor 0 text) ∷ []))
+          (stands_further (record t { stage = Ready }) (record t { phase = Answered; sent = min (t.sent + length text) (2 ^ 64 - 1); stage = Ready }) evs (map said (ToEditor 0 text ∷ [])) u.initialize u
           (welcomed (record t { stage = Ready }) text v evs u p n));
     }
 

@@ -18,6 +18,18 @@ use Rattle.mux_hub.specs.declared.pending.Pending.{Pending}
 use Rattle.mux_hub.specs.Tables.{Kept, asked_of}
 use Rattle.mux_hub.specs.Turns.{Turn, from_editor, from_server, requested, noted, quiet, place_of, place_written, place_if, is_no_number, or_next, answered}
 
+-- a request that was read
+pub record ReadRequest (body : List ℕ) : Type 0 where
+  pub id : Id
+  pub method : List ℕ
+  pub params : Option Json
+  pub is : message_of body ≡ request id method params
+
+pub request_read : (body : List ℕ) (doc : Parsed) (id method : ℕ) (params : Option ℕ) → IsRead doc body → doc.envelope ≡ envelope.Request id method params → ReadRequest body
+request_read body doc id method params r e =
+    let tells : IsRequest doc.doc id method params (message_of body) = subst (λ v. Tells doc.doc v (message_of body)) e r.tells in
+    record { id = tells.id; method = tells.method; params = _; is = tells.is }
+
 pub request_turn : (requests : ℕ) (t : Kept) (body : List ℕ) (doc : Parsed) (id method : ℕ) (params : Option ℕ) → IsRead doc body → doc.envelope ≡ envelope.Request id method params
     → from_editor requests t body (message_of body) ≡ requested requests t body t.phase
 request_turn requests t body doc id method params r e =
@@ -66,7 +78,7 @@ place_in (number s ds) o w ps v e = go (is_integer ds) refl e
     go : (b : Bool) → is_integer ds ≡ b → (if b then Some (Some (integer ds)) else None) ≡ Some o → place_if (is_no_number w) w ps ≡ place_of o ps
     go false i e = absurd (none_some e)
     go true i e =
-      subst (λ j. place_if (is_no_number w) w ps ≡ place_of j ps) (some_same e)
+        subst (λ j. place_if (is_no_number w) w ps ≡ place_of j ps) (some_same e)
         (ap (λ b. place_if b w ps) (ap is_no_number v.0.0 ∙ integer_front ds i) ∙ (ap (λ x. place_written x ps) v.0.0 ∙ same_places ds ps))
 place_in (string s cs) o w ps v e =
     let n : Some (text cs) ≡ o = some_same e in

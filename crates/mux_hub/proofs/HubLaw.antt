@@ -15,8 +15,9 @@ use Rattle.mux_model.specs.Settings.{Settings}
 use Rattle.mux_hub.specs.Hubs.{HubView, HubStands, Tells}
 use Rattle.mux_hub.specs.Stands.{Stands}
 use Rattle.mux_hub.specs.Steps.{Steps}
-use Rattle.mux_hub.specs.Tables.{Kept}
+use Rattle.mux_hub.specs.Tables.{Kept, built_in}
 use Rattle.mux_hub.specs.Turns.{Turn, turn, Gives}
+use Rattle.mux_hub.proofs.BuiltLaw.{built_so}
 use Rattle.mux_hub.proofs.TurnLaw.{turn_right}
 
 legal_from : (settings : Settings) (before rest : List Entry) (cause : Cause) → LegalFrom settings before rest → IsTrue (fits (before ++ rest) cause) → IsTrue (built (before ++ rest) cause)
@@ -26,9 +27,13 @@ legal_from settings before [] cause l f b =
     let P : List Entry → Type 0 = λ h. IsTrue (fits before cause) × IsTrue (built before cause) × ((entry_of settings h cause).outs ≡ emits settings before cause) × Unit {0} in
     (subst (λ h. IsTrue (fits h cause)) e f, subst (λ h. IsTrue (built h cause)) e b, ap (λ h. emits settings h cause) e, tt)
 legal_from settings before (entry ∷ rest) cause l f b =
-    let e : (before ++ entry ∷ []) ++ rest ≡ before ++ entry ∷ rest = append_assoc before (entry ∷ []) rest in
-    (l.0, l.1, l.2, subst (λ h. LegalFrom settings (before ++ entry ∷ []) (rest ++ entry_of settings h cause ∷ [])) e
-      (legal_from settings (before ++ entry ∷ []) rest cause l.3 (subst (λ h. IsTrue (fits h cause)) (sym e) f) (subst (λ h. IsTrue (built h cause)) (sym e) b)))
+    let e : (before ++ entry ∷ []) ++ rest ≡ before ++ entry ∷ rest = append_assoc before (entry ∷ []) rest in (
+      l.0,
+      l.1,
+      l.2,
+      subst (λ h. LegalFrom settings (before ++ entry ∷ []) (rest ++ entry_of settings h cause ∷ [])) e
+          (legal_from settings (before ++ entry ∷ []) rest cause l.3 (subst (λ h. IsTrue (fits h cause)) (sym e) f) (subst (λ h. IsTrue (built h cause)) (sym e) b)),
+    )
 
 -- a legal history and one more entry by the routing table are one
 pub legal_more : (settings : Settings) (history : List Entry) (cause : Cause) → Legal settings history → IsTrue (fits history cause) → IsTrue (built history cause) → Legal settings (history ++ entry_of settings history cause ∷ [])
@@ -53,7 +58,7 @@ stepped told hub cause xs now journal history h s l f b g t =
     let outs : xs ≡ emits hub.settings history cause = g.0 ∙ right.outs in
     let longer : events_of (history ++ entry_of hub.settings history cause ∷ []) ≡ with_entry (events_of history) (entry_of hub.settings history cause) = fold-append with_entry [] history (entry_of hub.settings history cause ∷ []) in
     let same : with_entry (events_of history) (entry_record cause (turn hub.settings.limits.requests hub.tables cause).outs) ≡ with_entry (events_of history) (entry_of hub.settings history cause) =
-      ap (λ ys. with_entry (events_of history) (entry_record cause ys)) right.outs in
+    ap (λ ys. with_entry (events_of history) (entry_record cause ys)) right.outs in
     record {
       outs = outs;
       stands = record {
@@ -62,3 +67,7 @@ stepped told hub cause xs now journal history h s l f b g t =
         tables = λ n. subst (λ evs. Stands now evs) (same ∙ sym longer) (subst (λ k. Stands k (with_entry (events_of history) (entry_record cause (turn hub.settings.limits.requests hub.tables cause).outs))) (sym g.1) right.stands);
       };
     }
+
+-- the answer of the tables is that of the history
+pub built_answer : {J : Type 0} (told : J → Option (List Entry)) (hub : HubView J) (history : List Entry) (cause : Cause) (answer : Bool) → HubStands told hub history → hub.spent ≡ false → answer ≡ built_in hub.tables cause → answer ≡ built history cause
+built_answer told hub history cause answer h s e = e ∙ built_so hub.tables (events_of history) cause (h.tables s)

@@ -10,7 +10,7 @@ use Rattle.mux_model.specs.Requests.{Asked, is_open, without, answers}
 use Rattle.mux_hub.specs.Stands.{Distinct, MeansId}
 use Rattle.mux_hub.proofs.Classes.{swapped}
 use Rattle.mux_hub.specs.declared.pending.Pending.{Pending}
-use Rattle.mux_hub.specs.Tables.{asked_of, asked_for, id_meant}
+use Rattle.mux_hub.specs.Tables.{asked_of, asked_for, ids_of, id_meant}
 
 pub same_itself : (i : Id) → same_id i i ≡ true
 same_itself (integer a) = same_name a
@@ -36,10 +36,6 @@ closes id [] h = filter_skip (λ other. not (same_id id other)) id [] (ap not (s
 closes id (other ∷ ids) h =
     filter_keep (λ o. not (same_id id o)) other (ids ++ id ∷ []) (ap not (or_left (same_id id other) (is_open id ids) h))
     ∙ ap (λ l. other ∷ l) (closes id ids (or_right (same_id id other) (is_open id ids) h))
-
--- the ids of kept requests
-abbrev pub ids_of : List Pending → List Id
-ids_of ps = map (λ p. id_meant p.id) ps
 
 -- no kept request is answered by an id that isn't open
 pub untouched : (id : Id) (ps : List Pending) → is_open id (ids_of ps) ≡ false → filter (λ asked. not (answers 0 (Some id) asked)) (asked_for ps) ≡ asked_for ps
@@ -68,9 +64,10 @@ ids_snoc (q ∷ ps) p = ap (λ l. id_meant q.id ∷ l) (ids_snoc ps p)
 
 pub distinct_snoc : (ps : List Pending) (p : Pending) → Distinct ps → is_open (id_meant p.id) (ids_of ps) ≡ false → Distinct (ps ++ p ∷ [])
 distinct_snoc [] p d h = (refl, tt)
-distinct_snoc (q ∷ ps) p d h =
-    (ap (is_open (id_meant q.id)) (ids_snoc ps p) ∙ open_snoc (id_meant q.id) (id_meant p.id) (ids_of ps) d.0 (same_swapped (id_meant p.id) (id_meant q.id) (or_left _ _ h)),
-    distinct_snoc ps p d.1 (or_right (same_id (id_meant p.id) (id_meant q.id)) _ h))
+distinct_snoc (q ∷ ps) p d h = (
+  ap (is_open (id_meant q.id)) (ids_snoc ps p) ∙ open_snoc (id_meant q.id) (id_meant p.id) (ids_of ps) d.0 (same_swapped (id_meant p.id) (id_meant q.id) (or_left _ _ h)),
+  distinct_snoc ps p d.1 (or_right (same_id (id_meant p.id) (id_meant q.id)) _ h),
+)
 
 -- nothing is at a place of an empty list
 pub no_place : (k : ℕ) (p : Pending) → slice_get [] k ≡ Some p → ⊥

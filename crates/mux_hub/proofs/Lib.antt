@@ -1,4 +1,5 @@
 pub mod Answering
+pub mod BuiltLaw
 pub mod Classes
 pub mod Entries
 pub mod Heard

@@ -100,7 +100,7 @@ founded_steps settings events t body id ps s e m i means opens =
       pending = λ a q r. r;
       opened = rw (m, e) (ap (λ x. x ∷ []) i);
       ids = s.ids;
-  distinct = s.distinct;
+      distinct = s.distinct;
       phase_ties = (none.1, means, refl);
       stage_ties = (unspawned_ties t events s g, refl, opens);
     }) (rw (p, m, a, b) refl)
@@ -130,7 +130,7 @@ started_with settings events t ps s g n x m =
       pending = λ a q r. rw m (append-nil a.open_requests ∙ r);
       opened = refl;
       ids = s.ids;
-  distinct = s.distinct;
+      distinct = s.distinct;
       phase_ties = spawned_tie t.phase t.stage Initializing t.pending t.id s.initialize s.phase_ties (λ q. let z : Spawning ≡ Unspawned = sym g ∙ q in cc);
       stage_ties = tt;
     }) (rw l (ap (λ b. ToServer 0 b ∷ []) (x ∙ ap initialize_for (sym founder))))

@@ -26,10 +26,10 @@ use Rattle.mux_hub.specs.declared.pending.Pending.{Pending}
 use Rattle.mux_hub.specs.Stands.{Stands, MeansId, PhaseTies, StageTies}
 use Rattle.mux_hub.specs.Steps.{Steps}
 use Rattle.mux_hub.specs.Turns.{can_go}
-use Rattle.mux_hub.specs.Tables.{Kept, asked_of, asked_for, joined_in, spawned_in, first_in, open_in, id_meant, after_message}
+use Rattle.mux_hub.specs.Tables.{Kept, ids_of, asked_of, asked_for, joined_in, spawned_in, first_in, open_in, id_meant, after_message}
 use Rattle.mux_hub.proofs.Classes.{NotOwn, Serves, serves}
 use Rattle.mux_hub.proofs.Entries.{Goes, steps_so}
-use Rattle.mux_hub.proofs.Ids.{ids_of, closes, untouched, distinct_snoc}
+use Rattle.mux_hub.proofs.Ids.{closes, untouched, distinct_snoc}
 use Rattle.mux_hub.proofs.Numbers.{not_zero}
 
 -- the phase behind `initialized`
@@ -105,7 +105,7 @@ noted_steps settings events t body ps s m =
       pending = λ a q r. r;
       opened = rw m (note_open t.phase t.pending t.id);
       ids = s.ids;
-  distinct = s.distinct;
+      distinct = s.distinct;
       phase_ties = note_ties t.phase t.stage t.pending t.id s.initialize s.phase_ties;
       stage_ties = s.stage_ties;
     }) (rw (d, m) (note_outs settings events _ body ps t.phase))
@@ -194,7 +194,7 @@ refused_steps settings events t body text method id ps tree s p m n o x w c =
     let f : start_for 0 events ≡ first_in t.stage = started_for t.stage events s.home s.start in
     let evs : List Event = events ++ took (FromEditor 0 body) (request id method ps) ∷ [] in
     let row : outs (from_editor settings events 0 body (request id method ps) t.phase) evs ≡ ToEditor 0 (error_text (id_bytes body) request_failed) ∷ [] =
-      ask_row settings events evs body id method ps t.phase p ∙ refusing settings events evs body t.stage t.next f l s.next c in
+    ask_row settings events evs body id method ps t.phase p ∙ refusing settings events evs body t.stage t.next f l s.next c in
     let sv = serves method n in
     let opens : open_in t.phase t.pending t.id ≡ ids_of t.pending = ask_open t.phase t.pending t.id p in
     let desk : desk_hears t.phase s.initialize body (request id method ps) ≡ record { phase = Running; initialize = s.initialize } = ask_desk t.phase s.initialize body id method ps p sv in
@@ -215,7 +215,7 @@ refused_steps settings events t body text method id ps tree s p m n o x w c =
       pending = λ a q r. rw (w, r) (untouched id t.pending o);
       opened = rw (m, w, opens) (closes id (ids_of t.pending) o);
       ids = s.ids;
-  distinct = s.distinct;
+      distinct = s.distinct;
       phase_ties = tt;
       stage_ties = s.stage_ties;
     }) (rw (d, m) (ap (λ b. ToEditor 0 b ∷ []) x ∙ sym row))
@@ -246,7 +246,7 @@ forwarded_steps settings events t body text method bytes id ps s p m n o b i mea
     let after : (asking_of 0 evs).next ≡ t.next = ap (λ a. a.next) (fold-append (asking_behind 0) no_asking events (ev ∷ [])) ∙ s.next in
     let asks : outs (request_row settings events 0 body) evs ≡ ToServer 0 (with_id_text body (decimal t.next)) ∷ [] = rw (f, l, a, c, after) refl in
     let row : outs (from_editor settings events 0 body (request id method ps) t.phase) evs ≡ ToServer 0 (with_id_text body (decimal t.next)) ∷ [] =
-      ask_row settings events evs body id method ps t.phase p ∙ asks in
+    ask_row settings events evs body id method ps t.phase p ∙ asks in
     let sv = serves method n in
     let own : is_own method ≡ false = sv.passed in
     let stays : bytes_eq (codes "shutdown") method ≡ false = sv.stays in

@@ -31,11 +31,11 @@ use Rattle.mux_model.specs.Stages.{life_of, may_start, runs, is_ready, is_first_
 use Rattle.mux_hub.specs.declared.pending.Pending.{Pending}
 use Rattle.mux_hub.specs.Stands.{Stands, MeansId, PhaseTies}
 use Rattle.mux_hub.specs.Steps.{Steps}
-use Rattle.mux_hub.specs.Tables.{Kept, asked_of, asked_for, joined_in, open_in, id_meant}
+use Rattle.mux_hub.specs.Tables.{Kept, ids_of, asked_of, asked_for, joined_in, open_in, id_meant}
 use Rattle.mux_hub.specs.Turns.{Turn, turn, from_editor, from_server, resulted, failed, requested, place_of, or_next, answered, pass_if, pass_on, welcome_text, can_go, ask_if, found, started, ready_if}
 use Rattle.mux_hub.proofs.Answering.{readied_steps, welcomed_steps, unasked_steps, left_steps, passed_steps}
 use Rattle.mux_hub.proofs.Classes.{not_own}
-use Rattle.mux_hub.proofs.Ids.{ids_of, means_at}
+use Rattle.mux_hub.proofs.Ids.{means_at}
 use Rattle.mux_hub.proofs.Meant.{meant, means}
 use Rattle.mux_hub.proofs.Opening.{joined_steps, founded_steps, started_steps, ending_steps}
 use Rattle.mux_hub.proofs.Serving.{noted_steps, refused_steps, forwarded_steps, IsServed}
@@ -81,11 +81,11 @@ never h = absurd (clash h)
     clash : false ≡ true → ⊥
     clash h = cc
 
-data Number : ℕ → Type 0 where
+pub data Number : ℕ → Type 0 where
   first : Number 0
   later : (n : ℕ) → 0 < n → Number n
 
-number : (n : ℕ) → Number n
+pub number : (n : ℕ) → Number n
 number zero = first
 number (suc n) = later (suc n) (omega arith)
 
@@ -126,12 +126,12 @@ asking settings events t body method id ps true l s p m o c g =
     let is : IsIdText id (id_bytes body) = request_id_bytes body id method ps m in
     let below : nat_lt t.next settings.limits.requests ≡ true = and_right (is_ready t.stage) _ g in
     forwarded_steps settings events t body (with_id_text body (decimal t.next)) method (id_bytes body) id ps s p m (not_own method o) c refl (meant id (id_bytes body) is) (means id (id_bytes body) is) refl
-      (request_with_id body (decimal t.next) id (integer (decimal t.next)) method ps m (decimal_law t.next (below_limit t.next settings.limits.requests below l)))
-      (ready_is t.stage (and_left (is_ready t.stage) _ g)) below
+    (request_with_id body (decimal t.next) id (integer (decimal t.next)) method ps m (decimal_law t.next (below_limit t.next settings.limits.requests below l)))
+    (ready_is t.stage (and_left (is_ready t.stage) _ g)) below
 asking settings events t body method id ps false l s p m o c g =
     let is : IsIdText id (id_bytes body) = request_id_bytes body id method ps m in
     refused_steps settings events t body (error_text (id_bytes body) request_failed) method id ps (error_tree request_failed) s p m (not_own method o) c refl
-      (error_law (Some id) (id_bytes body) request_failed (id_as_response id (id_bytes body) is)) g
+    (error_law (Some id) (id_bytes body) request_failed (id_as_response id (id_bytes body) is)) g
 
 founding : (settings : Settings) (events : List Event) (t : Kept) (body method : List ℕ) (id : Id) (ps : Option Json) → Stands t events → t.phase ≡ New → message_of body ≡ request id method ps → method ≡ codes "initialize"
     → Right settings events (FromEditor 0 body) (found t body)
@@ -171,7 +171,7 @@ editor_right : (settings : Settings) (events : List Event) (t : Kept) (n : ℕ) 
 editor_right settings events t _ body (later n h) l s f b = never (sym (ap (λ d. is_linked d.phase) (s.other_desks n h)) ∙ f)
 editor_right settings events t _ body first l s f b =
     hearing settings events t body (message_of body) l s refl
-      (sym (ap (λ p. built_from_editor p (open_of 0 events) (message_of body)) (ap (λ d. d.phase) s.desk) ∙ ap (λ o. built_from_editor t.phase o (message_of body)) s.opened) ∙ b)
+    (sym (ap (λ p. built_from_editor p (open_of 0 events) (message_of body)) (ap (λ d. d.phase) s.desk) ∙ ap (λ o. built_from_editor t.phase o (message_of body)) s.opened) ∙ b)
 
 -- looking for a number by place, and among what the history has
 place_named : (b : Bool) (k : Option ℕ) (p : Pending) (ps : List Pending) (id : Option Id) → has_number id (asked_of p) ≡ b → or_next b k ≡ None → b ≡ false
@@ -182,17 +182,17 @@ later_none : (k : Option ℕ) → option_map suc k ≡ None → k ≡ None
 later_none None e = refl
 later_none (Some k) e = let z : ◌≡◌ {A = Option ℕ} (Some (suc k)) None = e in cc
 
-none_place : (id : Option Id) (ps : List Pending) → place_of id ps ≡ None → asked_by id (asked_for ps) ≡ None
+pub none_place : (id : Option Id) (ps : List Pending) → place_of id ps ≡ None → asked_by id (asked_for ps) ≡ None
 none_place id [] e = refl
 none_place id (p ∷ ps) e =
     let f : has_number id (asked_of p) ≡ false = place_named (has_number id (asked_of p)) (place_of id ps) p ps id refl e in
     let r : place_of id ps ≡ None = later_none (place_of id ps) (sym (ap (λ b. or_next b (place_of id ps)) f) ∙ e) in
     rw f (none_place id ps r)
 
-record Placed (id : Option Id) (ps : List Pending) (k : ℕ) : Type 0 where
-  request_at : Pending
-  at : slice_get ps k ≡ Some request_at
-  asked : asked_by id (asked_for ps) ≡ Some (asked_of request_at)
+pub record Placed (id : Option Id) (ps : List Pending) (k : ℕ) : Type 0 where
+  pub request_at : Pending
+  pub at : slice_get ps k ≡ Some request_at
+  pub asked : asked_by id (asked_for ps) ≡ Some (asked_of request_at)
 
 some_later : (o : Option ℕ) (k : ℕ) → option_map suc o ≡ Some k → (j : ℕ) × (o ≡ Some j) × (suc j ≡ k)
 some_later None k e = let z : ◌≡◌ {A = Option ℕ} None (Some k) = e in cc
@@ -207,7 +207,8 @@ some_here id p ps k false h e f =
     let g = some_later (place_of id ps) k e in
     let r = f g.0 g.1 in
     subst (λ n. Placed id (p ∷ ps) n) g.2 (record { request_at = r.request_at; at = r.at; asked = rw h r.asked })
-some_place : (id : Option Id) (ps : List Pending) (k : ℕ) → place_of id ps ≡ Some k → Placed id ps k
+
+pub some_place : (id : Option Id) (ps : List Pending) (k : ℕ) → place_of id ps ≡ Some k → Placed id ps k
 some_place id [] k e = let z : ◌≡◌ {A = Option ℕ} None (Some k) = e in cc
 some_place id (p ∷ ps) k e = some_here id p ps k (has_number id (asked_of p)) refl e (λ j q. some_place id ps j q)
 
@@ -234,7 +235,7 @@ passing : (settings : Settings) (events : List Event) (t : Kept) (body : List �
 passing settings events t body k false s g p r h = left_steps settings events t body p.request_at s g p.asked h
 passing settings events t body k true s g p r h =
     rw p.at (passed_steps settings events t body (with_id_text body p.request_at.id) k p.request_at s g p.asked p.at h refl
-      (passed_id body (message_of body) (id_meant p.request_at.id) p.request_at.id refl r (means_at t.pending k p.request_at p.at s.ids)))
+    (passed_id body (message_of body) (id_meant p.request_at.id) p.request_at.id refl r (means_at t.pending k p.request_at p.at s.ids)))
 
 answering : (settings : Settings) (events : List Event) (t : Kept) (body : List ℕ) (o : Option ℕ) → Stands t events → t.stage ≡ Ready → place_of (answered_id (message_of body)) t.pending ≡ o → built_response [] (message_of body) ≡ true
     → Right settings events (FromServer 0 body) (answered t body o)
@@ -261,7 +262,7 @@ readying settings events t body r true s g m w =
     let p = waiting_is t.phase w in
     let shallow = result_bytes_law body (Some (integer (codes "1"))) r m in
     welcomed_steps settings events t body (welcome_text t body) r r _ s g m initialized_law p refl
-      (ok_law (Some (id_meant t.id)) r t.id (result_bytes body) (id_as_response _ _ (waiting_means t.phase t.stage t.pending t.id s.initialize s.phase_ties p)) shallow.text shallow.shallow)
+    (ok_law (Some (id_meant t.id)) r t.id (result_bytes body) (id_as_response _ _ (waiting_means t.phase t.stage t.pending t.id s.initialize s.phase_ties p)) shallow.text shallow.shallow)
 
 first_is : (body : List ℕ) (m : Message) → message_of body ≡ m → is_first_result m ≡ true → (r : Json) × (message_of body ≡ result (Some (integer (codes "1"))) r)
 first_is body (result (Some (integer n)) r) m f = (r, m ∙ ap (λ n. result (Some (integer n)) r) (same_text n (codes "1") f))
@@ -318,7 +319,7 @@ resulting settings events t body id r Initializing s e m b =
     readying settings events t body f.0 (is_waiting t.phase) s e f.1 refl
 resulting settings events t body id r Ready s e m b =
     subst (λ i. Right settings events (FromServer 0 body) (answered t body (place_of i t.pending))) (ap answered_id m)
-      (answering settings events t body (place_of (answered_id (message_of body)) t.pending) s e refl (subst (λ n. built_response [] n ≡ true) (sym m) refl))
+    (answering settings events t body (place_of (answered_id (message_of body)) t.pending) s e refl (subst (λ n. built_response [] n ≡ true) (sym m) refl))
 resulting settings events t body id r Unspawned s e m b = never b
 resulting settings events t body id r Spawning s e m b = never b
 resulting settings events t body id r Stopping s e m b = never b
@@ -329,7 +330,7 @@ failing : (settings : Settings) (events : List Event) (t : Kept) (body : List �
     → Right settings events (FromServer 0 body) (failed t body id g)
 failing settings events t body id r Ready s e m b =
     subst (λ i. Right settings events (FromServer 0 body) (answered t body (place_of i t.pending))) (ap answered_id m)
-      (answering settings events t body (place_of (answered_id (message_of body)) t.pending) s e refl (subst (λ n. built_response [] n ≡ true) (sym m) refl))
+    (answering settings events t body (place_of (answered_id (message_of body)) t.pending) s e refl (subst (λ n. built_response [] n ≡ true) (sym m) refl))
 failing settings events t body id r Unspawned s e m b = never b
 failing settings events t body id r Spawning s e m b = never b
 failing settings events t body id r Initializing s e m b = never b

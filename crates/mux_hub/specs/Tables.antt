@@ -1,14 +1,17 @@
 -- When the tables of the hub stand for events.
-use Rattle.std.specs.Prelude.{◌≡◌, ℕ, ◌-◌, ◌^◌, ◌<◌, min, List, [], ◌∷◌, map, length, Bool, true, IsTrue}
+use Rattle.std.specs.Prelude.{◌≡◌, ℕ, ◌-◌, ◌^◌, ◌<◌, min, List, [], ◌∷◌, map, length, Bool, true, false, ◌&&◌, nat_eq, IsTrue, if◌then◌else◌}
 use Rattle.std.specs.Prelude.{Option, Some, None}
 use Rattle.std.specs.List.{AllByRecursion}
-use Rattle.rpc_message.specs.Message.{Id, integer, id_of}
+use Rattle.rpc_message.specs.Message.{Id, integer, id_of, message_of}
 use Rattle.json_text.specs.Json.{Json}
 use Rattle.json_text.specs.Tree.{tree_of}
 use Rattle.mux_model.specs.declared.phase.Phase.{Phase}
 use Rattle.mux_model.specs.declared.phase.Phase.TheVariants.{Absent, New, Waiting, Answered, Running, Down, Closed, Gone}
 use Rattle.mux_model.specs.declared.stage.Stage.{Stage}
 use Rattle.mux_model.specs.declared.stage.Stage.TheVariants.{Unspawned, Spawning, Initializing, Ready, Stopping, Ending, Ended}
+use Rattle.mux_history.specs.declared.cause.Cause.{Cause}
+use Rattle.mux_history.specs.declared.cause.Cause.TheVariants.{Joined, FromEditor, Started, FromServer}
+use Rattle.mux_model.specs.Built.{is_plain_body, built_from_editor, built_from_server}
 use Rattle.mux_model.specs.Event.{Event}
 use Rattle.mux_model.specs.Phases.{desk_of, no_desk, editors_of, backlog_of}
 use Rattle.mux_model.specs.Requests.{Asked, open_of, asking_of}
@@ -59,14 +62,33 @@ abbrev pub first_in : Stage → Option ℕ
 first_in Unspawned = None
 first_in _ = Some 0
 
+-- the ids of kept requests
+abbrev pub ids_of : List Pending → List Id
+ids_of ps = map (λ p. id_meant p.id) ps
+
 -- the ids of the editor's open requests
 abbrev pub open_in : Phase → List Pending → List ℕ → List Id
 open_in Absent ps id = []
 open_in New ps id = []
 open_in Waiting ps id = id_meant id ∷ []
-open_in other ps id = map (λ p. id_meant p.id) ps
+open_in other ps id = ids_of ps
 
 -- a message that the editor sends behind its answered initialize makes it run
 abbrev pub after_message : Phase → Phase
 after_message Answered = Running
 after_message phase = phase
+
+-- what is known of the editor of a number, and of the start of one
+abbrev pub phase_at : Kept → ℕ → Phase
+phase_at t e = if nat_eq e 0 then t.phase else Absent
+
+abbrev pub stage_at : Kept → ℕ → Stage
+stage_at t s = if nat_eq s 0 then t.stage else Unspawned
+
+-- which causes meet rows that are built, by the tables
+abbrev pub built_in : Kept → Cause → Bool
+built_in t (Joined e) = nat_eq e 0
+built_in t (Started s) = true
+built_in t (FromEditor e body) = is_plain_body body && built_from_editor (phase_at t e) (open_in (phase_at t e) t.pending t.id) (message_of body)
+built_in t (FromServer s body) = is_plain_body body && built_from_server (stage_at t s) (asked_for t.pending) (message_of body)
+built_in t other = false

@@ -1,11 +1,13 @@
 // The hub: the tables, the journal, and whether a step had a fault.
-ghost use Rattle.std.specs.Prelude.{◌≡◌, ℕ, ◌≤◌, ◌<◌, ◌↔◌, List, [], ◌∷◌, ◌++◌, Bool, true, false, length, IsTrue, IfOk, OnOk, OnErr, IsErrOf, IfErr};
+ghost use Rattle.std.specs.Prelude.{◌≡◌, ℕ, ◌^◌, ◌≤◌, ◌<◌, ◌↔◌, List, [], ◌∷◌, ◌++◌, Bool, true, false, length, IsTrue, IfOk, OnOk, OnErr, IsErrOf, IfErr};
 ghost use Rattle.outside_io.specs.Faults.{Rose};
 ghost use Rattle.mux_history.specs.declared.entry.Entry.{Entry};
+ghost use Rattle.mux_history.specs.Journals.{append_told};
 ghost use Rattle.mux_model.specs.Built.{built};
 ghost use Rattle.mux_model.specs.Fits.{fits};
 ghost use Rattle.mux_model.specs.Rows.{emits, entry_of};
 ghost use Rattle.mux_hub.specs.Hubs.{HubView, HubStands, Tells, body_length};
+ghost use Rattle.mux_hub.specs.Turns.{turn, Gives};
 
 use crate::fault::StepFault;
 use crate::tables::Tables;
@@ -14,6 +16,30 @@ use mux_history::{Cause, Entry, Journal, Outs};
 use mux_model::{Limits, Phase, Server, Stage};
 use std::alloc::Global;
 use std::marker::Model;
+
+// A turn over the tables, and its entry in the journal.
+fn commit<J: Journal>(
+    alloc: Global,
+    requests: u32,
+    tables: &mut Tables,
+    journal: &mut J,
+    cause: Cause,
+) -> Result<Outs, StepFault>
+    requires { body_length cause ≤ 268435456 }
+    ensures range { requests < 2 ^ 32 }
+    ensures turn { IfOk result (λ outs. Gives (turn requests tables.old cause) outs tables.new) }
+    ensures told { IfOk result (λ outs. J.told journal.new ≡ append_told (J.told journal.old) (record { cause = cause; outs = outs } ∷ [])) }
+    ensures err { OnErr result (J.told journal.new ≡ J.told journal.old) }
+    ensures not_spent { IsErrOf result StepFault.Spent → ⊥ }
+    ensures journal_only { IsErrOf result StepFault.Journal → Rose (J.faults journal.old) (J.faults journal.new) }
+    ensures later { J.faults journal.old ≤ J.faults journal.new }
+{
+    let outs = tables.take(alloc, requests, &cause)?;
+    let answer = outs.copy(alloc)?;
+    let entry = Entry { cause, outs };
+    journal.append(&entry)?;
+    Ok(answer)
+}
 
 /// The core of the multiplexer. It stands for the history of its steps, and its journal has the entries.
 #[derive(Drop)]
@@ -87,11 +113,12 @@ impl<J: Journal> Hub<J> {
     }
 
     /// Whether this cause, which fits, meets only rows of the routing table that are built.
+    #[tactic(auto, using(crate::proofs::HubLaw::built_answer))]
     pub fn built(&self, cause: &Cause) -> Result<bool, Memory>
         requires { body_length cause.now ≤ 268435456 }
         ensures { (history : List Entry) → HubStands J.told self.now history → self.now.spent ≡ false → IfOk result (λ answer. answer ≡ built history cause.now) }
     {
-        Err(Memory)
+        self.tables.built(self.alloc, cause)
     }
 
     /// Takes a cause and gives its outs: those of the routing table. The entry was appended to the journal.
@@ -113,6 +140,14 @@ impl<J: Journal> Hub<J> {
             return Err(StepFault::Spent);
         }
         self.spent = true;
-        Err(StepFault::Memory)
+        let outs = commit(
+            self.alloc,
+            self.limits.requests,
+            &mut self.tables,
+            &mut self.journal,
+            cause,
+        )?;
+        self.spent = false;
+        Ok(outs)
     }
 }

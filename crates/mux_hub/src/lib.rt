@@ -1,6 +1,7 @@
 //! The core of the multiplexer: one call takes a cause and gives its outs.
 #![tactic(auto)]
 
+mod built;
 mod fault;
 mod hub;
 mod pending;

@@ -6,12 +6,11 @@ ghost use Rattle.mux_model.specs.Phases.{is_linked};
 ghost use Rattle.mux_model.specs.Stages.{may_start, runs};
 ghost use Rattle.mux_hub.specs.Tables.{joined_in};
 
+use crate::pending::Pending;
 use json_text::Body;
 use mux_history::Cause;
 use mux_model::{Phase, Stage};
 use std::marker::Model;
-
-use crate::pending::Pending;
 
 // How many editors joined.
 fn joined_in(phase: Phase) -> u64

@@ -1,7 +1,7 @@
 // What the hub does for a cause, over its tables.
 ghost use Rattle.std.specs.Prelude.{◌≡◌, ℕ, ◌≤◌, ◌<◌, ◌∷◌, [], List, length, IfOk, IfErr, IfSome, Option, slice_get, decimal, bytes_eq};
 ghost use Rattle.mux_model.specs.Phases.{is_there};
-ghost use Rattle.mux_model.specs.Rows.{is_waiting, initialize_for};
+ghost use Rattle.mux_model.specs.Rows.{is_waiting};
 ghost use Rattle.mux_model.specs.Requests.{answered_id};
 ghost use Rattle.mux_model.specs.Stages.{is_ready};
 ghost use Rattle.json_text.specs.Json.{Json};
@@ -11,23 +11,16 @@ ghost use Rattle.rpc_message.specs.Parsed.{IsRead};
 ghost use Rattle.mux_hub.specs.Hubs.{body_length};
 ghost use Rattle.mux_hub.specs.Turns.{Turn, turn, joined, noted, found, forward, refuse, requested, from_editor, from_server, ready_if, started, answered, pass_on, place_of, place_written, place_if, is_no_number, can_go, ask_if, Gives};
 
-use std::alloc::Global;
-
+use crate::pending::Pending;
+use crate::tables::Tables;
 use itoa::Buffer;
 use json_span::JsonFault;
 use json_text::{Body, Memory};
 use mux_history::{Cause, Out, Outs};
+use mux_members::initialize_request;
 use mux_model::{Phase, Stage};
 use rpc_message::{Envelope, ErrorCode, Message, error_answer, initialized, ok_answer};
-
-use crate::pending::Pending;
-use crate::tables::Tables;
-
-fn initialize_request(alloc: Global, m: &Message) -> Result<Body, Memory>
-    ensures { (bytes method : List ℕ) (id : Id) (params : Option Json) → IsRead m.now bytes → message_of bytes ≡ request id method params → IfOk result (λ text. text ≡ initialize_for bytes) }
-{
-    Err(Memory)
-}
+use std::alloc::Global;
 
 // One out.
 fn one(alloc: Global, out: Out) -> Result<Outs, Memory>
@@ -82,7 +75,7 @@ fn is_no_number(id: &[u8]) -> bool
 }
 
 // The place of the request whose number is this id of a response.
-fn place_by_id(pending: &[Pending], id: &[u8]) -> Option<usize>
+pub fn place_by_id(pending: &[Pending], id: &[u8]) -> Option<usize>
     ensures place { result ≡ place_if (is_no_number id.now) id.now pending.now }
     ensures inside { IfSome result (λ k. k < length pending.now) }
 {
@@ -235,7 +228,12 @@ impl Tables {
     }
 
     /// A request came from the editor.
-    fn hear_request(&mut self, alloc: Global, requests: u32, message: &Message) -> Result<Outs, Memory>
+    fn hear_request(
+        &mut self,
+        alloc: Global,
+        requests: u32,
+        message: &Message,
+    ) -> Result<Outs, Memory>
         ensures { (body method : List ℕ) (id : Id) (params : Option Json) → IsRead message.now body → message_of body ≡ request id method params → IfOk result (λ outs. Gives (requested requests self.old body self.old.phase) outs self.new) }
     {
         match self.phase {

@@ -1,9 +1,9 @@
 -- The words on members don't see places.
-use Rattle.std.proofs.Common.{◌≡◌, ℕ, Bool, true, false, ◌&&◌, ◌||◌, List, [], ◌∷◌, codes, refl, sym, ◌∙◌, ap, ap₂}
-use Rattle.std.specs.Prelude.{Option, Some, None, option_map, is_some}
-use Rattle.json_text.specs.Bare.{bare, bare_items, bare_members}
-use Rattle.json_text.specs.Json.{Json, word, number, string, array, object, Items, no_items, item, no_members, member}
-use Rattle.json_text.specs.Named.{named, named_in, items_list}
+use Rattle.std.proofs.Common.{◌≡◌, ℕ, Bool, true, false, ◌||◌, List, codes, refl, ◌∙◌, ap, ap₂}
+use Rattle.std.specs.Prelude.{Option, Some, None, option_map}
+use Rattle.json_text.specs.Bare.{bare}
+use Rattle.json_text.specs.Json.{Json, word, number, string, array, object, no_members, member}
+use Rattle.json_text.specs.Named.{named_in}
 use Rattle.json_text.proofs.Put.{named_bare}
 use Rattle.rpc_message.specs.Message.{is_integer_value, is_string_value}
 use Rattle.mux_model.specs.Members.{named_of, is_bare_capabilities, is_token, has_token}

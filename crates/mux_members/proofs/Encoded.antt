@@ -1,16 +1,15 @@
 -- Characters and their UTF-8 are equal to an ASCII text at once.
-use Rattle.std.proofs.Common.{◌≡◌, ℕ, zero, suc, ◌+◌, ◌/◌, ◌%◌, ◌<◌, ◌≤◌, Bool, true, false, ◌&&◌, ◌||◌, List, [], ◌∷◌, ◌++◌, codes, ◌⊎◌, inl, inr, refl, sym, ◌∙◌, ap, ap₂, subst, arith}
-use Rattle.std.specs.Prelude.{bytes_eq, nat_eq, nat_lt, encode_utf8_all, chars, IsAscii, is_some, unwrap_or, if◌then◌else◌}
+use Rattle.std.proofs.Common.{◌≡◌, ℕ, ◌+◌, ◌/◌, ◌%◌, ◌<◌, ◌≤◌, Bool, true, false, ◌&&◌, ◌||◌, List, [], ◌∷◌, ◌++◌, codes, ◌⊎◌, inl, inr, refl, sym, ◌∙◌, ap, ap₂, arith}
+use Rattle.std.specs.Prelude.{bytes_eq, nat_eq, nat_lt, encode_utf8_all, chars, is_some, unwrap_or, if◌then◌else◌}
 use Rattle.std.proofs.lemmas.Bool.{cases_lt}
 use Rattle.std.proofs.lemmas.Bool.Decides.{nat_tests}
 use Rattle.std.proofs.lemmas.Str.{chars-IsAscii}
 use Rattle.std.proofs.lemmas.Str.Ascii.{IsAscii-from_all}
-use Rattle.std.specs.List.{All, list_all}
+use Rattle.std.specs.List.{All}
 use Rattle.std.proofs.lemmas.List.Sums.{AllPass-from_list_all}
 use lib.Utf8.{encode, encodes}
 use Rattle.json_token.proofs.Encoded.{one, two, three, four}
 use Rattle.lsp_method.specs.Class.{own_request, own_notification, goes_nowhere, editor_request}
-use Rattle.lsp_method.specs.declared.variants.Class.{Class}
 use Rattle.lsp_method.specs.declared.variants.Class.TheVariants.{Wrong, Other}
 use Rattle.mux_members.specs.Finds.{is_ascii}
 
@@ -65,37 +64,37 @@ ascii_encoded (c ∷ cs) (n ∷ ns) h = go (ascii_encoded cs ns (tail_ascii n ns
 requests_same : (cs : List ℕ) → own_request (encode_utf8_all cs) ≡ own_request cs
 unfolding own_request
 requests_same cs = rw (
-    ascii_encoded cs (codes "initialize") refl,
-    ascii_encoded cs (codes "shutdown") refl,
-    ascii_encoded cs (codes "lspmux/open") refl,
-    ascii_encoded cs (codes "lspmux/status") refl,
-    ascii_encoded cs (codes "lspmux/stop") refl,
-  ) refl
+  ascii_encoded cs (codes "initialize") refl,
+  ascii_encoded cs (codes "shutdown") refl,
+  ascii_encoded cs (codes "lspmux/open") refl,
+  ascii_encoded cs (codes "lspmux/status") refl,
+  ascii_encoded cs (codes "lspmux/stop") refl,
+) refl
 
 notifications_same : (cs : List ℕ) → own_notification (encode_utf8_all cs) ≡ own_notification cs
 unfolding own_notification
 notifications_same cs = rw (
-    ascii_encoded cs (codes "initialized") refl,
-    ascii_encoded cs (codes "exit") refl,
-    ascii_encoded cs (codes "textDocument/didOpen") refl,
-    ascii_encoded cs (codes "textDocument/didChange") refl,
-    ascii_encoded cs (codes "textDocument/didClose") refl,
-    ascii_encoded cs (codes "$/cancelRequest") refl,
-    ascii_encoded cs (codes "window/workDoneProgress/cancel") refl,
-    ascii_encoded cs (codes "workspace/didChangeConfiguration") refl,
-  ) refl
+  ascii_encoded cs (codes "initialized") refl,
+  ascii_encoded cs (codes "exit") refl,
+  ascii_encoded cs (codes "textDocument/didOpen") refl,
+  ascii_encoded cs (codes "textDocument/didChange") refl,
+  ascii_encoded cs (codes "textDocument/didClose") refl,
+  ascii_encoded cs (codes "$/cancelRequest") refl,
+  ascii_encoded cs (codes "window/workDoneProgress/cancel") refl,
+  ascii_encoded cs (codes "workspace/didChangeConfiguration") refl,
+) refl
 
 nowhere_same : (cs : List ℕ) → goes_nowhere (encode_utf8_all cs) ≡ goes_nowhere cs
 unfolding goes_nowhere
 nowhere_same cs = rw (
-    ascii_encoded cs (codes "$/setTrace") refl,
-    ascii_encoded cs (codes "$/progress") refl,
-    ascii_encoded cs (codes "notebookDocument/didOpen") refl,
-    ascii_encoded cs (codes "notebookDocument/didChange") refl,
-    ascii_encoded cs (codes "notebookDocument/didSave") refl,
-    ascii_encoded cs (codes "notebookDocument/didClose") refl,
-    ascii_encoded cs (codes "workspace/didChangeWorkspaceFolders") refl,
-  ) refl
+  ascii_encoded cs (codes "$/setTrace") refl,
+  ascii_encoded cs (codes "$/progress") refl,
+  ascii_encoded cs (codes "notebookDocument/didOpen") refl,
+  ascii_encoded cs (codes "notebookDocument/didChange") refl,
+  ascii_encoded cs (codes "notebookDocument/didSave") refl,
+  ascii_encoded cs (codes "notebookDocument/didClose") refl,
+  ascii_encoded cs (codes "workspace/didChangeWorkspaceFolders") refl,
+) refl
 
 pub class_encoded : (cs : List ℕ) → editor_request (encode_utf8_all cs) ≡ editor_request cs
 unfolding editor_request

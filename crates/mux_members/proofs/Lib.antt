@@ -3,5 +3,7 @@ pub mod Encoded
 pub mod Ids
 pub mod Looks
 pub mod Results
+pub mod Roots
+pub mod Scalars
 pub mod Told
 pub mod Walks

@@ -1,11 +1,11 @@
 -- What is read in a response with a result.
-use Rattle.std.proofs.Common.{◌≡◌, ℕ, Bool, true, false, not, ◌&&◌, ◌||◌, List, [], ◌∷◌, codes, refl, sym, ◌∙◌, ap, ap₂, subst, Some, None, Option}
+use Rattle.std.proofs.Common.{◌≡◌, ℕ, Bool, true, false, not, ◌&&◌, ◌||◌, List, ◌∷◌, codes, refl, sym, ◌∙◌, ap, ap₂, subst, Some, None, Option}
 use Rattle.std.specs.Prelude.{bytes_eq, is_some, if◌then◌else◌}
 use Rattle.std.specs.List.{list_any}
 use Rattle.std.specs.Option.{option_map}
 use Rattle.json_text.specs.declared.kind.Word.TheVariants.{Null, False, True}
 use Rattle.json_text.specs.Bare.{bare, bare_items}
-use Rattle.json_text.specs.Json.{Json, word, number, string, array, object, Items, no_items, item, value, span_of}
+use Rattle.json_text.specs.Json.{Json, word, number, string, array, object, Items, no_items, item, value}
 use Rattle.json_text.specs.Named.{items_list, named_in}
 use Rattle.json_nodes.specs.At.{At, Found}
 use Rattle.json_nodes.specs.Doc.{Doc}

@@ -1,20 +1,19 @@
 -- What an envelope tells of its message.
-use Rattle.std.proofs.Common.{◌≡◌, ℕ, Bool, false, List, Option, Some, None, option_map, refl, sym, ◌∙◌, ap, subst}
-use Rattle.std.specs.Prelude.{bytes_eq, encode_utf8_all}
+use Rattle.std.proofs.Common.{◌≡◌, ℕ, Bool, false, List, Option, Some, None, option_map, sym, ◌∙◌, ap, subst}
+use Rattle.std.specs.Prelude.{bytes_eq}
 use Rattle.json_text.specs.declared.span.Span.{Span}
 use Rattle.json_text.specs.Bare.{bare}
 use Rattle.json_text.specs.Json.{Json, string}
-use Rattle.json_nodes.specs.At.{At, Found}
+use Rattle.json_nodes.specs.At.{At}
 use Rattle.json_nodes.specs.Doc.{Doc}
 use Rattle.rpc_message.specs.declared.envelope.Envelope.{Envelope}
 use Rattle.rpc_message.specs.declared.envelope.Envelope.TheVariants.{Other, Request, Notification, Outcome, Failure}
-use Rattle.rpc_message.specs.Envelopes.{Tells, IsRequest, IsNotification, IsOutcome, IsFailure}
-use Rattle.rpc_message.specs.Message.{Message, not_json, not_message, request, notification, result, error}
-use Rattle.rpc_message.specs.Parsed.{Parsed, IsRead}
+use Rattle.rpc_message.specs.Envelopes.{Tells}
+use Rattle.rpc_message.specs.Message.{Message, request, notification, result, error}
 use Rattle.mux_model.specs.Event.{notifies, requests}
 use Rattle.rpc_message.specs.Message.{Id, result_tree}
 use Rattle.mux_members.specs.Finds.{FoundBare}
-use Rattle.mux_members.specs.Envelopes.{request_method, notification_method, request_params, outcome_value}
+use Rattle.mux_members.specs.Envelopes.{request_method, notification_method, request_params}
 
 -- an envelope without a method of that sort
 pub not_requests : (doc : Doc) (e : Envelope) (m : Message) (name : List ℕ) → Tells doc e m → request_method e ≡ None → false ≡ requests name m

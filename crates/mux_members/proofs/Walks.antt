@@ -1,10 +1,10 @@
 -- A walk over the values in an array or an object.
-use Rattle.std.proofs.Common.{◌≡◌, ℕ, zero, suc, ◌+◌, ◌<◌, ◌≤◌, Bool, true, false, not, List, [], ◌∷◌, length, drop, refl, sym, ◌∙◌, ap, subst, arith, add-one}
+use Rattle.std.proofs.Common.{◌≡◌, ℕ, zero, suc, ◌<◌, Bool, true, false, not, List, [], ◌∷◌, length, drop, refl, sym, ◌∙◌, ap, subst, add-one}
 use Rattle.std.specs.Prelude.{Option, Some, None, MatchOption, is_some}
 use Rattle.std.specs.List.{slice_get}
 use Rattle.json_text.specs.declared.kind.Word.TheVariants.{Null}
 use Rattle.json_text.specs.Bare.{nowhere}
-use Rattle.json_text.specs.Json.{Json, word, number, string, array, object, no_items, item, no_members, member}
+use Rattle.json_text.specs.Json.{Json, word, number, string, array, object, no_members, member}
 use Rattle.json_text.specs.Named.{children}
 use Rattle.json_nodes.specs.At.{At, Found, ChildAt, FoundChild}
 use Rattle.json_nodes.specs.Doc.{Doc}

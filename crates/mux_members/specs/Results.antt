@@ -1,5 +1,5 @@
 -- What is read in a result that may be there or not.
-use Rattle.std.specs.Prelude.{Bool, true, false, not, ◌||◌, List, codes, bytes_eq, is_some}
+use Rattle.std.specs.Prelude.{Bool, false, not, ◌||◌, List, codes, bytes_eq, is_some}
 use Rattle.std.specs.Prelude.{Option, Some, None}
 use Rattle.std.specs.List.{list_any}
 use Rattle.json_text.specs.Json.{Json}

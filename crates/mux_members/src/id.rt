@@ -1,11 +1,10 @@
 //! Identifiers, by their bytes (JSON-RPC 2.0, section 4; LSP 3.17, Request Message).
-ghost use Rattle.std.specs.Prelude.{◌≡◌, ℕ, List, [], ◌∷◌, ◌++◌};
+ghost use Rattle.std.specs.Prelude.{◌≡◌, ℕ, List, [], ◌∷◌, ◌++◌, Some};
 ghost use Rattle.rpc_message.specs.Message.{Id};
 ghost use Rattle.rpc_message.specs.ValueTexts.{IsIdText};
 ghost use Rattle.mux_model.specs.Event.{same_id};
 ghost use Rattle.mux_model.specs.Requests.{Asked, has_number};
 ghost use Rattle.mux_members.specs.Ids.{is_quoted};
-ghost use Rattle.std.specs.Prelude.{Some};
 
 use itoa::Buffer;
 use json_token::same_characters;

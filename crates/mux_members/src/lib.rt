@@ -5,10 +5,17 @@ mod envelope;
 mod id;
 mod look;
 mod method;
+mod opening;
 mod outcome;
 mod params;
+mod plain;
 
 pub use id::{is_number, same_id};
 pub use method::{class_in, is_initialize, is_initialized};
+pub use opening::initialize_request;
 pub use outcome::{is_first_result, is_plain_result, reads_versions};
 pub use params::{has_bare_capabilities, has_token};
+pub use plain::is_plain_body;
+
+#[cfg(test)]
+mod tests;

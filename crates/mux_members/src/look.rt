@@ -15,7 +15,7 @@ use json_text::Kind;
 use json_token::spells_text;
 
 // The number, where it is that of a value.
-fn within(tape: &Tape, node: Option<u32>) -> Option<u32>
+pub fn within(tape: &Tape, node: Option<u32>) -> Option<u32>
     ensures same { (o : Option Json) → Found tape.now o node → result ≡ node }
     ensures inside { MatchOption result (Unit {0}) (λ n. n < length tape.now.nodes) }
 {
@@ -78,7 +78,9 @@ fn is_whole(text: &[u8]) -> bool
 pub fn is_integer(tape: &Tape, node: Option<u32>) -> bool
     ensures { (o : Option Json) → Found tape.now o node → result ≡ is_integer_value o }
 {
-    let Some(node) = within(tape, node) else { return false };
+    let Some(node) = within(tape, node) else {
+        return false
+    };
     match tape.kind(node) {
         Kind::Number => is_whole(bytes_in(tape.bytes(), tape.nodes(), node)),
         _ => false,

@@ -14,6 +14,7 @@ pub mod Late
 pub mod Lists
 pub mod Rules
 pub mod ServerLaw
+pub mod Sessions
 pub mod Starts
 pub mod Table
 pub mod Waits

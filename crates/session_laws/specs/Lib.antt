@@ -3,3 +3,4 @@ pub mod ClientRules
 pub mod Parts
 pub mod Ranges
 pub mod ServerRules
+pub mod Sessions

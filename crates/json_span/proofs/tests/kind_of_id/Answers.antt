@@ -1,7 +1,5 @@
-use Rattle.std.proofs.Common.{◌≡◌, List, [], ◌∷◌, codes, option_map, sym, ◌∙◌, ap}
-use Rattle.std.specs.Prelude.{Option, Some, None}
+use Rattle.std.proofs.Common.{codes, option_map, sym, ◌∙◌, ap}
 use Rattle.std.specs.Str.{chars}
-use Rattle.json_text.specs.Json.{Json}
 use Rattle.json_text.specs.Named.{named_in}
 use Rattle.json_nodes.specs.Nodes.{kind_of}
 use Rattle.json_span.proofs.Walks.{found_nothing, found_gives}

@@ -1,4 +1,4 @@
-use Rattle.std.proofs.Common.{◌<◌, ◌≤◌, length, arith}
+use Rattle.std.proofs.Common.{length, arith}
 use Rattle.json_text.proofs.Changes.{Next, next}
 use Rattle.json_text.proofs.change.splice.Goals as goal
 

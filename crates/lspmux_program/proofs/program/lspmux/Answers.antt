@@ -5,7 +5,7 @@ use Rattle.outside_io.specs.Faults.{Rose}
 use Rattle.lspmux_program.specs.Lines.{lines_of}
 use Rattle.lspmux_program.specs.Program.{Ran, JournalRose}
 use Rattle.lspmux_program.specs.declared.stop.Stop.{Stop}
-use Rattle.lspmux_program.proofs.Ends.{drove_reported, complete, rose_until}
+use Rattle.lspmux_program.proofs.Ends.{drove_done, drove_words, drove_reported, complete, rose_until}
 use Rattle.lspmux_program.proofs.program.lspmux.Goals as goal
 
 pub returns-in-Err-clause-drove : goal.returns-in-Err-clause-drove
@@ -26,3 +26,13 @@ returns-in-Err-clause-complete g c = λ u. complete g.J.Journal.told c.run-journ
     (λ e. c.run-journal.ensures.input (c.in-Err.is ∙ ap (λ (s : Stop). Err s) e))
     (λ e. rose_until (g.O.Sink.faults c.args.outside.now.output) (g.O.Sink.faults c.run-journal.new.output) (g.O.Sink.faults c.report.new.output) (c.run-journal.ensures.output (c.in-Err.is ∙ ap (λ (s : Stop). Err s) e)) c.report.ensures.later)
     u
+
+pub returns-in-Ok-clause-drove : goal.returns-in-Ok-clause-drove
+returns-in-Ok-clause-drove g c = drove_done g.J.Journal.told c.run-journal.result.0 (g.I.Source.left c.args.outside.now.input)
+    (g.O.Sink.written c.args.outside.now.output) (g.O.Sink.written c.run-journal.new.output) (Rose (g.O.Sink.faults c.args.outside.now.output) (g.O.Sink.faults c.run-journal.new.output))
+    (subst (λ (r : Result (Unit {0}) Stop). Ran g.J.Journal.told c.run-journal.result.0 (option_map lines_of (g.I.Source.left c.args.outside.now.input)) (g.O.Sink.written c.args.outside.now.output) (g.O.Sink.written c.run-journal.new.output) r) c.in-Ok.is c.run-journal.ensures.ran)
+
+pub returns-then-not-is_drive-clause-drove : goal.returns-then-not-is_drive-clause-drove
+returns-then-not-is_drive-clause-drove g c = drove_words g.J.Journal.told c.args.outside.now.journal (g.I.Source.left c.args.outside.now.input)
+    (g.O.Sink.written c.args.outside.now.output) (g.O.Sink.written c.write_fault.new.output) (Rose (g.O.Sink.faults c.args.outside.now.output) (g.O.Sink.faults c.write_fault.new.output))
+    c.requires c.write_fault.ensures.wrote

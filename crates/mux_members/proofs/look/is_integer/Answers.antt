@@ -1,7 +1,6 @@
 use Rattle.mux_members.proofs.Looks.{integer_found}
 use Rattle.rpc_message.proofs.Reading.{same_doc}
 use Rattle.json_nodes.specs.Doc.{Doc}
-use Rattle.json_text.specs.Json.{span_of}
 use Rattle.mux_members.proofs.look.is_integer.Goals as goal
 
 pub returns-in-Number : goal.returns-in-Number

@@ -1,6 +1,5 @@
 use Rattle.mux_members.proofs.Looks.{outside}
 use Rattle.std.proofs.Common.{ap, length}
-use Rattle.json_nodes.specs.Doc.{Doc}
 use Rattle.mux_members.proofs.look.within.Goals as goal
 
 pub returns-in_default-clause-same : goal.returns-in_default-clause-same

@@ -1,4 +1,4 @@
-use Rattle.std.proofs.Common.{◌∙◌, sym, ap, codes, subst, refl, Some}
+use Rattle.std.proofs.Common.{◌∙◌, sym, codes, subst, refl}
 use Rattle.json_text.specs.Json.{string}
 use Rattle.json_nodes.specs.At.{At}
 use Rattle.mux_members.proofs.Told.{told_requests}

@@ -1,5 +1,4 @@
-use Rattle.std.proofs.Common.{◌∙◌, sym, ap, codes, subst, refl}
-use Rattle.json_nodes.specs.At.{Found}
+use Rattle.std.proofs.Common.{◌∙◌, sym, ap, codes, refl}
 use Rattle.mux_model.specs.Members.{has_token, is_token, named_of}
 use Rattle.mux_members.specs.Finds.{FoundBare}
 use Rattle.rpc_message.specs.Message.{message_of}

@@ -8,5 +8,5 @@ returns-else-can_go c = λ body r.
     let h = c.refuse.ensures body r in
     let v = c.self.view_is in
     let g : can_go c.args.requests c.args.self.now.stage c.args.self.now.next ≡ false =
-      ap (λ (t : Kept). can_go c.args.requests t.stage t.next) (sym v) ∙ (sym c.can_go.ensures ∙ c.if-can_go.false) in
+    ap (λ (t : Kept). can_go c.args.requests t.stage t.next) (sym v) ∙ (sym c.can_go.ensures ∙ c.if-can_go.false) in
     rw g h

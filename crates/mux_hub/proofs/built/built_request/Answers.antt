@@ -1,0 +1,16 @@
+use Rattle.std.proofs.Common.{◌≡◌, sym, subst}
+use Rattle.std.specs.Prelude.{IfOk}
+use Rattle.mux_model.specs.declared.phase.Phase.{Phase}
+use Rattle.mux_model.specs.Built.{built_request}
+use Rattle.mux_hub.specs.Tables.{open_in}
+use Rattle.mux_hub.proofs.built.built_request.Goals as goal
+
+pub returns-in-Answered : goal.returns-in-Answered
+returns-in-Answered c = λ body method waiting id params r m a.
+    subst (λ (p : Phase). IfOk c.built_ask.result (λ answer. answer ≡ built_request p (open_in p c.args.pending.now waiting) id method params)) (sym c.in-Answered.is)
+    (c.built_ask.ensures body method id params r m a)
+
+pub returns-in-Running : goal.returns-in-Running
+returns-in-Running c = λ body method waiting id params r m a.
+    subst (λ (p : Phase). IfOk c.built_ask-in-Running.result (λ answer. answer ≡ built_request p (open_in p c.args.pending.now waiting) id method params)) (sym c.in-Running.is)
+    (c.built_ask-in-Running.ensures body method id params r m a)

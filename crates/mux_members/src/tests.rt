@@ -1,0 +1,94 @@
+use crate::{
+    class_in, has_bare_capabilities, has_token, initialize_request, is_first_result, is_initialize,
+    is_initialized, is_number, is_plain_body, is_plain_result, reads_versions, same_id,
+};
+use lsp_method::Class;
+use rpc_message::Message;
+
+#[test]
+fn reads_an_editors_requests(rt: HostRuntime) {
+    let opening: &[u8] =
+        b"{\"jsonrpc\":\"2.0\",\"id\":\"a\",\"method\":\"initial\\u0069ze\",\"params\":{\"capabilities\":{},\"rootUri\":\"file:///r\",\"initializationOptions\":{\"n\": 1},\"workspaceFolders\":[{\"uri\":1},{\"uri\":\"file:///\\u0061 b\"},{\"uri\":\"file:///c\"}]}}";
+    let hover: &[u8] =
+        b"{\"jsonrpc\":\"2.0\",\"id\":7,\"method\":\"textDocument/hover\",\"params\":{\"workDoneToken\":1.5,\"partialResultToken\":\"t\"}}";
+    let (Ok(opening), Ok(hover)) = (
+        Message::read(rt.alloc(), opening),
+        Message::read(rt.alloc(), hover),
+    ) else {
+        panic!(rt; "no text");
+    };
+    assert!(rt; is_initialize(&opening) && has_bare_capabilities(&opening) && !has_token(&opening));
+    assert!(rt; !is_initialize(&hover) && has_token(&hover) && !is_initialized(&hover));
+    let class = class_in(rt.alloc(), &opening).expect(&rt, "memory");
+    assert!(rt; matches!(class, Class::Initialize));
+    let class = class_in(rt.alloc(), &hover).expect(&rt, "memory");
+    assert!(rt; matches!(class, Class::Other));
+    let sent = initialize_request(rt.alloc(), &opening).expect(&rt, "memory");
+    assert_eq!(rt;
+        sent.bytes(),
+        b"{\"jsonrpc\":\"2.0\",\"id\":1,\"method\":\"initialize\",\"params\":{\"processId\":null,\"clientInfo\":{\"name\":\"lspmux\"},\"rootUri\":\"file:///a b\",\"initializationOptions\":{\"n\": 1},\"capabilities\":{},\"trace\":\"off\"}}".as_slice()
+    );
+}
+
+#[test]
+fn reads_a_servers_results(rt: HostRuntime) {
+    // a body; whether it is the first result, and whether it is plain
+    let bodies: [(&[u8], bool, bool); 2] = [
+        (
+            b"{\"jsonrpc\":\"2.0\",\"id\":1,\"result\":{\"capabilities\":{\"hoverProvider\":true}}}",
+            true,
+            true,
+        ),
+        (
+            b"{\"jsonrpc\":\"2.0\",\"id\":\"1\",\"result\":{\"capabilities\":{\"workspace\":null}}}",
+            false,
+            false,
+        ),
+    ];
+    for (body, first, plain) in bodies {
+        assert!(rt; body.len() < 200);
+        let Ok(m) = Message::read(rt.alloc(), body) else {
+            panic!(rt; "no text");
+        };
+        assert_eq!(rt; is_first_result(&m), first, "at {body:?}");
+        assert_eq!(rt; is_plain_result(&m), plain, "at {body:?}");
+    }
+}
+
+#[test]
+fn finds_versions(rt: HostRuntime) {
+    let bodies: [(&[u8], bool); 4] = [
+        (
+            b"{\"jsonrpc\":\"2.0\",\"id\":12,\"result\":{\"documentChanges\":[{},{\"textDocument\":{\"uri\":\"f\",\"version\":3}}]}}",
+            true,
+        ),
+        (
+            b"{\"jsonrpc\":\"2.0\",\"id\":2,\"result\":[{},{\"edit\":{\"documentChanges\":[{\"textDocument\":{\"uri\":\"f\",\"version\":3}}]}}]}",
+            true,
+        ),
+        (
+            b"{\"jsonrpc\":\"2.0\",\"id\":3,\"result\":{\"edit\":{\"documentChanges\":[{\"textDocument\":{\"uri\":\"f\",\"version\":null}}]}}}",
+            false,
+        ),
+        (b"{\"jsonrpc\":\"2.0\",\"id\":4}", false),
+    ];
+    for (body, versions) in bodies {
+        assert!(rt; body.len() < 200);
+        let Ok(m) = Message::read(rt.alloc(), body) else {
+            panic!(rt; "no text");
+        };
+        assert_eq!(rt; reads_versions(&m), versions, "at {body:?}");
+    }
+}
+
+#[test]
+fn compares_identifiers(rt: HostRuntime) {
+    assert!(rt; same_id(b"\"a\\u0062\"", b"\"ab\"") && same_id(b"12", b"12"));
+    assert!(rt; !same_id(b"\"12\"", b"12") && !same_id(b"12", b"1"));
+    assert!(rt; is_number(b"12", 12) && !is_number(b"123", 12) && !is_number(b"\"12\"", 12));
+    assert!(rt;
+        is_plain_body(b"{\"id\":1}")
+            && !is_plain_body(b"{\"\\u0069d\":1}")
+            && !is_plain_body(b"\"\xc3\xa9\"")
+    );
+}

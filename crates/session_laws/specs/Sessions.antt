@@ -1,0 +1,12 @@
+-- Conforming sessions: the parts of all editors and of all starts keep the rules that are built.
+use Rattle.std.specs.Prelude.{List}
+use Rattle.mux_history.specs.declared.entry.Entry.{Entry}
+use Rattle.session_laws.specs.ClientRules.{KeepsClient2, KeepsClient3}
+use Rattle.session_laws.specs.ServerRules.{KeepsServer1, KeepsServer2, KeepsServer3}
+
+pub record KeepsSessions (history : List Entry) : Type 0 where
+  pub client_2 : KeepsClient2 history
+  pub client_3 : KeepsClient3 history
+  pub server_1 : KeepsServer1 history
+  pub server_2 : KeepsServer2 history
+  pub server_3 : KeepsServer3 history
