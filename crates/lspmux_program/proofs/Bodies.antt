@@ -1,8 +1,7 @@
 -- A body read a byte at a time: what is read and what is left are the whole.
-use Rattle.std.proofs.Common.{◌≡◌, ◌≢◌, ℕ, ◌+◌, ◌<◌, Bool, true, false, nat_eq, List, [], ◌∷◌, ◌++◌, length, drop, get_or, refl, ap, sym, ◌∙◌, append_assoc, add-one, arith, drop-cons, option_map}
+use Rattle.std.proofs.Common.{◌≡◌, ℕ, ◌+◌, ◌<◌, Bool, true, false, nat_eq, List, [], ◌∷◌, ◌++◌, length, drop, get_or, refl, ap, sym, ◌∙◌, append_assoc, add-one, drop-cons, option_map}
 use Rattle.std.specs.Prelude.{Option, Some, None}
 use Rattle.lspmux_program.specs.Marks.{body_from, is_break, mark_of}
-use Rattle.std.proofs.lemmas.Grind.{common_steps}
 
 -- the front of a body before the rest of it
 abbrev pub onto : List ℕ → Option (List ℕ) → Option (List ℕ)

@@ -1,5 +1,5 @@
 -- Bodies in a line: `^` is written `^^`, a line feed `^n`, a carriage return `^r`.
-use Rattle.std.specs.Prelude.{ℕ, Bool, true, false, ◌||◌, List, [], ◌∷◌, ◌++◌, nat_eq, flat_map, option_map, if◌then◌else◌}
+use Rattle.std.specs.Prelude.{ℕ, Bool, true, false, ◌||◌, List, [], ◌∷◌, nat_eq, flat_map, option_map, if◌then◌else◌}
 use Rattle.std.specs.Prelude.{Option, Some, None}
 use Rattle.lspmux_program.specs.Options.{then_option}
 

@@ -1,10 +1,8 @@
-use Rattle.std.proofs.Common.{rules, arith, refl, sym, subst, ap, ◌∙◌, option_map, ℕ, ◌+◌, List}
+use Rattle.std.proofs.Common.{arith, refl, sym, ap, ◌∙◌, option_map, ℕ, ◌+◌, List}
 use Rattle.std.proofs.lemmas.Result.{err_from_is_err_and}
-use Rattle.std.specs.Prelude.{Ok, Err}
+use Rattle.std.specs.Prelude.{Err}
 use Rattle.lspmux_program.specs.Buffers.{known_lines, onto_known}
 use Rattle.lspmux_program.specs.Lines.{lines_of}
-use Rattle.lspmux_program.specs.Stops.{Driven, Driving}
-use Rattle.lspmux_program.specs.declared.stop.Stop.{Stop}
 use Rattle.lspmux_program.specs.declared.line.LineStop.{LineStop}
 use Rattle.lspmux_program.specs.declared.step.LineFault.{LineFault}
 use Rattle.lspmux_program.proofs.Driving.{begins, goes_on, ends, stops, faults, never_begins}
