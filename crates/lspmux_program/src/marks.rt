@@ -3,9 +3,8 @@ ghost use Rattle.std.specs.Prelude.{◌≡◌, ◌++◌, IfOk, OnOk};
 ghost use Rattle.std.specs.List.{list_any};
 ghost use Rattle.lspmux_program.specs.Marks.{body_of_text, is_break, is_special, mark_of, marked, text_of_body};
 
-use std::alloc::Global;
-
 use json_text::{Body, Memory};
+use std::alloc::Global;
 
 // What a byte behind a `^` stands for.
 fn mark_of(byte: u8) -> Option<u8>

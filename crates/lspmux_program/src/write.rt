@@ -2,10 +2,9 @@
 ghost use Rattle.std.specs.Prelude.{◌≡◌, ◌++◌, IfOk, OnOk, string_bytes};
 ghost use Rattle.lspmux_program.specs.Outs.{head_of, out_line, out_lines};
 
+use crate::marks::write_body;
 use json_text::Memory;
 use mux_history::{Out, Outs};
-
-use crate::marks::write_body;
 use std::alloc::Global;
 
 // The front of the line, before the body or the line feed.
