@@ -3,14 +3,12 @@
 
 mod streams;
 
+use crate::streams::{Reading, Writing};
+use lspmux_program::{Outside, lspmux};
+use mux_history::DropJournal;
 use std::env;
 use std::io::{self, ErrorKind};
 use std::process::ExitCode;
-
-use lspmux_program::{Outside, lspmux};
-use mux_history::DropJournal;
-
-use crate::streams::{Reading, Writing};
 
 // The words behind the program's name. Words that aren't UTF-8 are none that the program knows, as none at all are.
 fn words(rt: &HostRuntime) -> io::Result<Vec<String>> {

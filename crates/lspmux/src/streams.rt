@@ -1,9 +1,8 @@
 // Sources and sinks over std's readers and writers. They tell no bytes.
 ghost use Rattle.std.specs.Prelude.{◌≡◌, None};
 
-use std::io::{Read, Write};
-
 use outside_io::{ReadFault, Sink, Source, WriteFault};
+use std::io::{Read, Write};
 
 /// A source over a reader.
 #[derive(Drop)]

@@ -1,24 +1,24 @@
 -- The program's answers, from where its run ended.
-use Rattle.std.proofs.Common.{lit<, ◌≡◌, ℕ, zero, suc, ◌+◌, ◌≤◌, ◌<◌, List, [], ◌∷◌, ◌++◌, length, take, refl, ap, sym, subst, ◌∙◌, arith, option_map, IfSome, inl, inr, ◌⊎◌}
+use Rattle.std.proofs.Common.{lit<, ◌≡◌, ℕ, zero, suc, ◌+◌, ◌≤◌, List, [], ◌++◌, length, take, refl, ap, sym, subst, ◌∙◌, arith, option_map, IfSome, inl, inr, ◌⊎◌}
 use Rattle.std.specs.Prelude.{Option, Some, None, Result, Ok, Err}
 use Rattle.std.specs.Io.KnownBytes.{append_known}
 use Rattle.std.proofs.lemmas.List.{append-nil}
 use Rattle.mux_history.specs.declared.entry.Entry.{Entry}
-use Rattle.mux_hub.specs.Hubs.{HubView, HubStands, Tells}
+use Rattle.mux_hub.specs.Hubs.{HubView, Tells}
 use Rattle.mux_model.specs.Legal.{Legal}
 use Rattle.outside_io.specs.Faults.{Rose}
 use Rattle.mux_model.specs.Settings.{Settings}
 use Rattle.lspmux_program.specs.declared.refusal.Refusal.{Refusal}
 use Rattle.lspmux_program.specs.declared.stop.Stop.{Stop}
 use Rattle.lspmux_program.specs.declared.stop.Stop.TheVariants as stop
-use Rattle.lspmux_program.proofs.Driving.{append_both, take_more, front_of_all}
+use Rattle.lspmux_program.proofs.Driving.{append_both, take_more}
 use Rattle.lspmux_program.specs.Lines.{Line, lines_of}
 use Rattle.lspmux_program.specs.Outs.{outs_text}
 use Rattle.session_laws.proofs.Sessions.{sessions_kept}
-use Rattle.lspmux_program.specs.Program.{status_of, fault_line, status_line, refused_line, Ran, Finished, RefusedAt, CutOff, Drove, JournalTells, words_line, IsUnrefused, Undisturbed}
+use Rattle.lspmux_program.specs.Program.{status_of, fault_line, status_line, refused_line, Ran, Drove, JournalTells, words_line, IsUnrefused, Undisturbed}
 use Rattle.lspmux_program.specs.Reports.{Wrote, Reported, said, unsaid}
-use Rattle.lspmux_program.specs.Runs.{built_in, Refused, Outcome, drive_from, drive_of, IsRunOf, WroteFront}
-use Rattle.lspmux_program.specs.Stops.{Gives, StopsAt, Driven}
+use Rattle.lspmux_program.specs.Runs.{built_in, Refused, Outcome, drive_of, WroteFront}
+use Rattle.lspmux_program.specs.Stops.{Gives, Driven}
 
 ran_built_in : {J : Type 0} (told : J → Option (List Entry)) (journal : J) (all : Option (List Line)) (w v : Option (List ℕ)) (hub : HubView J) (result : Result (Unit {0}) Stop)
     → Driven told built_in all w v hub result → hub.settings ≡ built_in → journal ≡ hub.journal → Ran told journal all w v result

@@ -1,6 +1,6 @@
 -- A fault line written, or cut off.
-use Rattle.std.proofs.Common.{◌≡◌, ℕ, ◌≤◌, List, ◌++◌, length, take, ap, sym, ◌∙◌, inl, inr, OnOk, IfErr}
-use Rattle.std.specs.Prelude.{Option, Some, None, Result, Ok, Err}
+use Rattle.std.proofs.Common.{◌≡◌, ℕ, ◌≤◌, List, length, take, inl, inr, OnOk, IfErr}
+use Rattle.std.specs.Prelude.{Option, Result, Ok, Err}
 use Rattle.std.specs.Io.KnownBytes.{append_known}
 use Rattle.outside_io.specs.declared.sink.Cut.{Cut}
 use Rattle.outside_io.specs.Faults.{HasCause, Rose}

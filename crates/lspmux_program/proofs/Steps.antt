@@ -11,7 +11,7 @@ use Rattle.mux_model.specs.Rows.{emits, entry_of}
 use Rattle.mux_model.specs.Settings.{Settings}
 use Rattle.lspmux_program.specs.Outs.{out_lines}
 use Rattle.lspmux_program.specs.Runs.{reading_bytes, after}
-use Rattle.lspmux_program.specs.Steps.{LineTaken, LineLeft, untouched, stepped}
+use Rattle.lspmux_program.specs.Steps.{LineTaken, LineLeft, stepped}
 
 -- what holds in any case holds at an error
 pub on_err : {T E P : Type 0} (r : Result T E) → P → OnErr r P

@@ -1,15 +1,15 @@
 -- A few lines worked out by the checker.
-use Rattle.std.proofs.Common.{◌≡◌, ℕ, List, [], ◌∷◌, ◌++◌, codes, refl}
-use Rattle.std.specs.Prelude.{Option, Some, None}
+use Rattle.std.proofs.Common.{◌≡◌, [], ◌∷◌, ◌++◌, codes, refl}
+use Rattle.std.specs.Prelude.{Some, None}
 use Rattle.std.specs.Fmt.{digits}
-use Rattle.mux_history.specs.declared.cause.Cause.TheVariants.{Joined, FromEditor, EditorGone, Started, StartFailed, FromServer, ServerGone, Drained, Tick}
+use Rattle.mux_history.specs.declared.cause.Cause.TheVariants.{Joined, FromEditor, EditorGone, FromServer, Drained, Tick}
 use Rattle.mux_history.specs.declared.cause.Why.TheVariants.{BadFrame}
-use Rattle.mux_history.specs.declared.out.Out.TheVariants.{ToEditor, ToServer, Spawn, CloseEditor, EndServer}
+use Rattle.mux_history.specs.declared.out.Out.TheVariants.{ToEditor, Spawn}
 use Rattle.lspmux_program.specs.declared.refusal.Refusal.TheVariants.{Form, Absent, Unbuilt}
 use Rattle.lspmux_program.specs.Causes.{cause_of}
-use Rattle.lspmux_program.specs.Lines.{Line, lines_of}
+use Rattle.lspmux_program.specs.Lines.{lines_of}
 use Rattle.lspmux_program.specs.Outs.{out_line}
-use Rattle.lspmux_program.specs.Runs.{built_in, Outcome, drive_of, reading_bytes, after}
+use Rattle.lspmux_program.specs.Runs.{built_in, drive_of, reading_bytes, after}
 
 three_lines : lines_of (codes "ab" ++ 10 ∷ 10 ∷ codes "c") ≡ record { bytes = codes "ab"; upto = 3 } ∷ record { bytes = []; upto = 4 } ∷ record { bytes = codes "c"; upto = 5 } ∷ []
 three_lines = refl

@@ -1,7 +1,6 @@
 -- What a step's fault becomes, and which faults leave all outs written.
 use Rattle.mux_hub.specs.declared.fault.StepFault.{StepFault}
 use Rattle.mux_hub.specs.declared.fault.StepFault.TheVariants as step_fault
-use Rattle.lspmux_program.specs.declared.refusal.Refusal.{Refusal}
 use Rattle.lspmux_program.specs.declared.step.LineFault.{LineFault}
 use Rattle.lspmux_program.specs.declared.step.LineFault.TheVariants as line_fault
 

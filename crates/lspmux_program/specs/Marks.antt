@@ -1,5 +1,5 @@
 -- Bodies in a line: `^` is written `^^`, a line feed `^n`, a carriage return `^r`.
-use Rattle.std.specs.Prelude.{ℕ, Bool, true, false, ◌||◌, List, [], ◌∷◌, ◌++◌, nat_eq, flat_map, option_map, if◌then◌else◌}
+use Rattle.std.specs.Prelude.{ℕ, Bool, true, false, ◌||◌, List, [], ◌∷◌, nat_eq, flat_map, option_map, if◌then◌else◌}
 use Rattle.std.specs.Prelude.{Option, Some, None}
 use Rattle.lspmux_program.specs.Options.{then_option}
 
@@ -17,6 +17,10 @@ mark_of b = if nat_eq b 94 then Some 94 else (if nat_eq b 110 then Some 10 else 
 -- a line feed or a carriage return, which doesn't stand for itself
 abbrev pub is_break : ℕ → Bool
 is_break b = nat_eq b 10 || nat_eq b 13
+
+-- a byte that a text marks
+abbrev pub is_special : ℕ → Bool
+is_special b = nat_eq b 94 || is_break b
 
 -- the body of a text, where the byte before it was a `^` that begins a mark, or wasn't
 abbrev pub body_from : Bool → List ℕ → Option (List ℕ)

@@ -1,12 +1,11 @@
 -- What the program answers and writes.
-use Rattle.std.specs.Prelude.{◌≡◌, ℕ, ◌+◌, ◌≤◌, Bool, List, [], ◌∷◌, ◌++◌, codes, decimal, IfSome, OnOk, IfErr, take, nat_eq, option_map, if◌then◌else◌}
+use Rattle.std.specs.Prelude.{◌≡◌, ℕ, ◌≤◌, List, [], ◌∷◌, ◌++◌, codes, decimal, IfSome, OnOk, IfErr, take, nat_eq, option_map, if◌then◌else◌}
 use Rattle.std.specs.Prelude.{Option, Some, None, Result, ◌⊎◌}
 use Rattle.std.specs.Io.KnownBytes.{append_known}
 use Rattle.mux_history.specs.declared.entry.Entry.{Entry}
 use Rattle.mux_hub.specs.Hubs.{Tells}
 use Rattle.session_laws.specs.Sessions.{KeepsSessions}
 use Rattle.mux_model.specs.Legal.{Legal}
-use Rattle.mux_model.specs.Settings.{Settings}
 use Rattle.outside_io.specs.Faults.{Rose}
 use Rattle.lspmux_program.specs.declared.refusal.Refusal.{Refusal}
 use Rattle.lspmux_program.specs.declared.refusal.Refusal.TheVariants.{Form, Absent, Unbuilt}
@@ -16,7 +15,7 @@ use Rattle.lspmux_program.specs.Lines.{Line, lines_of}
 use Rattle.lspmux_program.specs.Outs.{outs_text}
 use Rattle.lspmux_program.specs.Reports.{Wrote}
 use Rattle.lspmux_program.specs.Stops.{Gives, StopsAt}
-use Rattle.lspmux_program.specs.Runs.{built_in, Refused, Outcome, drive_of, IsRunOf, WroteFront}
+use Rattle.lspmux_program.specs.Runs.{built_in, Refused, drive_of, IsRunOf, WroteFront}
 
 abbrev pub status_of : Stop → ℕ
 status_of (stop.Refused k r) = 1

@@ -1,5 +1,5 @@
 -- What a write that may fail leaves.
-use Rattle.std.specs.Prelude.{◌≡◌, ℕ, List, take, Option, ◌⊎◌}
+use Rattle.std.specs.Prelude.{◌≡◌, ℕ, List, Option, ◌⊎◌}
 use Rattle.std.specs.Io.KnownBytes.{append_known}
 use Rattle.lspmux_program.specs.Runs.{WroteFront}
 

@@ -1,12 +1,11 @@
 -- What one line does to a hub and an output.
 use Rattle.std.specs.Prelude.{◌≡◌, ℕ, List, take}
-use Rattle.std.specs.Prelude.{Option, Result, Ok, Err}
+use Rattle.std.specs.Prelude.{Option, Ok}
 use Rattle.std.specs.Io.KnownBytes.{append_known}
 use Rattle.mux_history.specs.declared.cause.Cause.{Cause}
 use Rattle.mux_history.specs.declared.entry.Entry.{Entry}
 use Rattle.mux_hub.specs.Hubs.{HubView, HubStands}
 use Rattle.mux_model.specs.Rows.{emits}
-use Rattle.mux_model.specs.Settings.{Settings}
 use Rattle.lspmux_program.specs.Outs.{out_lines}
 use Rattle.lspmux_program.specs.Runs.{reading_bytes, after}
 

@@ -1,5 +1,5 @@
 -- Why a run stops, and what it has done by then.
-use Rattle.std.specs.Prelude.{◌≡◌, ℕ, ◌+◌, List, [], length, IfSome, OnOk, IfErr}
+use Rattle.std.specs.Prelude.{◌≡◌, ℕ, List, [], length, IfSome, OnOk, IfErr}
 use Rattle.std.specs.Prelude.{Option, Some, None, Result}
 use Rattle.std.specs.Io.KnownBytes.{append_known}
 use Rattle.mux_history.specs.declared.entry.Entry.{Entry}
@@ -7,7 +7,6 @@ use Rattle.mux_hub.specs.Hubs.{HubView, HubStands}
 use Rattle.mux_model.specs.Settings.{Settings}
 use Rattle.lspmux_program.specs.declared.line.LineStop.{LineStop}
 use Rattle.lspmux_program.specs.declared.line.LineStop.TheVariants as line_stop
-use Rattle.lspmux_program.specs.declared.refusal.Refusal.{Refusal}
 use Rattle.lspmux_program.specs.declared.refusal.Refusal.TheVariants.{Form}
 use Rattle.lspmux_program.specs.declared.step.LineFault.{LineFault}
 use Rattle.lspmux_program.specs.declared.step.LineFault.TheVariants as line_fault
@@ -15,7 +14,7 @@ use Rattle.lspmux_program.specs.declared.stop.Stop.{Stop}
 use Rattle.lspmux_program.specs.declared.stop.Stop.TheVariants as stop
 use Rattle.lspmux_program.specs.Lines.{Line}
 use Rattle.lspmux_program.specs.Outs.{outs_text}
-use Rattle.lspmux_program.specs.Runs.{Refused, Outcome, drive_from, IsRunOf, WroteFront}
+use Rattle.lspmux_program.specs.Runs.{Outcome, drive_from, IsRunOf, WroteFront}
 
 abbrev pub stop_at : ℕ → LineStop → Stop
 stop_at number line_stop.Memory = stop.Memory

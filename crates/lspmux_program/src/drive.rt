@@ -41,7 +41,7 @@ pub fn drive<J: Journal, I: Source, O: Sink>(
             Ok(None) => return Ok(()),
             Err(stop) => return Err(stop_at(taken + 1, stop)),
         };
-        if let Err(fault) = take_line(alloc, &line, hub, output) {
+        if let Err(fault) = take_line(alloc, line, hub, output) {
             return Err(fault_at(taken + 1, fault));
         }
         taken += 1;

@@ -4,6 +4,7 @@
 mod buffer;
 mod drive;
 mod line;
+mod marks;
 mod program;
 mod read;
 mod refusal;

@@ -3,12 +3,13 @@ ghost use Rattle.std.specs.Prelude.{◌≡◌, ℕ, Option, Some, None, IfOk, Ma
 ghost use Rattle.lspmux_program.specs.Causes.{Cut, cut_of, Numbered, numbered, with_number, cause_by, cause_of};
 ghost use Rattle.mux_history.specs.declared.cause.Cause.{Cause};
 ghost use Rattle.mux_history.specs.declared.cause.Cause.TheVariants.{FromEditor, EditorGone, FromServer, Drained};
-ghost use Rattle.lspmux_program.specs.Marks.{body_of_text, is_break, mark_of};
+ghost use Rattle.lspmux_program.specs.Marks.{body_of_text};
 ghost use Rattle.lspmux_program.specs.Numbers.{with_digit, is_padded, number_of};
 ghost use Rattle.lspmux_program.specs.Causes.{why_of};
 
+use crate::marks::body_of_text;
 use crate::word::{Word, why_of, word_of};
-use json_text::{Body, Memory};
+use json_text::Memory;
 use mux_history::Cause;
 use std::alloc::Global;
 
@@ -63,51 +64,6 @@ fn cut_of(text: &[u8]) -> Option<(&[u8], &[u8])>
         Some(space) => Some((&text[..space], &text[space + 1..])),
         None => None,
     }
-}
-
-// What a byte behind a `^` stands for.
-fn mark_of(byte: u8) -> Option<u8>
-    ensures { result ≡ mark_of byte }
-{
-    match byte {
-        b'^' => Some(b'^'),
-        b'n' => Some(b'\n'),
-        b'r' => Some(b'\r'),
-        _ => None,
-    }
-}
-
-// A line feed or a carriage return.
-fn is_break(byte: u8) -> bool
-    ensures { result ≡ is_break byte }
-{
-    byte == b'\n' || byte == b'\r'
-}
-
-fn body_of_text(alloc: Global, text: &[u8]) -> Result<Option<Body>, Memory>
-    ensures { IfOk result (λ body. body ≡ body_of_text text.now) }
-{
-    let mut bytes = Vec::with_capacity(alloc, text.len())?;
-    let mut in_mark = false;
-    for byte in text {
-        if in_mark {
-            let Some(meant) = mark_of(*byte) else {
-                return Ok(None);
-            };
-            bytes.push(meant)?;
-            in_mark = false;
-        } else if *byte == b'^' {
-            in_mark = true;
-        } else if is_break(*byte) {
-            return Ok(None);
-        } else {
-            bytes.push(*byte)?;
-        }
-    }
-    if in_mark {
-        return Ok(None);
-    }
-    Ok(Some(Body::new(bytes)))
 }
 
 // A number, and what stands behind it and a space.

@@ -69,19 +69,21 @@ impl From<Cut> for LineFault {
 }
 
 #[tactic(auto, unfolding(crate::specs::Runs::reading_bytes))]
-// The cause that a line writes, or why the line is refused.
+// The cause that a line writes, or why the line is refused. The line isn't kept beside its body.
 fn read_line<J: Journal>(
     alloc: Global,
-    line: &[u8],
+    line: Vec<u8>,
     hub: &Hub<J>,
 ) -> Result<Result<Cause, Refusal>, Memory>
     requires ready { hub.now.spent ≡ false }
-    ensures reads { (history : List Entry) → HubStands J.told hub.now history → IfOk result (λ read. read ≡ reading_bytes history line.now) }
+    ensures reads { (history : List Entry) → HubStands J.told hub.now history → IfOk result (λ read. read ≡ reading_bytes history line.items) }
     ensures fits { (history : List Entry) → HubStands J.told hub.now history → IfOk result (λ read. IfOk read (λ cause. IsTrue (fits history cause))) }
     ensures is_built { (history : List Entry) → HubStands J.told hub.now history → IfOk result (λ read. IfOk read (λ cause. IsTrue (built history cause))) }
     ensures small { IfOk result (λ read. IfOk read (λ cause. body_length cause ≤ 67108864)) }
 {
-    let Some(cause) = cause_of(alloc, line)? else {
+    let read = cause_of(alloc, &line)?;
+    drop(line);
+    let Some(cause) = read else {
         return Ok(Err(Refusal::Form));
     };
     match refusal_of(&cause, hub)? {
@@ -93,14 +95,14 @@ fn read_line<J: Journal>(
 /// Reads a line, steps the hub and writes the outs.
 pub fn take_line<J: Journal, O: Sink>(
     alloc: Global,
-    line: &[u8],
+    line: Vec<u8>,
     hub: &mut Hub<J>,
     output: &mut O,
 ) -> Result<(), LineFault>
     requires ready { hub.old.spent ≡ false }
-    ensures taken { (history : List Entry) → HubStands J.told hub.old history → OnOk result (LineTaken J.told history line.now hub.old hub.new (O.written output.old) (O.written output.new)) }
-    ensures refused { (history : List Entry) (r : Refusal) → HubStands J.told hub.old history → IsErrOf result (LineFault.Refused r) → reading_bytes history line.now ≡ Err r }
-    ensures left { (history : List Entry) → HubStands J.told hub.old history → OnErr result (LineLeft J.told history line.now hub.old hub.new (O.written output.old) (O.written output.new)) }
+    ensures taken { (history : List Entry) → HubStands J.told hub.old history → OnOk result (LineTaken J.told history line.items hub.old hub.new (O.written output.old) (O.written output.new)) }
+    ensures refused { (history : List Entry) (r : Refusal) → HubStands J.told hub.old history → IsErrOf result (LineFault.Refused r) → reading_bytes history line.items ≡ Err r }
+    ensures left { (history : List Entry) → HubStands J.told hub.old history → OnErr result (LineLeft J.told history line.items hub.old hub.new (O.written output.old) (O.written output.new)) }
     ensures kept { (history : List Entry) → HubStands J.told hub.old history → IfErr result (λ fault. LeavesWritten fault → HubStands J.told hub.new history × (O.written output.new ≡ O.written output.old)) }
     ensures settings { hub.new.settings ≡ hub.old.settings }
     ensures ready { OnOk result (hub.new.spent ≡ false) }

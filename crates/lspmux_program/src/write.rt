@@ -1,33 +1,11 @@
 // Out lines.
 ghost use Rattle.std.specs.Prelude.{◌≡◌, ◌++◌, IfOk, OnOk, string_bytes};
-ghost use Rattle.lspmux_program.specs.Marks.{marked, text_of_body};
 ghost use Rattle.lspmux_program.specs.Outs.{head_of, out_line, out_lines};
 
+use crate::marks::write_body;
 use json_text::Memory;
 use mux_history::{Out, Outs};
 use std::alloc::Global;
-
-// Writes one byte of a body.
-fn write_marked(text: &mut Vec<u8>, byte: u8) -> Result<(), Memory>
-    ensures { OnOk result (text.new.items ≡ text.old.items ++ marked byte) }
-{
-    match byte {
-        b'^' => text.extend_from_slice(b"^^")?,
-        b'\n' => text.extend_from_slice(b"^n")?,
-        b'\r' => text.extend_from_slice(b"^r")?,
-        _ => text.push(byte)?,
-    }
-    Ok(())
-}
-
-fn write_body(text: &mut Vec<u8>, body: &[u8]) -> Result<(), Memory>
-    ensures { OnOk result (text.new.items ≡ text.old.items ++ text_of_body body.now) }
-{
-    for byte in body {
-        write_marked(text, *byte)?;
-    }
-    Ok(())
-}
 
 // The front of the line, before the body or the line feed.
 fn head_of(alloc: Global, out: &Out) -> Result<String, Memory>

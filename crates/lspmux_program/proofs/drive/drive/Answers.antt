@@ -1,10 +1,8 @@
-use Rattle.std.proofs.Common.{rules, arith, refl, sym, subst, ap, ◌∙◌, option_map, ℕ, ◌+◌, List}
+use Rattle.std.proofs.Common.{arith, refl, ap, ◌∙◌, option_map, ◌+◌}
 use Rattle.std.proofs.lemmas.Result.{err_from_is_err_and}
-use Rattle.std.specs.Prelude.{Ok, Err}
-use Rattle.lspmux_program.specs.Buffers.{known_lines, onto_known}
+use Rattle.std.specs.Prelude.{Err}
+use Rattle.lspmux_program.specs.Buffers.{known_lines}
 use Rattle.lspmux_program.specs.Lines.{lines_of}
-use Rattle.lspmux_program.specs.Stops.{Driven, Driving}
-use Rattle.lspmux_program.specs.declared.stop.Stop.{Stop}
 use Rattle.lspmux_program.specs.declared.line.LineStop.{LineStop}
 use Rattle.lspmux_program.specs.declared.step.LineFault.{LineFault}
 use Rattle.lspmux_program.proofs.Driving.{begins, goes_on, ends, stops, faults, never_begins}
@@ -46,9 +44,9 @@ returns-in-Err-take_line-clause-driven g c =
     rw c.fault_at.ensures
     (faults g.J.Journal.told c.args.hub.now.settings (option_map lines_of (g.I.Source.left c.args.input.now)) (known_lines c.lines.buffer (g.I.Source.left c.lines.input))
     (known_lines c.next_line.new.buffer (g.I.Source.left c.next_line.new.input)) c.lines.taken (c.lines.taken + 1)
-    (g.O.Sink.written c.args.output.now) (g.O.Sink.written c.lines.output) (g.O.Sink.written c.take_line.new.output) c.lines.hub c.take_line.new.hub c.deref.result.now c.next_line.new.buffer.used c.in-Err-take_line.fault
+    (g.O.Sink.written c.args.output.now) (g.O.Sink.written c.lines.output) (g.O.Sink.written c.take_line.new.output) c.lines.hub c.take_line.new.hub c.in-Ok-Some.line.items c.next_line.new.buffer.used c.in-Err-take_line.fault
     c.lines.invariant.driving c.lines.invariant.settings
-    (first ∙ ap (λ (b : List ℕ). onto_known (record { bytes = b; upto = c.next_line.new.buffer.used }) (known_lines c.next_line.new.buffer (g.I.Source.left c.next_line.new.input))) (sym c.deref.ensures.value))
+    first
     small refl (c.in-Err-take_line.ensures.left c.lines.invariant.driving.history c.lines.invariant.driving.stands)
     (c.in-Err-take_line.ensures.kept c.lines.invariant.driving.history c.lines.invariant.driving.stands)
     (λ r e. c.in-Err-take_line.ensures.refused c.lines.invariant.driving.history r c.lines.invariant.driving.stands (ap (λ (s : LineFault). Err s) e)))
@@ -61,9 +59,9 @@ lines-preserved g c =
     record {
       driving = goes_on g.J.Journal.told c.args.hub.now.settings (option_map lines_of (g.I.Source.left c.args.input.now)) (known_lines c.lines.buffer (g.I.Source.left c.lines.input))
           (known_lines c.next_line.new.buffer (g.I.Source.left c.next_line.new.input)) c.lines.taken
-          (g.O.Sink.written c.args.output.now) (g.O.Sink.written c.lines.output) (g.O.Sink.written c.take_line.new.output) c.lines.hub c.take_line.new.hub c.deref.result.now c.next_line.new.buffer.used
+          (g.O.Sink.written c.args.output.now) (g.O.Sink.written c.lines.output) (g.O.Sink.written c.take_line.new.output) c.lines.hub c.take_line.new.hub c.in-Ok-Some.line.items c.next_line.new.buffer.used
           c.lines.invariant.driving c.lines.invariant.settings
-          (first ∙ ap (λ (b : List ℕ). onto_known (record { bytes = b; upto = c.next_line.new.buffer.used }) (known_lines c.next_line.new.buffer (g.I.Source.left c.next_line.new.input))) (sym c.deref.ensures.value))
+          first
           small (λ history stood. c.in_default.ensures.taken history stood);
       settings = c.take_line.ensures.settings ∙ c.lines.invariant.settings;
       ready = c.in_default.ensures.ready;
