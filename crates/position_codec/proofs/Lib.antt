@@ -1,1 +1,4 @@
+mod Places
+mod Sorts
+mod Starts
 mod Worked

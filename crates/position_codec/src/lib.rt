@@ -1,9 +1,13 @@
 //! Places in a text: from the line and character of LSP 3.17 to the offset in bytes, and the offsets at which lines start.
 #![tactic(auto)]
 
-ghost use Rattle.std.specs.Prelude.{◌≡◌};
-ghost use Rattle.position_codec.specs.Position.{units};
+ghost use Rattle.std.specs.Prelude.{◌≡◌, IfOk};
+ghost use Rattle.std.specs.Str.{chars};
+ghost use Rattle.position_codec.specs.Position.{units, lines, offset_at, starts};
 ghost use Rattle.position_codec.specs.Walk.{past, ends_line, starts_between};
+
+use json_text::Memory;
+use std::alloc::Global;
 
 /// How the characters of a line are counted: LSP 3.17, `PositionEncodingKind`.
 #[derive(Clone, Copy, Debug, PartialEq, Eq)]
@@ -14,6 +18,51 @@ pub enum Encoding {
     Utf16,
     /// By characters.
     Utf32,
+}
+
+/// The offset, in bytes, of the place at this line and character (LSP 3.17, `Position`), both counted from 0.
+///
+/// A character past the end of its line stands for that end, one inside a character for the beginning of that character, and a line past the last for the end of the text.
+pub fn offset_of(text: &str, encoding: Encoding, line: u32, character: u32) -> usize
+    ensures { result ≡ offset_at encoding line character (lines (chars text.now)) }
+{
+    let _size = text.len();
+    let mut place = Place {
+        line,
+        left: character,
+        returned: false,
+    };
+    let mut offset = 0;
+    for c in text.chars() {
+        match place.past(encoding, c) {
+            Some(next) => place = next,
+            None => return offset,
+        }
+        offset += c.len_utf8();
+    }
+    offset
+}
+
+/// The offsets, in bytes, at which the lines of the text start: one more than there are ends of lines.
+pub fn line_starts(alloc: Global, text: &str) -> Result<Vec<usize>, Memory>
+    ensures { IfOk result (λ found. found.items ≡ starts 0 (lines (chars text.now))) }
+{
+    let _size = text.len();
+    let mut starts = Vec::new(alloc);
+    let mut offset = 0;
+    // The first line starts as one does behind the end of another.
+    let mut previous = '\n';
+    for c in text.chars() {
+        if starts_between(previous, c) {
+            starts.push(offset)?;
+        }
+        offset += c.len_utf8();
+        previous = c;
+    }
+    if ends_line(previous) {
+        starts.push(offset)?;
+    }
+    Ok(starts)
 }
 
 /// A place that is sought, as it is seen from a place before it in the text.
