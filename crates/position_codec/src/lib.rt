@@ -134,3 +134,6 @@ fn starts_between(previous: char, c: char) -> bool
 {
     previous == '\n' || (previous == '\r' && c != '\n')
 }
+
+#[cfg(test)]
+mod tests;
