@@ -1,11 +1,10 @@
 -- The walk to a place passes as many bytes as the place's offset says.
-use Rattle.std.proofs.Common.{◌≡◌, ℕ, suc, zero, ◌+◌, ◌-◌, ◌<◌, Bool, true, false, cond, eqb, List, [], ◌∷◌, refl, sym, ap, ◌∙◌, arith, rules, add_assoc, zero-add}
-use Rattle.std.specs.Prelude.{None, Some, nat_lt, ◌||◌, if◌then◌else◌, ◌==◌}
+use Rattle.std.proofs.Common.{◌≡◌, ℕ, suc, zero, ◌+◌, ◌-◌, Bool, true, false, cond, eqb, List, [], ◌∷◌, refl, sym, ap, ◌∙◌, arith, add_assoc, zero-add}
+use Rattle.std.specs.Prelude.{None, Some, nat_lt}
 use Rattle.std.specs.Char.{len_utf8}
-use Rattle.std.proofs.lemmas.Bool.Decides.{nat_tests}
 use Rattle.position_codec.specs.declared.Encoding.{Encoding}
-use Rattle.position_codec.specs.Position.{Lines, last, line, Ending, feed, return, return_feed, lines, with_first, with_return, with_character, offset_at, offset_in, units, bytes, ending_bytes}
-use Rattle.position_codec.specs.Walk.{at, walk, past, past_within, going_on, ends_line}
+use Rattle.position_codec.specs.Position.{Lines, last, line, feed, return, return_feed, lines, with_return, with_character, offset_at, units, bytes, ending_bytes}
+use Rattle.position_codec.specs.Walk.{at, walk, going_on}
 use Rattle.position_codec.proofs.Sorts.{Sort, is_feed, is_return, is_other, sort, with_first-other, returned_alone}
 
 -- in front of other lines, a character counts in the first

@@ -1,7 +1,7 @@
 -- The sorts of characters by what they do to lines.
-use Rattle.std.proofs.Common.{◌≡◌, ℕ, Bool, true, false, cond, eqb, nat_eq, List, [], ◌∷◌, refl, sym, ap, ◌∙◌, arith}
+use Rattle.std.proofs.Common.{◌≡◌, ℕ, Bool, true, false, cond, nat_eq, [], ◌∷◌, refl, arith}
 use Rattle.std.proofs.lemmas.Bool.Decides.{nat_tests}
-use Rattle.position_codec.specs.Position.{Lines, last, line, feed, return, return_feed, lines, with_first, with_return, with_character}
+use Rattle.position_codec.specs.Position.{Lines, last, line, feed, return, return_feed, with_first, with_return, with_character}
 
 pub data Sort (c : ℕ) : Type 0 where
   is_feed : c ≡ 10 → Sort c

@@ -1,8 +1,8 @@
 -- The walk finds the starts of the lines.
-use Rattle.std.proofs.Common.{◌≡◌, ℕ, ◌+◌, Bool, true, false, cond, nat_eq, List, [], ◌∷◌, refl, sym, ap, ◌∙◌, arith, subst}
+use Rattle.std.proofs.Common.{◌≡◌, ℕ, ◌+◌, false, nat_eq, List, [], ◌∷◌, refl, sym, ap, ◌∙◌, arith, subst}
 use Rattle.std.specs.Char.{len_utf8}
-use Rattle.position_codec.specs.Position.{Lines, last, line, Ending, feed, return, return_feed, lines, with_first, with_return, with_character, starts, bytes, ending_bytes}
-use Rattle.position_codec.specs.Walk.{found, starts_between}
+use Rattle.position_codec.specs.Position.{Lines, last, line, return, lines, with_character, starts, bytes, ending_bytes}
+use Rattle.position_codec.specs.Walk.{found}
 use Rattle.position_codec.proofs.Sorts.{Sort, is_feed, is_return, is_other, sort, with_first-other, returned_alone}
 
 -- the starts of all lines but the first

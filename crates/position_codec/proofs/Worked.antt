@@ -2,7 +2,7 @@
 use Rattle.std.proofs.Common.{◌≡◌, ℕ, List, [], ◌∷◌, refl}
 use Rattle.std.specs.Str.{chars}
 use Rattle.position_codec.specs.declared.Encoding.TheVariants.{Utf8, Utf16, Utf32}
-use Rattle.position_codec.specs.Position.{lines, offset_at, starts, Lines}
+use Rattle.position_codec.specs.Position.{lines, offset_at, starts}
 
 -- `a😀b\r\nc\rd`
 abbrev text : List ℕ

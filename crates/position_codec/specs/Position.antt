@@ -1,5 +1,5 @@
 -- Places in a text, after the Language Server Protocol 3.17, "Text Documents" and "Position".
-use Rattle.std.specs.Prelude.{ℕ, suc, zero, ◌+◌, ◌-◌, ◌≤◌, List, [], ◌∷◌, length, if◌then◌else◌, ◌==◌, nat_lt}
+use Rattle.std.specs.Prelude.{ℕ, suc, zero, ◌+◌, ◌-◌, List, [], ◌∷◌, length, if◌then◌else◌, ◌==◌, nat_lt}
 use Rattle.std.specs.Char.{len_utf8}
 use Rattle.std.specs.Char.Escape.{encode_utf16}
 use Rattle.position_codec.specs.declared.Encoding.{Encoding}

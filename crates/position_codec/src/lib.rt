@@ -26,7 +26,7 @@ pub enum Encoding {
 pub fn offset_of(text: &str, encoding: Encoding, line: u32, character: u32) -> usize
     ensures { result ≡ offset_at encoding line character (lines (chars text.now)) }
 {
-    let _size = text.len();
+    let whole = text.len();
     let mut place = Place {
         line,
         left: character,
@@ -40,13 +40,14 @@ pub fn offset_of(text: &str, encoding: Encoding, line: u32, character: u32) -> u
         }
         offset += c.len_utf8();
     }
-    offset
+    whole
 }
 
 /// The offsets, in bytes, at which the lines of the text start: one more than there are ends of lines.
 pub fn line_starts(alloc: Global, text: &str) -> Result<Vec<usize>, Memory>
     ensures { IfOk result (λ found. found.items ≡ starts 0 (lines (chars text.now))) }
 {
+    // The length of the text bounds the offsets.
     let _size = text.len();
     let mut starts = Vec::new(alloc);
     let mut offset = 0;

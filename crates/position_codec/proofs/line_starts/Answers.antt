@@ -1,9 +1,8 @@
-use Rattle.std.proofs.Common.{◌≡◌, ℕ, ◌+◌, ◌<◌, ◌^◌, ◌++◌, length, drop, arith, rules, sym, ap, ◌∙◌}
+use Rattle.std.proofs.Common.{◌<◌, ◌^◌, length, arith, rules, sym}
 use Rattle.std.specs.Str.{chars}
 use Rattle.std.proofs.lemmas.Iterator.{YieldsList-from_chars}
 use Rattle.std.proofs.lemmas.Iterator.Consumers.{YieldsList-turn, YieldsList-end}
-use Rattle.std.proofs.lemmas.List.{at_drop_all, length_push}
-use Rattle.position_codec.specs.Walk.{found}
+use Rattle.std.proofs.lemmas.List.{length_push}
 use Rattle.position_codec.proofs.Starts.{found_is}
 use Rattle.position_codec.proofs.Turns.{bytes_chars, bytes_turn, found_starts, found_passes, found_ends, found_none}
 use Rattle.position_codec.proofs.line_starts.Goals as goal
