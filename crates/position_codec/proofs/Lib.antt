@@ -1,0 +1,5 @@
+mod Places
+mod Sorts
+mod Starts
+mod Turns
+mod Worked
