@@ -1,0 +1,11 @@
+//! The framing of messages (LSP 3.17, Base Protocol).
+#![tactic(auto)]
+
+mod block;
+mod front;
+mod reader;
+mod written;
+
+pub use block::BadWhy;
+pub use reader::{FrameReader, Next};
+pub use written::frame;
