@@ -99,3 +99,8 @@ splits_then limit stream (c ∷ cs) rest ds more h k = (h.0, h.1, splits_then li
 
 pub splits_one : (limit : ℕ) (stream : List ℕ) (cs : List (List ℕ)) (rest c more : List ℕ) → Splits limit stream cs rest → front_of limit rest ≡ whole c more → Splits limit stream (cs ++ c ∷ []) more
 splits_one limit stream cs rest c more h k = splits_then limit stream cs rest (c ∷ []) more h (more, k, refl)
+
+pub splits_pushed : (limit : ℕ) (stream : List ℕ) (cs new : List (List ℕ)) (rest c more value : List ℕ) → Splits limit stream cs rest → whole c more ≡ front_of limit rest
+    → new ≡ cs ++ value ∷ [] → value ≡ c → Splits limit stream new more
+splits_pushed limit stream cs new rest c more value h k p q =
+    subst (λ xs. Splits limit stream xs more) (sym (p ∙ ap (λ b. cs ++ b ∷ []) q)) (splits_one limit stream cs rest c more h (sym k))

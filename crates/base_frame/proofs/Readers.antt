@@ -78,3 +78,16 @@ not_whole short h = tt
 
 pub added_none : (limit : ℕ) (ready : List (List ℕ)) (rest : List ℕ) → is_whole (front_of limit rest) ≡ false → Added (held limit ready rest) (held limit ready rest)
 added_none limit ready rest h = ([], sym (append-nil ready), refl, not_whole (front_of limit rest) h)
+
+pub stands_fed : (r s : Held) (fed : List ℕ) (given : List (List ℕ)) (piece : List ℕ) → s.limit ≡ r.limit → is_fault (front_of r.limit r.rest) ≡ false
+    → Added (held r.limit r.ready (r.rest ++ piece)) s → Stands r fed given → Stands s (fed ++ piece) given
+stands_fed r s fed given piece e b k h =
+    subst (λ l. Stands (held l s.ready s.rest) (fed ++ piece) given) (sym e) (stands_added r.limit r.ready s.ready r.rest s.rest fed given piece b k h)
+
+pub stands_grown : (limit : ℕ) (ready : List (List ℕ)) (rest longer : List ℕ) (r s : Held) (fed : List ℕ) (given : List (List ℕ)) (piece : List ℕ) → held limit ready rest ≡ r → longer ≡ rest ++ piece
+    → s.limit ≡ limit → is_fault (front_of r.limit r.rest) ≡ false → Added (held limit ready longer) s → Stands r fed given → Stands s (fed ++ piece) given
+stands_grown limit ready rest longer r s fed given piece v e l b k h =
+    let fine : is_fault (front_of limit rest) ≡ false = subst (λ (q : Held). is_fault (front_of q.limit q.rest) ≡ false) (sym v) b in
+    let before : Stands (held limit ready rest) fed given = subst (λ (q : Held). Stands q fed given) (sym v) h in
+    let more : Added (held limit ready (rest ++ piece)) s = subst (λ y. Added (held limit ready y) s) e k in
+    stands_fed (held limit ready rest) s fed given piece l fine more before

@@ -16,3 +16,8 @@ abbrev pub NotFrame : Next → Type 0
 NotFrame (Frame body) = ⊥
 NotFrame NotYet = Unit {0}
 NotFrame (BadFrame at why) = Unit {0}
+
+abbrev pub IsBadFrame : Next → Type 0
+IsBadFrame (Frame body) = ⊥
+IsBadFrame NotYet = ⊥
+IsBadFrame (BadFrame at why) = Unit {0}

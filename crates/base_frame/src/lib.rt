@@ -4,6 +4,8 @@
 mod block;
 mod front;
 mod reader;
+#[cfg(test)]
+mod tests;
 mod written;
 
 pub use block::BadWhy;

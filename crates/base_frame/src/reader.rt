@@ -2,7 +2,7 @@
 ghost use Rattle.std.specs.Prelude.{◌≡◌, ℕ, List, [], ◌++◌, OnOk, OnErr, IfOk, IsOk};
 ghost use Rattle.base_frame.specs.Frames.{front_of, NotWhole, Splits};
 ghost use Rattle.base_frame.specs.Reader.{IsBad, Stands, Added, is_fault, is_whole};
-ghost use Rattle.base_frame.specs.Answer.{Gives, NotFrame};
+ghost use Rattle.base_frame.specs.Answer.{Gives, NotFrame, IsBadFrame};
 
 use crate::block::BadWhy;
 use crate::front::{Found, front_of};
@@ -83,6 +83,7 @@ impl FrameReader {
         ensures limit { self.new.limit ≡ self.old.limit }
         ensures gives { (fed : List ℕ) (given : List (List ℕ)) → Stands self.old fed given → Gives self.new fed given result }
         ensures kept { NotFrame result → self.new ≡ self.old }
+        ensures bad { IsBadFrame result → IsBad self.new }
     {
         if let Some(body) = self.ready.pop_front() {
             return Next::Frame(body);
