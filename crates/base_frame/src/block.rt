@@ -119,7 +119,10 @@ fn lettered(letters: usize, byte: u8, length: Option<u32>) -> Move
     ensures { result ≡ lettered letters byte length }
 {
     match letter(letters) {
-        Some(wanted) if wanted == small(byte) && letters < 14 => goes(Part::LengthName(letters + 1), length),
+        Some(wanted) if wanted == small(byte) && letters < 14 => goes(
+            Part::LengthName(letters + 1),
+            length,
+        ),
         _ => goes(Part::OtherName, length),
     }
 }
@@ -275,5 +278,9 @@ fn is_digit(byte: u8) -> bool
 fn small(byte: u8) -> u8
     ensures { result ≡ small byte }
 {
-    if (b'A'..=b'Z').contains(&byte) { byte + 32 } else { byte }
+    if (b'A'..=b'Z').contains(&byte) {
+        byte + 32
+    } else {
+        byte
+    }
 }

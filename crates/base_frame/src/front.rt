@@ -3,7 +3,7 @@ ghost use Rattle.std.specs.Prelude.{◌≡◌};
 ghost use Rattle.base_frame.specs.Frames.{content, front_of};
 ghost use Rattle.base_frame.specs.Views.{found_view};
 
-use crate::block::{BadWhy, Part, State, Move, step};
+use crate::block::{BadWhy, Move, Part, State, step};
 
 /// A frame's content and the bytes behind the frame, a fault and its place, or neither as yet.
 #[derive(Clone, Copy)]

@@ -73,7 +73,11 @@ fn reads_byte_by_byte(rt: HostRuntime) -> Result<(), Memory> {
 #[test]
 fn finds_faults(rt: HostRuntime) -> Result<(), Memory> {
     let faults: [(&[u8], u64, BadWhy); 10] = [
-        (b"Content-Length: 1\r\nContent-Length: 1\r\n\r\nx", 33, BadWhy::TwoLengths),
+        (
+            b"Content-Length: 1\r\nContent-Length: 1\r\n\r\nx",
+            33,
+            BadWhy::TwoLengths,
+        ),
         (b"\r\n", 0, BadWhy::NoLength),
         (b"X: y\r\n\r\n", 6, BadWhy::NoLength),
         (b"Content-Length: 99999999999", 23, BadWhy::TooLong),
