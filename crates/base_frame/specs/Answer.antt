@@ -1,0 +1,23 @@
+-- What a reader's answers say.
+use Rattle.std.specs.Prelude.{◌≡◌, ℕ, List, [], ◌∷◌, ◌++◌}
+use Rattle.base_frame.specs.declared.reader.Next.{Next}
+use Rattle.base_frame.specs.declared.reader.Next.TheVariants.{Frame, NotYet, BadFrame}
+use Rattle.base_frame.specs.Frames.{fault, short, front_of, Splits}
+use Rattle.base_frame.specs.Reader.{Held, Stands}
+
+-- A content is given. Or all whole frames of the bytes fed were given, and the bytes behind them are neither a frame nor
+-- faulty as yet, or that fault stands there.
+abbrev pub Gives : Held → List ℕ → List (List ℕ) → Next → Type 0
+Gives r fed given (Frame body) = Stands r fed (given ++ body ∷ [])
+Gives r fed given NotYet = Stands r fed given × ((rest : List ℕ) × Splits r.limit fed given rest × (front_of r.limit rest ≡ short))
+Gives r fed given (BadFrame at why) = Stands r fed given × ((rest : List ℕ) × Splits r.limit fed given rest × (front_of r.limit rest ≡ fault at why))
+
+abbrev pub NotFrame : Next → Type 0
+NotFrame (Frame body) = ⊥
+NotFrame NotYet = Unit {0}
+NotFrame (BadFrame at why) = Unit {0}
+
+abbrev pub IsBadFrame : Next → Type 0
+IsBadFrame (Frame body) = ⊥
+IsBadFrame NotYet = ⊥
+IsBadFrame (BadFrame at why) = Unit {0}

@@ -1,0 +1,13 @@
+//! The framing of messages (LSP 3.17, Base Protocol).
+#![tactic(auto)]
+
+mod block;
+mod front;
+mod reader;
+#[cfg(test)]
+mod tests;
+mod written;
+
+pub use block::BadWhy;
+pub use reader::{FrameReader, Next};
+pub use written::frame;

@@ -1,0 +1,18 @@
+//! A frame as it is written.
+ghost use Rattle.std.specs.Prelude.{◌≡◌, ◌++◌, length, codes, decimal, IfOk};
+
+use itoa::Buffer;
+use json_text::{Body, Memory};
+use std::alloc::Global;
+
+/// The frame with this content: `Content-Length`, the empty line and the content (LSP 3.17, Base Protocol).
+pub fn frame(alloc: Global, body: &[u8]) -> Result<Body, Memory>
+    ensures { IfOk result (λ framed. framed ≡ codes "Content-Length: " ++ decimal (length body.now) ++ codes "\r\n\r\n" ++ body.now) }
+{
+    let mut buffer = Buffer::new();
+    let mut bytes = Vec::from_slice(alloc, b"Content-Length: ")?;
+    bytes.extend_from_slice(buffer.format(body.len()).as_bytes())?;
+    bytes.extend_from_slice(b"\r\n\r\n")?;
+    bytes.extend_from_slice(body)?;
+    Ok(Body::new(bytes))
+}
