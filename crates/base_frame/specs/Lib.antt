@@ -1,5 +1,6 @@
 pub mod Answer
 pub mod Block
 pub mod Frames
+pub mod Laws
 pub mod Reader
 pub mod Views

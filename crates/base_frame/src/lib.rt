@@ -3,11 +3,13 @@
 
 mod block;
 mod front;
+mod law;
 mod reader;
 #[cfg(test)]
 mod tests;
 mod written;
 
 pub use block::BadWhy;
+pub use law::frames_law;
 pub use reader::{FrameReader, Next};
 pub use written::frame;
