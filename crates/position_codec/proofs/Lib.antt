@@ -1,3 +1,5 @@
+pub mod Boundaries
+pub mod Cut
 mod Places
 mod Sorts
 mod Starts

@@ -11,7 +11,7 @@ use Rattle.position_codec.specs.declared.Place.{Place}
 use Rattle.position_codec.specs.Position.{bytes}
 use Rattle.position_codec.specs.Walk.{walk, past, going_on, found, starts_between, ends_line}
 
-bytes_encodes : (cs : List ℕ) → length (encodes cs) ≡ bytes cs
+pub bytes_encodes : (cs : List ℕ) → length (encodes cs) ≡ bytes cs
 bytes_encodes [] = refl
 bytes_encodes (c ∷ cs) = omega (arith, length-append (encode c) (encodes cs), length-encode c, bytes_encodes cs)
 

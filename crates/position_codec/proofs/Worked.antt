@@ -1,4 +1,4 @@
--- Places in a text of three lines' ends, worked out by the checker.
+-- Places in a text of three lines, worked out by the checker.
 use Rattle.std.proofs.Common.{◌≡◌, ℕ, List, [], ◌∷◌, refl}
 use Rattle.std.specs.Str.{chars}
 use Rattle.position_codec.specs.declared.Encoding.TheVariants.{Utf8, Utf16, Utf32}
