@@ -126,3 +126,68 @@ fn bounds_a_block(rt: HostRuntime) -> Result<(), Memory> {
     assert_eq!(rt; bad(&mut reader), Some((4096, BadWhy::LongHeader)));
     Ok(())
 }
+
+// Two frames and the front of a third, cut into two pieces after each byte.
+#[test]
+fn reads_frames_cut_anywhere(rt: HostRuntime) -> Result<(), Memory> {
+    let stream = b"content-length:2\r\nX-Y: z\r\n\r\n{}Content-Length: 0\r\n\r\nCon";
+    for cut in 0..stream.len() + 1 {
+        let mut reader = fed(rt.alloc(), &stream[..cut])?;
+        reader.feed(&stream[cut..])?;
+        assert!(rt; gives(&mut reader, b"{}"));
+        assert!(rt; gives(&mut reader, b""));
+        assert!(rt; waits(&mut reader));
+    }
+    Ok(())
+}
+
+// The fault of a stream under this limit, if it begins with one.
+fn limited(alloc: Global, limit: u32, stream: &[u8]) -> Result<Option<(u64, BadWhy)>, Memory> {
+    let mut reader = FrameReader::new(alloc, limit);
+    reader.feed(stream)?;
+    Ok(bad(&mut reader))
+}
+
+#[test]
+fn bounds_a_content(rt: HostRuntime) -> Result<(), Memory> {
+    let alloc = rt.alloc();
+    assert_eq!(rt;
+        limited(
+            alloc,
+            1,
+            b"Content-Length: 0000000000000000000000001\r\n\r\n7"
+        )?,
+        None
+    );
+    assert_eq!(rt;
+        limited(alloc, 1, b"Content-Length: 2\r\n\r\n77")?,
+        Some((16, BadWhy::TooLong))
+    );
+    assert_eq!(rt; limited(alloc, 0, b"Content-Length: 0\r\n\r\n")?, None);
+    assert_eq!(rt;
+        limited(alloc, 0, b"Content-Length: 1")?,
+        Some((16, BadWhy::TooLong))
+    );
+    assert_eq!(rt;
+        limited(alloc, 4_294_967_295, b"Content-Length: 4294967295\r\n")?,
+        None
+    );
+    assert_eq!(rt;
+        limited(alloc, 4_294_967_295, b"Content-Length: 4294967296\r\n")?,
+        Some((25, BadWhy::TooLong))
+    );
+    Ok(())
+}
+
+// A value may have bytes from 128 on, a name may not.
+#[test]
+fn takes_bytes_beyond_ascii_in_values(rt: HostRuntime) -> Result<(), Memory> {
+    let alloc = rt.alloc();
+    let mut reader = fed(alloc, b"X: \xC3\xA9\xFF\r\ncOnTeNt-LeNgTh:1\r\n\r\n7")?;
+    assert!(rt; gives(&mut reader, b"7"));
+    assert_eq!(rt;
+        limited(alloc, 1, b"X\xC3: y\r\n")?,
+        Some((1, BadWhy::Byte))
+    );
+    Ok(())
+}
