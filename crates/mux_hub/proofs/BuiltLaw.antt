@@ -12,7 +12,7 @@ use Rattle.mux_hub.specs.Turns.{place_of}
 use Rattle.rpc_message.specs.Message.{Message, request, notification, result, error, not_json, not_message, Id, message_of}
 use Rattle.mux_model.specs.declared.phase.Phase.TheVariants.{Absent}
 use Rattle.mux_model.specs.declared.stage.Stage.TheVariants.{Unspawned}
-use Rattle.mux_model.specs.Built.{is_passed_plainly, built_behind, built_from_editor, built_from_server, is_plain_body}
+use Rattle.mux_model.specs.Built.{is_passed_plainly, built_behind, built_from_editor, built_from_server}
 use Rattle.mux_model.specs.Event.{Event, same_id}
 use Rattle.mux_model.specs.Phases.{desk_of}
 use Rattle.mux_model.specs.Requests.{open_of, is_open, asking_of, asked_by, Asked}
@@ -52,8 +52,8 @@ server_so t events _ body (later n h) s =
 pub built_so : (t : Kept) (events : List Event) (cause : Cause) → Stands t events → built_in t cause ≡ built_behind events cause
 built_so t events (Joined e) s = refl
 built_so t events (Started n) s = refl
-built_so t events (FromEditor n body) s = ap (λ b. is_plain_body body && b) (sym (editor_so t events n body (number n) s))
-built_so t events (FromServer n body) s = ap (λ b. is_plain_body body && b) (sym (server_so t events n body (number n) s))
+built_so t events (FromEditor n body) s = sym (editor_so t events n body (number n) s)
+built_so t events (FromServer n body) s = sym (server_so t events n body (number n) s)
 built_so t events (EditorGone e why) s = refl
 built_so t events (StartFailed n) s = refl
 built_so t events (ServerGone n) s = refl

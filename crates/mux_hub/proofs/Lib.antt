@@ -5,6 +5,7 @@ pub mod Entries
 pub mod Heard
 pub mod HubLaw
 pub mod Ids
+pub mod Malformed
 pub mod Meant
 pub mod Numbers
 pub mod Opening

@@ -20,8 +20,8 @@ use Rattle.mux_model.specs.declared.phase.Phase.{Phase}
 use Rattle.mux_model.specs.declared.phase.Phase.TheVariants.{Absent, New, Waiting, Answered, Running, Down, Closed, Gone}
 use Rattle.mux_model.specs.declared.stage.Stage.{Stage}
 use Rattle.mux_model.specs.declared.stage.Stage.TheVariants.{Unspawned, Spawning, Initializing, Ready, Stopping, Ending, Ended}
-use Rattle.mux_model.specs.Built.{built_behind, built_from_editor, built_from_server, built_request, built_response, is_plain_body, is_plain_result, is_other}
-use Rattle.mux_model.specs.Event.{Event}
+use Rattle.mux_model.specs.Built.{built_behind, built_from_editor, built_from_server, built_request, built_response, is_plain_result, is_other}
+use Rattle.mux_model.specs.Event.{Event, with_cause}
 use Rattle.mux_model.specs.Fits.{fits_behind}
 use Rattle.mux_model.specs.Phases.{desk_of, editors_of, is_linked, is_there}
 use Rattle.mux_model.specs.Requests.{Asked, open_of, is_open, asking_of, asked_by, answered_id, has_number}
@@ -36,6 +36,7 @@ use Rattle.mux_hub.specs.Turns.{Turn, turn, from_editor, from_server, resulted, 
 use Rattle.mux_hub.proofs.Answering.{readied_steps, welcomed_steps, unasked_steps, left_steps, passed_steps}
 use Rattle.mux_hub.proofs.Classes.{not_own}
 use Rattle.mux_hub.proofs.Ids.{means_at}
+use Rattle.mux_hub.proofs.Malformed.{rejected_steps, ignored_steps, no_json, no_message, json_row, message_row_none}
 use Rattle.mux_hub.proofs.Meant.{meant, means}
 use Rattle.mux_hub.proofs.Opening.{joined_steps, founded_steps, started_steps, ending_steps}
 use Rattle.mux_hub.proofs.Serving.{noted_steps, refused_steps, forwarded_steps, IsServed}
@@ -163,8 +164,8 @@ hearing settings events t body (request id method ps) l s m b = requesting setti
 hearing settings events t body (notification method ps) l s m b = noted_steps settings events t body ps s (m ∙ ap (λ w. notification w ps) (sym (same_text (codes "initialized") method b)))
 hearing settings events t body (result id r) l s m b = never b
 hearing settings events t body (error id e) l s m b = never b
-hearing settings events t body not_json l s m b = never b
-hearing settings events t body not_message l s m b = never b
+hearing settings events t body not_json l s m b = rejected_steps settings events t body not_json s m no_json (is_there t.phase) refl
+hearing settings events t body not_message l s m b = rejected_steps settings events t body not_message s m no_message (is_there t.phase) refl
 
 editor_right : (settings : Settings) (events : List Event) (t : Kept) (n : ℕ) (body : List ℕ) → Number n → settings.limits.requests < 2 ^ 32 → Stands t events → is_linked (desk_of n events).phase ≡ true
     → built_from_editor (desk_of n events).phase (open_of n events) (message_of body) ≡ true → Right settings events (FromEditor n body) (turn settings.limits.requests t (FromEditor n body))
@@ -274,43 +275,31 @@ first_is body (notification method ps) m f = never f
 first_is body not_json m f = never f
 first_is body not_message m f = never f
 
--- only responses of a start are built
-abbrev pub IsResponse : Message → Type 0
-IsResponse (result id r) = Unit {0}
-IsResponse (error id e) = Unit {0}
-IsResponse other = ⊥
+-- no requests and no notifications of a start are built
+abbrev pub IsTaken : Message → Type 0
+IsTaken (request id method ps) = ⊥
+IsTaken (notification method ps) = ⊥
+IsTaken other = Unit {0}
 
-only_responses : (g : Stage) (os : List Asked) (m : Message) → built_from_server g os m ≡ true → IsResponse m
-only_responses g os (result id r) b = tt
-only_responses g os (error id e) b = tt
-only_responses Unspawned os (request id method ps) b = never b
-only_responses Spawning os (request id method ps) b = never b
-only_responses Initializing os (request id method ps) b = never b
-only_responses Ready os (request id method ps) b = never b
-only_responses Stopping os (request id method ps) b = never b
-only_responses Ending os (request id method ps) b = never b
-only_responses Ended os (request id method ps) b = never b
-only_responses Unspawned os (notification method ps) b = never b
-only_responses Spawning os (notification method ps) b = never b
-only_responses Initializing os (notification method ps) b = never b
-only_responses Ready os (notification method ps) b = never b
-only_responses Stopping os (notification method ps) b = never b
-only_responses Ending os (notification method ps) b = never b
-only_responses Ended os (notification method ps) b = never b
-only_responses Unspawned os not_json b = never b
-only_responses Spawning os not_json b = never b
-only_responses Initializing os not_json b = never b
-only_responses Ready os not_json b = never b
-only_responses Stopping os not_json b = never b
-only_responses Ending os not_json b = never b
-only_responses Ended os not_json b = never b
-only_responses Unspawned os not_message b = never b
-only_responses Spawning os not_message b = never b
-only_responses Initializing os not_message b = never b
-only_responses Ready os not_message b = never b
-only_responses Stopping os not_message b = never b
-only_responses Ending os not_message b = never b
-only_responses Ended os not_message b = never b
+taken_only : (g : Stage) (os : List Asked) (m : Message) → built_from_server g os m ≡ true → IsTaken m
+taken_only g os (result id r) b = tt
+taken_only g os (error id e) b = tt
+taken_only g os not_json b = tt
+taken_only g os not_message b = tt
+taken_only Unspawned os (request id method ps) b = never b
+taken_only Spawning os (request id method ps) b = never b
+taken_only Initializing os (request id method ps) b = never b
+taken_only Ready os (request id method ps) b = never b
+taken_only Stopping os (request id method ps) b = never b
+taken_only Ending os (request id method ps) b = never b
+taken_only Ended os (request id method ps) b = never b
+taken_only Unspawned os (notification method ps) b = never b
+taken_only Spawning os (notification method ps) b = never b
+taken_only Initializing os (notification method ps) b = never b
+taken_only Ready os (notification method ps) b = never b
+taken_only Stopping os (notification method ps) b = never b
+taken_only Ending os (notification method ps) b = never b
+taken_only Ended os (notification method ps) b = never b
 
 resulting : (settings : Settings) (events : List Event) (t : Kept) (body : List ℕ) (id : Option Id) (r : Json) (g : Stage) → Stands t events → t.stage ≡ g → message_of body ≡ result id r → built_from_server g (asked_for t.pending) (result id r) ≡ true
     → Right settings events (FromServer 0 body) (resulted t body id g)
@@ -338,29 +327,29 @@ failing settings events t body id r Stopping s e m b = never b
 failing settings events t body id r Ending s e m b = never b
 failing settings events t body id r Ended s e m b = never b
 
-serving : (settings : Settings) (events : List Event) (t : Kept) (body : List ℕ) (m : Message) → IsResponse m → Stands t events → message_of body ≡ m → built_from_server t.stage (asked_for t.pending) m ≡ true
+serving : (settings : Settings) (events : List Event) (t : Kept) (body : List ℕ) (m : Message) → IsTaken m → Stands t events → message_of body ≡ m → built_from_server t.stage (asked_for t.pending) m ≡ true
     → Right settings events (FromServer 0 body) (from_server t body m t.stage)
 serving settings events t body (result id r) i s m b = resulting settings events t body id r t.stage s refl m b
 serving settings events t body (error id e) i s m b = failing settings events t body id e t.stage s refl m b
 serving settings events t body (request id method ps) i s m b = absurd i
 serving settings events t body (notification method ps) i s m b = absurd i
-serving settings events t body not_json i s m b = absurd i
-serving settings events t body not_message i s m b = absurd i
+serving settings events t body not_json i s m b = ignored_steps settings events t body not_json s m no_json (json_row events (with_cause events (FromServer 0 body)) body)
+serving settings events t body not_message i s m b = ignored_steps settings events t body not_message s m no_message (message_row_none events (with_cause events (FromServer 0 body)) body)
 
 server_right : (settings : Settings) (events : List Event) (t : Kept) (n : ℕ) (body : List ℕ) → Number n → Stands t events → runs (life_of n events) ≡ true
     → built_from_server (life_of n events).stage (asking_of n events).open_requests (message_of body) ≡ true → Right settings events (FromServer n body) (turn settings.limits.requests t (FromServer n body))
 server_right settings events t _ body (later n h) s f b = never (sym (ap runs (s.other_lives n h)) ∙ f)
 server_right settings events t _ body first s f b =
     let c = sym (ap (λ l. built_from_server l.stage (asking_of 0 events).open_requests (message_of body)) s.life ∙ ap (λ o. built_from_server t.stage o (message_of body)) s.pending) ∙ b in
-    serving settings events t body (message_of body) (only_responses t.stage (asked_for t.pending) (message_of body) c) s refl c
+    serving settings events t body (message_of body) (taken_only t.stage (asked_for t.pending) (message_of body) c) s refl c
 
 -- the law: from tables that stand for events, a turn for a cause that fits and is built is a step
 pub turn_right : (settings : Settings) (events : List Event) (t : Kept) (cause : Cause) → settings.limits.requests < 2 ^ 32 → Stands t events → IsTrue (fits_behind events cause) → IsTrue (built_behind events cause)
     → Steps settings events cause (turn settings.limits.requests t cause).outs (turn settings.limits.requests t cause).now
 turn_right settings events t (Joined e) l s f b = joined_right settings events t e s b f
-turn_right settings events t (FromEditor e body) l s f b = editor_right settings events t e body (number e) l s f (and_right (is_plain_body body) _ b)
+turn_right settings events t (FromEditor e body) l s f b = editor_right settings events t e body (number e) l s f b
 turn_right settings events t (Started n) l s f b = started_right settings events t n (number n) s f
-turn_right settings events t (FromServer n body) l s f b = server_right settings events t n body (number n) s f (and_right (is_plain_body body) _ b)
+turn_right settings events t (FromServer n body) l s f b = server_right settings events t n body (number n) s f b
 turn_right settings events t (EditorGone e why) l s f b = never b
 turn_right settings events t (StartFailed n) l s f b = never b
 turn_right settings events t (ServerGone n) l s f b = never b

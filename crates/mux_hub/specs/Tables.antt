@@ -11,7 +11,7 @@ use Rattle.mux_model.specs.declared.stage.Stage.{Stage}
 use Rattle.mux_model.specs.declared.stage.Stage.TheVariants.{Unspawned, Spawning, Initializing, Ready, Stopping, Ending, Ended}
 use Rattle.mux_history.specs.declared.cause.Cause.{Cause}
 use Rattle.mux_history.specs.declared.cause.Cause.TheVariants.{Joined, FromEditor, Started, FromServer}
-use Rattle.mux_model.specs.Built.{is_plain_body, built_from_editor, built_from_server}
+use Rattle.mux_model.specs.Built.{built_from_editor, built_from_server}
 use Rattle.mux_model.specs.Event.{Event}
 use Rattle.mux_model.specs.Phases.{desk_of, no_desk, editors_of, backlog_of}
 use Rattle.mux_model.specs.Requests.{Asked, open_of, asking_of}
@@ -89,6 +89,6 @@ stage_at t s = if nat_eq s 0 then t.stage else Unspawned
 abbrev pub built_in : Kept → Cause → Bool
 built_in t (Joined e) = nat_eq e 0
 built_in t (Started s) = true
-built_in t (FromEditor e body) = is_plain_body body && built_from_editor (phase_at t e) (open_in (phase_at t e) t.pending t.id) (message_of body)
-built_in t (FromServer s body) = is_plain_body body && built_from_server (stage_at t s) (asked_for t.pending) (message_of body)
+built_in t (FromEditor e body) = built_from_editor (phase_at t e) (open_in (phase_at t e) t.pending t.id) (message_of body)
+built_in t (FromServer s body) = built_from_server (stage_at t s) (asked_for t.pending) (message_of body)
 built_in t other = false

@@ -14,7 +14,7 @@ use Rattle.mux_model.specs.declared.stage.Stage.{Stage}
 use Rattle.mux_model.specs.declared.stage.Stage.TheVariants.{Spawning, Initializing, Ready}
 use Rattle.mux_model.specs.Phases.{is_there}
 use Rattle.mux_model.specs.Requests.{has_number, answered_id}
-use Rattle.mux_model.specs.Rows.{initialize_for, is_waiting}
+use Rattle.mux_model.specs.Rows.{initialize_for, is_waiting, malformed_text}
 use Rattle.mux_model.specs.Stages.{is_ready}
 use Rattle.mux_hub.specs.declared.pending.Pending.{Pending}
 use Rattle.mux_hub.specs.Tables.{Kept, asked_of, after_message}
@@ -59,10 +59,21 @@ requested requests t body Answered = ask_if (can_go requests t.stage t.next) t b
 requested requests t body Running = ask_if (can_go requests t.stage t.next) t body
 requested requests t body other = quiet t
 
+-- a body that is no message is answered where the editor is there
+abbrev pub malformed_if : Bool → Kept → List ℕ → Turn
+malformed_if true t text = record { outs = ToEditor 0 text ∷ []; now = record t { sent = sent_more t.sent text } }
+malformed_if false t text = quiet t
+
+abbrev pub malformed : Kept → List ℕ → Turn
+malformed t text = malformed_if (is_there t.phase) t text
+
 abbrev pub from_editor : ℕ → Kept → List ℕ → Message → Turn
 from_editor requests t body (request id method params) = requested requests t body t.phase
 from_editor requests t body (notification method params) = noted t
-from_editor requests t body other = quiet t
+from_editor requests t body not_json = malformed t (malformed_text not_json)
+from_editor requests t body not_message = malformed t (malformed_text not_message)
+from_editor requests t body (result id r) = quiet t
+from_editor requests t body (error id e) = quiet t
 
 -- the place of the request of the number that this id writes
 abbrev pub or_next : Bool → Option ℕ → Option ℕ

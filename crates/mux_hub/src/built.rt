@@ -8,7 +8,7 @@ ghost use Rattle.rpc_message.specs.Message.{Id, message_of, request};
 ghost use Rattle.rpc_message.specs.Message as messages;
 ghost use Rattle.rpc_message.specs.Parsed.{IsRead};
 ghost use Rattle.rpc_message.specs.ValueTexts.{IsIdText};
-ghost use Rattle.mux_model.specs.Built.{is_other, is_plain_body, built_request, built_response, built_from_editor, built_from_server};
+ghost use Rattle.mux_model.specs.Built.{is_other, built_request, built_response, built_from_editor, built_from_server};
 ghost use Rattle.mux_model.specs.Members.{has_token};
 ghost use Rattle.mux_model.specs.Requests.{is_open};
 ghost use Rattle.mux_hub.specs.Hubs.{body_length};
@@ -24,7 +24,7 @@ use lsp_method::Class;
 use mux_history::Cause;
 use mux_members::{
     class_in, has_bare_capabilities, has_token, is_first_result, is_initialize, is_initialized,
-    is_plain_body, is_plain_result, reads_versions, same_id,
+    is_plain_result, reads_versions, same_id,
 };
 use mux_model::{Phase, Stage};
 use rpc_message::{Envelope, Message};
@@ -84,7 +84,7 @@ fn built_request(
     }
 }
 
-// A message of the editor.
+// A body of the editor.
 fn built_from_editor(
     alloc: Global,
     phase: Phase,
@@ -97,11 +97,12 @@ fn built_from_editor(
     let message = match Message::read(alloc, body.bytes()) {
         Ok(message) => message,
         Err(JsonFault::Memory) => return Err(Memory),
-        Err(_) => return Ok(false),
+        Err(_) => return Ok(true),
     };
     match message.envelope() {
         Envelope::Request { .. } => built_request(alloc, phase, pending, &message),
         Envelope::Notification { .. } => Ok(is_initialized(&message)),
+        Envelope::Other => Ok(true),
         _ => Ok(false),
     }
 }
@@ -113,7 +114,7 @@ fn built_result(pending: &[Pending], message: &Message) -> bool
     place_by_id(pending, message.id_bytes()).is_none() || !reads_versions(message)
 }
 
-// A message of the start.
+// A body of the start.
 fn built_from_server(
     alloc: Global,
     stage: Stage,
@@ -126,47 +127,16 @@ fn built_from_server(
     let message = match Message::read(alloc, body.bytes()) {
         Ok(message) => message,
         Err(JsonFault::Memory) => return Err(Memory),
-        Err(_) => return Ok(false),
+        Err(_) => return Ok(true),
     };
     match (message.envelope(), stage) {
         (Envelope::Outcome { .. }, Stage::Initializing) => Ok(
             is_first_result(&message) && is_plain_result(&message),
         ),
         (Envelope::Outcome { .. }, Stage::Ready) => Ok(built_result(pending, &message)),
-        (Envelope::Failure { .. }, Stage::Ready) => Ok(true),
+        (Envelope::Failure { .. }, Stage::Ready) | (Envelope::Other, _) => Ok(true),
         _ => Ok(false),
     }
-}
-
-// A body of the editor, or of the start.
-fn built_editor_body(
-    alloc: Global,
-    phase: Phase,
-    pending: &[Pending],
-    body: &Body,
-) -> Result<bool, Memory>
-    requires { length body.now ≤ 268435456 }
-    ensures { (waiting : List ℕ) → AllByRecursion (λ p. MeansId p.id) pending.now → IfOk result (λ answer. answer ≡ (is_plain_body body.now && built_from_editor phase (open_in phase pending.now waiting) (message_of body.now))) }
-{
-    if !is_plain_body(body.bytes()) {
-        return Ok(false);
-    }
-    built_from_editor(alloc, phase, pending, body)
-}
-
-fn built_server_body(
-    alloc: Global,
-    stage: Stage,
-    pending: &[Pending],
-    body: &Body,
-) -> Result<bool, Memory>
-    requires { length body.now ≤ 268435456 }
-    ensures { IfOk result (λ answer. answer ≡ (is_plain_body body.now && built_from_server stage (asked_for pending.now) (message_of body.now))) }
-{
-    if !is_plain_body(body.bytes()) {
-        return Ok(false);
-    }
-    built_from_server(alloc, stage, pending, body)
 }
 
 impl Tables {
@@ -199,13 +169,13 @@ impl Tables {
         match cause {
             Cause::Joined(editor) => Ok(*editor == 0),
             Cause::Started(_) => Ok(true),
-            Cause::FromEditor(editor, body) => built_editor_body(
+            Cause::FromEditor(editor, body) => built_from_editor(
                 alloc,
                 self.phase_at(*editor),
                 &self.pending,
                 body,
             ),
-            Cause::FromServer(start, body) => built_server_body(
+            Cause::FromServer(start, body) => built_from_server(
                 alloc,
                 self.stage_at(*start),
                 &self.pending,

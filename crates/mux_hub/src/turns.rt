@@ -1,15 +1,16 @@
 // What the hub does for a cause, over its tables.
-ghost use Rattle.std.specs.Prelude.{◌≡◌, ℕ, ◌≤◌, ◌<◌, ◌∷◌, [], List, length, IfOk, IfErr, IfSome, Option, slice_get, decimal, bytes_eq};
+ghost use Rattle.std.specs.Prelude.{◌≡◌, ℕ, ◌≤◌, ◌<◌, ◌∷◌, [], List, length, IfOk, IfErr, IfSome, Option, slice_get, codes, decimal, bytes_eq};
 ghost use Rattle.mux_model.specs.Phases.{is_there};
 ghost use Rattle.mux_model.specs.Rows.{is_waiting};
 ghost use Rattle.mux_model.specs.Requests.{answered_id};
 ghost use Rattle.mux_model.specs.Stages.{is_ready};
 ghost use Rattle.json_text.specs.Json.{Json};
 ghost use Rattle.rpc_message.specs.Message.{Id, message_of, id_bytes, request};
+ghost use Rattle.rpc_message.specs.Codes.{code_of};
 ghost use Rattle.rpc_message.specs.Texts.{error_text, request_failed};
 ghost use Rattle.rpc_message.specs.Parsed.{IsRead};
 ghost use Rattle.mux_hub.specs.Hubs.{body_length};
-ghost use Rattle.mux_hub.specs.Turns.{Turn, turn, joined, noted, found, forward, refuse, requested, from_editor, from_server, ready_if, started, answered, pass_on, place_of, place_written, place_if, is_no_number, can_go, ask_if, Gives};
+ghost use Rattle.mux_hub.specs.Turns.{Turn, turn, joined, noted, found, forward, refuse, requested, malformed, from_editor, from_server, ready_if, started, answered, pass_on, place_of, place_written, place_if, is_no_number, can_go, ask_if, Gives};
 
 use crate::pending::Pending;
 use crate::tables::Tables;
@@ -243,7 +244,19 @@ impl Tables {
         }
     }
 
-    /// A message came from the editor.
+    /// A body that is no message is answered under a null id, if the editor is there (JSON-RPC 2.0, section 5).
+    fn reject(&mut self, alloc: Global, code: ErrorCode) -> Result<Outs, Memory>
+        ensures { IfOk result (λ outs. Gives (malformed self.old (error_text (codes "null") (code_of code))) outs self.new) }
+    {
+        if !is_there(self.phase) {
+            return Ok(Outs::new(alloc));
+        }
+        let text = error_answer(alloc, b"null", code)?;
+        self.sent = self.sent.saturating_add(text.bytes().len() as u64);
+        one(alloc, Out::ToEditor(0, text))
+    }
+
+    /// A body came from the editor.
     fn hear_editor(&mut self, alloc: Global, requests: u32, body: &Body) -> Result<Outs, Memory>
         requires { length body.now ≤ 268435456 }
         ensures { IfOk result (λ outs. Gives (from_editor requests self.old body.now (message_of body.now)) outs self.new) }
@@ -251,7 +264,7 @@ impl Tables {
         let message = match Message::read(alloc, body.bytes()) {
             Ok(message) => message,
             Err(JsonFault::Memory) => return Err(Memory),
-            Err(_) => return Ok(Outs::new(alloc)),
+            Err(_) => return self.reject(alloc, ErrorCode::ParseError),
         };
         match message.envelope() {
             Envelope::Request { .. } => self.hear_request(alloc, requests, &message),
@@ -259,6 +272,7 @@ impl Tables {
                 self.note();
                 Ok(Outs::new(alloc))
             }
+            Envelope::Other => self.reject(alloc, ErrorCode::InvalidRequest),
             _ => Ok(Outs::new(alloc)),
         }
     }

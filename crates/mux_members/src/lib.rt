@@ -8,14 +8,12 @@ mod method;
 mod opening;
 mod outcome;
 mod params;
-mod plain;
 
 pub use id::{is_number, same_id};
 pub use method::{class_in, is_initialize, is_initialized};
 pub use opening::initialize_request;
 pub use outcome::{is_first_result, is_plain_result, reads_versions};
 pub use params::{has_bare_capabilities, has_token};
-pub use plain::is_plain_body;
 
 #[cfg(test)]
 mod tests;

@@ -1,6 +1,6 @@
 use crate::{
     class_in, has_bare_capabilities, has_token, initialize_request, is_first_result, is_initialize,
-    is_initialized, is_number, is_plain_body, is_plain_result, reads_versions, same_id,
+    is_initialized, is_number, is_plain_result, reads_versions, same_id,
 };
 use lsp_method::Class;
 use rpc_message::Message;
@@ -86,9 +86,4 @@ fn compares_identifiers(rt: HostRuntime) {
     assert!(rt; same_id(b"\"a\\u0062\"", b"\"ab\"") && same_id(b"12", b"12"));
     assert!(rt; !same_id(b"\"12\"", b"12") && !same_id(b"12", b"1"));
     assert!(rt; is_number(b"12", 12) && !is_number(b"123", 12) && !is_number(b"\"12\"", 12));
-    assert!(rt;
-        is_plain_body(b"{\"id\":1}")
-            && !is_plain_body(b"{\"\\u0069d\":1}")
-            && !is_plain_body(b"\"\xc3\xa9\"")
-    );
 }

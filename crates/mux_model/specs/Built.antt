@@ -1,7 +1,6 @@
 -- Which causes meet only rows that are built, until all are.
-use Rattle.std.specs.Prelude.{ℕ, Bool, true, false, not, ◌&&◌, ◌||◌, List, codes, is_some, nat_eq, nat_lt, if◌then◌else◌}
+use Rattle.std.specs.Prelude.{ℕ, Bool, true, false, not, ◌&&◌, ◌||◌, List, codes, is_some, nat_eq}
 use Rattle.std.specs.Prelude.{Option, Some, None}
-use Rattle.std.specs.List.{list_any, list_all}
 use Rattle.mux_history.specs.declared.cause.Cause.{Cause}
 use Rattle.mux_history.specs.declared.cause.Cause.TheVariants.{Joined, FromEditor, Started, FromServer}
 use Rattle.mux_history.specs.declared.entry.Entry.{Entry}
@@ -18,13 +17,9 @@ use Rattle.mux_model.specs.declared.stage.Stage.{Stage}
 use Rattle.mux_model.specs.declared.stage.Stage.TheVariants.{Initializing, Ready}
 use Rattle.mux_model.specs.Event.{Event, events_of, requests, notifies}
 use Rattle.mux_model.specs.Members.{named_of, is_bare_capabilities, has_token, reads_versions}
-use Rattle.mux_model.specs.Phases.{desk_of}
+use Rattle.mux_model.specs.Phases.{desk_of, is_malformed}
 use Rattle.mux_model.specs.Requests.{Asked, open_of, is_open, asking_of, asked_by}
 use Rattle.mux_model.specs.Stages.{life_of, is_first_result}
-
--- ASCII without a backslash
-abbrev pub is_plain_body : List ℕ → Bool
-is_plain_body body = list_all (λ b. nat_lt b 128 && not (nat_eq b 92)) body
 
 abbrev pub is_other : Class → Bool
 is_other Other = true
@@ -37,10 +32,14 @@ built_request Answered ids id method params = not (is_open id ids) && is_other (
 built_request Running ids id method params = not (is_open id ids) && is_other (class_of method Editor false) && not (has_token params)
 built_request other ids id method params = false
 
+-- E2 in every phase, and those
 abbrev pub built_from_editor : Phase → List Id → Message → Bool
 built_from_editor phase ids (request id method params) = built_request phase ids id method params
 built_from_editor phase ids (notification method params) = notifies (codes "initialized") (notification method params)
-built_from_editor phase ids other = false
+built_from_editor phase ids not_json = true
+built_from_editor phase ids not_message = true
+built_from_editor phase ids (result id r) = false
+built_from_editor phase ids (error id e) = false
 
 -- S2 without members that `shown` takes out, and S5 without versions
 abbrev pub is_plain_result : Message → Bool
@@ -56,16 +55,20 @@ built_response ids (result id r) = is_passed_plainly (asked_by id ids) r
 built_response ids (error id e) = true
 built_response ids other = false
 
+abbrev pub built_answer : Stage → List Asked → Message → Bool
+built_answer Initializing ids m = is_first_result m && is_plain_result m
+built_answer Ready ids m = built_response ids m
+built_answer other ids m = false
+
+-- S1 in every stage, and those
 abbrev pub built_from_server : Stage → List Asked → Message → Bool
-built_from_server Initializing ids m = is_first_result m && is_plain_result m
-built_from_server Ready ids m = built_response ids m
-built_from_server other ids m = false
+built_from_server stage ids m = is_malformed m || built_answer stage ids m
 
 abbrev pub built_behind : List Event → Cause → Bool
 built_behind before (Joined e) = nat_eq e 0
 built_behind before (Started s) = true
-built_behind before (FromEditor e body) = is_plain_body body && built_from_editor (desk_of e before).phase (open_of e before) (message_of body)
-built_behind before (FromServer s body) = is_plain_body body && built_from_server (life_of s before).stage (asking_of s before).open_requests (message_of body)
+built_behind before (FromEditor e body) = built_from_editor (desk_of e before).phase (open_of e before) (message_of body)
+built_behind before (FromServer s body) = built_from_server (life_of s before).stage (asking_of s before).open_requests (message_of body)
 built_behind before other = false
 
 abbrev pub built : List Entry → Cause → Bool

@@ -7,14 +7,14 @@ use Rattle.mux_history.specs.declared.out.Out.{Out}
 use Rattle.mux_history.specs.declared.out.Out.TheVariants.{ToEditor, ToServer, Spawn, CloseEditor, EndServer}
 use Rattle.mux_history.specs.declared.entry.Entry.{Entry}
 use Rattle.rpc_message.specs.Message.{Message, request, notification, result, error, not_json, not_message, Id, message_of, id_bytes, result_bytes}
-use Rattle.rpc_message.specs.Texts.{ok_text, error_text, initialized_text, initialize_text, with_id_text, Code, request_failed}
+use Rattle.rpc_message.specs.Texts.{ok_text, error_text, initialized_text, initialize_text, with_id_text, Code, parse_error, invalid_request, request_failed}
 use Rattle.mux_model.specs.declared.phase.Phase.{Phase}
 use Rattle.mux_model.specs.declared.phase.Phase.TheVariants.{Absent, New, Waiting, Answered, Running, Down, Closed, Gone}
 use Rattle.mux_model.specs.declared.stage.Stage.{Stage}
 use Rattle.mux_model.specs.declared.stage.Stage.TheVariants.{Unspawned, Spawning, Initializing, Ready, Stopping, Ending, Ended}
 use Rattle.mux_model.specs.Event.{Event, events_of, with_cause, requests}
 use Rattle.mux_model.specs.Members.{params_of, root_uri, string_or_null, options_of}
-use Rattle.mux_model.specs.Phases.{desk_of, editors_of, is_there}
+use Rattle.mux_model.specs.Phases.{desk_of, editors_of, is_there, is_malformed}
 use Rattle.mux_model.specs.Requests.{Asked, asking_of, asked_by, answered_id}
 use Rattle.mux_model.specs.Row.{Row, nothing, send, choose, look, outs, each, on, ◌⨾◌}
 use Rattle.mux_model.specs.Settings.{Settings}
@@ -52,11 +52,25 @@ abbrev pub served_row : Settings → List Event → ℕ → List ℕ → Message
 served_row settings before e body (request id method params) = request_row settings before e body
 served_row settings before e body other = nothing
 
+abbrev pub message_row : Settings → List Event → ℕ → List ℕ → Message → Phase → Row
+message_row settings before e body m New = choose (requests (codes "initialize") m) found_group nothing
+message_row settings before e body m Answered = served_row settings before e body m
+message_row settings before e body m Running = served_row settings before e body m
+message_row settings before e body m other = nothing
+
+-- E2: a body that is no message is answered under a null id (JSON-RPC 2.0, section 5)
+abbrev pub malformed_code : Message → Code
+malformed_code not_json = parse_error
+malformed_code other = invalid_request
+
+abbrev pub malformed_text : Message → List ℕ
+malformed_text m = error_text (codes "null") (malformed_code m)
+
+abbrev pub malformed_row : ℕ → Message → Phase → Row
+malformed_row e m phase = choose (is_there phase) (send (ToEditor e (malformed_text m))) nothing
+
 abbrev pub from_editor : Settings → List Event → ℕ → List ℕ → Message → Phase → Row
-from_editor settings before e body m New = choose (requests (codes "initialize") m) found_group nothing
-from_editor settings before e body m Answered = served_row settings before e body m
-from_editor settings before e body m Running = served_row settings before e body m
-from_editor settings before e body m other = nothing
+from_editor settings before e body m phase = choose (is_malformed m) (malformed_row e m phase) (message_row settings before e body m phase)
 
 -- S2: the editors of the start's group that wait
 abbrev pub below : ℕ → List ℕ

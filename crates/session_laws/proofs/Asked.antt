@@ -14,9 +14,10 @@ use Rattle.mux_model.specs.declared.phase.Phase.TheVariants.{Absent, New, Gone}
 use Rattle.mux_model.specs.Event.{Event, took, did, heard, said, same_id}
 use Rattle.mux_model.specs.Phases.{Desk, desk_of, desk_behind, desk_hears, phase_told, editors_of}
 use Rattle.mux_model.specs.Requests.{Asker, Asked, Asking, asking_of, asking_behind, asking_sends, numbered, is_own, answers, answered_id, open_of, open_behind, is_open, asks, without}
+use Rattle.mux_model.specs.Rows.{malformed_text}
 use Rattle.mux_model.specs.Settings.{Settings}
 use Rattle.mux_model.specs.Spawns.{starts_of}
-use Rattle.session_laws.proofs.Bricks.{takes, begins, greets, spawns, forwards, refuses, welcomes, passes, is_early, Lays}
+use Rattle.session_laws.proofs.Bricks.{takes, rejects, begins, greets, spawns, forwards, refuses, welcomes, passes, is_early, Lays}
 use Rattle.session_laws.proofs.Editors.{Editors}
 use Rattle.session_laws.proofs.Folds.{desk_more, opens_more, asking_more}
 use Rattle.session_laws.proofs.Late.{hears_late, told_late}
@@ -142,12 +143,16 @@ same_method h = cc
 one_asker : {a b : Asker} → Some a ≡ Some b → a ≡ b
 one_asker h = cc
 
+from_editor : (events : List Event) (n : ℕ) (body : List ℕ) → AllAsked events → AllAsked (events ++ took (FromEditor n body) (message_of body) ∷ [])
+from_editor events n body h = asked_more events (took (FromEditor n body) (message_of body)) (known_hears events n body) (λ s. refl) h
+
 pub asked_law : (settings : Settings) → Lays settings Editors AllAsked
 asked_law settings events (takes (Joined n) fits built still) known h = asked_more events (took (Joined n) not_message) (known_joins events n (known n (omega (arith, number_same n (editors_of events) fits)))) (λ s. refl) h
-asked_law settings events (takes (FromEditor n body) fits built still) known h = asked_more events (took (FromEditor n body) (message_of body)) (known_hears events n body) (λ s. refl) h
+asked_law settings events (takes (FromEditor n body) fits built still) known h = from_editor events n body h
 asked_law settings events (takes (EditorGone n why) fits built still) known h = asked_more events (took (EditorGone n why) not_message)
     (λ a k. known_more events (took (EditorGone n why) not_message) a k k.waits (either_late (nat_eq n a.editor) (record { phase = Gone; initialize = (desk_of a.editor events).initialize }) (desk_of a.editor events) refl k.late)) (λ s. refl) h
 asked_law settings events (takes cause fits built still) known h = asked_more events (heard cause) (λ a k. known_more events (heard cause) a k k.waits k.late) (λ s. refl) h
+asked_law settings events (rejects n body fits built malformed) known h = to_editor (events ++ took (FromEditor n body) (message_of body) ∷ []) n (malformed_text (message_of body)) (from_editor events n body h)
 asked_law settings events (begins n body params fits stage says) known h = to_server (events ++ took (Started n) not_message ∷ []) n body
     (asked_more events (took (Started n) not_message) (λ a k. known_more events (took (Started n) not_message) a k k.waits k.late) (λ s. refl) h)
     (λ id method others e own a asker. absurd (let same : method ≡ codes "initialize" = same_method (sym e ∙ says) in let o : is_own method ≡ true = ap is_own same in cc))

@@ -2,7 +2,7 @@
 use Rattle.std.proofs.Common.{◌≡◌, ℕ, Bool, true, false, ◌&&◌, List, [], ◌∷◌, Option, Some, codes, nat_lt, decimal}
 use Rattle.json_text.specs.Json.{Json}
 use Rattle.mux_history.specs.declared.cause.Cause.{Cause}
-use Rattle.mux_history.specs.declared.cause.Cause.TheVariants.{Started, FromServer}
+use Rattle.mux_history.specs.declared.cause.Cause.TheVariants.{FromEditor, Started, FromServer}
 use Rattle.mux_history.specs.declared.out.Out.TheVariants.{ToEditor, ToServer, Spawn}
 use Rattle.rpc_message.specs.Message.{request, result, Id, integer, message_of, id_bytes, result_bytes}
 use Rattle.rpc_message.specs.Texts.{ok_text, error_text, initialized_text, with_id_text, Code}
@@ -13,8 +13,9 @@ use Rattle.mux_model.specs.declared.stage.Stage.TheVariants.{Spawning, Initializ
 use Rattle.mux_model.specs.Built.{built_behind}
 use Rattle.mux_model.specs.Event.{Event, behind, with_cause}
 use Rattle.mux_model.specs.Fits.{fits_behind}
-use Rattle.mux_model.specs.Phases.{desk_of, is_there}
+use Rattle.mux_model.specs.Phases.{desk_of, is_there, is_malformed}
 use Rattle.mux_model.specs.Requests.{Asked, asking_of, asked_by, answered_id, open_of, is_open}
+use Rattle.mux_model.specs.Rows.{malformed_text}
 use Rattle.mux_model.specs.Settings.{Settings}
 use Rattle.mux_model.specs.Spawns.{starts_of}
 use Rattle.mux_model.specs.Stages.{life_of, is_first_result}
@@ -70,6 +71,8 @@ pub record IsPassedOn (events : List Event) (s : ℕ) (asked : Asked) (body : Li
 pub data Brick (settings : Settings) (events : List Event) : Type 0 where
   -- a cause
   takes : (cause : Cause) → fits_behind events cause ≡ true → built_behind events cause ≡ true → moves_on events cause ≡ false → Brick settings events
+  -- a body of an editor is no message, and is answered under a null id
+  rejects : (e : ℕ) (body : List ℕ) → fits_behind events (FromEditor e body) ≡ true → built_behind events (FromEditor e body) ≡ true → is_malformed (message_of body) ≡ true → Brick settings events
   -- a start's program runs, and is asked to initialize
   begins : (s : ℕ) (body : List ℕ) (params : Option Json) → fits_behind events (Started s) ≡ true → (life_of s events).stage ≡ Spawning
       → message_of body ≡ request (integer (codes "1")) (codes "initialize") params → Brick settings events
@@ -90,6 +93,7 @@ pub data Brick (settings : Settings) (events : List Event) : Type 0 where
 -- the events with the brick behind them
 abbrev pub laid : {settings : Settings} {events : List Event} → Brick settings events → List Event
 laid {events = events} (takes cause fits built still) = with_cause events cause
+laid {events = events} (rejects e body fits built malformed) = behind (with_cause events (FromEditor e body)) (ToEditor e (malformed_text (message_of body)) ∷ [])
 laid {events = events} (begins s body params fits stage says) = behind (with_cause events (Started s)) (ToServer s body ∷ [])
 laid {events = events} (greets s body r fits built stage says) = behind (with_cause events (FromServer s body)) (ToServer s initialized_text ∷ [])
 laid {events = events} (spawns g) = behind events (Spawn (starts_of events) g ∷ [])

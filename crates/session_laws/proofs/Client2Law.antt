@@ -1,31 +1,38 @@
 -- Each response to an editor has the id of an open request of it.
-use Rattle.std.proofs.Common.{◌≡◌, ℕ, Bool, true, false, List, [], ◌∷◌, ◌++◌, codes, decimal, if◌then◌else◌, refl, sym, ◌∙◌, ap, subst}
+use Rattle.std.proofs.Common.{◌≡◌, ℕ, ◌+◌, ◌<◌, ◌≤◌, Bool, true, false, cond, List, [], ◌∷◌, ◌++◌, nat_eq, codes, decimal, if◌then◌else◌, None, refl, sym, ◌∙◌, ap, subst, arith}
 use Rattle.mux_history.specs.declared.cause.Cause.TheVariants.{Joined, FromEditor, EditorGone, Started, StartFailed, FromServer, ServerGone, Drained, Tick}
 use Rattle.mux_history.specs.declared.entry.Entry.{Entry}
 use Rattle.mux_history.specs.declared.out.Out.TheVariants.{ToEditor, ToServer, Spawn, CloseEditor, EndServer}
-use Rattle.rpc_message.specs.Message.{Message, Id, not_message, message_of, id_bytes, result_bytes}
+use Rattle.json_text.specs.Json.{Json}
+use Rattle.rpc_message.specs.Message.{Message, error, Id, not_message, message_of, id_bytes, result_bytes}
 use Rattle.rpc_message.specs.Texts.{ok_text, error_text, initialized_text, with_id_text, error_tree}
 use Rattle.mux_model.specs.Event.{Event, took, did, heard, said, events_of}
 use Rattle.mux_model.specs.Legal.{Legal}
-use Rattle.mux_model.specs.Phases.{desk_of}
+use Rattle.mux_model.specs.Phases.{desk_of, is_malformed}
 use Rattle.mux_model.specs.Requests.{asking_of, answered_id, open_of, open_behind, is_open, asks, without}
+use Rattle.mux_model.specs.Rows.{malformed_code, malformed_text}
 use Rattle.mux_model.specs.Settings.{Settings}
 use Rattle.mux_model.specs.Spawns.{starts_of}
 use Rattle.session_laws.specs.Always.{Always}
-use Rattle.session_laws.specs.ClientRules.{IsAnswer, null_errors_of, malformed_of, ClientRule2, KeepsClient2}
+use Rattle.session_laws.specs.ClientRules.{IsAnswer, null_errors_of, null_errors_behind, malformed_of, malformed_behind, ClientRule2, KeepsClient2}
 use Rattle.session_laws.specs.Parts.{editor_part, is_of_editor}
 use Rattle.session_laws.proofs.Asked.{IsKnown}
-use Rattle.session_laws.proofs.Bodies.{welcome_says, refusal_says, IsResponseTo, is_result, is_error, passed_says}
-use Rattle.session_laws.proofs.Bricks.{takes, begins, greets, spawns, forwards, refuses, welcomes, passes, Lays, Both, lays_both}
+use Rattle.session_laws.proofs.Bodies.{welcome_says, refusal_says, malformed_says, IsResponseTo, is_result, is_error, passed_says}
+use Rattle.session_laws.proofs.Bricks.{takes, rejects, begins, greets, spawns, forwards, refuses, welcomes, passes, Lays, Both, lays_both}
 use Rattle.session_laws.proofs.Facts.{Facts, facts_law, no_facts}
 use Rattle.session_laws.proofs.Keeps.{every_history}
-use Rattle.session_laws.proofs.Rules.{rule_more, word_of_part}
+use Rattle.session_laws.proofs.Rules.{rule_more, word_more, word_of_part}
 use Rattle.session_laws.proofs.Table.{table_keeps}
 use Rattle.session_laws.proofs.Waits.{Waits, waits_at, asked_is}
 use Rattle.session_laws.proofs.Words.{number_same}
 
+-- the rule holds, and no more errors under a null id went to e than malformed bodies came from it
+record Here (e : ℕ) (events : List Event) : Type 0 where
+  always : Always (ClientRule2 e) (editor_part e events)
+  counted : null_errors_of (editor_part e events) ≤ malformed_of (editor_part e events)
+
 abbrev Everywhere : List Event → Type 0
-Everywhere events = (e : ℕ) → Always (ClientRule2 e) (editor_part e events)
+Everywhere events = (e : ℕ) → Here e events
 
 -- what is open by the part is open
 
@@ -60,22 +67,129 @@ free e part (did (Spawn s g) m) h = tt
 free e part (did (CloseEditor n) m) h = tt
 free e part (did (EndServer s) m) h = tt
 
+-- The two counts, behind one more event
+
+cond_same : {A : Type 0} (b : Bool) (x y : A) → x ≡ y → cond b x y ≡ y
+cond_same true x y h = h
+cond_same false x y h = refl
+
+cond_above : (b : Bool) (x y : ℕ) → y ≤ x → y ≤ cond b x y
+cond_above true x y h = h
+cond_above false x y h = omega arith
+
+nulls_kept : (n : ℕ) (event : Event) → is_to_editor event ≡ false → null_errors_behind n event ≡ n
+nulls_kept n (took cause m) h = refl
+nulls_kept n (did (ToEditor e body) m) h = absurd (cc)
+nulls_kept n (did (ToServer s body) m) h = refl
+nulls_kept n (did (Spawn s g) m) h = refl
+nulls_kept n (did (CloseEditor e) m) h = refl
+nulls_kept n (did (EndServer s) m) h = refl
+
+one_if : (b : Bool) (n : ℕ) → n ≤ (if b then n + 1 else n)
+one_if true n = omega arith
+one_if false n = omega arith
+
+malformed_grows : (n : ℕ) (event : Event) → n ≤ malformed_behind n event
+malformed_grows n (took (FromEditor e body) m) = one_if (is_malformed m) n
+malformed_grows n (took (Joined e) m) = omega arith
+malformed_grows n (took (EditorGone e why) m) = omega arith
+malformed_grows n (took (Started s) m) = omega arith
+malformed_grows n (took (StartFailed s) m) = omega arith
+malformed_grows n (took (FromServer s body) m) = omega arith
+malformed_grows n (took (ServerGone s) m) = omega arith
+malformed_grows n (took (Drained e k) m) = omega arith
+malformed_grows n (took (Tick t) m) = omega arith
+malformed_grows n (did out m) = omega arith
+
+module _ (e : ℕ) (events : List Event) (event : Event) where
+  nulls_more : null_errors_of (editor_part e (events ++ event ∷ [])) ≡ cond (is_of_editor e event) (null_errors_behind (null_errors_of (editor_part e events)) event) (null_errors_of (editor_part e events))
+  nulls_more = word_more null_errors_behind 0 (is_of_editor e) events event
+
+  malformed_more : malformed_of (editor_part e (events ++ event ∷ [])) ≡ cond (is_of_editor e event) (malformed_behind (malformed_of (editor_part e events)) event) (malformed_of (editor_part e events))
+  malformed_more = word_more malformed_behind 0 (is_of_editor e) events event
+
+  nulls_still : null_errors_behind (null_errors_of (editor_part e events)) event ≡ null_errors_of (editor_part e events) → null_errors_of (editor_part e (events ++ event ∷ [])) ≡ null_errors_of (editor_part e events)
+  nulls_still h = nulls_more ∙ cond_same (is_of_editor e event) (null_errors_behind (null_errors_of (editor_part e events)) event) (null_errors_of (editor_part e events)) h
+
+  malformed_later : malformed_of (editor_part e events) ≤ malformed_of (editor_part e (events ++ event ∷ []))
+  malformed_later = subst (λ n. malformed_of (editor_part e events) ≤ n) (sym malformed_more)
+      (cond_above (is_of_editor e event) (malformed_behind (malformed_of (editor_part e events)) event) (malformed_of (editor_part e events)) (malformed_grows (malformed_of (editor_part e events)) event))
+
+  -- an event that is no error under a null id
+  more_of : (is_of_editor e event ≡ true → ClientRule2 e (editor_part e events) event) → null_errors_behind (null_errors_of (editor_part e events)) event ≡ null_errors_of (editor_part e events)
+      → Here e events → Here e (events ++ event ∷ [])
+  more_of rule kept h = record {
+    always = rule_more (ClientRule2 e) (is_of_editor e) events event h.always rule;
+    counted = let nulls = nulls_still kept in let later = malformed_later in let before = h.counted in omega (arith, nulls, later, before);
+  }
+
 more : (events : List Event) (event : Event) → is_to_editor event ≡ false → Everywhere events → Everywhere (events ++ event ∷ [])
-more events event other h e = rule_more (ClientRule2 e) (is_of_editor e) events event (h e) (λ same. free e (editor_part e events) event other)
+more events event other h e = more_of e events event (λ same. free e (editor_part e events) event other) (nulls_kept (null_errors_of (editor_part e events)) event other) (h e)
 
 -- a response to an open request
 answers : (ids : List Id) (sent malformed : ℕ) (id : Id) (m : Message) → IsResponseTo id m → is_open id ids ≡ true → IsAnswer ids sent malformed m
 answers ids sent malformed id m (is_result r e) h = subst (IsAnswer ids sent malformed) (sym e) h
 answers ids sent malformed id m (is_error x e) h = subst (IsAnswer ids sent malformed) (sym e) h
 
+-- it is no error under a null id
+not_null : (n k : ℕ) (body : List ℕ) (id : Id) (m : Message) → IsResponseTo id m → null_errors_behind n (did (ToEditor k body) m) ≡ n
+not_null n k body id m (is_result r e) = ap (λ x. null_errors_behind n (did (ToEditor k body) x)) e
+not_null n k body id m (is_error x e) = ap (λ x. null_errors_behind n (did (ToEditor k body) x)) e
+
 to_editor : (events : List Event) (n : ℕ) (body : List ℕ) (id : Id) → IsResponseTo id (message_of body) → is_open id (open_of n events) ≡ true → Everywhere events → Everywhere (events ++ said (ToEditor n body) ∷ [])
-to_editor events n body id response waits h e = rule_more (ClientRule2 e) (is_of_editor e) events (said (ToEditor n body)) (h e)
+to_editor events n body id response waits h e = more_of e events (said (ToEditor n body))
     (λ same. answers (open_of e (editor_part e events)) (null_errors_of (editor_part e events)) (malformed_of (editor_part e events)) id (message_of body) response
     (ap (is_open id) (open_by_part e events ∙ ap (λ k. open_of k events) (sym (number_same n e same))) ∙ waits))
+    (not_null (null_errors_of (editor_part e events)) n body id (message_of body) response) (h e)
+
+-- a malformed body, and the error under a null id that answers it
+module _ (events : List Event) (n : ℕ) (body text : List ℕ) (x : Json) (malformed : is_malformed (message_of body) ≡ true) (says : message_of text ≡ error None x) where
+  abbrev heard_it : List Event
+  heard_it = events ++ took (FromEditor n body) (message_of body) ∷ []
+
+  one_malformed : (e : ℕ) → nat_eq n e ≡ true → malformed_of (editor_part e heard_it) ≡ malformed_of (editor_part e events) + 1
+  one_malformed e same = malformed_more e events (took (FromEditor n body) (message_of body))
+      ∙ (ap (λ b. cond b (if is_malformed (message_of body) then malformed_of (editor_part e events) + 1 else malformed_of (editor_part e events)) (malformed_of (editor_part e events))) same
+      ∙ ap (λ b. if b then malformed_of (editor_part e events) + 1 else malformed_of (editor_part e events)) malformed)
+
+  no_null : (e : ℕ) → null_errors_of (editor_part e heard_it) ≡ null_errors_of (editor_part e events)
+  no_null e = nulls_still e events (took (FromEditor n body) (message_of body)) refl
+
+  fewer : (e : ℕ) → Here e events → nat_eq n e ≡ true → null_errors_of (editor_part e heard_it) < malformed_of (editor_part e heard_it)
+  fewer e h same = let one = one_malformed e same in let none = no_null e in let before = h.counted in omega (arith, one, none, before)
+
+  one_null : (e k : ℕ) → null_errors_behind k (said (ToEditor n text)) ≡ k + 1
+  one_null e k = ap (λ m. null_errors_behind k (did (ToEditor n text) m)) says
+
+  refused : Everywhere events → Everywhere (heard_it ++ said (ToEditor n text) ∷ [])
+  refused h e = record {
+    always = rule_more (ClientRule2 e) (is_of_editor e) heard_it (said (ToEditor n text)) taken.always
+        (λ same. subst (IsAnswer (open_of e (editor_part e heard_it)) (null_errors_of (editor_part e heard_it)) (malformed_of (editor_part e heard_it))) (sym says) (fewer e (h e) same));
+    counted = go (nat_eq n e) refl;
+  }
+    where
+      taken : Here e heard_it
+      taken = more events (took (FromEditor n body) (message_of body)) refl h e
+
+      nulls : null_errors_of (editor_part e (heard_it ++ said (ToEditor n text) ∷ [])) ≡ cond (nat_eq n e) (null_errors_of (editor_part e heard_it) + 1) (null_errors_of (editor_part e heard_it))
+      nulls = nulls_more e heard_it (said (ToEditor n text)) ∙ ap (λ k. cond (nat_eq n e) k (null_errors_of (editor_part e heard_it))) (one_null e (null_errors_of (editor_part e heard_it)))
+
+      go : (b : Bool) → nat_eq n e ≡ b → null_errors_of (editor_part e (heard_it ++ said (ToEditor n text) ∷ [])) ≤ malformed_of (editor_part e (heard_it ++ said (ToEditor n text) ∷ []))
+      go true same =
+          let count = nulls ∙ ap (λ b. cond b (null_errors_of (editor_part e heard_it) + 1) (null_errors_of (editor_part e heard_it))) same in
+          let less = fewer e (h e) same in
+          let later = malformed_later e heard_it (said (ToEditor n text)) in
+          omega (arith, count, less, later)
+      go false same =
+          let count = nulls ∙ ap (λ b. cond b (null_errors_of (editor_part e heard_it) + 1) (null_errors_of (editor_part e heard_it))) same in
+          let before = taken.counted in
+          let later = malformed_later e heard_it (said (ToEditor n text)) in
+          omega (arith, count, before, later)
 
 client_law : (settings : Settings) → Lays settings Facts Everywhere
 client_law settings events (takes (Joined n) fits built still) known h = more events (heard (Joined n)) refl h
 client_law settings events (takes cause fits built still) known h = more events (heard cause) refl h
+client_law settings events (rejects n body fits built malformed) known h = refused events n body (malformed_text (message_of body)) (error_tree (malformed_code (message_of body))) malformed (malformed_says (message_of body)) h
 client_law settings events (begins n body params fits stage says) known h = more (events ++ took (Started n) not_message ∷ []) (said (ToServer n body)) refl (more events (took (Started n) not_message) refl h)
 client_law settings events (greets n body r fits built stage says) known h = more (events ++ took (FromServer n body) (message_of body) ∷ []) (said (ToServer n initialized_text)) refl
     (more events (took (FromServer n body) (message_of body)) refl h)
@@ -92,5 +206,5 @@ client_law settings events (passes n asked body k) known h =
 pub client_2_law : (settings : Settings) (history : List Entry) → Legal settings history → KeepsClient2 history
 client_2_law settings history legal =
     let all : Both Facts Everywhere (events_of history) = every_history settings (Both Facts Everywhere)
-    (table_keeps settings (λ events brick. lays_both settings Facts Everywhere (facts_law settings) (client_law settings) events brick tt)) (no_facts, (λ e. tt)) history legal in
-    all.1
+    (table_keeps settings (λ events brick. lays_both settings Facts Everywhere (facts_law settings) (client_law settings) events brick tt)) (no_facts, (λ e. record { always = tt; counted = omega arith })) history legal in
+    λ e. (all.1 e).always

@@ -1,5 +1,5 @@
 -- An editor hears nothing but responses before its session is open, and one `initialize` of it gets a result.
-use Rattle.std.proofs.Common.{◌≡◌, ℕ, Bool, true, false, not, ◌&&◌, cond, List, [], ◌∷◌, ◌++◌, nat_eq, bytes_eq, codes, decimal, if◌then◌else◌, Option, Some, refl, sym, ◌∙◌, ap, subst, subst₂, arith}
+use Rattle.std.proofs.Common.{◌≡◌, ℕ, Bool, true, false, not, ◌&&◌, cond, List, [], ◌∷◌, ◌++◌, nat_eq, bytes_eq, codes, decimal, if◌then◌else◌, Option, Some, None, refl, sym, ◌∙◌, ap, subst, subst₂, arith}
 use Rattle.std.proofs.lemmas.Bool.{and_parts}
 use Rattle.std.proofs.lemmas.Slice.Eq.{bytes_eq-Decides}
 use Rattle.json_text.specs.Json.{Json}
@@ -12,23 +12,25 @@ use Rattle.rpc_message.specs.Message.{Message, request, notification, result, er
 use Rattle.rpc_message.specs.Texts.{ok_text, error_text, initialized_text, with_id_text, error_tree}
 use Rattle.mux_model.specs.declared.phase.Phase.{Phase}
 use Rattle.mux_model.specs.declared.phase.Phase.TheVariants.{Absent, New, Waiting, Answered, Running, Down, Closed, Gone}
-use Rattle.mux_model.specs.Built.{is_other, is_plain_body, built_from_editor}
+use Rattle.mux_model.specs.Built.{is_other, built_from_editor}
 use Rattle.mux_model.specs.Event.{Event, took, did, heard, said, events_of, requests}
 use Rattle.mux_model.specs.Legal.{Legal}
 use Rattle.mux_model.specs.Members.{has_token}
 use Rattle.mux_model.specs.Phases.{Desk, desk_of, desk_behind, desk_hears, phase_told, editors_of, is_there, makes_running}
 use Rattle.mux_model.specs.Requests.{asking_of, open_of, is_open, asks, without}
+use Rattle.mux_model.specs.Rows.{malformed_code, malformed_text}
 use Rattle.mux_model.specs.Settings.{Settings}
 use Rattle.mux_model.specs.Spawns.{starts_of}
 use Rattle.session_laws.specs.Always.{Always}
 use Rattle.session_laws.specs.ClientRules.{Opening, opening_hears, opening_told, opening_behind, opening_of, may_hear, ClientRule3, KeepsClient3}
 use Rattle.session_laws.specs.Parts.{editor_part, is_of_editor}
 use Rattle.session_laws.proofs.Asked.{IsKnown}
-use Rattle.session_laws.proofs.Bodies.{welcome_says, refusal_says, IsResponseTo, is_result, is_error, passed_says}
-use Rattle.session_laws.proofs.Bricks.{takes, begins, greets, spawns, forwards, refuses, welcomes, passes, is_early, Lays, Both, lays_both}
+use Rattle.session_laws.proofs.Bodies.{welcome_says, refusal_says, malformed_says, IsResponseTo, is_result, is_error, passed_says}
+use Rattle.session_laws.proofs.Bricks.{takes, rejects, begins, greets, spawns, forwards, refuses, welcomes, passes, is_early, Lays, Both, lays_both}
 use Rattle.session_laws.proofs.Facts.{Facts, facts_law, no_facts}
 use Rattle.session_laws.proofs.Folds.{desk_more}
 use Rattle.session_laws.proofs.Keeps.{every_history}
+use Rattle.session_laws.proofs.Late.{error_told}
 use Rattle.session_laws.proofs.Rules.{rule_more, word_more}
 use Rattle.session_laws.proofs.Table.{table_keeps}
 use Rattle.session_laws.proofs.Waits.{asked_is}
@@ -211,15 +213,25 @@ to_editor events n body h may link e = one_more e events (said (ToEditor n body)
 to_server : (events : List Event) (n : ℕ) (body : List ℕ) → Everywhere events → Everywhere (events ++ said (ToServer n body) ∷ [])
 to_server events n body h e = one_more e events (said (ToServer n body)) (h e) (λ same. absurd (cc)) (h e).link
 
+from_editor : (events : List Event) (n : ℕ) (body : List ℕ) → built_from_editor (desk_of n events).phase (open_of n events) (message_of body) ≡ true → Everywhere events → Everywhere (events ++ took (FromEditor n body) (message_of body) ∷ [])
+from_editor events n body built h e = one_more e events (took (FromEditor n body) (message_of body)) (h e) (λ same. tt)
+    (pick (nat_eq n e) (desk_hears (desk_of e events).phase (desk_of e events).initialize body (message_of body)) (desk_of e events) (opening_hears (opening e events) (message_of body)) (opening e events)
+    (λ same. hears (desk_of e events).phase (desk_of e events).initialize body (open_of e events) (opening e events) (message_of body) refl
+    (subst (λ k. built_from_editor (desk_of k events).phase (open_of k events) (message_of body) ≡ true) (number_same n e same) built) (h e).link) (h e).link)
+
+-- an error under a null id
+null_to_editor : (events : List Event) (n : ℕ) (body : List ℕ) (x : Json) → message_of body ≡ error None x → Everywhere events → Everywhere (events ++ said (ToEditor n body) ∷ [])
+null_to_editor events n body x says h = to_editor events n body h (ap (may_hear (opening n events)) says)
+    (subst (λ m. Link (phase_told (desk_of n events).phase m) (desk_of n events).initialize (opening_told (opening n events) m)) (sym says)
+    (subst (λ p. Link p (desk_of n events).initialize (opening n events)) (sym (error_told (desk_of n events).phase None x)) (h n).link))
+
 client_law : (settings : Settings) → Lays settings Facts Everywhere
 client_law settings events (takes (Joined n) fits built still) known h e = one_more e events (took (Joined n) not_message) (h e) (λ same. tt)
     (pick_desk (nat_eq n e) (record { phase = New; initialize = [] }) (desk_of e events) (opening e events)
     (λ same. subst (λ z. Link z (desk_of e events).initialize (opening e events)) (known.0.0 e (omega (arith, number_same n e same, number_same n (editors_of events) fits))) (h e).link) (h e).link)
-client_law settings events (takes (FromEditor n body) fits built still) known h e = one_more e events (took (FromEditor n body) (message_of body)) (h e) (λ same. tt)
-    (pick (nat_eq n e) (desk_hears (desk_of e events).phase (desk_of e events).initialize body (message_of body)) (desk_of e events) (opening_hears (opening e events) (message_of body)) (opening e events)
-    (λ same. hears (desk_of e events).phase (desk_of e events).initialize body (open_of e events) (opening e events) (message_of body) refl
-    (subst (λ k. built_from_editor (desk_of k events).phase (open_of k events) (message_of body) ≡ true) (number_same n e same)
-    (and_parts (is_plain_body body) (built_from_editor (desk_of n events).phase (open_of n events) (message_of body)) built).1) (h e).link) (h e).link)
+client_law settings events (takes (FromEditor n body) fits built still) known h j = from_editor events n body built h j
+client_law settings events (rejects n body fits built malformed) known h j = null_to_editor (events ++ took (FromEditor n body) (message_of body) ∷ []) n (malformed_text (message_of body))
+    (error_tree (malformed_code (message_of body))) (malformed_says (message_of body)) (from_editor events n body built h) j
 client_law settings events (takes (EditorGone n why) fits built still) known h e = one_more e events (took (EditorGone n why) not_message) (h e) (λ same. tt)
     (pick (nat_eq n e) (record { phase = Gone; initialize = (desk_of e events).initialize }) (desk_of e events) (opening e events) (opening e events) (λ same. tt) (h e).link)
 client_law settings events (takes cause fits built still) known h e = one_more e events (heard cause) (h e) (λ same. tt) (h e).link

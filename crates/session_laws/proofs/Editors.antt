@@ -8,9 +8,10 @@ use Rattle.mux_model.specs.declared.phase.Phase.TheVariants.{Absent, New, Gone}
 use Rattle.mux_model.specs.Event.{Event, took, did, heard, said}
 use Rattle.mux_model.specs.Phases.{Desk, desk_of, desk_behind, desk_hears, phase_told, editors_of, editors_behind, is_linked}
 use Rattle.mux_model.specs.Requests.{asking_of}
+use Rattle.mux_model.specs.Rows.{malformed_text}
 use Rattle.mux_model.specs.Settings.{Settings}
 use Rattle.mux_model.specs.Spawns.{starts_of}
-use Rattle.session_laws.proofs.Bricks.{takes, begins, greets, spawns, forwards, refuses, welcomes, passes, Lays, Anything}
+use Rattle.session_laws.proofs.Bricks.{takes, rejects, begins, greets, spawns, forwards, refuses, welcomes, passes, Lays, Anything}
 use Rattle.session_laws.proofs.Folds.{desk_more, editors_more}
 use Rattle.session_laws.proofs.Rules.{unless}
 use Rattle.session_laws.proofs.Words.{number_same}
@@ -38,6 +39,10 @@ to_editor events n body h = more events (said (ToEditor n body)) h refl (λ e ab
 to_server : (events : List Event) (n : ℕ) (body : List ℕ) → Editors events → Editors (events ++ said (ToServer n body) ∷ [])
 to_server events n body h = more events (said (ToServer n body)) h refl (λ e absent. absent)
 
+from_editor : (events : List Event) (n : ℕ) (body : List ℕ) → is_linked (desk_of n events).phase ≡ true → Editors events → Editors (events ++ took (FromEditor n body) (message_of body) ∷ [])
+from_editor events n body linked h = more events (took (FromEditor n body) (message_of body)) h refl
+    (λ e absent. ap (λ (d : Desk). d.phase) (unless (nat_eq n e) (desk_hears (desk_of e events).phase (desk_of e events).initialize body (message_of body)) (desk_of e events) (λ same. linked_not events n e absent same linked)) ∙ absent)
+
 pub editors_law : (settings : Settings) → Lays settings Anything Editors
 editors_law settings events (takes (Joined n) fits built still) known h = λ e le.
     let count : editors_of (events ++ took (Joined n) not_message ∷ []) ≡ editors_of events + 1 = editors_more events (took (Joined n) not_message) in
@@ -45,11 +50,11 @@ editors_law settings events (takes (Joined n) fits built still) known h = λ e l
     let at : n ≡ editors_of events = number_same n (editors_of events) fits in
     ap (λ (d : Desk). d.phase) (desk_more e events (took (Joined n) not_message)
     ∙ unless (nat_eq n e) (record { phase = New; initialize = [] }) (desk_of e events) (λ same. let here : n ≡ e = number_same n e same in omega (arith, count))) ∙ absent
-editors_law settings events (takes (FromEditor n body) fits built still) known h = more events (took (FromEditor n body) (message_of body)) h refl
-    (λ e absent. ap (λ (d : Desk). d.phase) (unless (nat_eq n e) (desk_hears (desk_of e events).phase (desk_of e events).initialize body (message_of body)) (desk_of e events) (λ same. linked_not events n e absent same fits)) ∙ absent)
+editors_law settings events (takes (FromEditor n body) fits built still) known h = from_editor events n body fits h
 editors_law settings events (takes (EditorGone n why) fits built still) known h = more events (took (EditorGone n why) not_message) h refl
     (λ e absent. ap (λ (d : Desk). d.phase) (unless (nat_eq n e) (record { phase = Gone; initialize = (desk_of e events).initialize }) (desk_of e events) (λ same. linked_not events n e absent same fits)) ∙ absent)
 editors_law settings events (takes cause fits built still) known h = more events (heard cause) h refl (λ e absent. absent)
+editors_law settings events (rejects n body fits built malformed) known h = to_editor (events ++ took (FromEditor n body) (message_of body) ∷ []) n (malformed_text (message_of body)) (from_editor events n body fits h)
 editors_law settings events (begins n body params fits stage says) known h = to_server (events ++ took (Started n) not_message ∷ []) n body (more events (took (Started n) not_message) h refl (λ e absent. absent))
 editors_law settings events (greets n body r fits built stage says) known h = to_server (events ++ took (FromServer n body) (message_of body) ∷ []) n initialized_text
     (more events (took (FromServer n body) (message_of body)) h refl (λ e absent. absent))

@@ -2,7 +2,7 @@
 use Rattle.std.proofs.Common.{◌≡◌, ℕ, ◌<◌, ◌^◌, Bool, true, false, ◌&&◌, cond, List, [], ◌∷◌, ◌++◌, fold, nat_eq, nat_lt, codes, decimal, Option, Some, if◌then◌else◌, refl, sym, ◌∙◌, ap, ap₂, subst, subst₂, arith}
 use Rattle.json_text.specs.Bare.{nowhere}
 use Rattle.json_text.specs.Json.{Json, object, no_members}
-use Rattle.mux_history.specs.declared.cause.Cause.TheVariants.{Started, StartFailed, FromServer, ServerGone}
+use Rattle.mux_history.specs.declared.cause.Cause.TheVariants.{FromEditor, Started, StartFailed, FromServer, ServerGone}
 use Rattle.mux_history.specs.declared.entry.Entry.{Entry}
 use Rattle.mux_history.specs.declared.out.Out.TheVariants.{ToEditor, ToServer, Spawn}
 use Rattle.rpc_message.specs.Message.{Message, request, notification, result, integer, not_message, message_of, id_bytes, result_bytes}
@@ -16,12 +16,13 @@ use Rattle.mux_model.specs.Event.{Event, took, did, heard, said, events_of}
 use Rattle.mux_model.specs.Legal.{Legal}
 use Rattle.mux_model.specs.Phases.{desk_of}
 use Rattle.mux_model.specs.Requests.{asking_of}
+use Rattle.mux_model.specs.Rows.{malformed_text}
 use Rattle.mux_model.specs.Settings.{Settings}
 use Rattle.mux_model.specs.Spawns.{starts_of}
 use Rattle.mux_model.specs.Stages.{Life, life_of, life_behind, stage_started, stage_hears, stage_told, is_first_result}
 use Rattle.session_laws.specs.Always.{Always}
 use Rattle.session_laws.specs.Parts.{server_part, is_of_server}
-use Rattle.session_laws.proofs.Bricks.{takes, begins, greets, spawns, forwards, refuses, welcomes, passes, is_spawning, is_initializing, Lays, Both, lays_both}
+use Rattle.session_laws.proofs.Bricks.{takes, rejects, begins, greets, spawns, forwards, refuses, welcomes, passes, is_spawning, is_initializing, Lays, Both, lays_both}
 use Rattle.session_laws.proofs.Folds.{life_more}
 use Rattle.session_laws.proofs.Keeps.{every_history}
 use Rattle.session_laws.proofs.Rules.{rule_more, word_more}
@@ -110,6 +111,10 @@ module _ {W : Type 0} (step : W → Event → W) (start : W) (Rule : List Event 
         (λ same. moves.hears (life_of s events).stage (word s events) n body (message_of body)
         (subst (λ k. (is_initializing (life_of k events).stage && is_first_result (message_of body)) ≡ false) (number_same n s same) still) (h s).link) (h s).link)
     server_law events (takes cause fits built still) known h s = one_more s events (heard cause) (h s) (λ e. moves.free (server_part s events) (heard cause) refl) (h s).link
+    server_law events (rejects n body fits built malformed) known h s =
+        let a : Event = took (FromEditor n body) (message_of body) in
+        let taken : Here s (events ++ a ∷ []) = one_more s events a (h s) (λ e. absurd (cc)) (h s).link in
+        one_more s (events ++ a ∷ []) (said (ToEditor n (malformed_text (message_of body)))) taken (λ e. absurd (cc)) taken.link
     server_law events (begins n body params fits stage says) known h s =
         let a : Event = took (Started n) not_message in
         let b : Event = did (ToServer n body) (message_of body) in

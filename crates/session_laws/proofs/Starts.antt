@@ -1,6 +1,6 @@
 -- A start that wasn't spawned has no life.
 use Rattle.std.proofs.Common.{◌≡◌, ℕ, ◌+◌, ◌≤◌, Bool, true, false, List, [], ◌∷◌, ◌++◌, nat_eq, refl, ◌∙◌, ap, arith, decimal, if◌then◌else◌}
-use Rattle.mux_history.specs.declared.cause.Cause.TheVariants.{Started, StartFailed, FromServer, ServerGone}
+use Rattle.mux_history.specs.declared.cause.Cause.TheVariants.{FromEditor, Started, StartFailed, FromServer, ServerGone}
 use Rattle.mux_history.specs.declared.out.Out.TheVariants.{ToEditor, ToServer, Spawn}
 use Rattle.mux_model.specs.declared.stage.Stage.TheVariants.{Unspawned, Spawning, Ended}
 use Rattle.rpc_message.specs.Message.{not_message, message_of, id_bytes, result_bytes}
@@ -8,10 +8,11 @@ use Rattle.rpc_message.specs.Texts.{ok_text, error_text, initialized_text, with_
 use Rattle.mux_model.specs.Event.{Event, took, did, heard, said}
 use Rattle.mux_model.specs.Phases.{desk_of}
 use Rattle.mux_model.specs.Requests.{asking_of}
+use Rattle.mux_model.specs.Rows.{malformed_text}
 use Rattle.mux_model.specs.Settings.{Settings}
 use Rattle.mux_model.specs.Spawns.{starts_of, starts_behind}
 use Rattle.mux_model.specs.Stages.{Life, life_of, life_behind, no_life, may_start, runs}
-use Rattle.session_laws.proofs.Bricks.{takes, begins, greets, spawns, forwards, refuses, welcomes, passes, Lays, Anything}
+use Rattle.session_laws.proofs.Bricks.{takes, rejects, begins, greets, spawns, forwards, refuses, welcomes, passes, Lays, Anything}
 use Rattle.session_laws.proofs.Folds.{life_more, starts_more}
 use Rattle.session_laws.proofs.Rules.{unless}
 use Rattle.session_laws.proofs.Words.{number_same}
@@ -52,6 +53,8 @@ starts_law settings events (takes (FromServer n body) fits built still) known h 
 starts_law settings events (takes (ServerGone n) fits built still) known h = more events (took (ServerGone n) not_message) h refl
     (λ s none. unless (nat_eq n s) (record { stage = Ended; started = false }) no_life (λ same. runs_not events n s none same fits))
 starts_law settings events (takes cause fits built still) known h = more events (heard cause) h refl (λ s none. refl)
+starts_law settings events (rejects n body fits built malformed) known h = more (events ++ took (FromEditor n body) (message_of body) ∷ []) (said (ToEditor n (malformed_text (message_of body))))
+    (more events (took (FromEditor n body) (message_of body)) h refl (λ s none. refl)) refl (λ s none. refl)
 starts_law settings events (begins n body params fits stage says) known h = sent (events ++ took (Started n) not_message ∷ []) n body (more events (took (Started n) not_message) h refl
     (λ s none. unless (nat_eq n s) (record { stage = Unspawned; started = true }) no_life (λ same. may_not events n s none same fits)))
 starts_law settings events (greets n body r fits built stage says) known h = sent (events ++ took (FromServer n body) (message_of body) ∷ []) n initialized_text (more events (took (FromServer n body) (message_of body)) h refl

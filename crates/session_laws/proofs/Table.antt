@@ -17,16 +17,16 @@ use Rattle.mux_model.specs.declared.stage.Stage.TheVariants.{Unspawned, Spawning
 use Rattle.mux_model.specs.Built.{built_behind}
 use Rattle.mux_model.specs.Event.{Event, heard, said, behind, with_cause}
 use Rattle.mux_model.specs.Fits.{fits_behind}
-use Rattle.mux_model.specs.Phases.{Desk, desk_of, desk_behind, desk_hears, phase_told, editors_of, is_there}
+use Rattle.mux_model.specs.Phases.{Desk, desk_of, desk_behind, desk_hears, phase_told, editors_of, is_there, is_malformed}
 use Rattle.mux_model.specs.Requests.{Asked, Asking, asking_of, asked_by, asker_of, answered_id, open_of, is_open, asks}
-use Rattle.mux_model.specs.Row.{Row, nothing, choose, outs, each}
-use Rattle.mux_model.specs.Rows.{answer_error, found_group, can_ask, request_row, served_row, from_editor, below, is_waiting, is_group, waiting_for, welcome, first_result, response_row, from_server, founder_body, initialize_for, started}
+use Rattle.mux_model.specs.Row.{Row, nothing, send, choose, outs, each}
+use Rattle.mux_model.specs.Rows.{answer_error, found_group, can_ask, request_row, served_row, message_row, malformed_text, malformed_row, from_editor, below, is_waiting, is_group, waiting_for, welcome, first_result, response_row, from_server, founder_body, initialize_for, started}
 use Rattle.mux_model.specs.Settings.{Settings}
 use Rattle.mux_model.specs.Spawns.{groups_of, home_of, group_of}
 use Rattle.mux_model.specs.Stages.{Life, life_of, is_ready, is_first_result}
 use Rattle.mux_model.proofs.Openings.{any_opening_law}
 use Rattle.session_laws.specs.ServerRules.{is_response}
-use Rattle.session_laws.proofs.Bricks.{Brick, takes, begins, greets, spawns, forwards, refuses, welcomes, passes, laid, is_early, is_spawning, is_initializing, moves_on, IsForward, IsRefusal}
+use Rattle.session_laws.proofs.Bricks.{Brick, takes, rejects, begins, greets, spawns, forwards, refuses, welcomes, passes, laid, is_early, is_spawning, is_initializing, moves_on, IsForward, IsRefusal}
 use Rattle.session_laws.proofs.Folds.{desk_more, life_more, opens_more, asking_more}
 use Rattle.session_laws.proofs.Keeps.{At, at_nothing, at_send, at_choose, at_look, at_on, behind_both, behind_nothing, EntryKeeps}
 use Rattle.session_laws.proofs.Late.{hears_late}
@@ -154,15 +154,28 @@ module _ (settings : Settings) {I : List Event → Type 0} (lay : (events : List
   served_keeps before e body not_json says late = at_nothing
   served_keeps before e body not_message says late = at_nothing
 
-  editor_keeps : (before : List Event) (e : ℕ) (body : List ℕ) (phase : Phase) → (desk_of e before).phase ≡ phase → At I (with_cause before (FromEditor e body)) (from_editor settings before e body (message_of body) phase)
-  editor_keeps before e body New at = at_choose (λ yes. founds (with_cause before (FromEditor e body))) (λ no. at_nothing)
-  editor_keeps before e body Answered at = served_keeps before e body (message_of body) refl (ap is_early at)
-  editor_keeps before e body Running at = served_keeps before e body (message_of body) refl (ap is_early at)
-  editor_keeps before e body Absent at = at_nothing
-  editor_keeps before e body Waiting at = at_nothing
-  editor_keeps before e body Down at = at_nothing
-  editor_keeps before e body Closed at = at_nothing
-  editor_keeps before e body Gone at = at_nothing
+  message_keeps : (before : List Event) (e : ℕ) (body : List ℕ) (phase : Phase) → (desk_of e before).phase ≡ phase → At I (with_cause before (FromEditor e body)) (message_row settings before e body (message_of body) phase)
+  message_keeps before e body New at = at_choose (λ yes. founds (with_cause before (FromEditor e body))) (λ no. at_nothing)
+  message_keeps before e body Answered at = served_keeps before e body (message_of body) refl (ap is_early at)
+  message_keeps before e body Running at = served_keeps before e body (message_of body) refl (ap is_early at)
+  message_keeps before e body Absent at = at_nothing
+  message_keeps before e body Waiting at = at_nothing
+  message_keeps before e body Down at = at_nothing
+  message_keeps before e body Closed at = at_nothing
+  message_keeps before e body Gone at = at_nothing
+
+  editor_keeps : (before : List Event) (e : ℕ) (body : List ℕ) → fits_behind before (FromEditor e body) ≡ true → built_behind before (FromEditor e body) ≡ true → I before
+      → I (behind (with_cause before (FromEditor e body)) (outs (from_editor settings before e body (message_of body) (desk_of e before).phase) (with_cause before (FromEditor e body))))
+  editor_keeps before e body fits built h = go (is_malformed (message_of body)) refl
+    where
+      answered : (b : Bool) → is_malformed (message_of body) ≡ true → I (behind (with_cause before (FromEditor e body)) (outs (choose b (send (ToEditor e (malformed_text (message_of body)))) nothing) (with_cause before (FromEditor e body))))
+      answered true malformed = lay before (rejects e body fits built malformed) h
+      answered false malformed = behind_cause before (FromEditor e body) nothing fits built refl at_nothing h
+
+      go : (b : Bool) → is_malformed (message_of body) ≡ b
+          → I (behind (with_cause before (FromEditor e body)) (outs (choose b (malformed_row e (message_of body) (desk_of e before).phase) (message_row settings before e body (message_of body) (desk_of e before).phase)) (with_cause before (FromEditor e body))))
+      go true malformed = answered (is_there (desk_of e before).phase) malformed
+      go false whole = behind_cause before (FromEditor e body) (message_row settings before e body (message_of body) (desk_of e before).phase) fits built refl (message_keeps before e body (desk_of e before).phase refl) h
 
   response_keeps : (s : ℕ) (before : List Event) (body : List ℕ) → At I (with_cause before (FromServer s body)) (response_row s before body (message_of body))
   response_keeps s before body = at_on (λ none. at_nothing) (λ asked found. at_choose (λ there. at_send (λ h. lay (with_cause before (FromServer s body)) (passes s asked body (record {
@@ -235,8 +248,7 @@ module _ (settings : Settings) {I : List Event → Type 0} (lay : (events : List
 
   -- every entry keeps what its bricks keep
   pub table_keeps : EntryKeeps settings I
-  table_keeps before (FromEditor e body) fits built h = behind_cause before (FromEditor e body) (from_editor settings before e body (message_of body) (desk_of e before).phase) fits built refl
-      (editor_keeps before e body (desk_of e before).phase refl) h
+  table_keeps before (FromEditor e body) fits built h = editor_keeps before e body fits built h
   table_keeps before (FromServer s body) fits built h = server_keeps before s body (life_of s before).stage fits built refl h
   table_keeps before (Started s) fits built h = start_keeps before s (life_of s before).stage fits built refl h
   table_keeps before cause fits built h = behind_cause before cause nothing fits built refl at_nothing h
