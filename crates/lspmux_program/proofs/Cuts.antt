@@ -9,11 +9,7 @@ use Rattle.std.proofs.lemmas.Bool.Decides.{nat_tests}
 use Rattle.std.proofs.lemmas.List.Quantifiers.{position-Some}
 use Rattle.std.proofs.lemmas.List.Sums.{fails_before_first}
 use Rattle.lspmux_program.specs.Buffers.{BufferView, known_lines, begun_lines, onto_known, line_feed, Taken, FirstPasses}
-use Rattle.lspmux_program.specs.Lines.{Line, lines_from, onto_first, onto_line}
-
-abbrev NoFeed : List ℕ → Type 0
-NoFeed [] = Unit {0}
-NoFeed (b ∷ bytes) = (nat_eq b 10 ≡ false) × NoFeed bytes
+use Rattle.lspmux_program.specs.Lines.{Line, lines_from, onto_first, onto_line, NoFeed}
 
 -- the bytes up to a line feed are a line
 whole : (at to : ℕ) (piece rest : List ℕ) → NoFeed piece → to ≡ at + (length piece + 1) → lines_from at (piece ++ 10 ∷ rest) ≡ record { bytes = piece; upto = to } ∷ lines_from to rest
@@ -60,12 +56,12 @@ no_feed_of : (xs : List ℕ) → ((k : ℕ) → k < length xs → nat_eq (get_or
 no_feed_of [] h = tt
 no_feed_of (b ∷ xs) h = (h 0 (omega arith), no_feed_of xs (λ k l. h (suc k) (omega (arith, l))))
 
-no_feed_front : (xs : List ℕ) (i : ℕ) → ((k : ℕ) → k < i → nat_eq (get_or xs k 0) 10 ≡ false) → i ≤ length xs → NoFeed (take i xs)
+pub no_feed_front : (xs : List ℕ) (i : ℕ) → ((k : ℕ) → k < i → nat_eq (get_or xs k 0) 10 ≡ false) → i ≤ length xs → NoFeed (take i xs)
 no_feed_front xs i h l = no_feed_of (take i xs) (λ k m.
     let n : k < i = omega (arith, m, length-take-le i xs l) in
     rw (get_or-take i xs k 0 n) (h k n))
 
-split_at : (xs : List ℕ) (i : ℕ) → i < length xs → nat_eq (get_or xs i 0) 10 ≡ true → xs ≡ take i xs ++ 10 ∷ drop (i + 1) xs
+pub split_at : (xs : List ℕ) (i : ℕ) → i < length xs → nat_eq (get_or xs i 0) 10 ≡ true → xs ≡ take i xs ++ 10 ∷ drop (i + 1) xs
 split_at xs i l e =
     let d : drop i xs ≡ get_or xs i 0 ∷ drop (i + 1) xs = rw add-one (drop-cons xs i 0 l) in
     let t : get_or xs i 0 ≡ 10 = eqb-true (get_or xs i 0) 10 e in
@@ -74,7 +70,7 @@ split_at xs i l e =
 none_of : (xs : List ℕ) (n : ℕ) → cond (nat_lt n (length xs)) (Some n) None ≡ None → length xs ≤ n
 none_of xs n e = grind (arith, nat_tests)
 
-no_feed_none : (xs : List ℕ) → line_feed xs ≡ None → NoFeed xs
+pub no_feed_none : (xs : List ℕ) → line_feed xs ≡ None → NoFeed xs
 no_feed_none xs e =
     let l : length xs ≤ position_or_len (λ b. nat_eq b 10) xs = none_of xs (position_or_len (λ b. nat_eq b 10) xs) e in
     no_feed_of xs (λ k m. fails_before_first (λ b. nat_eq b 10) xs k 0 (omega (arith, l, m)))
@@ -128,7 +124,7 @@ drop-length : (xs : List ℕ) → drop (length xs) xs ≡ []
 drop-length [] = refl
 drop-length (x ∷ xs) = drop-length xs
 
-all_taken : (n m : ℕ) (xs ys : List ℕ) → n ≡ length xs → ys ≡ drop (n + 0) xs → (take n xs ≡ xs) × (ys ≡ [])
+pub all_taken : (n m : ℕ) (xs ys : List ℕ) → n ≡ length xs → ys ≡ drop (n + 0) xs → (take n xs ≡ xs) × (ys ≡ [])
 all_taken n m xs ys e h = (ap (λ k. take k xs) e ∙ take-length xs, h ∙ (ap (λ k. drop k xs) (add-zero n ∙ e) ∙ drop-length xs))
 
 pub cut_part : (n : ℕ) (before now : BufferView) (line grown : List ℕ) (left : Option (List ℕ)) → line_feed before.pending ≡ None → n ≡ length before.pending → 0 < length before.pending

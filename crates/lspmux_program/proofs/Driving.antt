@@ -19,13 +19,14 @@ use Rattle.lspmux_program.specs.declared.step.LineFault.{LineFault}
 use Rattle.lspmux_program.specs.declared.step.LineFault.TheVariants as line_fault
 use Rattle.lspmux_program.specs.declared.stop.Stop.{Stop}
 use Rattle.lspmux_program.specs.declared.stop.Stop.TheVariants as stop
-use Rattle.lspmux_program.specs.Buffers.{BufferView, known_lines, onto_known, FirstPasses}
+use Rattle.lspmux_program.specs.Buffers.{BufferView, known_lines, onto_known, FirstPasses, Came, BrokeOff}
 use Rattle.lspmux_program.specs.Faults.{LeavesWritten}
 use Rattle.lspmux_program.specs.Lines.{Line, lines_of}
 use Rattle.lspmux_program.specs.Outs.{out_lines, outs_text}
-use Rattle.lspmux_program.specs.Runs.{Refused, Outcome, on_reading, reading, reading_bytes, after, drive_from, IsRunOf, WroteFront}
-use Rattle.lspmux_program.specs.Steps.{LineTaken, LineLeft, untouched, stepped}
-use Rattle.lspmux_program.specs.Stops.{stop_at, fault_at, Driving, Gives, StopsAt, Driven}
+use Rattle.lspmux_program.specs.Runs.{Refused, Outcome, on_reading, reading, reading_bytes, after, drive_from, IsRunOf, TakesFirst, WroteFront}
+use Rattle.lspmux_program.specs.Steps.{IsTaken, LineTaken, LineLeft, untouched, stepped}
+use Rattle.lspmux_program.specs.Stops.{stop_at, fault_at, Consumed, Driving, Gives, StopsAt, Driven}
+use Rattle.lspmux_program.proofs.Consumes.{consumed_none, consumed_more, consumed_read}
 
 -- a line with this reading, and the lines behind it
 abbrev driven_by : Settings → ℕ → List Entry → List Line → Result Cause Refusal → Outcome
@@ -124,11 +125,12 @@ front_of_more w v u a b c n e f g = record {
 
 -- the exits and the turn of the loop
 pub begins : {J : Type 0} (told : J → Option (List Entry)) (settings : Settings) (hub : HubView J) (buffer : BufferView) (left w : Option (List ℕ)) → HubStands told hub []
-    → buffer ≡ record { pending = []; used = 0 } → Driving told settings (option_map lines_of left) (known_lines buffer left) 0 w w hub
+    → buffer ≡ record { pending = []; used = 0 } → Driving told settings left left buffer 0 w w hub
 begins told settings hub buffer left w s e = record {
   history = [];
   stands = s;
   run = record { front = []; whole = unread left ∙ ap (λ (b : BufferView). option_map (λ lines. [] ++ lines) (known_lines b left)) (sym e); runs = refl };
+  consumed = subst (λ b. Consumed left left b []) (sym e) (consumed_none left);
   count = refl;
   wrote = unwritten w;
 }
@@ -144,31 +146,59 @@ begins told settings hub buffer left w s e = record {
 taken_more : (front : List Line) (line : Line) (taken : ℕ) → taken ≡ length front → taken + 1 ≡ length (front ++ line ∷ [])
 taken_more front line taken e = omega (arith, e, length-append front (line ∷ []))
 
-pub goes_on : {J : Type 0} (told : J → Option (List Entry)) (settings : Settings) (all now rest : Option (List Line)) (taken : ℕ) (w v u : Option (List ℕ)) (hub next : HubView J) (bytes : List ℕ) (upto : ℕ)
-    → Driving told settings all now taken w v hub → hub.settings ≡ settings → now ≡ onto_known (record { bytes = bytes; upto = upto }) rest → upto ≤ 2 ^ 40
-    → ((history : List Entry) → HubStands told hub history → LineTaken told history bytes hub next v u) → Driving told settings all rest (taken + 1) w u next
-unfolding run_more
-goes_on told settings all now rest taken w v u hub next bytes upto d s e m f =
-    let t : LineTaken told d.history bytes hub next v u = f d.history d.stands in
-    let r : reading d.history (record { bytes = bytes; upto = upto }) ≡ Ok t.cause = reading_near d.history bytes upto m ∙ t.reads in
-    record {
-      history = after settings d.history t.cause;
-      stands = subst (λ q. HubStands told next (after q d.history t.cause)) s t.stands;
-      run = run_more settings all now rest d.history (record { bytes = bytes; upto = upto }) t.cause d.run e r;
-      count = taken_more d.run.front (record { bytes = bytes; upto = upto }) taken d.count;
-      wrote = t.wrote ∙ (ap (λ o. append_known o (out_lines (emits hub.settings d.history t.cause))) d.wrote ∙ (append_both w (outs_text d.history) (out_lines (emits hub.settings d.history t.cause))
-          ∙ ap (append_known w) (ap (λ q. outs_text d.history ++ out_lines (emits q d.history t.cause)) s ∙ sym (outs_more settings d.history t.cause))));
-    }
+-- the outs of one more entry were written
+wrote_behind : (settings given : Settings) (history : List Entry) (cause : Cause) (w v u : Option (List ℕ)) → given ≡ settings → v ≡ append_known w (outs_text history) → u ≡ append_known v (out_lines (emits given history cause))
+    → u ≡ append_known w (outs_text (after settings history cause))
+wrote_behind settings given history cause w v u s o e = e ∙ (ap (λ o. append_known o (out_lines (emits given history cause))) o ∙ (append_both w (outs_text history) (out_lines (emits given history cause))
+    ∙ ap (append_known w) (ap (λ q. outs_text history ++ out_lines (emits q history cause)) s ∙ sym (outs_more settings history cause))))
 
-pub ends : {J : Type 0} (told : J → Option (List Entry)) (settings : Settings) (all now : Option (List Line)) (taken : ℕ) (w v : Option (List ℕ)) (hub : HubView J)
-    → Driving told settings all now taken w v hub → IfSome now (λ ls. ls ≡ []) → Driven told settings all w v hub (Ok tt)
-ends told settings all now taken w v hub d h = record {
+module _ {J : Type 0} (told : J → Option (List Entry)) (settings : Settings) (input left next_left : Option (List ℕ)) (buffer next_buffer : BufferView) (taken : ℕ) (w v u : Option (List ℕ)) (hub next : HubView J) (bytes : List ℕ)
+    (d : Driving told settings input left buffer taken w v hub) (same : hub.settings ≡ settings) (first : known_lines buffer left ≡ onto_known (record { bytes = bytes; upto = next_buffer.used }) (known_lines next_buffer next_left))
+    (near : next_buffer.used ≤ 2 ^ 40) where
+  run_behind : (cause : Cause) → reading_bytes d.history bytes ≡ Ok cause → IsRunOf settings (option_map lines_of input) (known_lines next_buffer next_left) (after settings d.history cause)
+  run_behind cause reads = run_more settings (option_map lines_of input) (known_lines buffer left) (known_lines next_buffer next_left) d.history (record { bytes = bytes; upto = next_buffer.used }) cause d.run first
+      (reading_near d.history bytes next_buffer.used near ∙ reads)
+
+  pub goes_on : ((history : List Entry) → HubStands told hub history → LineTaken told history bytes hub next v u) → Came (10 ∷ []) bytes buffer next_buffer left next_left
+      → Driving told settings input next_left next_buffer (taken + 1) w u next
+  unfolding run_more run_behind
+  goes_on f came =
+      let t : LineTaken told d.history bytes hub next v u = f d.history d.stands in
+      record {
+        history = after settings d.history t.cause;
+        stands = subst (λ q. HubStands told next (after q d.history t.cause)) same t.stands;
+        run = run_behind t.cause t.reads;
+        consumed = consumed_more input left next_left buffer next_buffer d.run.front bytes d.consumed came;
+        count = taken_more d.run.front (record { bytes = bytes; upto = next_buffer.used }) taken d.count;
+        wrote = wrote_behind settings hub.settings d.history t.cause w v u same d.wrote t.wrote;
+      }
+
+  -- behind the last line, which no line feed ends
+  pub ends_behind : ((history : List Entry) → HubStands told hub history → LineTaken told history bytes hub next v u) → IfSome (known_lines next_buffer next_left) (λ ls. ls ≡ [])
+      → Driven told settings input next_left w u next (Ok tt)
+  ends_behind f none =
+      let t : LineTaken told d.history bytes hub next v u = f d.history d.stands in
+      let o : u ≡ append_known w (outs_text (after settings d.history t.cause)) = wrote_behind settings hub.settings d.history t.cause w v u same d.wrote t.wrote in
+      let r : IsRunOf settings (option_map lines_of input) (known_lines next_buffer next_left) (after settings d.history t.cause) = run_behind t.cause t.reads in
+      record {
+        history = after settings d.history t.cause;
+        stands = subst (λ q. HubStands told next (after q d.history t.cause)) same t.stands;
+        rest = known_lines next_buffer next_left;
+        run = r;
+        wrote = front_of_all w u (outs_text (after settings d.history t.cause)) o;
+        done = (o, given_done settings (option_map lines_of input) (known_lines next_buffer next_left) (after settings d.history t.cause) r.front r.whole r.runs none);
+        stopped = tt;
+      }
+
+pub ends : {J : Type 0} (told : J → Option (List Entry)) (settings : Settings) (input left now_left : Option (List ℕ)) (buffer : BufferView) (taken : ℕ) (w v : Option (List ℕ)) (hub : HubView J)
+    → Driving told settings input left buffer taken w v hub → IfSome (known_lines buffer left) (λ ls. ls ≡ []) → Driven told settings input now_left w v hub (Ok tt)
+ends told settings input left now_left buffer taken w v hub d h = record {
   history = d.history;
   stands = d.stands;
-  rest = now;
+  rest = known_lines buffer left;
   run = d.run;
   wrote = front_of_all w v (outs_text d.history) d.wrote;
-  done = (d.wrote, given_done settings all now d.history d.run.front d.run.whole d.run.runs h);
+  done = (d.wrote, given_done settings (option_map lines_of input) (known_lines buffer left) d.history d.run.front d.run.whole d.run.runs h);
   stopped = tt;
 }
 
@@ -178,86 +208,93 @@ numbered_as settings all history front refusal number taken n t h =
     let e : 1 + length front ≡ number = omega (arith, n, t) in
     subst (λ k. Gives settings all (record { history = history; refused = Some (record { line = k; refusal = refusal }) })) e h
 
-stop_says : (settings : Settings) (all now : Option (List Line)) (w v : Option (List ℕ)) (history : List Entry) (front : List Line) (number taken : ℕ) (s : LineStop)
-    → all ≡ option_map (λ ls. front ++ ls) now → drive_from settings 1 [] front ≡ record { history = history; refused = None } → v ≡ append_known w (outs_text history)
-    → number ≡ taken + 1 → taken ≡ length front → (s ≡ line_stop.Passed → IfSome now FirstPasses) → StopsAt settings all w v history (stop_at number s)
-stop_says settings all now w v history front number taken line_stop.Memory e r o n t p = tt
-stop_says settings all now w v history front number taken line_stop.Input e r o n t p = o
-stop_says settings all now w v history front number taken line_stop.Passed e r o n t p =
-    (o, numbered_as settings all history front Form number taken n t (given_passed settings all now history front e r (p refl)))
+stop_says : {J : Type 0} (told : J → Option (List Entry)) (settings : Settings) (input left now_left : Option (List ℕ)) (buffer : BufferView) (taken number : ℕ) (w v : Option (List ℕ)) (hub : HubView J) (s : LineStop)
+    (d : Driving told settings input left buffer taken w v hub) → number ≡ taken + 1 → (s ≡ line_stop.Passed → IfSome (known_lines buffer left) FirstPasses) → (s ≡ line_stop.Input → BrokeOff buffer left now_left)
+    → StopsAt settings input now_left (known_lines buffer left) w v d.history (stop_at number s)
+stop_says told settings input left now_left buffer taken number w v hub line_stop.Memory d n p b = tt
+stop_says told settings input left now_left buffer taken number w v hub line_stop.Input d n p b = (d.wrote, consumed_read settings input left now_left buffer d.run.front d.history d.consumed (b refl) d.run.runs)
+stop_says told settings input left now_left buffer taken number w v hub line_stop.Passed d n p b =
+    (d.wrote, numbered_as settings (option_map lines_of input) d.history d.run.front Form number taken n d.count (given_passed settings (option_map lines_of input) (known_lines buffer left) d.history d.run.front d.run.whole d.run.runs (p refl)))
 
-pub stops : {J : Type 0} (told : J → Option (List Entry)) (settings : Settings) (all now : Option (List Line)) (taken number : ℕ) (w v : Option (List ℕ)) (hub : HubView J) (s : LineStop)
-    → Driving told settings all now taken w v hub → number ≡ taken + 1 → (s ≡ line_stop.Passed → IfSome now FirstPasses) → Driven told settings all w v hub (Err (stop_at number s))
-stops told settings all now taken number w v hub s d n p = record {
+pub stops : {J : Type 0} (told : J → Option (List Entry)) (settings : Settings) (input left now_left : Option (List ℕ)) (buffer : BufferView) (taken number : ℕ) (w v : Option (List ℕ)) (hub : HubView J) (s : LineStop)
+    → Driving told settings input left buffer taken w v hub → number ≡ taken + 1 → (s ≡ line_stop.Passed → IfSome (known_lines buffer left) FirstPasses) → (s ≡ line_stop.Input → BrokeOff buffer left now_left)
+    → Driven told settings input now_left w v hub (Err (stop_at number s))
+stops told settings input left now_left buffer taken number w v hub s d n p b = record {
   history = d.history;
   stands = d.stands;
-  rest = now;
+  rest = known_lines buffer left;
   run = d.run;
   wrote = front_of_all w v (outs_text d.history) d.wrote;
   done = tt;
-  stopped = stop_says settings all now w v d.history d.run.front number taken s d.run.whole d.run.runs d.wrote n d.count p;
+  stopped = stop_says told settings input left now_left buffer taken number w v hub s d n p b;
 }
 
--- a line that was taken or not, before a stop that says no more
-left_at : {J : Type 0} (told : J → Option (List Entry)) (settings : Settings) (all now rest : Option (List Line)) (taken : ℕ) (w v u : Option (List ℕ)) (hub next : HubView J) (bytes : List ℕ) (upto : ℕ) (s : Stop)
-    (d : Driving told settings all now taken w v hub) → hub.settings ≡ settings → now ≡ onto_known (record { bytes = bytes; upto = upto }) rest → upto ≤ 2 ^ 40
-    → ((history : List Entry) → StopsAt settings all w u history s) → LineLeft told d.history bytes hub next v u → Driven told settings all w u next (Err s)
-left_at told settings all now rest taken w v u hub next bytes upto s d q e m says (untouched stands o) = record {
-  history = d.history;
-  stands = stands;
-  rest = now;
-  run = d.run;
-  wrote = front_of_all w u (outs_text d.history) (o ∙ d.wrote);
-  done = tt;
-  stopped = says d.history;
-}
-left_at told settings all now rest taken w v u hub next bytes upto s d q e m says (stepped cause count reads stands o) = record {
-  history = after settings d.history cause;
-  stands = subst (λ z. HubStands told next (after z d.history cause)) q stands;
-  rest = rest;
-  run = run_more settings all now rest d.history (record { bytes = bytes; upto = upto }) cause d.run e (reading_near d.history bytes upto m ∙ reads);
-  wrote = front_of_more w v u (outs_text d.history) (out_lines (emits hub.settings d.history cause)) (outs_text (after settings d.history cause)) count d.wrote o
-      (outs_more settings d.history cause ∙ ap (λ z. outs_text d.history ++ out_lines (emits z d.history cause)) (sym q));
-  done = tt;
-  stopped = says (after settings d.history cause);
-}
+module _ {J : Type 0} (told : J → Option (List Entry)) (settings : Settings) (input left next_left : Option (List ℕ)) (buffer next_buffer : BufferView) (taken : ℕ) (w v u : Option (List ℕ)) (hub next : HubView J) (bytes : List ℕ)
+    (d : Driving told settings input left buffer taken w v hub) (same : hub.settings ≡ settings) (first : known_lines buffer left ≡ onto_known (record { bytes = bytes; upto = next_buffer.used }) (known_lines next_buffer next_left))
+    (near : next_buffer.used ≤ 2 ^ 40) where
+  -- a line that was taken or not, before a stop that says no more
+  left_at : (s : Stop) → ((history : List Entry) (rest : Option (List Line)) → StopsAt settings input next_left rest w u history s) → LineLeft told d.history bytes hub next v u → Driven told settings input next_left w u next (Err s)
+  left_at s says (untouched stands o) = record {
+    history = d.history;
+    stands = stands;
+    rest = known_lines buffer left;
+    run = d.run;
+    wrote = front_of_all w u (outs_text d.history) (o ∙ d.wrote);
+    done = tt;
+    stopped = says d.history (known_lines buffer left);
+  }
+  left_at s says (stepped cause count reads stands o) = record {
+    history = after settings d.history cause;
+    stands = subst (λ z. HubStands told next (after z d.history cause)) same stands;
+    rest = known_lines next_buffer next_left;
+    run = run_behind told settings input left next_left buffer next_buffer taken w v u hub next bytes d same first near cause reads;
+    wrote = front_of_more w v u (outs_text d.history) (out_lines (emits hub.settings d.history cause)) (outs_text (after settings d.history cause)) count d.wrote o
+        (outs_more settings d.history cause ∙ ap (λ z. outs_text d.history ++ out_lines (emits z d.history cause)) (sym same));
+    done = tt;
+    stopped = says (after settings d.history cause) (known_lines next_buffer next_left);
+  }
 
-kept_at : {J : Type 0} (told : J → Option (List Entry)) (settings : Settings) (all now : Option (List Line)) (taken : ℕ) (w v u : Option (List ℕ)) (hub next : HubView J) (s : Stop)
-    (d : Driving told settings all now taken w v hub) → HubStands told next d.history → u ≡ v → StopsAt settings all w u d.history s → Driven told settings all w u next (Err s)
-kept_at told settings all now taken w v u hub next s d stands o says = record {
-  history = d.history;
-  stands = stands;
-  rest = now;
-  run = d.run;
-  wrote = front_of_all w u (outs_text d.history) (o ∙ d.wrote);
-  done = tt;
-  stopped = says;
-}
+  kept_at : (s : Stop) → HubStands told next d.history → u ≡ v → StopsAt settings input next_left (known_lines buffer left) w u d.history s → Driven told settings input next_left w u next (Err s)
+  kept_at s stands o says = record {
+    history = d.history;
+    stands = stands;
+    rest = known_lines buffer left;
+    run = d.run;
+    wrote = front_of_all w u (outs_text d.history) (o ∙ d.wrote);
+    done = tt;
+    stopped = says;
+  }
 
-pub faults : {J : Type 0} (told : J → Option (List Entry)) (settings : Settings) (all now rest : Option (List Line)) (taken number : ℕ) (w v u : Option (List ℕ)) (hub next : HubView J) (bytes : List ℕ) (upto : ℕ) (fault : LineFault)
-    (d : Driving told settings all now taken w v hub) → hub.settings ≡ settings → now ≡ onto_known (record { bytes = bytes; upto = upto }) rest → upto ≤ 2 ^ 40 → number ≡ taken + 1
-    → LineLeft told d.history bytes hub next v u → (LeavesWritten fault → HubStands told next d.history × (u ≡ v)) → ((r : Refusal) → fault ≡ line_fault.Refused r → reading_bytes d.history bytes ≡ Err r)
-    → Driven told settings all w u next (Err (fault_at number fault))
-faults told settings all now rest taken number w v u hub next bytes upto line_fault.Memory d q e m n left kept refused =
-    left_at told settings all now rest taken w v u hub next bytes upto stop.Memory d q e m (λ h. tt) left
-faults told settings all now rest taken number w v u hub next bytes upto line_fault.Output d q e m n left kept refused =
-    left_at told settings all now rest taken w v u hub next bytes upto stop.Output d q e m (λ h. tt) left
-faults told settings all now rest taken number w v u hub next bytes upto line_fault.Journal d q e m n left kept refused =
-    let k : HubStands told next d.history × (u ≡ v) = kept tt in
-    kept_at told settings all now taken w v u hub next stop.Journal d k.0 k.1 (k.1 ∙ d.wrote)
-faults told settings all now rest taken number w v u hub next bytes upto (line_fault.Refused r) d q e m n left kept refused =
-    let k : HubStands told next d.history × (u ≡ v) = kept tt in
-    kept_at told settings all now taken w v u hub next (stop.Refused number r) d k.0 k.1 (
-      k.1 ∙ d.wrote,
-      numbered_as settings all d.history d.run.front r number taken n d.count
-          (given_refused settings all rest d.history d.run.front (record { bytes = bytes; upto = upto }) r (d.run.whole ∙ ap (option_map (λ ls. d.run.front ++ ls)) e) d.run.runs (reading_near d.history bytes upto m ∙ refused r refl)),
-    )
+  -- the line at which a journal failed
+  first_taken : (rest : Option (List Line)) → IsTaken d.history bytes → IfSome (onto_known (record { bytes = bytes; upto = next_buffer.used }) rest) (TakesFirst d.history)
+  first_taken None t = tt
+  first_taken (Some lines) t = (t.cause, reading_near d.history bytes next_buffer.used near ∙ t.reads)
+
+  pub faults : (number : ℕ) (fault : LineFault) → number ≡ taken + 1 → LineLeft told d.history bytes hub next v u → (LeavesWritten fault → HubStands told next d.history × (u ≡ v))
+      → ((r : Refusal) → fault ≡ line_fault.Refused r → reading_bytes d.history bytes ≡ Err r) → (fault ≡ line_fault.Journal → IsTaken d.history bytes)
+      → Driven told settings input next_left w u next (Err (fault_at number fault))
+  faults number line_fault.Memory n left_line kept refused taken_line = left_at stop.Memory (λ h r. tt) left_line
+  faults number line_fault.Output n left_line kept refused taken_line = left_at stop.Output (λ h r. tt) left_line
+  faults number line_fault.Journal n left_line kept refused taken_line =
+      let k : HubStands told next d.history × (u ≡ v) = kept tt in
+      kept_at stop.Journal k.0 k.1 (k.1 ∙ d.wrote, subst (λ rest. IfSome rest (TakesFirst d.history)) (sym first) (first_taken (known_lines next_buffer next_left) (taken_line refl)))
+  faults number (line_fault.Refused r) n left_line kept refused taken_line =
+      let k : HubStands told next d.history × (u ≡ v) = kept tt in
+      kept_at (stop.Refused number r) k.0 k.1 (
+        k.1 ∙ d.wrote,
+        numbered_as settings (option_map lines_of input) d.history d.run.front r number taken n d.count
+            (given_refused settings (option_map lines_of input) (known_lines next_buffer next_left) d.history d.run.front (record { bytes = bytes; upto = next_buffer.used }) r (d.run.whole ∙ ap (option_map (λ ls. d.run.front ++ ls)) first) d.run.runs
+            (reading_near d.history bytes next_buffer.used near ∙ refused r refl)),
+      )
 
 memory_not_passed : line_stop.Memory ≡ line_stop.Passed → ⊥
 memory_not_passed e = cc
 
+memory_not_input : line_stop.Memory ≡ line_stop.Input → ⊥
+memory_not_input e = cc
+
 -- no memory for a buffer
-pub never_begins : {J : Type 0} (told : J → Option (List Entry)) (settings : Settings) (hub : HubView J) (left w : Option (List ℕ)) → HubStands told hub [] → Driven told settings (option_map lines_of left) w w hub (Err stop.Memory)
+pub never_begins : {J : Type 0} (told : J → Option (List Entry)) (settings : Settings) (hub : HubView J) (left w : Option (List ℕ)) → HubStands told hub [] → Driven told settings left left w w hub (Err stop.Memory)
 never_begins told settings hub left w s =
-    stops told settings (option_map lines_of left) (known_lines (record { pending = []; used = 0 }) left) 0 1 w w hub line_stop.Memory
-    (begins told settings hub (record { pending = []; used = 0 }) left w s refl) refl (λ e. absurd (memory_not_passed e))
+    stops told settings left left left (record { pending = []; used = 0 }) 0 1 w w hub line_stop.Memory
+    (begins told settings hub (record { pending = []; used = 0 }) left w s refl) refl (λ e. absurd (memory_not_passed e)) (λ e. absurd (memory_not_input e))

@@ -17,12 +17,12 @@ use Rattle.lspmux_program.specs.Outs.{outs_text}
 use Rattle.session_laws.proofs.Sessions.{sessions_kept}
 use Rattle.lspmux_program.specs.Program.{status_of, fault_line, status_line, refused_line, Ran, Drove, JournalTells, words_line, IsUnrefused, Undisturbed}
 use Rattle.lspmux_program.specs.Reports.{Wrote, Reported, said, unsaid}
-use Rattle.lspmux_program.specs.Runs.{built_in, Refused, Outcome, drive_of, WroteFront}
+use Rattle.lspmux_program.specs.Runs.{built_in, Refused, Outcome, drive_of, IsRunOfRead, TakesFirst, WroteFront}
 use Rattle.lspmux_program.specs.Stops.{Gives, Driven}
 
-ran_built_in : {J : Type 0} (told : J → Option (List Entry)) (journal : J) (all : Option (List Line)) (w v : Option (List ℕ)) (hub : HubView J) (result : Result (Unit {0}) Stop)
-    → Driven told built_in all w v hub result → hub.settings ≡ built_in → journal ≡ hub.journal → Ran told journal all w v result
-ran_built_in told journal all w v hub result d s j = record {
+ran_built_in : {J : Type 0} (told : J → Option (List Entry)) (journal : J) (input left w v : Option (List ℕ)) (hub : HubView J) (result : Result (Unit {0}) Stop)
+    → Driven told built_in input left w v hub result → hub.settings ≡ built_in → journal ≡ hub.journal → Ran told journal input left w v result
+ran_built_in told journal input left w v hub result d s j = record {
   history = d.history;
   legal = subst (λ q. Legal q d.history) s d.stands.legal;
   told_by = subst (λ q. Tells (told q) d.history) (sym j) d.stands.told_by;
@@ -33,10 +33,10 @@ ran_built_in told journal all w v hub result d s j = record {
   stopped = d.stopped;
 }
 
-pub ran_of : {J : Type 0} (told : J → Option (List Entry)) (settings : Settings) (journal : J) (all : Option (List Line)) (w v : Option (List ℕ)) (hub : HubView J) (result : Result (Unit {0}) Stop)
-    → Driven told settings all w v hub result → hub.settings ≡ settings → settings ≡ built_in → journal ≡ hub.journal → Ran told journal all w v result
-ran_of told settings journal all w v hub result d s b j =
-    ran_built_in told journal all w v hub result (subst (λ q. Driven told q all w v hub result) b d) (s ∙ b) j
+pub ran_of : {J : Type 0} (told : J → Option (List Entry)) (settings : Settings) (journal : J) (input left w v : Option (List ℕ)) (hub : HubView J) (result : Result (Unit {0}) Stop)
+    → Driven told settings input left w v hub result → hub.settings ≡ settings → settings ≡ built_in → journal ≡ hub.journal → Ran told journal input left w v result
+ran_of told settings journal input left w v hub result d s b j =
+    ran_built_in told journal input left w v hub result (subst (λ q. Driven told q input left w v hub result) b d) (s ∙ b) j
 
 -- no hub was made
 unread : (input : Option (List ℕ)) → option_map lines_of input ≡ option_map (λ lines. [] ++ lines) (option_map lines_of input)
@@ -47,7 +47,7 @@ nothing : (w : Option (List ℕ)) → w ≡ append_known w (take 0 [])
 nothing None = refl
 nothing (Some bytes) = ap (λ l. Some l) (sym (append-nil bytes))
 
-pub never_ran : {J : Type 0} (told : J → Option (List Entry)) (journal : J) (input w : Option (List ℕ)) → Tells (told journal) [] → Ran told journal (option_map lines_of input) w w (Err stop.Memory)
+pub never_ran : {J : Type 0} (told : J → Option (List Entry)) (journal : J) (input w : Option (List ℕ)) → Tells (told journal) [] → Ran told journal input input w w (Err stop.Memory)
 never_ran told journal input w t = record {
   history = [];
   legal = tt;
@@ -64,8 +64,8 @@ given_input : (input : Option (List ℕ)) (outcome : Outcome) → Gives built_in
 given_input None outcome g = tt
 given_input (Some bytes) outcome g = g
 
-pub drove_done : {J : Type 0} (told : J → Option (List Entry)) (journal : J) (input w v : Option (List ℕ)) (failed : Type 0) → Ran told journal (option_map lines_of input) w v (Ok tt) → Drove told (Some journal) input w v failed 0
-drove_done told journal input w v failed r = record {
+pub drove_done : {J : Type 0} (told : J → Option (List Entry)) (journal : J) (input left w v : Option (List ℕ)) (failed : Type 0) → Ran told journal input left w v (Ok tt) → Drove told (Some journal) input left w v failed 0
+drove_done told journal input left w v failed r = record {
   history = r.history;
   legal = r.legal;
   sessions = sessions_kept built_in (lit< tt) r.history r.legal;
@@ -98,9 +98,9 @@ nothing_written v u f = f.wrote ∙ by v f.count
     by (Some bytes) n = ap (λ l. Some l) (ap (λ t. bytes ++ t) (take_none n) ∙ append-nil bytes)
 
 -- a stop without a fault line
-silent : {J : Type 0} (told : J → Option (List Entry)) (journal : J) (input w v u : Option (List ℕ)) (failed : Type 0) (s : Stop) (status : ℕ) → Ran told journal (option_map lines_of input) w v (Err s)
-    → 5 ≤ status → status_line status ≡ [] → u ≡ v → Drove told (Some journal) input w u failed status
-silent told journal input w v u failed s status r m l e = record {
+silent : {J : Type 0} (told : J → Option (List Entry)) (journal : J) (input left w v u : Option (List ℕ)) (failed : Type 0) (s : Stop) (status : ℕ) → Ran told journal input left w v (Err s)
+    → 5 ≤ status → (status ≡ 6 → ⊥) → (status ≡ 7 → ⊥) → status_line status ≡ [] → u ≡ v → Drove told (Some journal) input left w u failed status
+silent told journal input left w v u failed s status r m six seven l e = record {
   history = r.history;
   legal = r.legal;
   sessions = sessions_kept built_in (lit< tt) r.history r.legal;
@@ -108,30 +108,49 @@ silent told journal input w v u failed s status r m l e = record {
   finished = λ e. absurd (omega (arith, e, m));
   refused = λ e. absurd (omega (arith, e, m));
   other_words = λ e. absurd (omega (arith, e, m));
-  cut_off = λ _. record { rest = r.rest; run = r.run; wrote = front_longer w u (outs_text r.history) (status_line status) (subst (λ o. WroteFront w o (outs_text r.history)) (sym e) r.wrote) l };
+  cut_off = λ _. record {
+    rest = r.rest;
+    run = r.run;
+    wrote = front_longer w u (outs_text r.history) (status_line status) (subst (λ o. WroteFront w o (outs_text r.history)) (sym e) r.wrote) l;
+    whole = neither;
+    journal_failed = λ e. absurd (six e);
+    input_failed = λ e. absurd (seven e);
+  };
 }
-
--- a stop with one, behind all outs
-spoken : {J : Type 0} (told : J → Option (List Entry)) (journal : J) (input w v u : Option (List ℕ)) (failed : Type 0) (s : Stop) (status : ℕ) (r : Ran told journal (option_map lines_of input) w v (Err s))
-    → 5 ≤ status → v ≡ append_known w (outs_text r.history) → WroteFront v u (status_line status) → Drove told (Some journal) input w u failed status
-spoken told journal input w v u failed s status r m o f = record {
-  history = r.history;
-  legal = r.legal;
-  sessions = sessions_kept built_in (lit< tt) r.history r.legal;
-  told_by = r.told_by;
-  finished = λ e. absurd (omega (arith, e, m));
-  refused = λ e. absurd (omega (arith, e, m));
-  other_words = λ e. absurd (omega (arith, e, m));
-  cut_off = λ _. record { rest = r.rest; run = r.run; wrote = front_behind w v u (outs_text r.history) (status_line status) o f };
-}
+  where
+    neither : (status ≡ 6) ⊎ (status ≡ 7) → (u ≡ append_known w (outs_text r.history ++ status_line status)) ⊎ failed
+    neither (inl e) = absurd (six e)
+    neither (inr e) = absurd (seven e)
 
 whole_behind : (w v u : Option (List ℕ)) (a b : List ℕ) (failed : Type 0) → v ≡ append_known w a → (u ≡ append_known v b) ⊎ failed → (u ≡ append_known w (a ++ b)) ⊎ failed
 whole_behind w v u a b failed e (inl o) = inl (o ∙ (ap (λ q. append_known q b) e ∙ append_both w a b))
 whole_behind w v u a b failed e (inr f) = inr f
 
-refused_at : {J : Type 0} (told : J → Option (List Entry)) (journal : J) (input w v u : Option (List ℕ)) (failed : Type 0) (k : ℕ) (refusal : Refusal)
-    → Ran told journal (option_map lines_of input) w v (Err (stop.Refused k refusal)) → Wrote v u (refused_line (record { line = k; refusal = refusal })) failed → Drove told (Some journal) input w u failed 1
-refused_at told journal input w v u failed k refusal r f = record {
+-- a stop with one, behind all outs
+spoken : {J : Type 0} (told : J → Option (List Entry)) (journal : J) (input left w v u : Option (List ℕ)) (failed : Type 0) (s : Stop) (status : ℕ) (r : Ran told journal input left w v (Err s))
+    → 5 ≤ status → v ≡ append_known w (outs_text r.history) → Wrote v u (status_line status) failed → (status ≡ 6 → IfSome r.rest (TakesFirst r.history)) → (status ≡ 7 → IsRunOfRead built_in input left r.history)
+    → Drove told (Some journal) input left w u failed status
+spoken told journal input left w v u failed s status r m o f six seven = record {
+  history = r.history;
+  legal = r.legal;
+  sessions = sessions_kept built_in (lit< tt) r.history r.legal;
+  told_by = r.told_by;
+  finished = λ e. absurd (omega (arith, e, m));
+  refused = λ e. absurd (omega (arith, e, m));
+  other_words = λ e. absurd (omega (arith, e, m));
+  cut_off = λ _. record {
+    rest = r.rest;
+    run = r.run;
+    wrote = front_behind w v u (outs_text r.history) (status_line status) o f.front;
+    whole = λ _. whole_behind w v u (outs_text r.history) (status_line status) failed o f.whole;
+    journal_failed = six;
+    input_failed = seven;
+  };
+}
+
+refused_at : {J : Type 0} (told : J → Option (List Entry)) (journal : J) (input left w v u : Option (List ℕ)) (failed : Type 0) (k : ℕ) (refusal : Refusal)
+    → Ran told journal input left w v (Err (stop.Refused k refusal)) → Wrote v u (refused_line (record { line = k; refusal = refusal })) failed → Drove told (Some journal) input left w u failed 1
+refused_at told journal input left w v u failed k refusal r f = record {
   history = r.history;
   legal = r.legal;
   sessions = sessions_kept built_in (lit< tt) r.history r.legal;
@@ -148,24 +167,24 @@ refused_at told journal input w v u failed k refusal r f = record {
   cut_off = λ e. absurd (omega (arith, e));
 }
 
-said_of : {J : Type 0} (told : J → Option (List Entry)) (journal : J) (input w v u : Option (List ℕ)) (failed : Type 0) (s : Stop)
-    → Ran told journal (option_map lines_of input) w v (Err s) → Wrote v u (fault_line s) failed → Drove told (Some journal) input w u failed (status_of s)
-said_of told journal input w v u failed (stop.Refused k refusal) r f = refused_at told journal input w v u failed k refusal r f
-said_of told journal input w v u failed stop.Memory r f = silent told journal input w v u failed stop.Memory 5 r (omega arith) refl (nothing_written v u f.front)
-said_of told journal input w v u failed stop.Journal r f = spoken told journal input w v u failed stop.Journal 6 r (omega arith) r.stopped f.front
-said_of told journal input w v u failed stop.Input r f = spoken told journal input w v u failed stop.Input 7 r (omega arith) r.stopped f.front
-said_of told journal input w v u failed stop.Output r f = silent told journal input w v u failed stop.Output 8 r (omega arith) refl (nothing_written v u f.front)
+said_of : {J : Type 0} (told : J → Option (List Entry)) (journal : J) (input left w v u : Option (List ℕ)) (failed : Type 0) (s : Stop)
+    → Ran told journal input left w v (Err s) → Wrote v u (fault_line s) failed → Drove told (Some journal) input left w u failed (status_of s)
+said_of told journal input left w v u failed (stop.Refused k refusal) r f = refused_at told journal input left w v u failed k refusal r f
+said_of told journal input left w v u failed stop.Memory r f = silent told journal input left w v u failed stop.Memory 5 r (omega arith) (λ e. omega (arith, e)) (λ e. omega (arith, e)) refl (nothing_written v u f.front)
+said_of told journal input left w v u failed stop.Journal r f = spoken told journal input left w v u failed stop.Journal 6 r (omega arith) r.stopped.0 f (λ _. r.stopped.1) (λ e. absurd (omega (arith, e)))
+said_of told journal input left w v u failed stop.Input r f = spoken told journal input left w v u failed stop.Input 7 r (omega arith) r.stopped.0 f (λ e. absurd (omega (arith, e))) (λ _. r.stopped.1)
+said_of told journal input left w v u failed stop.Output r f = silent told journal input left w v u failed stop.Output 8 r (omega arith) (λ e. omega (arith, e)) (λ e. omega (arith, e)) refl (nothing_written v u f.front)
 
-drove_stopped : {J : Type 0} (told : J → Option (List Entry)) (journal : J) (input w v u : Option (List ℕ)) (failed : Type 0) (s : Stop) (status : ℕ)
-    → Ran told journal (option_map lines_of input) w v (Err s) → Reported status (status_of s) v u (fault_line s) failed → Drove told (Some journal) input w u failed status
-drove_stopped told journal input w v u failed s status r (said e f) =
-    subst (λ n. Drove told (Some journal) input w u failed n) (sym e) (said_of told journal input w v u failed s r f)
-drove_stopped told journal input w v u failed s status r (unsaid e f) =
-    subst (λ n. Drove told (Some journal) input w u failed n) (sym e) (silent told journal input w v u failed s 5 r (omega arith) refl f)
+drove_stopped : {J : Type 0} (told : J → Option (List Entry)) (journal : J) (input left w v u : Option (List ℕ)) (failed : Type 0) (s : Stop) (status : ℕ)
+    → Ran told journal input left w v (Err s) → Reported status (status_of s) v u (fault_line s) failed → Drove told (Some journal) input left w u failed status
+drove_stopped told journal input left w v u failed s status r (said e f) =
+    subst (λ n. Drove told (Some journal) input left w u failed n) (sym e) (said_of told journal input left w v u failed s r f)
+drove_stopped told journal input left w v u failed s status r (unsaid e f) =
+    subst (λ n. Drove told (Some journal) input left w u failed n) (sym e) (silent told journal input left w v u failed s 5 r (omega arith) (λ e. omega (arith, e)) (λ e. omega (arith, e)) refl f)
 
 -- other words
-pub drove_words : {J : Type 0} (told : J → Option (List Entry)) (journal : Option J) (input w v : Option (List ℕ)) (failed : Type 0) → JournalTells told journal [] → Wrote w v words_line failed → Drove told journal input w v failed 2
-drove_words told journal input w v failed t f = record {
+pub drove_words : {J : Type 0} (told : J → Option (List Entry)) (journal : Option J) (input left w v : Option (List ℕ)) (failed : Type 0) → JournalTells told journal [] → Wrote w v words_line failed → Drove told journal input left w v failed 2
+drove_words told journal input left w v failed t f = record {
   history = [];
   legal = tt;
   sessions = sessions_kept built_in (lit< tt) [] tt;
@@ -190,10 +209,10 @@ reported_since : (status told : ℕ) (v u : Option (List ℕ)) (line : List ℕ)
 reported_since status told v u line before mid now l (said e f) = said e (wrote_since v u line before mid now l f)
 reported_since status told v u line before mid now l (unsaid e f) = unsaid e f
 
-pub drove_reported : {J : Type 0} (told : J → Option (List Entry)) (journal : J) (input w v u : Option (List ℕ)) (before mid now : ℕ) (s : Stop) (status : ℕ)
-    → Ran told journal (option_map lines_of input) w v (Err s) → before ≤ mid → Reported status (status_of s) v u (fault_line s) (Rose mid now) → Drove told (Some journal) input w u (Rose before now) status
-drove_reported told journal input w v u before mid now s status r l f =
-    drove_stopped told journal input w v u (Rose before now) s status r (reported_since status (status_of s) v u (fault_line s) before mid now l f)
+pub drove_reported : {J : Type 0} (told : J → Option (List Entry)) (journal : J) (input left w v u : Option (List ℕ)) (before mid now : ℕ) (s : Stop) (status : ℕ)
+    → Ran told journal input left w v (Err s) → before ≤ mid → Reported status (status_of s) v u (fault_line s) (Rose mid now) → Drove told (Some journal) input left w u (Rose before now) status
+drove_reported told journal input left w v u before mid now s status r l f =
+    drove_stopped told journal input left w v u (Rose before now) s status r (reported_since status (status_of s) v u (fault_line s) before mid now l f)
 
 refused_not_none : (at : Refused) → Some at ≡ None → ⊥
 refused_not_none at e = cc
@@ -202,21 +221,21 @@ not_refused : (input : Option (List ℕ)) (history : List Entry) (at : Refused) 
 not_refused None history at u g = u
 not_refused (Some bytes) history at u g = refused_not_none at (sym (ap (λ (o : Outcome). o.refused) g) ∙ u)
 
-complete_said : {J : Type 0} (told : J → Option (List Entry)) (journal : J) (words : List (List ℕ)) (input w v : Option (List ℕ)) (journal_rose input_rose output_rose : Type 0) (s : Stop)
-    → Ran told journal (option_map lines_of input) w v (Err s) → (s ≡ stop.Journal → journal_rose) → (s ≡ stop.Input → input_rose) → (s ≡ stop.Output → output_rose) → Undisturbed words input journal_rose input_rose output_rose → status_of s ≡ 5
-complete_said told journal words input w v journal_rose input_rose output_rose (stop.Refused k refusal) r j i o u =
+complete_said : {J : Type 0} (told : J → Option (List Entry)) (journal : J) (words : List (List ℕ)) (input left w v : Option (List ℕ)) (journal_rose input_rose output_rose : Type 0) (s : Stop)
+    → Ran told journal input left w v (Err s) → (s ≡ stop.Journal → journal_rose) → (s ≡ stop.Input → input_rose) → (s ≡ stop.Output → output_rose) → Undisturbed words input journal_rose input_rose output_rose → status_of s ≡ 5
+complete_said told journal words input left w v journal_rose input_rose output_rose (stop.Refused k refusal) r j i o u =
     absurd (not_refused input r.history (record { line = k; refusal = refusal }) u.lines r.stopped.1)
-complete_said told journal words input w v journal_rose input_rose output_rose stop.Memory r j i o u = refl
-complete_said told journal words input w v journal_rose input_rose output_rose stop.Journal r j i o u = absurd (u.journal (j refl))
-complete_said told journal words input w v journal_rose input_rose output_rose stop.Input r j i o u = absurd (u.input (i refl))
-complete_said told journal words input w v journal_rose input_rose output_rose stop.Output r j i o u = absurd (u.output (o refl))
+complete_said told journal words input left w v journal_rose input_rose output_rose stop.Memory r j i o u = refl
+complete_said told journal words input left w v journal_rose input_rose output_rose stop.Journal r j i o u = absurd (u.journal (j refl))
+complete_said told journal words input left w v journal_rose input_rose output_rose stop.Input r j i o u = absurd (u.input (i refl))
+complete_said told journal words input left w v journal_rose input_rose output_rose stop.Output r j i o u = absurd (u.output (o refl))
 
-pub complete : {J : Type 0} (told : J → Option (List Entry)) (journal : J) (words : List (List ℕ)) (input w v u : Option (List ℕ)) (journal_rose input_rose output_rose failed : Type 0) (s : Stop) (status : ℕ)
-    → Ran told journal (option_map lines_of input) w v (Err s) → Reported status (status_of s) v u (fault_line s) failed
+pub complete : {J : Type 0} (told : J → Option (List Entry)) (journal : J) (words : List (List ℕ)) (input left w v u : Option (List ℕ)) (journal_rose input_rose output_rose failed : Type 0) (s : Stop) (status : ℕ)
+    → Ran told journal input left w v (Err s) → Reported status (status_of s) v u (fault_line s) failed
     → (s ≡ stop.Journal → journal_rose) → (s ≡ stop.Input → input_rose) → (s ≡ stop.Output → output_rose) → Undisturbed words input journal_rose input_rose output_rose → (status ≡ 0) ⊎ (status ≡ 5)
-complete told journal words input w v u journal_rose input_rose output_rose failed s status r (said e f) j i o d =
-    inr (e ∙ complete_said told journal words input w v journal_rose input_rose output_rose s r j i o d)
-complete told journal words input w v u journal_rose input_rose output_rose failed s status r (unsaid e f) j i o d = inr e
+complete told journal words input left w v u journal_rose input_rose output_rose failed s status r (said e f) j i o d =
+    inr (e ∙ complete_said told journal words input left w v journal_rose input_rose output_rose s r j i o d)
+complete told journal words input left w v u journal_rose input_rose output_rose failed s status r (unsaid e f) j i o d = inr e
 
 pub rose_until : (before mid now : ℕ) → Rose before mid → mid ≤ now → Rose before now
 rose_until before mid now r l = omega (arith, l, r)

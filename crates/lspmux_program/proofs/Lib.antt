@@ -1,4 +1,5 @@
 pub mod Bodies
+pub mod Consumes
 pub mod Cuts
 pub mod Driving
 pub mod Ends

@@ -1,8 +1,8 @@
 -- A buffer before a source: the bytes that were read and aren't used, and how many were used.
-use Rattle.std.specs.Prelude.{◌≡◌, ℕ, ◌+◌, ◌^◌, ◌<◌, ◌≤◌, List, [], ◌∷◌, ◌++◌, take, drop, nat_eq, position, option_map}
+use Rattle.std.specs.Prelude.{◌≡◌, ℕ, ◌+◌, ◌^◌, ◌<◌, ◌≤◌, List, [], ◌∷◌, ◌++◌, length, take, drop, nat_eq, position, option_map}
 use Rattle.std.specs.Prelude.{Option}
 use Rattle.std.specs.Io.KnownBytes.{prepend_known}
-use Rattle.lspmux_program.specs.Lines.{Line, lines_from, onto_line}
+use Rattle.lspmux_program.specs.Lines.{Line, lines_from, onto_line, NoFeed}
 
 pub record BufferView : Type 0 where
   pub pending : List ℕ
@@ -32,6 +32,26 @@ line_feed bytes = position (λ b. nat_eq b 10) bytes
 abbrev pub FirstPasses : List Line → Type 0
 FirstPasses [] = ⊥
 FirstPasses (line ∷ lines) = 2 ^ 40 < line.upto
+
+-- bytes without a line feed went from the pending ones to a line, and the end behind them was passed over
+pub record Moved (end : List ℕ) (before now : BufferView) (line_before line_now : List ℕ) : Type 0 where
+  pub piece : List ℕ
+  pub plain : NoFeed piece
+  pub line : line_now ≡ line_before ++ piece
+  pub pending : before.pending ≡ (piece ++ end) ++ now.pending
+  pub used : now.used ≡ before.used + length (piece ++ end)
+
+-- this line without a line feed and the end behind it came from a buffer and its source
+pub record Came (end line : List ℕ) (before now : BufferView) (left_before left_now : Option (List ℕ)) : Type 0 where
+  pub plain : NoFeed line
+  pub bytes : unused before left_before ≡ prepend_known (line ++ end) (unused now left_now)
+  pub used : now.used ≡ before.used + length (line ++ end)
+
+-- the source failed, and what was read by then and not used has no line feed
+pub record BrokeOff (before : BufferView) (left_before left_now : Option (List ℕ)) : Type 0 where
+  pub piece : List ℕ
+  pub plain : NoFeed piece
+  pub bytes : unused before left_before ≡ prepend_known piece left_now
 
 -- so many bytes went to a line, and so many more were passed over
 pub record Taken (count skipped : ℕ) (before now : BufferView) (line_before line_now : List ℕ) : Type 0 where

@@ -1,5 +1,5 @@
 -- The lines of an input. Each ends with a line feed; the last may lack it, if it isn't empty.
-use Rattle.std.specs.Prelude.{ℕ, ◌+◌, List, [], ◌∷◌, ◌++◌, nat_eq, if◌then◌else◌}
+use Rattle.std.specs.Prelude.{◌≡◌, ℕ, ◌+◌, false, List, [], ◌∷◌, ◌++◌, nat_eq, if◌then◌else◌}
 
 -- a line without its line feed, and how many bytes of the input were read up to its end, with its line feed
 pub record Line : Type 0 where
@@ -18,6 +18,23 @@ lines_from at (b ∷ bytes) = if nat_eq b 10 then record { bytes = []; upto = at
 
 abbrev pub lines_of : List ℕ → List Line
 lines_of input = lines_from 0 input
+
+-- the lines that end in these bytes: what stands behind the last line feed isn't one of them
+abbrev pub before_first : ℕ → List Line → List Line
+before_first b [] = []
+before_first b (line ∷ lines) = record { bytes = b ∷ line.bytes; upto = line.upto } ∷ lines
+
+abbrev pub ended_from : ℕ → List ℕ → List Line
+ended_from at [] = []
+ended_from at (b ∷ bytes) = if nat_eq b 10 then record { bytes = []; upto = at + 1 } ∷ ended_from (at + 1) bytes else before_first b (ended_from (at + 1) bytes)
+
+abbrev pub ended_lines : List ℕ → List Line
+ended_lines bytes = ended_from 0 bytes
+
+-- none of the bytes is a line feed
+abbrev pub NoFeed : List ℕ → Type 0
+NoFeed [] = Unit {0}
+NoFeed (b ∷ bytes) = (nat_eq b 10 ≡ false) × NoFeed bytes
 
 -- bytes without a line feed put before the first line; where there is none, they are a line that ends here
 abbrev pub onto_line : ℕ → List ℕ → List Line → List Line

@@ -15,7 +15,7 @@ use Rattle.lspmux_program.specs.Lines.{Line, lines_of}
 use Rattle.lspmux_program.specs.Outs.{outs_text}
 use Rattle.lspmux_program.specs.Reports.{Wrote}
 use Rattle.lspmux_program.specs.Stops.{Gives, StopsAt}
-use Rattle.lspmux_program.specs.Runs.{built_in, Refused, drive_of, IsRunOf, WroteFront}
+use Rattle.lspmux_program.specs.Runs.{built_in, Refused, drive_of, IsRunOf, IsRunOfRead, TakesFirst, WroteFront}
 
 abbrev pub status_of : Stop → ℕ
 status_of (stop.Refused k r) = 1
@@ -68,15 +68,15 @@ JournalRose faults (Some before) (Some now) = Rose (faults before) (faults now)
 JournalRose faults _ _ = ⊥
 
 -- where a run ended, without its hub
-pub record Ran {J : Type 0} (told : J → Option (List Entry)) (journal : J) (all : Option (List Line)) (written now : Option (List ℕ)) (result : Result (Unit {0}) Stop) : Type 0 where
+pub record Ran {J : Type 0} (told : J → Option (List Entry)) (journal : J) (input left : Option (List ℕ)) (written now : Option (List ℕ)) (result : Result (Unit {0}) Stop) : Type 0 where
   pub history : List Entry
   pub legal : Legal built_in history
   pub told_by : Tells (told journal) history
   pub rest : Option (List Line)
-  pub run : IsRunOf built_in all rest history
+  pub run : IsRunOf built_in (option_map lines_of input) rest history
   pub wrote : WroteFront written now (outs_text history)
-  pub done : OnOk result ((now ≡ append_known written (outs_text history)) × Gives built_in all (record { history = history; refused = None }))
-  pub stopped : IfErr result (StopsAt built_in all written now history)
+  pub done : OnOk result ((now ≡ append_known written (outs_text history)) × Gives built_in (option_map lines_of input) (record { history = history; refused = None }))
+  pub stopped : IfErr result (StopsAt built_in input left rest written now history)
 
 -- status 0: no line is refused, the history is that of all lines, and all outs were written
 pub record Finished (input before now : Option (List ℕ)) (history : List Entry) : Type 0 where
@@ -93,13 +93,19 @@ pub record RefusedAt (input before now : Option (List ℕ)) (failed : Type 0) (h
   pub whole : (now ≡ append_known before (outs_text history ++ refused_line at)) ⊎ failed
 
 -- status 5 to 8: the history is that of some first lines, and a front of their outs and the fault line was written
-pub record CutOff (input before now : Option (List ℕ)) (status : ℕ) (history : List Entry) : Type 0 where
+pub record CutOff (input left before now : Option (List ℕ)) (failed : Type 0) (status : ℕ) (history : List Entry) : Type 0 where
   pub rest : Option (List Line)
   pub run : IsRunOf built_in (option_map lines_of input) rest history
   pub wrote : WroteFront before now (outs_text history ++ status_line status)
+  -- status 6 and 7: all of it, unless the output failed
+  pub whole : (status ≡ 6) ⊎ (status ≡ 7) → (now ≡ append_known before (outs_text history ++ status_line status)) ⊎ failed
+  -- status 6: the next line isn't refused; its entry was not appended
+  pub journal_failed : status ≡ 6 → IfSome rest (TakesFirst history)
+  -- status 7: the lines are all that end in what was read
+  pub input_failed : status ≡ 7 → IsRunOfRead built_in input left history
 
 -- a run of the program: there is a legal history of conforming sessions, which the journal tells where it tells
-pub record Drove {J : Type 0} (told : J → Option (List Entry)) (journal : Option J) (input before now : Option (List ℕ)) (failed : Type 0) (status : ℕ) : Type 0 where
+pub record Drove {J : Type 0} (told : J → Option (List Entry)) (journal : Option J) (input left before now : Option (List ℕ)) (failed : Type 0) (status : ℕ) : Type 0 where
   pub history : List Entry
   pub legal : Legal built_in history
   pub sessions : KeepsSessions history
@@ -107,7 +113,7 @@ pub record Drove {J : Type 0} (told : J → Option (List Entry)) (journal : Opti
   pub finished : status ≡ 0 → Finished input before now history
   pub refused : status ≡ 1 → RefusedAt input before now failed history
   pub other_words : status ≡ 2 → (history ≡ []) × Wrote before now words_line failed
-  pub cut_off : 5 ≤ status → CutOff input before now status history
+  pub cut_off : 5 ≤ status → CutOff input left before now failed status history
 
 -- the statuses
 abbrev pub IsStatus : ℕ → Type 0

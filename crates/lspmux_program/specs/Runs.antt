@@ -1,7 +1,7 @@
 -- What driving the lines of an input gives: a history, and the first line that is refused.
 use Rattle.std.specs.Prelude.{◌≡◌, ℕ, ◌+◌, ◌^◌, List, [], ◌∷◌, ◌++◌, nat_lt, codes, if◌then◌else◌, option_map, take}
 use Rattle.std.specs.Prelude.{Option, Some, None, Result, Ok, Err}
-use Rattle.std.specs.Io.KnownBytes.{append_known}
+use Rattle.std.specs.Io.KnownBytes.{append_known, prepend_known}
 use Rattle.mux_history.specs.declared.cause.Cause.{Cause}
 use Rattle.mux_history.specs.declared.entry.Entry.{Entry}
 use Rattle.mux_hub.specs.Hubs.{body_length}
@@ -12,7 +12,7 @@ use Rattle.mux_model.specs.Settings.{Settings}
 use Rattle.lspmux_program.specs.declared.refusal.Refusal.{Refusal}
 use Rattle.lspmux_program.specs.declared.refusal.Refusal.TheVariants.{Form, Absent, Unbuilt}
 use Rattle.lspmux_program.specs.Causes.{cause_of}
-use Rattle.lspmux_program.specs.Lines.{Line, lines_of}
+use Rattle.lspmux_program.specs.Lines.{Line, lines_of, ended_lines}
 
 -- the built-in settings
 abbrev pub built_in : Settings
@@ -70,6 +70,17 @@ pub record IsRunOf (settings : Settings) (all rest : Option (List Line)) (histor
   pub front : List Line
   pub whole : all ≡ option_map (λ lines. front ++ lines) rest
   pub runs : drive_from settings 1 [] front ≡ record { history = history; refused = None }
+
+-- the first of these lines isn't refused behind the history
+abbrev pub TakesFirst : List Entry → List Line → Type 0
+TakesFirst history [] = ⊥
+TakesFirst history (line ∷ lines) = (cause : Cause) × (reading history line ≡ Ok cause)
+
+-- the history is that of all lines that end in the bytes which were read of the input, and none of them is refused
+pub record IsRunOfRead (settings : Settings) (input left : Option (List ℕ)) (history : List Entry) : Type 0 where
+  pub read : List ℕ
+  pub split : input ≡ prepend_known read left
+  pub runs : drive_from settings 1 [] (ended_lines read) ≡ record { history = history; refused = None }
 
 -- a front of the text was written
 pub record WroteFront (before now : Option (List ℕ)) (text : List ℕ) : Type 0 where

@@ -16,6 +16,11 @@ pub record LineTaken {J : Type 0} (told : J → Option (List Entry)) (history : 
   pub stands : HubStands told now (after hub.settings history cause)
   pub wrote : written_now ≡ append_known written (out_lines (emits hub.settings history cause))
 
+-- the line isn't refused behind this history
+pub record IsTaken (history : List Entry) (line : List ℕ) : Type 0 where
+  pub cause : Cause
+  pub reads : reading_bytes history line ≡ Ok cause
+
 -- nothing was done, or its cause was taken and a front of its outs was written
 pub data LineLeft {J : Type 0} (told : J → Option (List Entry)) (history : List Entry) (line : List ℕ) (hub now : HubView J) (written written_now : Option (List ℕ)) : Type 0 where
   untouched : HubStands told now history → written_now ≡ written → LineLeft told history line hub now written written_now

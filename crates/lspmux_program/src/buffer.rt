@@ -1,8 +1,8 @@
 // Bytes read ahead of their use.
-ghost use Rattle.std.specs.Prelude.{◌≡◌, ℕ, ◌+◌, ◌-◌, ◌*◌, ◌^◌, ◌<◌, ◌≤◌, ◌↔◌, ◌≢◌, Option, List, [], length, take, drop, IfOk, OnOk, OnErr, IfSome, nat_eq, true, false};
+ghost use Rattle.std.specs.Prelude.{◌≡◌, ℕ, ◌+◌, ◌-◌, ◌*◌, ◌^◌, ◌<◌, ◌≤◌, ◌↔◌, ◌≢◌, Option, List, [], ◌∷◌, length, take, drop, IfOk, OnOk, OnErr, IfSome, nat_eq, true, false};
 ghost use Rattle.std.specs.Io.KnownBytes.{prepend_known};
 ghost use Rattle.outside_io.specs.Faults.{HasCause};
-ghost use Rattle.lspmux_program.specs.Buffers.{BufferView, Taken, FirstPasses, unused, known_lines, begun_lines, onto_known, line_feed};
+ghost use Rattle.lspmux_program.specs.Buffers.{BufferView, Taken, Moved, FirstPasses, unused, known_lines, begun_lines, onto_known, line_feed};
 
 use json_text::Memory;
 use outside_io::{ReadFault, Source};
@@ -118,6 +118,7 @@ fn take_whole(buffer: &mut Buffer, line: &mut Vec<u8>, feed: usize) -> Result<Pi
     requires feed { line_feed buffer.old.pending ≡ Some feed }
     requires small { buffer.old.used ≤ 2 ^ 40 }
     ensures whole { (left : Option (List ℕ)) → IfOk result (λ piece. piece ≡ Piece.Whole → begun_lines line.old.items buffer.old left ≡ onto_known (record { bytes = line.new.items; upto = buffer.new.used }) (known_lines buffer.new left)) }
+    ensures moved { IfOk result (λ piece. piece ≡ Piece.Whole → Moved (10 ∷ []) buffer.old buffer.new line.old.items line.new.items) }
     ensures passed { (left : Option (List ℕ)) → IfOk result (λ piece. piece ≡ Piece.Passed → IfSome (begun_lines line.old.items buffer.old left) FirstPasses) }
     ensures more { IfOk result (λ piece. piece ≡ Piece.Whole → buffer.old.used < buffer.new.used) }
     ensures small { IfOk result (λ piece. piece ≡ Piece.Whole → buffer.new.used ≤ 2 ^ 40) }
@@ -136,6 +137,7 @@ fn take_part(buffer: &mut Buffer, line: &mut Vec<u8>) -> Result<Piece, Memory>
     requires there { 0 < length buffer.old.pending }
     requires small { buffer.old.used ≤ 2 ^ 40 }
     ensures part { (left : Option (List ℕ)) → IfOk result (λ piece. piece ≡ Piece.Part → begun_lines line.old.items buffer.old left ≡ begun_lines line.new.items buffer.new left) }
+    ensures moved { IfOk result (λ piece. piece ≡ Piece.Part → Moved [] buffer.old buffer.new line.old.items line.new.items) }
     ensures passed { (left : Option (List ℕ)) → IfOk result (λ piece. piece ≡ Piece.Passed → IfSome (begun_lines line.old.items buffer.old left) FirstPasses) }
     ensures more { IfOk result (λ piece. piece ≡ Piece.Part → buffer.old.used < buffer.new.used) }
     ensures small { IfOk result (λ piece. piece ≡ Piece.Part → buffer.new.used ≤ 2 ^ 40) }
@@ -155,6 +157,8 @@ pub fn take_piece(buffer: &mut Buffer, line: &mut Vec<u8>) -> Result<Piece, Memo
     requires small { buffer.old.used ≤ 2 ^ 40 }
     ensures whole { (left : Option (List ℕ)) → IfOk result (λ piece. piece ≡ Piece.Whole → begun_lines line.old.items buffer.old left ≡ onto_known (record { bytes = line.new.items; upto = buffer.new.used }) (known_lines buffer.new left)) }
     ensures part { (left : Option (List ℕ)) → IfOk result (λ piece. piece ≡ Piece.Part → begun_lines line.old.items buffer.old left ≡ begun_lines line.new.items buffer.new left) }
+    ensures moved_whole { IfOk result (λ piece. piece ≡ Piece.Whole → Moved (10 ∷ []) buffer.old buffer.new line.old.items line.new.items) }
+    ensures moved_part { IfOk result (λ piece. piece ≡ Piece.Part → Moved [] buffer.old buffer.new line.old.items line.new.items) }
     ensures passed { (left : Option (List ℕ)) → IfOk result (λ piece. piece ≡ Piece.Passed → IfSome (begun_lines line.old.items buffer.old left) FirstPasses) }
     ensures more { IfOk result (λ piece. piece ≢ Piece.Passed → buffer.old.used < buffer.new.used) }
     ensures small { IfOk result (λ piece. piece ≢ Piece.Passed → buffer.new.used ≤ 2 ^ 40) }
@@ -172,6 +176,7 @@ pub fn filled<I: Source>(input: &mut I, buffer: &mut Buffer) -> Result<bool, Rea
     ensures there { IfOk result (λ there. there ≡ true → 0 < length buffer.new.pending) }
     ensures end { IfOk result (λ there. there ≡ false → buffer.new.pending ≡ []) }
     ensures left { IfOk result (λ there. there ≡ false → IfSome (I.left input.new) (λ bytes. bytes ≡ [])) }
+    ensures failed { OnErr result (unused buffer.old (I.left input.old) ≡ I.left input.new) }
     ensures cause { HasCause (I.faults input.old) (I.faults input.new) result }
 {
     if !buffer.is_empty() {

@@ -1,12 +1,11 @@
 // All lines of an input.
-ghost use Rattle.std.specs.Prelude.{◌≡◌, ℕ, ◌≤◌, [], false, OnOk, IsErrOf, IfSome, option_map};
+ghost use Rattle.std.specs.Prelude.{◌≡◌, ℕ, ◌≤◌, [], false, OnOk, IsErrOf, IfSome};
 ghost use Rattle.outside_io.specs.Faults.{Rose};
 ghost use Rattle.mux_hub.specs.Hubs.{HubView, HubStands};
-ghost use Rattle.lspmux_program.specs.Lines.{lines_of};
 ghost use Rattle.lspmux_program.specs.Stops.{Driven};
 
 use crate::buffer::Buffer;
-use crate::line::next_line;
+use crate::line::{InputLine, next_line};
 use crate::step::take_line;
 use crate::stop::{Stop, fault_at, stop_at};
 use mux_history::Journal;
@@ -23,7 +22,7 @@ pub fn drive<J: Journal, I: Source, O: Sink>(
 ) -> Result<(), Stop>
     requires stands { HubStands J.told hub.old [] }
     requires ready { hub.old.spent ≡ false }
-    ensures driven { Driven J.told hub.old.settings (option_map lines_of (I.left input.old)) (O.written output.old) (O.written output.new) hub.new result }
+    ensures driven { Driven J.told hub.old.settings (I.left input.old) (I.left input.new) (O.written output.old) (O.written output.new) hub.new result }
     ensures settings { hub.new.settings ≡ hub.old.settings }
     ensures end { OnOk result (IfSome (I.left input.new) (λ bytes. bytes ≡ [])) }
     ensures journal { IsErrOf result Stop.Journal → Rose (J.faults hub.old.journal) (J.faults hub.new.journal) }
@@ -41,8 +40,12 @@ pub fn drive<J: Journal, I: Source, O: Sink>(
             Ok(None) => return Ok(()),
             Err(stop) => return Err(stop_at(taken + 1, stop)),
         };
-        if let Err(fault) = take_line(alloc, line, hub, output) {
+        let InputLine { bytes, is_last } = line;
+        if let Err(fault) = take_line(alloc, bytes, hub, output) {
             return Err(fault_at(taken + 1, fault));
+        }
+        if is_last {
+            return Ok(());
         }
         taken += 1;
     }

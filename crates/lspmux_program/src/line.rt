@@ -1,7 +1,7 @@
 // The lines of a source.
-ghost use Rattle.std.specs.Prelude.{◌≡◌, ℕ, ◌^◌, ◌<◌, ◌≤◌, List, [], IfOk, IfErr, IfSome, IfNone, IsErrOf, Some, None, Option};
+ghost use Rattle.std.specs.Prelude.{◌≡◌, ℕ, ◌^◌, ◌<◌, ◌≤◌, List, [], ◌∷◌, true, false, IfOk, IfErr, IfSome, IfNone, IsErrOf, Some, None, Option};
 ghost use Rattle.outside_io.specs.Faults.{Rose};
-ghost use Rattle.lspmux_program.specs.Buffers.{FirstPasses, known_lines, onto_known};
+ghost use Rattle.lspmux_program.specs.Buffers.{BrokeOff, Came, FirstPasses, known_lines, onto_known};
 ghost use Rattle.lspmux_program.specs.Lines.{Line};
 
 use crate::buffer::{Buffer, Piece, filled, take_piece};
@@ -42,27 +42,47 @@ impl From<ReadFault> for LineStop {
     }
 }
 
+/// A line of the input, without its line feed.
+#[derive(Debug, Drop)]
+pub struct InputLine {
+    pub bytes: Vec<u8>,
+    /// The end of the input ended it, and not a line feed.
+    pub is_last: bool,
+}
+
 // What the end of the input leaves of the line that has begun.
-fn last_line(line: Vec<u8>) -> Option<Vec<u8>>
-    ensures some { IfSome result (λ last. (last.items ≡ line.items) × (last.items ≡ [] → ⊥)) }
-    ensures none { IfNone result (line.items ≡ []) }
+fn last_line(bytes: Vec<u8>) -> Option<InputLine>
+    ensures some { IfSome result (λ last. (last.bytes.items ≡ bytes.items) × (last.bytes.items ≡ [] → ⊥)) }
+    ensures is_last { IfSome result (λ last. last.is_last ≡ true) }
+    ensures none { IfNone result (bytes.items ≡ []) }
 {
-    if line.is_empty() { None } else { Some(line) }
+    if bytes.is_empty() {
+        return None;
+    }
+    Some(InputLine {
+        bytes,
+        is_last: true,
+    })
 }
 
 /// The next line of the input, without its line feed, or none at the end.
+#[tactic(auto, using(crate::proofs::Consumes::came_on, crate::proofs::Consumes::broken_off))]
 pub fn next_line<I: Source>(
     alloc: Global,
     input: &mut I,
     buffer: &mut Buffer,
-) -> Result<Option<Vec<u8>>, LineStop>
+) -> Result<Option<InputLine>, LineStop>
     requires small { buffer.old.used ≤ 2 ^ 40 }
-    ensures line { IfOk result (λ r. IfSome r (λ line. known_lines buffer.old (I.left input.old) ≡ onto_known (record { bytes = line.items; upto = buffer.new.used }) (known_lines buffer.new (I.left input.new)))) }
+    ensures line { IfOk result (λ r. IfSome r (λ line. known_lines buffer.old (I.left input.old) ≡ onto_known (record { bytes = line.bytes.items; upto = buffer.new.used }) (known_lines buffer.new (I.left input.new)))) }
     ensures end { IfOk result (λ r. IfNone r (IfSome (known_lines buffer.old (I.left input.old)) (λ lines. lines ≡ []))) }
+    ensures came { IfOk result (λ r. IfSome r (λ line. line.is_last ≡ false → Came (10 ∷ []) line.bytes.items buffer.old buffer.new (I.left input.old) (I.left input.new))) }
+    ensures last { IfOk result (λ r. IfSome r (λ line. line.is_last ≡ true → IfSome (known_lines buffer.new (I.left input.new)) (λ lines. lines ≡ []))) }
+    ensures last_left { IfOk result (λ r. IfSome r (λ line. line.is_last ≡ true → IfSome (I.left input.new) (λ bytes. bytes ≡ []))) }
     ensures left { IfOk result (λ r. IfNone r (IfSome (I.left input.new) (λ bytes. bytes ≡ []))) }
     ensures used { IfOk result (λ r. IfSome r (λ line. buffer.old.used < buffer.new.used)) }
     ensures small { IfOk result (λ r. IfSome r (λ line. buffer.new.used ≤ 2 ^ 40)) }
     ensures passed { IsErrOf result LineStop.Passed → IfSome (known_lines buffer.old (I.left input.old)) FirstPasses }
+    ensures broke_off { IsErrOf result LineStop.Input → BrokeOff buffer.old (I.left input.old) (I.left input.new) }
     ensures failed { IsErrOf result LineStop.Input → Rose (I.faults input.old) (I.faults input.new) }
     ensures later { I.faults input.old ≤ I.faults input.new }
 {
@@ -72,7 +92,10 @@ pub fn next_line<I: Source>(
             return Ok(last_line(line));
         }
         match take_piece(buffer, &mut line)? {
-            Piece::Whole => return Ok(Some(line)),
+            Piece::Whole => return Ok(Some(InputLine {
+                bytes: line,
+                is_last: false,
+            })),
             Piece::Part => {}
             Piece::Passed => return Err(LineStop::Passed),
         }

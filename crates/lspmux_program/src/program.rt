@@ -67,7 +67,7 @@ fn run<J: Journal, I: Source, O: Sink>(
     output: &mut O,
 ) -> (J, Result<(), Stop>)
     requires { Tells (J.told journal) [] }
-    ensures ran { Ran J.told result.0 (option_map lines_of (I.left input.old)) (O.written output.old) (O.written output.new) result.1 }
+    ensures ran { Ran J.told result.0 (I.left input.old) (I.left input.new) (O.written output.old) (O.written output.new) result.1 }
     ensures end { OnOk result.1 (IfSome (I.left input.new) (λ bytes. bytes ≡ [])) }
     ensures journal { IsErrOf result.1 Stop.Journal → Rose (J.faults journal) (J.faults result.0) }
     ensures input { IsErrOf result.1 Stop.Input → Rose (I.faults input.old) (I.faults input.new) }
@@ -96,7 +96,7 @@ pub fn lspmux<J: Journal + Drop, I: Source, O: Sink>(
     outside: &mut Outside<J, I, O>,
 ) -> u8
     requires { JournalTells J.told outside.old.journal [] }
-    ensures drove { Drove J.told outside.new.journal (I.left outside.old.input) (O.written outside.old.output) (O.written outside.new.output) (Rose (O.faults outside.old.output) (O.faults outside.new.output)) result }
+    ensures drove { Drove J.told outside.new.journal (I.left outside.old.input) (I.left outside.new.input) (O.written outside.old.output) (O.written outside.new.output) (Rose (O.faults outside.old.output) (O.faults outside.new.output)) result }
     ensures read_to_the_end { result ≡ 0 → IfSome (I.left outside.new.input) (λ bytes. bytes ≡ []) }
     ensures words { (result ≡ 2) ↔ (map string_bytes words.now ≢ drive_words) }
     ensures untouched { result ≡ 2 → outside.new.input ≡ outside.old.input }

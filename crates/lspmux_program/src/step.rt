@@ -6,7 +6,7 @@ ghost use Rattle.mux_hub.specs.Hubs.{HubView, HubStands, body_length};
 ghost use Rattle.mux_model.specs.Built.{built};
 ghost use Rattle.mux_model.specs.Fits.{fits};
 ghost use Rattle.lspmux_program.specs.Runs.{reading_bytes};
-ghost use Rattle.lspmux_program.specs.Steps.{LineTaken, LineLeft};
+ghost use Rattle.lspmux_program.specs.Steps.{IsTaken, LineTaken, LineLeft};
 ghost use Rattle.lspmux_program.specs.Faults.{LeavesWritten};
 ghost use Rattle.lspmux_program.specs.declared.refusal.Refusal.{Refusal};
 
@@ -102,6 +102,7 @@ pub fn take_line<J: Journal, O: Sink>(
     requires ready { hub.old.spent ≡ false }
     ensures taken { (history : List Entry) → HubStands J.told hub.old history → OnOk result (LineTaken J.told history line.items hub.old hub.new (O.written output.old) (O.written output.new)) }
     ensures refused { (history : List Entry) (r : Refusal) → HubStands J.told hub.old history → IsErrOf result (LineFault.Refused r) → reading_bytes history line.items ≡ Err r }
+    ensures entry { (history : List Entry) → HubStands J.told hub.old history → IsErrOf result LineFault.Journal → IsTaken history line.items }
     ensures left { (history : List Entry) → HubStands J.told hub.old history → OnErr result (LineLeft J.told history line.items hub.old hub.new (O.written output.old) (O.written output.new)) }
     ensures kept { (history : List Entry) → HubStands J.told hub.old history → IfErr result (λ fault. LeavesWritten fault → HubStands J.told hub.new history × (O.written output.new ≡ O.written output.old)) }
     ensures settings { hub.new.settings ≡ hub.old.settings }

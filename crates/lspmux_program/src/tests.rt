@@ -36,6 +36,52 @@ const SESSION: [(&str, &str); 7] = [
     ),
 ];
 
+// The same with escapes and characters beyond ASCII, which go on and back as they came.
+const SPELLED: [(&str, &str); 7] = [
+    ("join 0\n", ""),
+    (
+        "ed 0 {\"jsonrpc\":\"2.0\",\"id\":\"\\u00e9é😀\",\"method\":\"initi\\u0061lize\",\"params\":{\"rootUri\":\"file:///\\u00e9\",\"capabilities\":{}}}\n",
+        ">spawn 0 0\n",
+    ),
+    (
+        "up 0\n",
+        ">sv 0 {\"jsonrpc\":\"2.0\",\"id\":1,\"method\":\"initialize\",\"params\":{\"processId\":null,\"clientInfo\":{\"name\":\"lspmux\"},\"rootUri\":\"file:///é\",\"capabilities\":{},\"trace\":\"off\"}}\n",
+    ),
+    (
+        "sv 0 {\"jsonrpc\":\"2.0\",\"id\":1,\"result\":{\"capabilities\":{\"hoverProvider\":true}}}\n",
+        ">sv 0 {\"jsonrpc\":\"2.0\",\"method\":\"initialized\",\"params\":{}}\n>ed 0 {\"jsonrpc\":\"2.0\",\"id\":\"\\u00e9é😀\",\"result\":{\"capabilities\":{\"hoverProvider\":true}}}\n",
+    ),
+    (
+        "ed 0 {\"jsonrpc\":\"2.0\",\"method\":\"initialize\\u0064\",\"params\":{}}\n",
+        "",
+    ),
+    (
+        "ed 0 {\"jsonrpc\":\"2.0\", \"id\":\"\\ud83d\\ude00\", \"method\":\"textDocument\\/hover\", \"params\":{\"x\":\"é\" }}\n",
+        ">sv 0 {\"jsonrpc\":\"2.0\", \"id\":2, \"method\":\"textDocument\\/hover\", \"params\":{\"x\":\"é\" }}\n",
+    ),
+    (
+        "sv 0 {\"jsonrpc\":\"2.0\",\"id\":2,\"result\":{\"contents\":\"\\u0000😀\"}}\n",
+        ">ed 0 {\"jsonrpc\":\"2.0\",\"id\":\"\\ud83d\\ude00\",\"result\":{\"contents\":\"\\u0000😀\"}}\n",
+    ),
+];
+
+// Bodies that are no message.
+const MALFORMED: [(&str, &str); 4] = [
+    ("join 0\n", ""),
+    (
+        "ed 0 {\n",
+        ">ed 0 {\"jsonrpc\":\"2.0\",\"id\":null,\"error\":{\"code\":-32700,\"message\":\"Parse error\"}}\n",
+    ),
+    (
+        "ed 0 []\n",
+        ">ed 0 {\"jsonrpc\":\"2.0\",\"id\":null,\"error\":{\"code\":-32600,\"message\":\"Invalid Request\"}}\n",
+    ),
+    (
+        "ed 0 \n",
+        ">ed 0 {\"jsonrpc\":\"2.0\",\"id\":null,\"error\":{\"code\":-32700,\"message\":\"Parse error\"}}\n",
+    ),
+];
+
 type InMemory = Outside<MemJournal, MemSource, MemSink>;
 
 // The input in memory, where the appends, reads and writes with these numbers fail.
@@ -62,11 +108,15 @@ fn entries(outside: &InMemory) -> usize {
         .map_or(0, |journal| journal.entries().len())
 }
 
-// The lines of the session, and the first `count` of what they bring.
-fn session(alloc: Global, count: usize) -> Result<(String, String), AllocError> {
+// The lines of a session, and the first `count` of what they bring.
+fn texts(
+    alloc: Global,
+    session: &[(&str, &str)],
+    count: usize,
+) -> Result<(String, String), AllocError> {
     let mut lines = String::new(alloc);
     let mut outs = String::new(alloc);
-    for (i, (line, out)) in SESSION.iter().enumerate() {
+    for (i, (line, out)) in session.iter().enumerate() {
         lines.push_str(line)?;
         if i < count {
             outs.push_str(out)?;
@@ -112,7 +162,7 @@ fn refuses_the_first_line_that_it_cannot_take(rt: HostRuntime) -> Result<(), Fai
         ("join 1\n", 1, "!line 1 absent\n", 0),
         ("hello\n", 1, "!line 1 form\n", 0),
         ("\n", 1, "!line 1 form\n", 0),
-        ("join 0\ned 0 {\njoin 0\n", 1, "!line 2 unbuilt\n", 1),
+        ("join 0\ntick 1\njoin 0\n", 1, "!line 2 unbuilt\n", 1),
         ("join 0\njoin 0", 1, "!line 2 absent\n", 1),
         ("join 0\ned 0", 1, "!line 2 form\n", 1),
     ] {
@@ -128,13 +178,61 @@ fn refuses_the_first_line_that_it_cannot_take(rt: HostRuntime) -> Result<(), Fai
 fn drives_a_session(rt: HostRuntime) -> Result<(), Fail> {
     let alloc = rt.alloc();
     let words = drive_word(alloc)?;
-    let (lines, outs) = session(alloc, SESSION.len())?;
-    for input in [lines.as_str(), lines.as_str().trim_end()] {
-        let mut outside = outside_of(alloc, input, sound(alloc))?;
-        assert_eq!(rt; lspmux(alloc, &words, &mut outside), 0);
-        assert_eq!(rt; outside.output.bytes(), outs.as_bytes());
-        assert_eq!(rt; entries(&outside), SESSION.len());
+    for session in [SESSION.as_slice(), &SPELLED, &MALFORMED] {
+        let (lines, outs) = texts(alloc, session, session.len())?;
+        for input in [
+            lines.as_str(),
+            lines.as_str().strip_suffix("\n").unwrap_or(""),
+        ] {
+            let mut outside = outside_of(alloc, input, sound(alloc))?;
+            assert_eq!(rt; lspmux(alloc, &words, &mut outside), 0);
+            assert_eq!(rt; outside.output.bytes(), outs.as_bytes());
+            assert_eq!(rt; entries(&outside), session.len());
+        }
     }
+    Ok(())
+}
+
+// The end of the input comes once, and nothing is read behind it.
+#[test]
+fn reads_nothing_behind_the_end(rt: HostRuntime) -> Result<(), Fail> {
+    let alloc = rt.alloc();
+    let words = drive_word(alloc)?;
+    for (input, read, status, count) in [
+        ("join 0", 2, 0, 1),
+        ("join 0\n", 2, 0, 1),
+        ("join 0\n", 1, 7, 1),
+        ("join 0", 1, 7, 0),
+    ] {
+        let mut outside = outside_of(
+            alloc,
+            input,
+            [Vec::new(alloc), vec![in alloc; read]?, Vec::new(alloc)],
+        )?;
+        assert_eq!(rt; lspmux(alloc, &words, &mut outside), status, "at {input}");
+        assert_eq!(rt; entries(&outside), count, "at {input}");
+    }
+    Ok(())
+}
+
+// A read brings 65,536 bytes, which end inside of the second line.
+#[test]
+fn drops_a_line_that_a_failed_read_cuts_off(rt: HostRuntime) -> Result<(), Fail> {
+    let alloc = rt.alloc();
+    let words = drive_word(alloc)?;
+    let mut input = String::from_str(alloc, "join 0\ned 0 ")?;
+    for _ in 0..70_000 {
+        input.push(' ')?;
+    }
+    input.push_str("\n")?;
+    let mut outside = outside_of(
+        alloc,
+        &input,
+        [Vec::new(alloc), vec![in alloc; 1]?, Vec::new(alloc)],
+    )?;
+    assert_eq!(rt; lspmux(alloc, &words, &mut outside), 7);
+    assert_eq!(rt; outside.output.bytes(), b"!input\n".as_slice());
+    assert_eq!(rt; entries(&outside), 1);
     Ok(())
 }
 
@@ -143,7 +241,7 @@ fn keeps_the_lines_before_a_failed_read(rt: HostRuntime) -> Result<(), Fail> {
     let alloc = rt.alloc();
     let words = drive_word(alloc)?;
     for (read, count) in [(0, 0), (1, SESSION.len())] {
-        let (lines, mut want) = session(alloc, count)?;
+        let (lines, mut want) = texts(alloc, &SESSION, count)?;
         want.push_str("!input\n")?;
         let mut outside = outside_of(
             alloc,
@@ -162,7 +260,7 @@ fn keeps_the_lines_before_a_failed_append(rt: HostRuntime) -> Result<(), Fail> {
     let alloc = rt.alloc();
     let words = drive_word(alloc)?;
     for count in 0..SESSION.len() {
-        let (lines, mut want) = session(alloc, count)?;
+        let (lines, mut want) = texts(alloc, &SESSION, count)?;
         want.push_str("!journal\n")?;
         let mut outside = outside_of(
             alloc,
@@ -189,7 +287,7 @@ fn stops_at_a_failed_write(rt: HostRuntime) -> Result<(), Fail> {
         if out.is_empty() {
             continue;
         }
-        let (lines, want) = session(alloc, i)?;
+        let (lines, want) = texts(alloc, &SESSION, i)?;
         let mut outside = outside_of(
             alloc,
             &lines,

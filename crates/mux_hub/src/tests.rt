@@ -202,6 +202,36 @@ fn answers_come_in_any_order_and_once(rt: HostRuntime) -> Result<(), Fail> {
 }
 
 #[test]
+fn malformed_bodies_of_an_editor_are_answered(rt: HostRuntime) -> Result<(), Fail> {
+    let alloc = rt.alloc();
+    let Ok(mut hub) = a_hub(alloc, 2147483647, Vec::new(alloc)) else {
+        return Err(Fail::from("no hub"));
+    };
+    open_session(&rt, alloc, &mut hub)?;
+    let parse_error =
+        "{\"jsonrpc\":\"2.0\",\"id\":null,\"error\":{\"code\":-32700,\"message\":\"Parse error\"}}";
+    let invalid_request =
+        "{\"jsonrpc\":\"2.0\",\"id\":null,\"error\":{\"code\":-32600,\"message\":\"Invalid Request\"}}";
+    for (text, answer) in [
+        ("{", parse_error),
+        ("", parse_error),
+        ("[1,]", parse_error),
+        ("[]", invalid_request),
+        ("{\"jsonrpc\":\"2.0\"}", invalid_request),
+        (
+            "{\"jsonrpc\":\"2.0\",\"id\":1.0,\"method\":\"x\"}",
+            invalid_request,
+        ),
+    ] {
+        let outs = step(&rt, &mut hub, from_editor(alloc, text)?)?;
+        assert!(rt; outs.len() == 1 && is_to_editor(outs.get(0), answer), "at {text}");
+        let none = step(&rt, &mut hub, from_server(alloc, text)?)?;
+        assert!(rt; none.is_empty(), "at {text}");
+    }
+    Ok(())
+}
+
+#[test]
 fn what_is_not_built_is_told(rt: HostRuntime) -> Result<(), Fail> {
     let alloc = rt.alloc();
     let Ok(mut hub) = a_hub(alloc, 2147483647, Vec::new(alloc)) else {
@@ -211,7 +241,12 @@ fn what_is_not_built_is_told(rt: HostRuntime) -> Result<(), Fail> {
     assert!(rt;
         hub.built(&from_editor(alloc, "{\"jsonrpc\":\"2.0\",\"id\":1,\"method\":\"x\"}")?)?
     );
-    assert!(rt; !hub.built(&from_editor(alloc, "{")?)?);
+    assert!(rt;
+        !hub.built(&from_editor(
+            alloc,
+            "{\"jsonrpc\":\"2.0\",\"id\":1,\"result\":null}"
+        )?)?
+    );
     assert!(rt;
         !hub.built(&from_editor(
             alloc,

@@ -45,6 +45,16 @@ plain_path_outs = []
     ∷ (ToEditor 0 (codes "{\"jsonrpc\":\"2.0\",\"id\":7,\"result\":{\"contents\":\"c\"}}") ∷ [])
     ∷ []
 
+-- an editor that joins and sends what is no JSON text, and what is no message
+abbrev pub malformed_path : List Cause
+malformed_path = Joined 0 ∷ FromEditor 0 (codes "{") ∷ FromEditor 0 (codes "[]") ∷ []
+
+abbrev pub malformed_path_outs : List (List Out)
+malformed_path_outs = []
+    ∷ (ToEditor 0 (codes "{\"jsonrpc\":\"2.0\",\"id\":null,\"error\":{\"code\":-32700,\"message\":\"Parse error\"}}") ∷ [])
+    ∷ (ToEditor 0 (codes "{\"jsonrpc\":\"2.0\",\"id\":null,\"error\":{\"code\":-32600,\"message\":\"Invalid Request\"}}") ∷ [])
+    ∷ []
+
 -- each of these causes fits, and is built, behind the ones before it
 abbrev pub taken_from : List Event → List Cause → Bool
 taken_from events [] = true

@@ -1,11 +1,9 @@
 use Rattle.std.proofs.Common.{arith, refl, ap, ◌∙◌, option_map, ◌+◌}
 use Rattle.std.proofs.lemmas.Result.{err_from_is_err_and}
 use Rattle.std.specs.Prelude.{Err}
-use Rattle.lspmux_program.specs.Buffers.{known_lines}
-use Rattle.lspmux_program.specs.Lines.{lines_of}
 use Rattle.lspmux_program.specs.declared.line.LineStop.{LineStop}
 use Rattle.lspmux_program.specs.declared.step.LineFault.{LineFault}
-use Rattle.lspmux_program.proofs.Driving.{begins, goes_on, ends, stops, faults, never_begins}
+use Rattle.lspmux_program.proofs.Driving.{begins, goes_on, ends, ends_behind, stops, faults, never_begins}
 use Rattle.lspmux_program.proofs.drive.drive.Goals as goal
 
 pub returns-in_err-buffer-clause-driven : goal.returns-in_err-buffer-clause-driven
@@ -28,41 +26,53 @@ lines-init g c = record {
 pub returns-in-Ok-None-clause-driven : goal.returns-in-Ok-None-clause-driven
 returns-in-Ok-None-clause-driven g c =
     let e = rw c.in-Ok-None.field-0-is at c.in-Ok-None.ensures.end in
-    ends g.J.Journal.told c.args.hub.now.settings (option_map lines_of (g.I.Source.left c.args.input.now)) (known_lines c.lines.buffer (g.I.Source.left c.lines.input)) c.lines.taken
+    ends g.J.Journal.told c.args.hub.now.settings (g.I.Source.left c.args.input.now) (g.I.Source.left c.lines.input) (g.I.Source.left c.next_line.new.input) c.lines.buffer c.lines.taken
     (g.O.Sink.written c.args.output.now) (g.O.Sink.written c.lines.output) c.lines.hub c.lines.invariant.driving e
 
 pub returns-in-Err-clause-driven : goal.returns-in-Err-clause-driven
 returns-in-Err-clause-driven g c =
     rw c.stop_at.ensures
-    (stops g.J.Journal.told c.args.hub.now.settings (option_map lines_of (g.I.Source.left c.args.input.now)) (known_lines c.lines.buffer (g.I.Source.left c.lines.input)) c.lines.taken (c.lines.taken + 1)
-    (g.O.Sink.written c.args.output.now) (g.O.Sink.written c.lines.output) c.lines.hub c.in-Err.stop c.lines.invariant.driving refl (λ e. c.in-Err.ensures.passed (ap (λ (s : LineStop). Err s) e)))
+    (stops g.J.Journal.told c.args.hub.now.settings (g.I.Source.left c.args.input.now) (g.I.Source.left c.lines.input) (g.I.Source.left c.next_line.new.input) c.lines.buffer c.lines.taken (c.lines.taken + 1)
+    (g.O.Sink.written c.args.output.now) (g.O.Sink.written c.lines.output) c.lines.hub c.in-Err.stop c.lines.invariant.driving refl (λ e. c.in-Err.ensures.passed (ap (λ (s : LineStop). Err s) e))
+    (λ e. c.in-Err.ensures.broke_off (ap (λ (s : LineStop). Err s) e)))
 
 pub returns-in-Err-take_line-clause-driven : goal.returns-in-Err-take_line-clause-driven
 returns-in-Err-take_line-clause-driven g c =
     let first = rw c.in-Ok-Some.field-0-is at c.in-Ok-Some.ensures.line in
     let small = rw c.in-Ok-Some.field-0-is at c.in-Ok-Some.ensures.small in
     rw c.fault_at.ensures
-    (faults g.J.Journal.told c.args.hub.now.settings (option_map lines_of (g.I.Source.left c.args.input.now)) (known_lines c.lines.buffer (g.I.Source.left c.lines.input))
-    (known_lines c.next_line.new.buffer (g.I.Source.left c.next_line.new.input)) c.lines.taken (c.lines.taken + 1)
-    (g.O.Sink.written c.args.output.now) (g.O.Sink.written c.lines.output) (g.O.Sink.written c.take_line.new.output) c.lines.hub c.take_line.new.hub c.in-Ok-Some.line.items c.next_line.new.buffer.used c.in-Err-take_line.fault
+    (faults g.J.Journal.told c.args.hub.now.settings (g.I.Source.left c.args.input.now) (g.I.Source.left c.lines.input) (g.I.Source.left c.next_line.new.input) c.lines.buffer c.next_line.new.buffer c.lines.taken
+    (g.O.Sink.written c.args.output.now) (g.O.Sink.written c.lines.output) (g.O.Sink.written c.take_line.new.output) c.lines.hub c.take_line.new.hub c.in-Ok-Some.line.bytes.items
     c.lines.invariant.driving c.lines.invariant.settings
     first
-    small refl (c.in-Err-take_line.ensures.left c.lines.invariant.driving.history c.lines.invariant.driving.stands)
+    small (c.lines.taken + 1) c.in-Err-take_line.fault refl (c.in-Err-take_line.ensures.left c.lines.invariant.driving.history c.lines.invariant.driving.stands)
     (c.in-Err-take_line.ensures.kept c.lines.invariant.driving.history c.lines.invariant.driving.stands)
-    (λ r e. c.in-Err-take_line.ensures.refused c.lines.invariant.driving.history r c.lines.invariant.driving.stands (ap (λ (s : LineFault). Err s) e)))
+    (λ r e. c.in-Err-take_line.ensures.refused c.lines.invariant.driving.history r c.lines.invariant.driving.stands (ap (λ (s : LineFault). Err s) e))
+    (λ e. c.in-Err-take_line.ensures.entry c.lines.invariant.driving.history c.lines.invariant.driving.stands (ap (λ (s : LineFault). Err s) e)))
+
+pub returns-then-is_last-clause-driven : goal.returns-then-is_last-clause-driven
+returns-then-is_last-clause-driven g c =
+    let first = rw c.in-Ok-Some.field-0-is at c.in-Ok-Some.ensures.line in
+    let small = rw c.in-Ok-Some.field-0-is at c.in-Ok-Some.ensures.small in
+    let last = rw c.in-Ok-Some.field-0-is at c.in-Ok-Some.ensures.last in
+    ends_behind g.J.Journal.told c.args.hub.now.settings (g.I.Source.left c.args.input.now) (g.I.Source.left c.lines.input) (g.I.Source.left c.next_line.new.input) c.lines.buffer c.next_line.new.buffer c.lines.taken
+    (g.O.Sink.written c.args.output.now) (g.O.Sink.written c.lines.output) (g.O.Sink.written c.take_line.new.output) c.lines.hub c.take_line.new.hub c.in-Ok-Some.line.bytes.items
+    c.lines.invariant.driving c.lines.invariant.settings
+    first
+    small (λ history stood. c.in_default.ensures.taken history stood) (last c.if-is_last.true)
 
 pub lines-preserved : goal.lines-preserved
 lines-preserved g c =
     let first = rw c.in-Ok-Some.field-0-is at c.in-Ok-Some.ensures.line in
     let small = rw c.in-Ok-Some.field-0-is at c.in-Ok-Some.ensures.small in
     let used = rw c.in-Ok-Some.field-0-is at c.in-Ok-Some.ensures.used in
+    let came = rw c.in-Ok-Some.field-0-is at c.in-Ok-Some.ensures.came in
     record {
-      driving = goes_on g.J.Journal.told c.args.hub.now.settings (option_map lines_of (g.I.Source.left c.args.input.now)) (known_lines c.lines.buffer (g.I.Source.left c.lines.input))
-          (known_lines c.next_line.new.buffer (g.I.Source.left c.next_line.new.input)) c.lines.taken
-          (g.O.Sink.written c.args.output.now) (g.O.Sink.written c.lines.output) (g.O.Sink.written c.take_line.new.output) c.lines.hub c.take_line.new.hub c.in-Ok-Some.line.items c.next_line.new.buffer.used
+      driving = goes_on g.J.Journal.told c.args.hub.now.settings (g.I.Source.left c.args.input.now) (g.I.Source.left c.lines.input) (g.I.Source.left c.next_line.new.input) c.lines.buffer c.next_line.new.buffer c.lines.taken
+          (g.O.Sink.written c.args.output.now) (g.O.Sink.written c.lines.output) (g.O.Sink.written c.take_line.new.output) c.lines.hub c.take_line.new.hub c.in-Ok-Some.line.bytes.items
           c.lines.invariant.driving c.lines.invariant.settings
           first
-          small (λ history stood. c.in_default.ensures.taken history stood);
+          small (λ history stood. c.in_default.ensures.taken history stood) (came c.if-is_last.false);
       settings = c.take_line.ensures.settings ∙ c.lines.invariant.settings;
       ready = c.in_default.ensures.ready;
       count = omega (arith, used, c.lines.invariant.count);

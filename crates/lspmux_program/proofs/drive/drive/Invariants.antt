@@ -1,12 +1,10 @@
-use Rattle.std.proofs.Common.{◌≡◌, ◌-◌, ◌^◌, ◌≤◌, false, option_map}
-use Rattle.lspmux_program.specs.Buffers.{known_lines}
-use Rattle.lspmux_program.specs.Lines.{lines_of}
+use Rattle.std.proofs.Common.{◌≡◌, ◌-◌, ◌^◌, ◌≤◌, false}
 use Rattle.lspmux_program.specs.Stops.{Driving}
 use Rattle.lspmux_program.proofs.drive.drive.Given as goal
 
 abbrev pub invariant-lines : goal.invariant-lines
 invariant-lines g l = record {
-  driving : Driving g.J.Journal.told l.initial.hub.settings (option_map lines_of (g.I.Source.left l.initial.input)) (known_lines l.buffer (g.I.Source.left l.input)) l.taken (g.O.Sink.written l.initial.output) (g.O.Sink.written l.output) l.hub;
+  driving : Driving g.J.Journal.told l.initial.hub.settings (g.I.Source.left l.initial.input) (g.I.Source.left l.input) l.buffer l.taken (g.O.Sink.written l.initial.output) (g.O.Sink.written l.output) l.hub;
   settings : l.hub.settings ≡ l.initial.hub.settings;
   ready : l.hub.spent ≡ false;
   count : l.taken ≤ l.buffer.used;
