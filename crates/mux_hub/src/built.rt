@@ -24,10 +24,10 @@ use lsp_method::Class;
 use mux_history::Cause;
 use mux_members::{
     class_in, has_bare_capabilities, has_token, is_first_result, is_initialize, is_initialized,
-    is_plain_body, is_plain_result, reads_versions, same_id,
+    is_plain_body, is_plain_result, reads_versions,
 };
 use mux_model::{Phase, Stage};
-use rpc_message::{Envelope, Message};
+use rpc_message::{Envelope, Malformed, Message, same_id};
 use std::alloc::Global;
 
 // Whether a request of this id is open.

@@ -19,7 +19,7 @@ use Rattle.mux_model.specs.Stages.{is_first_result}
 use Rattle.mux_members.specs.Envelopes.{outcome_id, outcome_value}
 use Rattle.mux_members.specs.Results.{any_versioned, is_one, is_plain_value, value_reads_versions}
 use Rattle.mux_members.proofs.Bared.{in_bare, integer_bare, of_bare, string_bare}
-use Rattle.mux_members.proofs.Ids.{quoted_shape}
+use Rattle.rpc_message.proofs.SameIds.{quoted_shape}
 
 -- the number 1
 

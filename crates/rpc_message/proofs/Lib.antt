@@ -8,4 +8,5 @@ pub mod KindTests
 pub mod Meaning
 pub mod Opening
 pub mod Reading
+pub mod SameIds
 pub mod Standing

@@ -14,8 +14,8 @@ use Rattle.json_nodes.proofs.Numbers.{root_at}
 use Rattle.json_span.specs.declared.fault.JsonFault.{JsonFault}
 use Rattle.json_span.specs.declared.fault.JsonFault.TheVariants.{Syntax, TooDeep, Memory}
 use Rattle.rpc_message.specs.declared.envelope.Envelope.{Envelope}
-use Rattle.rpc_message.specs.declared.envelope.Envelope.TheVariants.{Request, Notification}
-use Rattle.rpc_message.specs.Envelopes.{Tells, IsRequest, IsNotification}
+use Rattle.rpc_message.specs.declared.envelope.Envelope.TheVariants.{Request, Notification, Outcome, Failure}
+use Rattle.rpc_message.specs.Envelopes.{Tells, TellsIf}
 use Rattle.rpc_message.specs.Message.{member_bytes, message_in, message_of, not_json}
 use Rattle.rpc_message.specs.Parsed.{Parsed, IsRead, method_of}
 
@@ -23,10 +23,10 @@ no_message : (bytes : List ℕ) → tree_of bytes ≡ None → message_of bytes 
 unfolding message_of
 no_message bytes e = ap message_in e
 
-pub read_fault : (bytes : List ℕ) (e : JsonFault) → ((p : ℕ) → e ≡ Syntax p → IsSyntaxFault 1024 bytes p) → ((p : ℕ) → e ≡ TooDeep p → IsDepthFault 1024 bytes p) → (e ≡ Memory) ⊎ (message_of bytes ≡ not_json)
-read_fault bytes (Syntax p) s d = inr (no_message bytes (syntax_none bytes p (s p refl)))
-read_fault bytes (TooDeep p) s d = inr (no_message bytes (deep_none bytes p (d p refl)))
-read_fault bytes Memory s d = inl refl
+pub read_fault : (bytes : List ℕ) (e : JsonFault) → (e ≡ Memory → ⊥) → ((p : ℕ) → e ≡ Syntax p → IsSyntaxFault 1024 bytes p) → ((p : ℕ) → e ≡ TooDeep p → IsDepthFault 1024 bytes p) → message_of bytes ≡ not_json
+read_fault bytes (Syntax p) n s d = no_message bytes (syntax_none bytes p (s p refl))
+read_fault bytes (TooDeep p) n s d = no_message bytes (deep_none bytes p (d p refl))
+read_fault bytes Memory n s d = absurd (n refl)
 
 -- the tree of a text with its nodes is that of its bytes
 pub held_tree : (doc : Doc) (j : Json) → Holds doc j → tree_of doc.bytes ≡ Some j
@@ -35,18 +35,14 @@ held_tree doc j h = tree_complete doc.bytes j h.text h.shallow
 pub has_root : (doc : Doc) (j : Json) (n : ℕ) → Holds doc j → n ≡ length doc.nodes → 0 < n
 has_root doc j n h e = subst (λ k. 0 < k) (sym e) (root_inside doc j h)
 
-pub read_is : (doc : Doc) (e : Envelope) (bytes : List ℕ) (j : Json) → doc.bytes ≡ bytes → Holds doc j → ((j : Json) → At doc 0 j → Tells doc e (message_in (Some j))) → IsRead (record { doc = doc; envelope = e }) bytes
+-- what is said of each tree that stands for a text's value is said of its message
+pub told_of : (doc : Doc) (e : Option Envelope) (bytes : List ℕ) (j : Json) → doc.bytes ≡ bytes → Holds doc j → ((j : Json) → At doc 0 j → TellsIf doc e (message_in (Some j))) → TellsIf doc e (message_of bytes)
 unfolding message_of
-read_is doc e bytes j same h tell = record {
-  bytes_are = same;
-  tree = j;
-  holds = h;
-  tells = subst (λ o. Tells doc e (message_in o)) (sym (held_tree doc j h) ∙ ap tree_of same) (tell j (root_at doc j h));
-}
+told_of doc e bytes j same h tell = subst (λ o. TellsIf doc e (message_in o)) (sym (held_tree doc j h) ∙ ap tree_of same) (tell j (root_at doc j h))
 
-pub err_and : {T E : Type 0} (r : Result T E) (Q P : E → Type 0) → IsErrAnd r Q → ((e : E) → Q e → P e) → IfErr r P
-err_and (Ok x) Q P h f = tt
-err_and (Err e) Q P h f = f e h
+pub read_is : (doc : Doc) (e : Envelope) (name : Option (List ℕ)) (bytes : List ℕ) (j : Json) → doc.bytes ≡ bytes → Holds doc j → Tells doc e (message_of bytes) → name ≡ method_of (message_of bytes)
+    → IsRead (record { doc = doc; envelope = e; method = name }) bytes
+read_is doc e name bytes j same h t n = record { bytes_are = same; tree = j; holds = h; tells = t; named = n }
 
 pub same_doc : (doc : Doc) (bs : List ℕ) (ns : List Node) → bs ≡ doc.bytes → ns ≡ doc.nodes → ◌≡◌ {A = Doc} (record { bytes = bs; nodes = ns }) doc
 same_doc doc bs ns e f = ap₂ (λ b n. record { bytes = b; nodes = n }) e f
@@ -60,18 +56,3 @@ pub result_chars : chars (codes "result") ≡ codes "result"
 unfolding chars
 result_chars = refl
 
-pub text_read : {E : Type 0} (d e : Doc) (n : ℕ) (s : Span) (cs : List ℕ) (r : Result (List ℕ) E) → d ≡ e → At e n (string s cs) → ((s : Span) (cs : List ℕ) → At d n (string s cs) → IfOk r (λ t. t ≡ encode_utf8_all cs)) → IfOk r (λ t. t ≡ encode_utf8_all cs)
-text_read d e n s cs r same a h = h s cs (subst (λ z. At z n (string s cs)) (sym same) a)
-
-pub text_missing : (d e : Doc) (n : ℕ) (s : Span) (cs w : List ℕ) → d ≡ e → At e n (string s cs) → length d.nodes ≤ n → w ≡ encode_utf8_all cs
-text_missing d e n s cs w same a h = absurd (omega (arith, at_inside a, ap (λ (z : Doc). length z.nodes) same))
-
--- the method of a request or a notification
-pub method_read : {E : Type 0} (m : Parsed) (bytes : List ℕ) (e : Envelope) (n : ℕ) (r : Result (List ℕ) E) → IsRead m bytes → e ≡ m.envelope → ((id : ℕ) × (params : Option ℕ) × (e ≡ Request id n params)) ⊎ ((params : Option ℕ) × (e ≡ Notification n params))
-    → ((s : Span) (cs : List ℕ) → At m.doc n (string s cs) → IfOk r (λ t. t ≡ encode_utf8_all cs)) → IfOk r (λ t. t ≡ encode_utf8_all (method_of (message_of bytes)))
-method_read m bytes e n r read same (inl k) h =
-    let q : IsRequest m.doc k.0 n k.1 (message_of bytes) = subst (λ z. Tells m.doc z (message_of bytes)) (sym same ∙ k.2) read.tells in
-    subst (λ z. IfOk r (λ t. t ≡ encode_utf8_all (method_of z))) (sym q.is) (h q.span q.method q.method_stands)
-method_read m bytes e n r read same (inr k) h =
-    let q : IsNotification m.doc n k.0 (message_of bytes) = subst (λ z. Tells m.doc z (message_of bytes)) (sym same ∙ k.1) read.tells in
-    subst (λ z. IfOk r (λ t. t ≡ encode_utf8_all (method_of z))) (sym q.is) (h q.span q.method q.method_stands)

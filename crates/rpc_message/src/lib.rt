@@ -3,15 +3,19 @@
 
 mod code;
 mod envelope;
+mod id;
 mod laws;
 mod message;
 mod parts;
+mod sort;
 #[cfg(test)]
 mod tests;
 mod texts;
 
 pub use code::ErrorCode;
 pub use envelope::Envelope;
+pub use id::{is_integer, is_quoted, same_id};
 pub use laws::{answers_law, opening_law, parts_law, renamed_law};
 pub use message::Message;
+pub use sort::{Malformed, Sort};
 pub use texts::{error_answer, initialize, initialized, ok_answer};
