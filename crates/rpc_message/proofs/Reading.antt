@@ -1,12 +1,12 @@
 -- A body that is no JSON text is no message; one that is has its tree's.
-use Rattle.std.proofs.Common.{◌≡◌, ℕ, ◌<◌, codes, encode_utf8_all, IfOk, Result, Ok, Err, IsErrAnd, IfErr, ◌⊎◌, inl, inr, List, length, Option, Some, None, refl, sym, ◌∙◌, ap, ap₂, subst, ◌≤◌, arith}
+use Rattle.std.proofs.Common.{MatchOption, ◌≡◌, ℕ, ◌<◌, codes, encode_utf8_all, IfOk, Result, Ok, Err, IsErrAnd, IfErr, ◌⊎◌, inl, inr, List, length, Option, Some, None, refl, sym, ◌∙◌, ap, ap₂, subst, ◌≤◌, arith}
 use Rattle.json_text.specs.Faults.{IsSyntaxFault, IsDepthFault}
 use Rattle.std.specs.Str.{chars}
 use Rattle.json_text.specs.declared.span.Span.{Span}
 use Rattle.json_text.specs.Json.{Json, string}
 use Rattle.json_text.specs.Tree.{tree_of}
 use Rattle.json_text.proofs.Laws.{syntax_none, deep_none, tree_complete}
-use Rattle.json_nodes.specs.At.{At}
+use Rattle.json_nodes.specs.At.{At, Found}
 use Rattle.json_nodes.specs.Doc.{Doc, Holds}
 use Rattle.json_nodes.specs.declared.node.Node.{Node}
 use Rattle.json_nodes.proofs.Bounds.{at_inside, root_inside}
@@ -15,18 +15,19 @@ use Rattle.json_span.specs.declared.fault.JsonFault.{JsonFault}
 use Rattle.json_span.specs.declared.fault.JsonFault.TheVariants.{Syntax, TooDeep, Memory}
 use Rattle.rpc_message.specs.declared.envelope.Envelope.{Envelope}
 use Rattle.rpc_message.specs.declared.envelope.Envelope.TheVariants.{Request, Notification, Outcome, Failure}
-use Rattle.rpc_message.specs.Envelopes.{Tells, TellsIf}
-use Rattle.rpc_message.specs.Message.{member_bytes, message_in, message_of, not_json}
-use Rattle.rpc_message.specs.Parsed.{Parsed, IsRead, method_of}
+use Rattle.rpc_message.specs.Envelopes.{Tells, TellsIf, IsRequest, IsNotification, IsOutcome, IsFailure}
+use Rattle.rpc_message.specs.Message.{Message, member_bytes, message_in, message_of, not_json}
+use Rattle.rpc_message.specs.Parsed.{Parsed, IsRead, FoundBare, method_of, error_of}
 
 no_message : (bytes : List ℕ) → tree_of bytes ≡ None → message_of bytes ≡ not_json
 unfolding message_of
 no_message bytes e = ap message_in e
 
-pub read_fault : (bytes : List ℕ) (e : JsonFault) → (e ≡ Memory → ⊥) → ((p : ℕ) → e ≡ Syntax p → IsSyntaxFault 1024 bytes p) → ((p : ℕ) → e ≡ TooDeep p → IsDepthFault 1024 bytes p) → message_of bytes ≡ not_json
-read_fault bytes (Syntax p) n s d = no_message bytes (syntax_none bytes p (s p refl))
-read_fault bytes (TooDeep p) n s d = no_message bytes (deep_none bytes p (d p refl))
-read_fault bytes Memory n s d = absurd (n refl)
+pub syntax_refused : (bytes : List ℕ) (p : ℕ) → IsSyntaxFault 1024 bytes p → message_of bytes ≡ not_json
+syntax_refused bytes p h = no_message bytes (syntax_none bytes p h)
+
+pub depth_refused : (bytes : List ℕ) (p : ℕ) → IsDepthFault 1024 bytes p → message_of bytes ≡ not_json
+depth_refused bytes p h = no_message bytes (deep_none bytes p h)
 
 -- the tree of a text with its nodes is that of its bytes
 pub held_tree : (doc : Doc) (j : Json) → Holds doc j → tree_of doc.bytes ≡ Some j
@@ -36,9 +37,10 @@ pub has_root : (doc : Doc) (j : Json) (n : ℕ) → Holds doc j → n ≡ length
 has_root doc j n h e = subst (λ k. 0 < k) (sym e) (root_inside doc j h)
 
 -- what is said of each tree that stands for a text's value is said of its message
-pub told_of : (doc : Doc) (e : Option Envelope) (bytes : List ℕ) (j : Json) → doc.bytes ≡ bytes → Holds doc j → ((j : Json) → At doc 0 j → TellsIf doc e (message_in (Some j))) → TellsIf doc e (message_of bytes)
+pub told_read : (doc d : Doc) (e : Option Envelope) (bytes : List ℕ) (j : Json) → d ≡ doc → doc.bytes ≡ bytes → Holds doc j → ((j : Json) → At d 0 j → TellsIf d e (message_in (Some j))) → TellsIf doc e (message_of bytes)
 unfolding message_of
-told_of doc e bytes j same h tell = subst (λ o. TellsIf doc e (message_in o)) (sym (held_tree doc j h) ∙ ap tree_of same) (tell j (root_at doc j h))
+told_read doc d e bytes j is same h tell =
+    subst (λ o. TellsIf doc e (message_in o)) (sym (held_tree doc j h) ∙ ap tree_of same) (subst (λ z. TellsIf z e (message_in (Some j))) is (tell j (subst (λ z. At z 0 j) (sym is) (root_at doc j h))))
 
 pub read_is : (doc : Doc) (e : Envelope) (name : Option (List ℕ)) (bytes : List ℕ) (j : Json) → doc.bytes ≡ bytes → Holds doc j → Tells doc e (message_of bytes) → name ≡ method_of (message_of bytes)
     → IsRead (record { doc = doc; envelope = e; method = name }) bytes
@@ -56,3 +58,49 @@ pub result_chars : chars (codes "result") ≡ codes "result"
 unfolding chars
 result_chars = refl
 
+-- the values that an envelope names are values of the text
+
+pub found_inside : (doc : Doc) (o : Option Json) (found : Option ℕ) → Found doc o found → MatchOption found (Unit {0}) (λ n. n < length doc.nodes)
+found_inside doc (Some t) (Some n) h = at_inside h
+found_inside doc None None h = tt
+found_inside doc (Some t) None h = absurd h
+found_inside doc None (Some n) h = absurd h
+
+-- an envelope with a method
+abbrev pub Calls : Envelope → ℕ → Type 0
+Calls e n = ((id : ℕ) × (params : Option ℕ) × (e ≡ Request id n params)) ⊎ ((params : Option ℕ) × (e ≡ Notification n params))
+
+pub method_inside : (doc : Doc) (e : Envelope) (n : ℕ) (m : Message) → Calls e n → Tells doc e m → n < length doc.nodes
+method_inside doc e n m (inl k) t = let q : IsRequest doc k.0 n k.1 m = subst (λ z. Tells doc z m) k.2 t in at_inside q.method_stands
+method_inside doc e n m (inr k) t = let q : IsNotification doc n k.0 m = subst (λ z. Tells doc z m) k.1 t in at_inside q.method_stands
+
+pub method_named : (doc : Doc) (e : Envelope) (n : ℕ) (w : List ℕ) → Calls e n → ((s : Span) (cs : List ℕ) → At doc n (string s cs) → w ≡ encode_utf8_all cs) → (m : Message) → Tells doc e m → Some w ≡ method_of m
+method_named doc e n w (inl k) h m t = let q : IsRequest doc k.0 n k.1 m = subst (λ z. Tells doc z m) k.2 t in ap Some (h q.span q.method q.method_stands) ∙ sym (ap method_of q.is)
+method_named doc e n w (inr k) h m t = let q : IsNotification doc n k.0 m = subst (λ z. Tells doc z m) k.1 t in ap Some (h q.span q.method q.method_stands) ∙ sym (ap method_of q.is)
+
+-- an envelope with params
+abbrev pub Gives : Envelope → Option ℕ → Type 0
+Gives e ps = ((id n : ℕ) × (e ≡ Request id n ps)) ⊎ ((n : ℕ) × (e ≡ Notification n ps))
+
+pub params_inside : (m k : Parsed) (bytes : List ℕ) (ps : Option ℕ) → m ≡ k → IsRead m bytes → Gives m.envelope ps → MatchOption ps (Unit {0}) (λ n. n < length k.doc.nodes)
+params_inside m k bytes ps same r (inl g) =
+    let q : IsRequest m.doc g.0 g.1 ps (message_of bytes) = subst (λ z. Tells m.doc z (message_of bytes)) g.2 r.tells in
+    subst (λ (z : Parsed). MatchOption ps (Unit {0}) (λ n. n < length z.doc.nodes)) same (found_inside m.doc q.params ps q.params_stand)
+params_inside m k bytes ps same r (inr g) =
+    let q : IsNotification m.doc g.0 ps (message_of bytes) = subst (λ z. Tells m.doc z (message_of bytes)) g.1 r.tells in
+    subst (λ (z : Parsed). MatchOption ps (Unit {0}) (λ n. n < length z.doc.nodes)) same (found_inside m.doc q.params ps q.params_stand)
+
+pub result_inside : (m k : Parsed) (bytes : List ℕ) (id : ℕ) (v : Option ℕ) → m ≡ k → IsRead m bytes → m.envelope ≡ Outcome id v → MatchOption v (Unit {0}) (λ n. n < length k.doc.nodes)
+result_inside m k bytes id v same r e =
+    let q : IsOutcome m.doc id v (message_of bytes) = subst (λ z. Tells m.doc z (message_of bytes)) e r.tells in
+    subst (λ (z : Parsed). MatchOption v (Unit {0}) (λ n. n < length z.doc.nodes)) same (found_inside m.doc q.value v q.value_stands)
+
+pub error_inside : (m k : Parsed) (bytes : List ℕ) (id n : ℕ) → m ≡ k → IsRead m bytes → m.envelope ≡ Failure id n → n < length k.doc.nodes
+error_inside m k bytes id n same r e =
+    let q : IsFailure m.doc id n (message_of bytes) = subst (λ z. Tells m.doc z (message_of bytes)) e r.tells in
+    subst (λ (z : Parsed). n < length z.doc.nodes) same (at_inside q.failure_stands)
+
+pub error_found : (m : Parsed) (e : Envelope) (id n : ℕ) → e ≡ m.envelope → e ≡ Failure id n → (bytes : List ℕ) → IsRead m bytes → FoundBare m.doc (error_of (message_of bytes)) (Some n)
+error_found m e id n same is bytes r =
+    let q : IsFailure m.doc id n (message_of bytes) = subst (λ z. Tells m.doc z (message_of bytes)) (sym same ∙ is) r.tells in
+    record { value = Some q.failure; stands = q.failure_stands; is = ap error_of q.is }

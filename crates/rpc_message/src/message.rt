@@ -64,7 +64,8 @@ impl<'a> Message<'a> {
         let tape = match Tape::read(alloc, bytes) {
             Ok(tape) => tape,
             Err(JsonFault::Memory) => return Err(Malformed::Memory),
-            Err(_) => return Err(Malformed::NotJson),
+            Err(JsonFault::Syntax(_)) => return Err(Malformed::NotJson),
+            Err(JsonFault::TooDeep(_)) => return Err(Malformed::NotJson),
         };
         let Some(envelope) = envelope_in(tape.bytes(), tape.nodes()) else {
             return Err(Malformed::NotMessage);

@@ -52,8 +52,10 @@ fn root_member(bytes: &[u8], nodes: &[Node], name: &str) -> Option<u32>
 pub fn member_span(bytes: &[u8], nodes: &[Node], name: &str) -> Option<Span>
     ensures { (j : Json) → Holds (record { bytes = bytes.now; nodes = nodes.now }) j → result ≡ place_in (chars name.now) (tree_of bytes.now) }
 {
-    let node = root_member(bytes, nodes, name)?;
-    Some(span_in(nodes, node))
+    match root_member(bytes, nodes, name) {
+        Some(node) => Some(span_in(nodes, node)),
+        None => None,
+    }
 }
 
 /// The bytes of the last member of this name, in a body that is an object; `null` where it has none.
