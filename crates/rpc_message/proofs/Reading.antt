@@ -1,11 +1,11 @@
 -- A body that is no JSON text is no message; one that is has its tree's.
-use Rattle.std.proofs.Common.{MatchOption, ◌≡◌, ℕ, ◌<◌, codes, encode_utf8_all, IfOk, Result, Ok, Err, IsErrAnd, IfErr, ◌⊎◌, inl, inr, List, length, Option, Some, None, refl, sym, ◌∙◌, ap, ap₂, subst, ◌≤◌, arith}
+use Rattle.std.proofs.Common.{Bool, true, false, ◌&&◌, not, is_some, if◌then◌else◌, MatchOption, ◌≡◌, ℕ, ◌<◌, codes, encode_utf8_all, IfOk, Result, Ok, Err, IsErrAnd, IfErr, ◌⊎◌, inl, inr, List, length, Option, Some, None, refl, sym, ◌∙◌, ap, ap₂, subst, ◌≤◌, arith}
 use Rattle.json_text.specs.Faults.{IsSyntaxFault, IsDepthFault}
 use Rattle.std.specs.Str.{chars}
 use Rattle.json_text.specs.declared.span.Span.{Span}
-use Rattle.json_text.specs.Json.{Json, string}
+use Rattle.json_text.specs.Json.{Json, word, number, string, array, object, Members, IsText, depth}
 use Rattle.json_text.specs.Tree.{tree_of}
-use Rattle.json_text.proofs.Laws.{syntax_none, deep_none, tree_complete}
+use Rattle.json_text.proofs.Laws.{syntax_none, deep_none, tree_complete, tree_sound}
 use Rattle.json_nodes.specs.At.{At, Found}
 use Rattle.json_nodes.specs.Doc.{Doc, Holds}
 use Rattle.json_nodes.specs.declared.node.Node.{Node}
@@ -15,8 +15,10 @@ use Rattle.json_span.specs.declared.fault.JsonFault.{JsonFault}
 use Rattle.json_span.specs.declared.fault.JsonFault.TheVariants.{Syntax, TooDeep, Memory}
 use Rattle.rpc_message.specs.declared.envelope.Envelope.{Envelope}
 use Rattle.rpc_message.specs.declared.envelope.Envelope.TheVariants.{Request, Notification, Outcome, Failure}
-use Rattle.rpc_message.specs.Envelopes.{Tells, TellsIf, IsRequest, IsNotification, IsOutcome, IsFailure}
-use Rattle.rpc_message.specs.Message.{Message, member_bytes, message_in, message_of, not_json}
+use Rattle.json_text.specs.Named.{named}
+use Rattle.rpc_message.proofs.Bodies.{method_names}
+use Rattle.rpc_message.specs.Envelopes.{by_names, Tells, TellsIf, IsRequest, IsNotification, IsOutcome, IsFailure}
+use Rattle.rpc_message.specs.Message.{Id, Message, result, error_if, request_if, notification_if, response_with, response_id, id_of, is_null, is_error, is_two, are_params, given, result_tree, no_name_twice, by_method, member_bytes, message_in, message_of, not_json, not_message}
 use Rattle.rpc_message.specs.Parsed.{Parsed, IsRead, FoundBare, method_of, error_of}
 
 no_message : (bytes : List ℕ) → tree_of bytes ≡ None → message_of bytes ≡ not_json
@@ -28,6 +30,60 @@ syntax_refused bytes p h = no_message bytes (syntax_none bytes p h)
 
 pub depth_refused : (bytes : List ℕ) (p : ℕ) → IsDepthFault 1024 bytes p → message_of bytes ≡ not_json
 depth_refused bytes p h = no_message bytes (deep_none bytes p h)
+
+request_taken : (b : Bool) (i : Option Id) (m : List ℕ) (ps : Option Json) → request_if b i m ps ≡ not_json → ⊥
+request_taken true (Some i) m ps e = cc
+request_taken true None m ps e = cc
+request_taken false i m ps e = cc
+
+notification_taken : (b : Bool) (m : List ℕ) (ps : Option Json) → notification_if b m ps ≡ not_json → ⊥
+notification_taken true m ps e = cc
+notification_taken false m ps e = cc
+
+outcome_taken : (a b : Bool) (i : Option Id) (f r : Json) → (if a then result i r else error_if b i f) ≡ not_json → ⊥
+outcome_taken true b i f r e = cc
+outcome_taken false true i f r e = cc
+outcome_taken false false i f r e = cc
+
+answer_taken : (i : Option (Option Id)) (f v : Option Json) → response_with i f v ≡ not_json → ⊥
+answer_taken None f v e = cc
+answer_taken (Some i) None v e = cc
+answer_taken (Some i) (Some f) v e = outcome_taken (is_null f) (is_error f && not (is_some (given v))) i f (result_tree v) e
+
+called_taken : (o i p f v : Option Json) → by_names o i p f v ≡ not_json → ⊥
+called_taken (Some (string s m)) (Some t) p f v e = request_taken (are_params p) (id_of t) m (given p) e
+called_taken (Some (string s m)) None p f v e = notification_taken (are_params p) m (given p) e
+called_taken (Some (word s w)) i p f v e = cc
+called_taken (Some (number s ds)) i p f v e = cc
+called_taken (Some (array s js)) i p f v e = cc
+called_taken (Some (object s ms)) i p f v e = cc
+called_taken None (Some t) p f v e = answer_taken (response_id t) f v e
+called_taken None None p f v e = cc
+
+-- a body is no JSON just where it is no text of that depth
+
+not_taken : (bytes : List ℕ) (o : Option Json) → tree_of bytes ≡ o → ((j : Json) → IsText bytes j → depth j ≤ 1024 → ⊥) → message_in o ≡ not_json
+not_taken bytes None e h = refl
+not_taken bytes (Some j) e h = absurd (let s : IsText bytes j × (depth j ≤ 1024) = tree_sound bytes j e in h j s.0 s.1)
+
+object_taken : (b : Bool) (o : Option Json) (ms : Members) → (if b then by_method o ms else not_message) ≡ not_json → ⊥
+object_taken false o ms e = cc
+object_taken true o ms e = called_taken o (named (codes "id") ms) (named (codes "params") ms) (named (codes "error") ms) (named (codes "result") ms) (sym (method_names o ms) ∙ e)
+
+pub text_refused : (bytes : List ℕ) → ((j : Json) → IsText bytes j → depth j ≤ 1024 → ⊥) → message_of bytes ≡ not_json
+unfolding message_of
+text_refused bytes h = not_taken bytes (tree_of bytes) refl h
+
+taken : (j : Json) → message_in (Some j) ≡ not_json → ⊥
+taken (object s ms) e = object_taken (no_name_twice ms && is_two (named (codes "jsonrpc") ms)) (named (codes "method") ms) ms e
+taken (word s w) e = cc
+taken (number s ds) e = cc
+taken (string s cs) e = cc
+taken (array s js) e = cc
+
+pub refused_text : (bytes : List ℕ) → message_of bytes ≡ not_json → (j : Json) → IsText bytes j → depth j ≤ 1024 → ⊥
+unfolding message_of
+refused_text bytes e j t d = taken j (sym (ap message_in (tree_complete bytes j t d)) ∙ e)
 
 -- the tree of a text with its nodes is that of its bytes
 pub held_tree : (doc : Doc) (j : Json) → Holds doc j → tree_of doc.bytes ≡ Some j
