@@ -14,12 +14,11 @@ ghost use Rattle.mux_hub.specs.Turns.{Turn, turn, joined, noted, found, forward,
 use crate::pending::Pending;
 use crate::tables::Tables;
 use itoa::Buffer;
-use json_span::JsonFault;
 use json_text::{Body, Memory};
 use mux_history::{Cause, Out, Outs};
 use mux_members::initialize_request;
 use mux_model::{Phase, Stage};
-use rpc_message::{Envelope, ErrorCode, Message, error_answer, initialized, ok_answer};
+use rpc_message::{Envelope, ErrorCode, Malformed, Message, error_answer, initialized, ok_reply};
 use std::alloc::Global;
 
 // One out.
@@ -153,7 +152,7 @@ impl Tables {
         if !matches!(self.phase, Phase::Waiting) {
             return Ok(outs);
         }
-        let text = ok_answer(alloc, self.id.bytes(), message.result_bytes())?;
+        let text = ok_reply(alloc, self.id.bytes(), message.result_bytes())?;
         self.sent = self.sent.saturating_add(text.bytes().len() as u64);
         self.phase = Phase::Answered;
         outs.push(Out::ToEditor(0, text))?;
@@ -190,8 +189,9 @@ impl Tables {
     {
         let message = match Message::read(alloc, body.bytes()) {
             Ok(message) => message,
-            Err(JsonFault::Memory) => return Err(Memory),
-            Err(_) => return Ok(Outs::new(alloc)),
+            Err(Malformed::Memory) => return Err(Memory),
+            Err(Malformed::NotJson) => return Ok(Outs::new(alloc)),
+            Err(Malformed::NotMessage) => return Ok(Outs::new(alloc)),
         };
         match (message.envelope(), self.stage) {
             (Envelope::Outcome { .. }, Stage::Initializing) => self.ready(alloc, &message),
@@ -250,8 +250,9 @@ impl Tables {
     {
         let message = match Message::read(alloc, body.bytes()) {
             Ok(message) => message,
-            Err(JsonFault::Memory) => return Err(Memory),
-            Err(_) => return Ok(Outs::new(alloc)),
+            Err(Malformed::Memory) => return Err(Memory),
+            Err(Malformed::NotJson) => return Ok(Outs::new(alloc)),
+            Err(Malformed::NotMessage) => return Ok(Outs::new(alloc)),
         };
         match message.envelope() {
             Envelope::Request { .. } => self.hear_request(alloc, requests, &message),

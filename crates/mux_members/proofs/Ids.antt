@@ -1,5 +1,5 @@
 -- An identifier against a number.
-use Rattle.std.proofs.Common.{◌≡◌, ℕ, Bool, true, false, List, decimal, sym, ◌∙◌, ap₂}
+use Rattle.std.proofs.Common.{◌≡◌, ℕ, Bool, true, false, List, decimal, refl, sym, ◌∙◌, ap₂}
 use Rattle.std.specs.Prelude.{Some, bytes_eq}
 use Rattle.rpc_message.specs.Ids.{is_quoted}
 use Rattle.rpc_message.specs.Message.{Id, integer, text}

@@ -13,12 +13,6 @@ use Rattle.json_nodes.specs.Doc.{Doc}
 abbrev pub is_ascii : List ℕ → Bool
 is_ascii bytes = list_all (λ b. nat_lt b 128) bytes
 
--- the answer is the number of a value that says this, or there is neither
-pub record FoundBare (doc : Doc) (said : Option Json) (answer : Option ℕ) : Type 0 where
-  pub value : Option Json
-  pub stands : Found doc value answer
-  pub is : said ≡ option_map bare value
-
 -- the answer is the number of a string of these characters, or there is neither
 abbrev pub FoundText : Doc → Option (List ℕ) → Option ℕ → Type 0
 FoundText doc (Some cs) (Some k) = (s : Span) × At doc k (string s cs)

@@ -2,6 +2,8 @@
 use Rattle.std.proofs.Common.{◌≡◌, ℕ, ◌≤◌, Bool, true, false, ◌&&◌, List, [], ◌∷◌, ◌++◌, Option, Some, None, if◌then◌else◌, codes, IsTrue, nat_le, inl, inr, refl, sym, ◌∙◌, ap, subst, arith, append_assoc, append-nil}
 use Rattle.std.proofs.lemmas.Bool.{and_parts}
 use Rattle.std.specs.Fmt.{signed_decimal, digits}
+use Rattle.std.specs.Int.{w32}
+use Rattle.std.specs.Int.RustNames.{FitsSigned}
 use Rattle.json.specs.Print.{escape_byte, quoted}
 use Rattle.json_text.specs.Computes.{computes}
 use Rattle.json_text.specs.Json.{Json, word, number, string, array, object, no_members, member, depth}
@@ -148,3 +150,12 @@ tail_same request_failed = refl
 pub reply_same : (id : List ℕ) (c : Code) → error_reply_text id (code_number c) (code_message c) ≡ error_text id c
 reply_same id c = reply_whole id (signed_decimal (code_number c)) (quoted (code_message c))
     ∙ ap (λ z. codes "{\"jsonrpc\":\"2.0\",\"id\":" ++ (id ++ z)) (tail_same c) ∙ sym (answer_whole id (code_text c) (code_message c))
+
+pub number_fits : (c : Code) → FitsSigned w32 (code_number c)
+number_fits parse_error = record { sfits = omega arith }
+number_fits invalid_request = record { sfits = omega arith }
+number_fits method_not_found = record { sfits = omega arith }
+number_fits invalid_params = record { sfits = omega arith }
+number_fits server_not_initialized = record { sfits = omega arith }
+number_fits content_modified = record { sfits = omega arith }
+number_fits request_failed = record { sfits = omega arith }
