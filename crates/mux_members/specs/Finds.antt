@@ -2,12 +2,10 @@
 use Rattle.std.specs.Prelude.{◌≡◌, ℕ, Bool, true, false, List, [], nat_lt, drop}
 use Rattle.std.specs.Prelude.{Option, Some, None}
 use Rattle.std.specs.List.{list_all}
-use Rattle.std.specs.Option.{option_map}
 use Rattle.json_text.specs.declared.span.Span.{Span}
-use Rattle.json_text.specs.Bare.{bare}
 use Rattle.json_text.specs.Json.{Json, string, array, object}
 use Rattle.json_text.specs.Named.{children}
-use Rattle.json_nodes.specs.At.{At, Found, FoundChild}
+use Rattle.json_nodes.specs.At.{At, FoundChild}
 use Rattle.json_nodes.specs.Doc.{Doc}
 
 abbrev pub is_ascii : List ℕ → Bool

@@ -1,5 +1,5 @@
 -- A body that is no JSON text is no message; one that is has its tree's.
-use Rattle.std.proofs.Common.{Bool, true, false, ◌&&◌, not, is_some, if◌then◌else◌, MatchOption, ◌≡◌, ℕ, ◌<◌, codes, encode_utf8_all, IfOk, Result, Ok, Err, IsErrAnd, IfErr, ◌⊎◌, inl, inr, List, length, Option, Some, None, refl, sym, ◌∙◌, ap, ap₂, subst, ◌≤◌, arith}
+use Rattle.std.proofs.Common.{Bool, true, false, ◌&&◌, not, is_some, if◌then◌else◌, MatchOption, ◌≡◌, ℕ, ◌<◌, codes, encode_utf8_all, ◌⊎◌, inl, inr, List, length, Option, Some, None, refl, sym, ◌∙◌, ap, ap₂, subst, ◌≤◌}
 use Rattle.json_text.specs.Faults.{IsSyntaxFault, IsDepthFault}
 use Rattle.std.specs.Str.{chars}
 use Rattle.json_text.specs.declared.span.Span.{Span}
@@ -11,8 +11,6 @@ use Rattle.json_nodes.specs.Doc.{Doc, Holds}
 use Rattle.json_nodes.specs.declared.node.Node.{Node}
 use Rattle.json_nodes.proofs.Bounds.{at_inside, root_inside}
 use Rattle.json_nodes.proofs.Numbers.{root_at}
-use Rattle.json_span.specs.declared.fault.JsonFault.{JsonFault}
-use Rattle.json_span.specs.declared.fault.JsonFault.TheVariants.{Syntax, TooDeep, Memory}
 use Rattle.rpc_message.specs.declared.envelope.Envelope.{Envelope}
 use Rattle.rpc_message.specs.declared.envelope.Envelope.TheVariants.{Request, Notification, Outcome, Failure}
 use Rattle.json_text.specs.Named.{named}

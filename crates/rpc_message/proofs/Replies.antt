@@ -1,13 +1,13 @@
 -- What is written anew is a message of its class, with these parts.
-use Rattle.std.proofs.Common.{◌≡◌, ℕ, ℤ, ◌+◌, ◌^◌, ◌<◌, ◌≤◌, true, ◌&&◌, List, [], ◌∷◌, ◌++◌, Option, Some, None, codes, decimal, IsUtf8, refl, sym, ◌∙◌, ap, subst, arith, append_assoc}
+use Rattle.std.proofs.Common.{◌≡◌, ℕ, ℤ, ◌^◌, ◌<◌, ◌≤◌, true, ◌&&◌, List, [], ◌∷◌, ◌++◌, Option, Some, None, codes, decimal, IsUtf8, refl, ◌∙◌, ap, arith, append_assoc}
 use Rattle.std.specs.Str.{chars}
 use Rattle.std.specs.Fmt.{signed_decimal}
 use Rattle.std.specs.Int.Signed.{mag}
 use Rattle.json.specs.Print.{escape, quoted}
 use Rattle.json_text.specs.Bare.{nowhere}
-use Rattle.json_text.specs.Json.{Json, number, string, object, Members, no_members, member, depth}
+use Rattle.json_text.specs.Json.{Json, number, string, object, no_members, member, depth}
 use Rattle.json_text.specs.Named.{named}
-use Rattle.json_text.proofs.Compact.{simple_string, Closing, closing_none, closing_member, compact_object, bare_text}
+use Rattle.json_text.proofs.Compact.{simple_string, closing_none, closing_member, compact_object, bare_text}
 use Rattle.json_text.proofs.Forms.{says, says_of}
 use Rattle.json_span.proofs.Quoted.{spells_text}
 use Rattle.rpc_message.specs.Message.{Id, integer, integer_if, is_integer, request, notification, error, no_name_twice, are_params, given, request_if, notification_if, error_if, response_with, message_in, message_of}

@@ -204,8 +204,9 @@ fn answered(
     }
     match not_null(nodes, failure) {
         None => Some(Envelope::Outcome { id, value }),
-        Some(error) if is_error(bytes, nodes, error) && not_null(nodes, value).is_none() =>
-            Some(Envelope::Failure { id, error }),
+        Some(error) if is_error(bytes, nodes, error) && not_null(nodes, value).is_none() => Some(
+            Envelope::Failure { id, error },
+        ),
         Some(_) => None,
     }
 }

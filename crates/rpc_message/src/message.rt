@@ -47,9 +47,9 @@ fn decoded_method(
     ensures { (m : Meaning) → Tells (record { bytes = bytes.now; nodes = nodes.now }) envelope m → IfOk result (λ name. name ≡ method_of m) }
 {
     match envelope {
-        Envelope::Request { method, .. } | Envelope::Notification { method, .. } => Ok(Some(
-            text_in(alloc, bytes, nodes, method)?,
-        )),
+        Envelope::Request { method, .. } | Envelope::Notification { method, .. } => Ok(Some(text_in(
+            alloc, bytes, nodes, method,
+        )?)),
         Envelope::Outcome { .. } | Envelope::Failure { .. } => Ok(None),
     }
 }

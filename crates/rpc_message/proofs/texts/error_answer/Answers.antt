@@ -1,4 +1,4 @@
-use Rattle.std.proofs.Common.{◌≡◌, IfOk, List, sym, ap, ap₂, ◌∙◌, subst, w32}
+use Rattle.std.proofs.Common.{◌≡◌, IfOk, sym, ap₂, ◌∙◌, subst, w32}
 use Rattle.std.specs.Int.RustNames.{FitsSigned}
 use Rattle.std.proofs.lemmas.Int.{to_z-of_z}
 use Rattle.rpc_message.specs.Codes.{code_of}

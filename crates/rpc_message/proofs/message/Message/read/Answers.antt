@@ -1,5 +1,4 @@
-use Rattle.std.proofs.Common.{◌≡◌, ap, sym, subst, length, Err, Some, ◌∙◌}
-use Rattle.json_nodes.specs.Doc.{Doc}
+use Rattle.std.proofs.Common.{ap, sym, subst, length, Err}
 use Rattle.rpc_message.specs.Envelopes.{Tells, TellsIf}
 use Rattle.rpc_message.specs.Message.{message_of}
 use Rattle.rpc_message.specs.Parsed.{IsRead}
