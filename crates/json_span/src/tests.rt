@@ -21,21 +21,62 @@ fn fault_of(alloc: Global, bytes: &[u8]) -> Option<JsonFault> {
     }
 }
 
-// So many opening brackets, and as many closing ones.
-fn nested(alloc: Global, depth: usize) -> Result<Vec<u8>, AllocError> {
-    let mut bytes = Vec::new(alloc);
-    for _ in 0..depth {
-        bytes.push(b'[')?;
-    }
-    for _ in 0..depth {
-        bytes.push(b']')?;
-    }
-    Ok(bytes)
+// What a nest is made of.
+#[derive(Clone, Copy, Debug)]
+enum Nest {
+    Arrays,
+    Objects,
+    Both,
 }
+
+impl Nest {
+    fn has_object(self, level: usize) -> bool {
+        match self {
+            Nest::Arrays => false,
+            Nest::Objects => true,
+            Nest::Both => level % 2 == 1,
+        }
+    }
+}
+
+// So many arrays and objects, each in the one before, and a value in the last; and where the last one's bracket stands.
+fn nested(alloc: Global, depth: usize, nest: Nest) -> Result<(Vec<u8>, usize), AllocError> {
+    let mut bytes = Vec::new(alloc);
+    let mut last = 0;
+    for level in 0..depth {
+        last = bytes.len();
+        if nest.has_object(level) {
+            bytes.extend_from_slice(b"{\"\":")?;
+        } else {
+            bytes.push(b'[')?;
+        }
+    }
+    bytes.push(b'0')?;
+    for level in (0..depth).rev() {
+        bytes.push(if nest.has_object(level) { b'}' } else { b']' })?;
+    }
+    Ok((bytes, last))
+}
+
+// The first example of RFC 8259, section 13.
+const IMAGE: &[u8] = b"{
+  \"Image\": {
+      \"Width\":  800,
+      \"Height\": 600,
+      \"Title\":  \"View from 15th Floor\",
+      \"Thumbnail\": {
+          \"Url\":    \"http://www.example.com/image/481989943\",
+          \"Height\": 125,
+          \"Width\":  100
+      },
+      \"Animated\" : false,
+      \"IDs\": [116, 943, 234, 38793]
+    }
+}";
 
 #[test]
 fn takes_texts(rt: HostRuntime) {
-    let texts: [&[u8]; 16] = [
+    let texts: [&[u8]; 22] = [
         b"null",
         b" true\r\n",
         b"\tfalse ",
@@ -52,6 +93,12 @@ fn takes_texts(rt: HostRuntime) {
         b"{}",
         b"{ \"a\" : 1 , \"a\":[{\"\":null}]}",
         b"{\"\\u0000\":\"\"}",
+        b"\"\\ude00\\ud83d\"",
+        b"-0",
+        b"1e400",
+        b"\"Hello world!\"",
+        b"42",
+        IMAGE,
     ];
     for text in texts {
         assert_eq!(rt; fault_of(rt.alloc(), text), None, "at {text:?}");
@@ -60,7 +107,7 @@ fn takes_texts(rt: HostRuntime) {
 
 #[test]
 fn names_the_fault(rt: HostRuntime) {
-    let texts: [(&[u8], usize); 34] = [
+    let texts: [(&[u8], usize); 42] = [
         (b"", 0),
         (b" ", 1),
         (b"nul", 3),
@@ -88,6 +135,14 @@ fn names_the_fault(rt: HostRuntime) {
         (b"\"\xed\xa0\x80\"", 2),
         (b"\"\xf4\x90\x80\x80\"", 2),
         (b"\"\xff\"", 1),
+        (b"\"\xc3\"", 2),
+        (b"\"\xe2\x82\"", 3),
+        (b"\"\xf0\x9f\x98\"", 4),
+        (b"\"\xf0\x9f\x98", 4),
+        (b"\"\x80\"", 1),
+        (b"\xef\xbb\xbf1", 0),
+        (b"-01", 2),
+        (b"\"\\ud83d\\u\"", 9),
         (b"[1,]", 3),
         (b"[1 2]", 3),
         (b"[1}", 2),
@@ -107,11 +162,16 @@ fn names_the_fault(rt: HostRuntime) {
 
 #[test]
 fn nests_so_deep(rt: HostRuntime) -> Result<(), AllocError> {
-    assert_eq!(rt; fault_of(rt.alloc(), &nested(rt.alloc(), 1024)?), None);
-    assert_eq!(rt;
-        fault_of(rt.alloc(), &nested(rt.alloc(), 1025)?),
-        Some(JsonFault::TooDeep(1024))
-    );
+    for nest in [Nest::Arrays, Nest::Objects, Nest::Both] {
+        let (taken, _) = nested(rt.alloc(), 1024, nest)?;
+        assert_eq!(rt; fault_of(rt.alloc(), &taken), None, "{nest:?}");
+        let (refused, place) = nested(rt.alloc(), 1025, nest)?;
+        assert_eq!(rt;
+            fault_of(rt.alloc(), &refused),
+            Some(JsonFault::TooDeep(place)),
+            "{nest:?}"
+        );
+    }
     Ok(())
 }
 

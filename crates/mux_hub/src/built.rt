@@ -18,16 +18,15 @@ ghost use Rattle.mux_hub.specs.Tables.{asked_for, ids_of, open_in, built_in, pha
 use crate::pending::Pending;
 use crate::tables::Tables;
 use crate::turns::place_by_id;
-use json_span::JsonFault;
 use json_text::{Body, Memory};
 use lsp_method::Class;
 use mux_history::Cause;
 use mux_members::{
     class_in, has_bare_capabilities, has_token, is_first_result, is_initialize, is_initialized,
-    is_plain_result, reads_versions, same_id,
+    is_plain_result, reads_versions,
 };
 use mux_model::{Phase, Stage};
-use rpc_message::{Envelope, Message};
+use rpc_message::{Envelope, Malformed, Message, same_id};
 use std::alloc::Global;
 
 // Whether a request of this id is open.
@@ -57,30 +56,25 @@ fn passes(pending: bool, other: bool, token: bool) -> bool
 }
 
 // A request of an editor that was answered: of a class that is passed on, without tokens, under an id that isn't open.
-fn built_ask(alloc: Global, pending: &[Pending], message: &Message) -> Result<bool, Memory>
+fn built_ask(pending: &[Pending], message: &Message) -> bool
     ensures { (body method : List ℕ) (id : Id) (params : Option Json) → IsRead message.now body → message_of body ≡ request id method params → AllByRecursion (λ p. MeansId p.id) pending.now
-        → IfOk result (λ answer. answer ≡ (not (is_open id (ids_of pending.now)) && is_other (class_of method Editor false) && not (has_token params))) }
+        → result ≡ (not (is_open id (ids_of pending.now)) && is_other (class_of method Editor false) && not (has_token params)) }
 {
-    let class = class_in(alloc, message)?;
+    let class = class_in(message);
     let pending = is_open(pending, message.id_bytes());
-    Ok(passes(pending, is_other(class), has_token(message)))
+    passes(pending, is_other(class), has_token(message))
 }
 
 // A request in a phase.
-fn built_request(
-    alloc: Global,
-    phase: Phase,
-    pending: &[Pending],
-    message: &Message,
-) -> Result<bool, Memory>
+fn built_request(phase: Phase, pending: &[Pending], message: &Message) -> bool
     ensures { (body method waiting : List ℕ) (id : Id) (params : Option Json) → IsRead message.now body → message_of body ≡ request id method params → AllByRecursion (λ p. MeansId p.id) pending.now
-        → IfOk result (λ answer. answer ≡ built_request phase (open_in phase pending.now waiting) id method params) }
+        → result ≡ built_request phase (open_in phase pending.now waiting) id method params }
 {
     match phase {
-        Phase::New => Ok(is_initialize(message) && has_bare_capabilities(message)),
-        Phase::Answered => built_ask(alloc, pending, message),
-        Phase::Running => built_ask(alloc, pending, message),
-        _ => Ok(false),
+        Phase::New => is_initialize(message) && has_bare_capabilities(message),
+        Phase::Answered => built_ask(pending, message),
+        Phase::Running => built_ask(pending, message),
+        _ => false,
     }
 }
 
@@ -96,13 +90,13 @@ fn built_from_editor(
 {
     let message = match Message::read(alloc, body.bytes()) {
         Ok(message) => message,
-        Err(JsonFault::Memory) => return Err(Memory),
-        Err(_) => return Ok(true),
+        Err(Malformed::Memory) => return Err(Memory),
+        Err(Malformed::NotJson) => return Ok(true),
+        Err(Malformed::NotMessage) => return Ok(true),
     };
     match message.envelope() {
-        Envelope::Request { .. } => built_request(alloc, phase, pending, &message),
+        Envelope::Request { .. } => Ok(built_request(phase, pending, &message)),
         Envelope::Notification { .. } => Ok(is_initialized(&message)),
-        Envelope::Other => Ok(true),
         _ => Ok(false),
     }
 }
@@ -126,15 +120,16 @@ fn built_from_server(
 {
     let message = match Message::read(alloc, body.bytes()) {
         Ok(message) => message,
-        Err(JsonFault::Memory) => return Err(Memory),
-        Err(_) => return Ok(true),
+        Err(Malformed::Memory) => return Err(Memory),
+        Err(Malformed::NotJson) => return Ok(true),
+        Err(Malformed::NotMessage) => return Ok(true),
     };
     match (message.envelope(), stage) {
         (Envelope::Outcome { .. }, Stage::Initializing) => Ok(
             is_first_result(&message) && is_plain_result(&message),
         ),
         (Envelope::Outcome { .. }, Stage::Ready) => Ok(built_result(pending, &message)),
-        (Envelope::Failure { .. }, Stage::Ready) | (Envelope::Other, _) => Ok(true),
+        (Envelope::Failure { .. }, Stage::Ready) => Ok(true),
         _ => Ok(false),
     }
 }

@@ -15,12 +15,11 @@ ghost use Rattle.mux_hub.specs.Turns.{Turn, turn, joined, noted, found, forward,
 use crate::pending::Pending;
 use crate::tables::Tables;
 use itoa::Buffer;
-use json_span::JsonFault;
 use json_text::{Body, Memory};
 use mux_history::{Cause, Out, Outs};
 use mux_members::initialize_request;
 use mux_model::{Phase, Stage};
-use rpc_message::{Envelope, ErrorCode, Message, error_answer, initialized, ok_answer};
+use rpc_message::{Envelope, ErrorCode, Malformed, Message, error_answer, initialized, ok_reply};
 use std::alloc::Global;
 
 // One out.
@@ -154,7 +153,7 @@ impl Tables {
         if !matches!(self.phase, Phase::Waiting) {
             return Ok(outs);
         }
-        let text = ok_answer(alloc, self.id.bytes(), message.result_bytes())?;
+        let text = ok_reply(alloc, self.id.bytes(), message.result_bytes())?;
         self.sent = self.sent.saturating_add(text.bytes().len() as u64);
         self.phase = Phase::Answered;
         outs.push(Out::ToEditor(0, text))?;
@@ -191,8 +190,9 @@ impl Tables {
     {
         let message = match Message::read(alloc, body.bytes()) {
             Ok(message) => message,
-            Err(JsonFault::Memory) => return Err(Memory),
-            Err(_) => return Ok(Outs::new(alloc)),
+            Err(Malformed::Memory) => return Err(Memory),
+            Err(Malformed::NotJson) => return Ok(Outs::new(alloc)),
+            Err(Malformed::NotMessage) => return Ok(Outs::new(alloc)),
         };
         match (message.envelope(), self.stage) {
             (Envelope::Outcome { .. }, Stage::Initializing) => self.ready(alloc, &message),
@@ -263,8 +263,9 @@ impl Tables {
     {
         let message = match Message::read(alloc, body.bytes()) {
             Ok(message) => message,
-            Err(JsonFault::Memory) => return Err(Memory),
-            Err(_) => return self.reject(alloc, ErrorCode::ParseError),
+            Err(Malformed::Memory) => return Err(Memory),
+            Err(Malformed::NotJson) => return self.reject(alloc, ErrorCode::ParseError),
+            Err(Malformed::NotMessage) => return self.reject(alloc, ErrorCode::InvalidRequest),
         };
         match message.envelope() {
             Envelope::Request { .. } => self.hear_request(alloc, requests, &message),
@@ -272,7 +273,6 @@ impl Tables {
                 self.note();
                 Ok(Outs::new(alloc))
             }
-            Envelope::Other => self.reject(alloc, ErrorCode::InvalidRequest),
             _ => Ok(Outs::new(alloc)),
         }
     }

@@ -4,6 +4,5 @@ pub mod Ids
 pub mod Looks
 pub mod Results
 pub mod Roots
-pub mod Scalars
 pub mod Told
 pub mod Walks

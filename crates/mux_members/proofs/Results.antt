@@ -10,7 +10,7 @@ use Rattle.json_text.specs.Named.{items_list, named_in}
 use Rattle.json_nodes.specs.At.{At, Found}
 use Rattle.json_nodes.specs.Doc.{Doc}
 use Rattle.rpc_message.specs.declared.envelope.Envelope.{Envelope}
-use Rattle.rpc_message.specs.declared.envelope.Envelope.TheVariants.{Other, Request, Notification, Outcome, Failure}
+use Rattle.rpc_message.specs.declared.envelope.Envelope.TheVariants.{Request, Notification, Outcome, Failure}
 use Rattle.rpc_message.specs.Envelopes.{Tells}
 use Rattle.rpc_message.specs.Message.{Id, integer, text, Message, request, notification, result, error, result_tree, response_id, is_integer, is_integer_value, is_string_value}
 use Rattle.mux_model.specs.Built.{is_plain_result}
@@ -19,7 +19,7 @@ use Rattle.mux_model.specs.Stages.{is_first_result}
 use Rattle.mux_members.specs.Envelopes.{outcome_id, outcome_value}
 use Rattle.mux_members.specs.Results.{any_versioned, is_one, is_plain_value, value_reads_versions}
 use Rattle.mux_members.proofs.Bared.{in_bare, integer_bare, of_bare, string_bare}
-use Rattle.mux_members.proofs.Ids.{quoted_shape}
+use Rattle.rpc_message.proofs.SameIds.{quoted_shape}
 
 -- the number 1
 
@@ -54,7 +54,6 @@ told_first doc (Outcome i v) m b n t h tell =
 told_first doc (Request i n p) m b k t h tell = absurd (cc)
 told_first doc (Notification n p) m b k t h tell = absurd (cc)
 told_first doc (Failure i f) m b k t h tell = absurd (cc)
-told_first doc Other m b k t h tell = absurd (cc)
 
 -- plain results
 
@@ -74,7 +73,6 @@ told_plain doc (Outcome i v) m b n t h tell = tell t.value t.value_stands ∙ sy
 told_plain doc (Request i n p) m b k t h tell = absurd (cc)
 told_plain doc (Notification n p) m b k t h tell = absurd (cc)
 told_plain doc (Failure i f) m b k t h tell = absurd (cc)
-told_plain doc Other m b k t h tell = absurd (cc)
 
 -- versions
 
@@ -126,4 +124,3 @@ told_versions doc (Outcome i v) m id value b t h tell =
 told_versions doc (Request i n p) m id value b t h tell = absurd (let is : m ≡ request t.id t.method (option_map bare t.params) = t.is in cc)
 told_versions doc (Notification n p) m id value b t h tell = absurd (let is : m ≡ notification t.method (option_map bare t.params) = t.is in cc)
 told_versions doc (Failure i f) m id value b t h tell = absurd (let is : m ≡ error t.id (bare t.failure) = t.is in cc)
-told_versions doc Other m id value b t h tell = absurd (cc)

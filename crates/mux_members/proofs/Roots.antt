@@ -14,7 +14,7 @@ use Rattle.rpc_message.proofs.Reading.{held_tree}
 use Rattle.mux_model.specs.Members.{bytes_if, named_of, options_of, or_first, params_of, root_uri, string_of, string_or_null}
 use Rattle.mux_model.specs.Rows.{initialize_for}
 use Rattle.mux_members.specs.Finds.{FoundText}
-use Rattle.mux_members.proofs.Scalars.{characters_utf8}
+use Rattle.json_token.proofs.Scalars.{scalar_characters, utf8_characters}
 
 -- a string that was found is there exactly where its number is
 pub found_text : (doc : Doc) (o : Option (List ℕ)) (answer : Option ℕ) → FoundText doc o answer → is_some answer ≡ is_some o
@@ -50,7 +50,7 @@ quoted_found doc o place n text r same f decoded quotes = go o (subst (λ z. Fou
     go : (o : Option (List ℕ)) → FoundText doc o (Some n) → IfOk r (λ body. body ≡ string_or_null o)
     go (Some cs) h =
         let e : text ≡ encode_utf8_all cs = decoded h.0 cs h.1 in
-        if_ok r (quoted text) (quoted (encode_utf8_all cs)) (ap quoted e) (quotes (subst IsUtf8 (sym e) (characters_utf8 cs _ (string_text doc n h.0 cs h.1).text)))
+        if_ok r (quoted text) (quoted (encode_utf8_all cs)) (ap quoted e) (quotes (subst IsUtf8 (sym e) (utf8_characters cs (scalar_characters cs _ (string_text doc n h.0 cs h.1).text)).0))
     go None h = absurd h
 
 pub null_found : (doc : Doc) (o : Option (List ℕ)) (place inside : Option ℕ) → inside ≡ None → inside ≡ place → FoundText doc o place → codes "null" ≡ string_or_null o

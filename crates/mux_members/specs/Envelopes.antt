@@ -2,7 +2,7 @@
 use Rattle.std.specs.Prelude.{ℕ}
 use Rattle.std.specs.Prelude.{Option, Some, None}
 use Rattle.rpc_message.specs.declared.envelope.Envelope.{Envelope}
-use Rattle.rpc_message.specs.declared.envelope.Envelope.TheVariants.{Other, Request, Notification, Outcome, Failure}
+use Rattle.rpc_message.specs.declared.envelope.Envelope.TheVariants.{Request, Notification, Outcome, Failure}
 
 -- a request's params
 abbrev pub request_params : Envelope → Option ℕ
@@ -10,7 +10,6 @@ request_params (Request id method params) = params
 request_params (Notification method params) = None
 request_params (Outcome id value) = None
 request_params (Failure id failure) = None
-request_params Other = None
 
 -- a request's method
 abbrev pub request_method : Envelope → Option ℕ
@@ -18,7 +17,6 @@ request_method (Request id method params) = Some method
 request_method (Notification method params) = None
 request_method (Outcome id value) = None
 request_method (Failure id failure) = None
-request_method Other = None
 
 -- a notification's method
 abbrev pub notification_method : Envelope → Option ℕ
@@ -26,7 +24,6 @@ notification_method (Request id method params) = None
 notification_method (Notification method params) = Some method
 notification_method (Outcome id value) = None
 notification_method (Failure id failure) = None
-notification_method Other = None
 
 -- the value of a response with a result
 abbrev pub outcome_value : Envelope → Option ℕ
@@ -34,7 +31,6 @@ outcome_value (Request id method params) = None
 outcome_value (Notification method params) = None
 outcome_value (Outcome id value) = value
 outcome_value (Failure id failure) = None
-outcome_value Other = None
 
 -- the id of a response with a result
 abbrev pub outcome_id : Envelope → Option ℕ
@@ -42,4 +38,3 @@ outcome_id (Request id method params) = None
 outcome_id (Notification method params) = None
 outcome_id (Outcome id value) = Some id
 outcome_id (Failure id failure) = None
-outcome_id Other = None

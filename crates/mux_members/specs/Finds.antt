@@ -2,22 +2,14 @@
 use Rattle.std.specs.Prelude.{◌≡◌, ℕ, Bool, true, false, List, [], nat_lt, drop}
 use Rattle.std.specs.Prelude.{Option, Some, None}
 use Rattle.std.specs.List.{list_all}
-use Rattle.std.specs.Option.{option_map}
 use Rattle.json_text.specs.declared.span.Span.{Span}
-use Rattle.json_text.specs.Bare.{bare}
 use Rattle.json_text.specs.Json.{Json, string, array, object}
 use Rattle.json_text.specs.Named.{children}
-use Rattle.json_nodes.specs.At.{At, Found, FoundChild}
+use Rattle.json_nodes.specs.At.{At, FoundChild}
 use Rattle.json_nodes.specs.Doc.{Doc}
 
 abbrev pub is_ascii : List ℕ → Bool
 is_ascii bytes = list_all (λ b. nat_lt b 128) bytes
-
--- the answer is the number of a value that says this, or there is neither
-pub record FoundBare (doc : Doc) (said : Option Json) (answer : Option ℕ) : Type 0 where
-  pub value : Option Json
-  pub stands : Found doc value answer
-  pub is : said ≡ option_map bare value
 
 -- the answer is the number of a string of these characters, or there is neither
 abbrev pub FoundText : Doc → Option (List ℕ) → Option ℕ → Type 0

@@ -1,4 +1,3 @@
 pub mod Envelopes
 pub mod Finds
-pub mod Ids
 pub mod Results

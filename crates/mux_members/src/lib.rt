@@ -9,7 +9,7 @@ mod opening;
 mod outcome;
 mod params;
 
-pub use id::{is_number, same_id};
+pub use id::is_number;
 pub use method::{class_in, is_initialize, is_initialized};
 pub use opening::initialize_request;
 pub use outcome::{is_first_result, is_plain_result, reads_versions};

@@ -5,7 +5,7 @@ ghost use Rattle.json_text.specs.declared.span.Span.{Span};
 ghost use Rattle.json_text.specs.Json.{Json, span_of, string, value};
 ghost use Rattle.json_nodes.specs.At.{At, Found};
 ghost use Rattle.json_nodes.specs.Nodes.{kind_of};
-ghost use Rattle.rpc_message.specs.Message.{is_integer, is_integer_value, is_string_value};
+ghost use Rattle.rpc_message.specs.Message.{is_integer_value, is_string_value};
 ghost use Rattle.mux_model.specs.Members.{listed, named_of};
 ghost use Rattle.mux_members.specs.Finds.{Rest, is_array_value, is_ascii, is_object_value, values_of};
 
@@ -61,19 +61,6 @@ pub fn bytes<'a>(tape: &'a Tape, node: Option<u32>) -> &'a [u8]
     }
 }
 
-// Whether a number's text has no fraction and no exponent.
-#[tactic(auto, unfolding(rpc_message::specs::Message::is_integer))]
-fn is_whole(text: &[u8]) -> bool
-    ensures { result ≡ is_integer text.now }
-{
-    for byte in text {
-        if !(byte.is_ascii_digit() || *byte == b'-') {
-            return false;
-        }
-    }
-    true
-}
-
 // Whether a value is there and an integer.
 pub fn is_integer(tape: &Tape, node: Option<u32>) -> bool
     ensures { (o : Option Json) → Found tape.now o node → result ≡ is_integer_value o }
@@ -82,7 +69,7 @@ pub fn is_integer(tape: &Tape, node: Option<u32>) -> bool
         return false
     };
     match tape.kind(node) {
-        Kind::Number => is_whole(bytes_in(tape.bytes(), tape.nodes(), node)),
+        Kind::Number => rpc_message::is_integer(bytes_in(tape.bytes(), tape.nodes(), node)),
         _ => false,
     }
 }

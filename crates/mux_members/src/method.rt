@@ -1,5 +1,5 @@
 //! The methods that the routing table knows (LSP 3.17, Lifecycle Messages).
-ghost use Rattle.std.specs.Prelude.{◌≡◌, ℕ, List, false, codes, IfOk, Option};
+ghost use Rattle.std.specs.Prelude.{◌≡◌, ℕ, List, false, codes, Option};
 ghost use Rattle.json_text.specs.Json.{Json};
 ghost use Rattle.lsp_method.specs.Class.{class_of};
 ghost use Rattle.lsp_method.specs.declared.variants.Origin.TheVariants.{Editor};
@@ -9,17 +9,17 @@ ghost use Rattle.mux_model.specs.Event.{notifies, requests};
 
 use crate::envelope::{notification_method, request_method};
 use crate::look::spells;
-use json_text::Memory;
 use lsp_method::{Class, Origin, class};
 use rpc_message::Message;
-use std::alloc::Global;
 
 /// The class of an editor's request, by its method.
-pub fn class_in(alloc: Global, m: &Message) -> Result<Class, Memory>
-    ensures { (bytes method : List ℕ) (id : Id) (params : Option Json) → IsRead m.now bytes → message_of bytes ≡ request id method params → IfOk result (λ class. class ≡ class_of method Editor false) }
+pub fn class_in(m: &Message) -> Class
+    ensures { (bytes method : List ℕ) (id : Id) (params : Option Json) → IsRead m.now bytes → message_of bytes ≡ request id method params → result ≡ class_of method Editor false }
 {
-    let method = m.method(alloc)?;
-    Ok(class(method.bytes(), Origin::Editor, false))
+    match m.method() {
+        Some(method) => class(method, Origin::Editor, false),
+        None => Class::Other,
+    }
 }
 
 /// Whether it is the notification `initialized` (LSP 3.17, Initialized Notification).

@@ -5,7 +5,8 @@ use Rattle.mux_history.specs.declared.cause.Cause.TheVariants.{Joined, FromEdito
 use Rattle.mux_history.specs.declared.out.Out.{Out}
 use Rattle.mux_history.specs.declared.out.Out.TheVariants.{ToEditor, ToServer, Spawn, CloseEditor, EndServer}
 use Rattle.mux_history.specs.declared.entry.Entry.{Entry}
-use Rattle.rpc_message.specs.Message.{Message, not_json, not_message, request, notification, result, error, Id, integer, text, message_of}
+use Rattle.rpc_message.specs.Message.{Message, not_json, not_message, request, notification, result, error, message_of}
+pub use Rattle.rpc_message.specs.Message.{same_id}
 
 -- a cause without a body, or an out without one, has `not_message` as its message
 pub data Event : Type 0 where
@@ -42,13 +43,6 @@ with_entry events entry = behind (with_cause events entry.cause) entry.outs
 
 abbrev pub events_of : List Entry → List Event
 events_of history = fold with_entry [] history
-
--- two identifiers are the same (JSON-RPC 2.0, section 4)
-abbrev pub same_id : Id → Id → Bool
-same_id (integer a) (integer b) = bytes_eq a b
-same_id (integer a) (text b) = false
-same_id (text a) (integer b) = false
-same_id (text a) (text b) = bytes_eq a b
 
 -- a request, or a notification, of this method
 abbrev pub requests : List ℕ → Message → Bool

@@ -1,7 +1,9 @@
 -- What `decimal` writes is the text of an integer id.
-use Rattle.std.proofs.Common.{◌≡◌, ℕ, zero, suc, ◌+◌, ◌/◌, ◌%◌, ◌^◌, ◌<◌, ◌≤◌, true, ◌&&◌, ◌||◌, ◌==◌, List, [], ◌∷◌, ◌++◌, IsTrue, nat_le, inl, inr, length, decimal, refl, sym, ap, subst, arith, append-nil}
+use Rattle.std.proofs.Common.{◌≡◌, ℕ, ℤ, pos, negsuc, zero, suc, ◌+◌, ◌/◌, ◌%◌, ◌^◌, ◌<◌, ◌≤◌, true, ◌&&◌, ◌||◌, ◌==◌, List, [], ◌∷◌, ◌++◌, IsTrue, nat_le, inl, inr, length, decimal, refl, sym, ap, subst, arith, append-nil}
 use Rattle.std.proofs.lemmas.Bool.{and_parts, and_from, le-leb}
-use Rattle.std.proofs.lemmas.Fmt.{decimal_by_steps, decimal_digit}
+use Rattle.std.proofs.lemmas.Fmt.{decimal_by_steps_wide, decimal_digit}
+use Rattle.std.specs.Fmt.{signed_decimal}
+use Rattle.std.specs.Int.Signed.{mag}
 use Rattle.json_text.specs.Json.{number}
 use Rattle.json_text.specs.Number.{is_digit, IsNumber}
 use Rattle.json_text.specs.Read.{all_digits}
@@ -55,8 +57,8 @@ spelt_more n ds h s = record {
   };
 }
 
-spelt : (n : ℕ) → n < 2 ^ 64 → Spelt n (decimal n)
-spelt n h = decimal_by_steps Spelt spelt_one spelt_more n h
+spelt : (n : ℕ) → n < 10 ^ 64 → Spelt n (decimal n)
+spelt n h = decimal_by_steps_wide Spelt spelt_one spelt_more n h
 
 number_leading : (ds : List ℕ) → Leading ds → IsNumber ds
 number_leading ds l = ([], ds, [], [], inl refl, inr (l.first, l.rest, l.positive, digits_of l.rest l.digits, l.is), inl refl, inl refl, sym (append-nil ds))
@@ -64,7 +66,7 @@ number_leading ds l = ([], ds, [], [], inl refl, inr (l.first, l.rest, l.positiv
 zero_number : IsNumber (48 ∷ [])
 zero_number = ([], 48 ∷ [], [], [], inl refl, inl refl, inl refl, inl refl, refl)
 
-pub decimal_number : (n : ℕ) → n < 2 ^ 64 → IsNumber (decimal n)
+pub decimal_number : (n : ℕ) → n < 10 ^ 64 → IsNumber (decimal n)
 decimal_number zero h = subst IsNumber (sym (decimal_digit 0 (omega arith))) zero_number
 decimal_number (suc n) h = number_leading (decimal (suc n)) ((spelt (suc n) h).leading (omega arith))
 
@@ -74,10 +76,27 @@ integer_digits [] h = refl
 integer_digits (d ∷ ds) h = let k : (is_digit d ≡ true) × (all_digits ds ≡ true) = and_parts (is_digit d) (all_digits ds) h in
     and_from (is_digit d || (d == 45)) (is_integer ds) (ap (λ b. b || (d == 45)) k.0) (integer_digits ds k.1)
 
+pub decimal_integer : (n : ℕ) → n < 10 ^ 64 → is_integer (decimal n) ≡ true
+decimal_integer n h = integer_digits (decimal n) (spelt n h).digits
+
+-- the same below zero
+pub signed_number : (z : ℤ) → mag z < 2 ^ 32 → IsNumber (signed_decimal z)
+signed_number (pos n) h = decimal_number n (omega arith)
+signed_number (negsuc n) h = let l : Leading (decimal (suc n)) = (spelt (suc n) (omega arith)).leading (omega arith) in
+    (45 ∷ [], decimal (suc n), [], [], inr refl, inr (l.first, l.rest, l.positive, digits_of l.rest l.digits, l.is), inl refl, inl refl, ap (λ z. 45 ∷ z) (sym (append-nil (decimal (suc n)))))
+
+pub signed_integer : (z : ℤ) → mag z < 2 ^ 32 → is_integer (signed_decimal z) ≡ true
+unfolding is_integer
+signed_integer (pos n) h = decimal_integer n (omega arith)
+signed_integer (negsuc n) h = decimal_integer (suc n) (omega arith)
+
 -- `decimal n` is the text of the id `integer (decimal n)`
-pub decimal_law : (n : ℕ) → n < 2 ^ 64 → IsIdText (integer (decimal n)) (decimal n)
-decimal_law n h = record {
+pub decimal_wide_law : (n : ℕ) → n < 10 ^ 64 → IsIdText (integer (decimal n)) (decimal n)
+decimal_wide_law n h = record {
   tree = number (record { from = 0; to = 0 + length (decimal n) }) (decimal n);
   stands = ((refl, decimal_number n h), refl);
-  is = ap (λ b. integer_if b (decimal n)) (integer_digits (decimal n) (spelt n h).digits);
+  is = ap (λ b. integer_if b (decimal n)) (decimal_integer n h);
 }
+
+pub decimal_law : (n : ℕ) → n < 2 ^ 64 → IsIdText (integer (decimal n)) (decimal n)
+decimal_law n h = decimal_wide_law n (omega arith)

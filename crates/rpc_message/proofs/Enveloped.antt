@@ -12,7 +12,7 @@ use Rattle.json_nodes.specs.Doc.{Doc}
 use Rattle.json_nodes.specs.Nodes.{kind_of}
 use Rattle.json_nodes.proofs.Sames.{ByMembers, object_of}
 use Rattle.rpc_message.specs.declared.envelope.Envelope.{Envelope}
-use Rattle.rpc_message.specs.Envelopes.{Tells, IsRequest, IsNotification, by_names, is_enveloped, not_null}
+use Rattle.rpc_message.specs.Envelopes.{TellsIf, IsRequest, IsNotification, by_names, is_enveloped, not_null}
 use Rattle.rpc_message.specs.Message.{Id, Message, not_message, request_if, notification_if, called, are_params, given, id_of, is_null, is_string_value, is_two, no_name_twice, message_in}
 use Rattle.rpc_message.proofs.Bodies.{method_names}
 
@@ -154,24 +154,24 @@ message_enveloped (array s js) = refl
 pub no_envelope : (j : Json) (b : Bool) → b ≡ is_enveloped j → b ≡ false → message_in (Some j) ≡ not_message
 no_envelope j b e h = message_enveloped j ∙ ap (λ c. if c then named_message j else not_message) (sym e ∙ h)
 
-module _ (doc : Doc) (j : Json) (e : Envelope) (b : Bool) (test : b ≡ is_enveloped j) (holds : b ≡ true) where
-  told_message : Tells doc e (named_message j) → Tells doc e (message_in (Some j))
-  told_message h = subst (λ m. Tells doc e m) (sym (message_enveloped j ∙ ap (λ c. if c then named_message j else not_message) (sym test ∙ holds))) h
+module _ (doc : Doc) (j : Json) (e : Option Envelope) (b : Bool) (test : b ≡ is_enveloped j) (holds : b ≡ true) where
+  told_message : TellsIf doc e (named_message j) → TellsIf doc e (message_in (Some j))
+  told_message h = subst (λ m. TellsIf doc e m) (sym (message_enveloped j ∙ ap (λ c. if c then named_message j else not_message) (sym test ∙ holds))) h
 
   pub told_called : (method : ℕ) (found id params : Option ℕ) → Found doc (named_in (chars (codes "method")) j) found → found ≡ Some method → Found doc (named_in (chars (codes "id")) j) id → Found doc (named_in (chars (codes "params")) j) params
-      → ((m : Json) (i p f v : Option Json) → At doc method m → Found doc i id → Found doc p params → Tells doc e (by_names (Some m) i p f v)) → Tells doc e (message_in (Some j))
+      → ((m : Json) (i p f v : Option Json) → At doc method m → Found doc i id → Found doc p params → TellsIf doc e (by_names (Some m) i p f v)) → TellsIf doc e (message_in (Some j))
   told_called method found id params g is h k tell = told_message (go (named_in (codes "method") j) (subst (λ o. Found doc (named_in (codes "method") j) o) is (subst (λ z. Found doc (named_in z j) found) method_chars g)))
     where
-      go : (o : Option Json) → Found doc o (Some method) → Tells doc e (by_names o (named_in (codes "id") j) (named_in (codes "params") j) (named_in (codes "error") j) (named_in (codes "result") j))
+      go : (o : Option Json) → Found doc o (Some method) → TellsIf doc e (by_names o (named_in (codes "id") j) (named_in (codes "params") j) (named_in (codes "error") j) (named_in (codes "result") j))
       go (Some m) a = tell m (named_in (codes "id") j) (named_in (codes "params") j) (named_in (codes "error") j) (named_in (codes "result") j) a
           (subst (λ z. Found doc (named_in z j) id) id_chars h) (subst (λ z. Found doc (named_in z j) params) params_chars k)
       go None a = absurd a
 
   pub told_answered : (found id failure value : Option ℕ) → Found doc (named_in (chars (codes "method")) j) found → found ≡ None → Found doc (named_in (chars (codes "id")) j) id → Found doc (named_in (chars (codes "error")) j) failure → Found doc (named_in (chars (codes "result")) j) value
-      → ((i f v : Option Json) → Found doc i id → Found doc f failure → Found doc v value → Tells doc e (by_names None i None f v)) → Tells doc e (message_in (Some j))
+      → ((i f v : Option Json) → Found doc i id → Found doc f failure → Found doc v value → TellsIf doc e (by_names None i None f v)) → TellsIf doc e (message_in (Some j))
   told_answered found id failure value g is h k l tell = told_message (go (named_in (codes "method") j) (subst (λ o. Found doc (named_in (codes "method") j) o) is (subst (λ z. Found doc (named_in z j) found) method_chars g)))
     where
-      go : (o : Option Json) → Found doc o None → Tells doc e (by_names o (named_in (codes "id") j) (named_in (codes "params") j) (named_in (codes "error") j) (named_in (codes "result") j))
+      go : (o : Option Json) → Found doc o None → TellsIf doc e (by_names o (named_in (codes "id") j) (named_in (codes "params") j) (named_in (codes "error") j) (named_in (codes "result") j))
       go None a = tell (named_in (codes "id") j) (named_in (codes "error") j) (named_in (codes "result") j)
           (subst (λ z. Found doc (named_in z j) id) id_chars h) (subst (λ z. Found doc (named_in z j) failure) error_chars k) (subst (λ z. Found doc (named_in z j) value) result_chars l)
       go (Some m) a = absurd a

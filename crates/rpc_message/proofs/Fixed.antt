@@ -1,6 +1,10 @@
 -- What the fixed texts are, as messages.
 use Rattle.std.proofs.Common.{◌≡◌, ℕ, ◌≤◌, Bool, true, false, ◌&&◌, List, [], ◌∷◌, ◌++◌, Option, Some, None, if◌then◌else◌, codes, IsTrue, nat_le, inl, inr, refl, sym, ◌∙◌, ap, subst, arith, append_assoc, append-nil}
 use Rattle.std.proofs.lemmas.Bool.{and_parts}
+use Rattle.std.specs.Fmt.{signed_decimal, digits}
+use Rattle.std.specs.Int.{w32}
+use Rattle.std.specs.Int.RustNames.{FitsSigned}
+use Rattle.json.specs.Print.{escape_byte, quoted}
 use Rattle.json_text.specs.Computes.{computes}
 use Rattle.json_text.specs.Json.{Json, word, number, string, array, object, no_members, member, depth}
 use Rattle.json_text.specs.declared.kind.Word.TheVariants.{Null}
@@ -12,7 +16,7 @@ use Rattle.json_text.proofs.Compact.{all_simple, simple_string, closing_none, cl
 use Rattle.json_text.proofs.Forms.{says, says_of}
 use Rattle.json_text.proofs.Put.{depth_bare}
 use Rattle.rpc_message.specs.Message.{Id, integer, notification, result, error, no_name_twice, is_integer, integer_if, id_of, response_id, error_if, response_with, message_of}
-use Rattle.rpc_message.specs.Texts.{ok_text, Code, parse_error, invalid_request, method_not_found, invalid_params, server_not_initialized, content_modified, request_failed, error_text, error_tree, initialized_text}
+use Rattle.rpc_message.specs.Texts.{ok_text, Code, parse_error, invalid_request, method_not_found, invalid_params, server_not_initialized, content_modified, request_failed, code_text, code_number, code_message, error_reply_text, error_text, error_tree, failure_tree, initialized_text}
 use Rattle.rpc_message.specs.ValueTexts.{IsValueText, IsIdText, IsResponseIdText}
 use Rattle.rpc_message.proofs.Meaning.{message_says}
 
@@ -72,18 +76,15 @@ seven : (id ct cm : List ℕ) → codes "{\"jsonrpc\":\"2.0\",\"id\":" ++ id ++ 
     ≡ codes "{\"jsonrpc\":\"2.0\",\"id\":" ++ (id ++ (codes ",\"error\":" ++ (error_value ct cm ++ codes "}")))
 seven id ct cm = simp append_assoc
 
-abbrev failure_tree : List ℕ → List ℕ → Json
-failure_tree ct cm = object nowhere (member nowhere (codes "code") (number nowhere ct) (member nowhere (codes "message") (string nowhere cm) no_members))
-
 failure_says : (ct cm : List ℕ) → IsNumber ct → IsTrue (all_simple cm) → says (failure_tree ct cm) (error_value ct cm)
 failure_says ct cm n h = compact_object nowhere nowhere (codes "code") (number nowhere ct) (member nowhere (codes "message") (string nowhere cm) no_members)
     ct (codes ",\"message\":" ++ ((34 ∷ (cm ++ 34 ∷ [])) ++ codes "}")) refl (refl, n)
     (closing_member nowhere (codes "message") (string nowhere cm) no_members (34 ∷ (cm ++ 34 ∷ [])) (codes "}") refl (simple_string nowhere cm h) closing_none)
 
-answer_tree : Json → Json → Json
+unfoldable pub answer_tree : Json → Json → Json
 answer_tree u e = object nowhere (member nowhere (codes "jsonrpc") (string nowhere (codes "2.0")) (member nowhere (codes "id") u (member nowhere (codes "error") e no_members)))
 
-answer_says : (u e : Json) (id w : List ℕ) → says u id → says e w → says (answer_tree u e) (codes "{\"jsonrpc\":\"2.0\",\"id\":" ++ (id ++ (codes ",\"error\":" ++ (w ++ codes "}"))))
+pub answer_says : (u e : Json) (id w : List ℕ) → says u id → says e w → says (answer_tree u e) (codes "{\"jsonrpc\":\"2.0\",\"id\":" ++ (id ++ (codes ",\"error\":" ++ (w ++ codes "}"))))
 unfolding answer_tree
 answer_says u e id w h g = compact_object nowhere nowhere (codes "jsonrpc") (string nowhere (codes "2.0")) (member nowhere (codes "id") u (member nowhere (codes "error") e no_members))
     (codes "\"2.0\"") (codes ",\"id\":" ++ (id ++ (codes ",\"error\":" ++ (w ++ codes "}")))) refl (simple_string nowhere (codes "2.0") refl)
@@ -124,3 +125,37 @@ error_law i id request_failed h = failure_law i (codes "-32803") (codes "Request
 pub initialized_law : message_of initialized_text ≡ notification (codes "initialized") (Some (object nowhere no_members))
 unfolding computes message_of named no_name_twice is_integer
 initialized_law = refl
+
+-- an error of one of these codes is written as any error is
+
+reply_whole : (id ct cm : List ℕ) → codes "{\"jsonrpc\":\"2.0\",\"id\":" ++ id ++ codes ",\"error\":{\"code\":" ++ ct ++ codes ",\"message\":" ++ cm ++ codes "}}"
+    ≡ codes "{\"jsonrpc\":\"2.0\",\"id\":" ++ (id ++ (codes ",\"error\":{\"code\":" ++ (ct ++ (codes ",\"message\":" ++ (cm ++ codes "}}")))))
+reply_whole id ct cm = simp append_assoc
+
+answer_whole : (id ct cm : List ℕ) → codes "{\"jsonrpc\":\"2.0\",\"id\":" ++ id ++ codes ",\"error\":{\"code\":" ++ ct ++ codes ",\"message\":\"" ++ cm ++ codes "\"}}"
+    ≡ codes "{\"jsonrpc\":\"2.0\",\"id\":" ++ (id ++ (codes ",\"error\":{\"code\":" ++ (ct ++ (codes ",\"message\":\"" ++ (cm ++ codes "\"}}")))))
+answer_whole id ct cm = simp append_assoc
+
+tail_same : (c : Code) → codes ",\"error\":{\"code\":" ++ (signed_decimal (code_number c) ++ (codes ",\"message\":" ++ (quoted (code_message c) ++ codes "}}")))
+    ≡ codes ",\"error\":{\"code\":" ++ (code_text c ++ (codes ",\"message\":\"" ++ (code_message c ++ codes "\"}}")))
+unfolding digits escape_byte
+tail_same parse_error = refl
+tail_same invalid_request = refl
+tail_same method_not_found = refl
+tail_same invalid_params = refl
+tail_same server_not_initialized = refl
+tail_same content_modified = refl
+tail_same request_failed = refl
+
+pub reply_same : (id : List ℕ) (c : Code) → error_reply_text id (code_number c) (code_message c) ≡ error_text id c
+reply_same id c = reply_whole id (signed_decimal (code_number c)) (quoted (code_message c))
+    ∙ ap (λ z. codes "{\"jsonrpc\":\"2.0\",\"id\":" ++ (id ++ z)) (tail_same c) ∙ sym (answer_whole id (code_text c) (code_message c))
+
+pub number_fits : (c : Code) → FitsSigned w32 (code_number c)
+number_fits parse_error = record { sfits = omega arith }
+number_fits invalid_request = record { sfits = omega arith }
+number_fits method_not_found = record { sfits = omega arith }
+number_fits invalid_params = record { sfits = omega arith }
+number_fits server_not_initialized = record { sfits = omega arith }
+number_fits content_modified = record { sfits = omega arith }
+number_fits request_failed = record { sfits = omega arith }

@@ -8,4 +8,6 @@ pub mod KindTests
 pub mod Meaning
 pub mod Opening
 pub mod Reading
+pub mod Replies
+pub mod SameIds
 pub mod Standing

@@ -21,7 +21,7 @@ value_says v w h = subst (λ k. says k w) h.same (says_bare h.tree w (says_of h.
 pub value_bare : (v : Json) (w : List ℕ) → IsValueText v w → bare v ≡ v
 value_bare v w h = ap bare (sym h.same) ∙ bare_bare h.tree ∙ h.same
 
-closing_optional : (cs : List ℕ) (o : Option Json) (w : Option (List ℕ)) (ms : Members) (rest : List ℕ) → IsTrue (all_simple cs) → IsOptionText o w → Closing ms rest
+pub closing_optional : (cs : List ℕ) (o : Option Json) (w : Option (List ℕ)) (ms : Members) (rest : List ℕ) → IsTrue (all_simple cs) → IsOptionText o w → Closing ms rest
     → Closing (optional_member cs o ms) (optional_text (44 ∷ 34 ∷ (cs ++ (34 ∷ 58 ∷ []))) w ++ rest)
 closing_optional cs None None ms rest h g c = c
 closing_optional cs None (Some w) ms rest h g c = absurd g

@@ -57,6 +57,9 @@ module _ (cs : List ℕ) (doc : Doc) (j : Json) (found : Option ℕ) (node : ℕ
   member_part w h = let k : Standing (named_in cs j) = standing (named_in cs j) there in
       h k.rises k.fits ∙ sym (ap (slice_of doc.bytes) (place_held cs doc j holds ∙ k.where_is))
 
+  pub placed : Some s ≡ place_in cs (tree_of doc.bytes)
+  placed = let k : Standing (named_in cs j) = standing (named_in cs j) there in sym (place_held cs doc j holds ∙ k.where_is)
+
   -- the body with another text there
   pub renamed_part : (id : List ℕ) → cs ≡ codes "id" → (E : Type 0) (r : Result (List ℕ) E) → (s.from ≤ s.to → s.to ≤ length doc.bytes → IfOk r (λ b. b ≡ replace doc.bytes (record { span = s; text = id } ∷ [])))
       → IfOk r (λ b. b ≡ with_id_text doc.bytes id)
@@ -65,6 +68,13 @@ module _ (cs : List ℕ) (doc : Doc) (j : Json) (found : Option ℕ) (node : ℕ
       let k : Standing (named_in cs j) = standing (named_in cs j) there in
       let same : place_in (codes "id") (tree_of doc.bytes) ≡ Some s = ap (λ z. place_in z (tree_of doc.bytes)) (sym e) ∙ place_held cs doc j holds ∙ k.where_is in
       subst (λ o. IfOk r (λ b. b ≡ with_id_at doc.bytes id o)) (sym same) (h k.rises k.fits)
+
+pub not_placed : (cs : List ℕ) (doc : Doc) (j : Json) (found : Option ℕ) → Holds doc j → Found doc (named_in cs j) found → found ≡ None → None ≡ place_in cs (tree_of doc.bytes)
+not_placed cs doc j found h f e = sym (place_held cs doc j h ∙ go (named_in cs j) (subst (λ o. Found doc (named_in cs j) o) e f))
+  where
+    go : (o : Option Json) → Found doc o None → option_map span_of o ≡ None
+    go None g = refl
+    go (Some t) g = absurd g
 
 pub id_chars : chars (codes "id") ≡ codes "id"
 unfolding chars

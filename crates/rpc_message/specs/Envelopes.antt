@@ -9,7 +9,7 @@ use Rattle.json_text.specs.Named.{named}
 use Rattle.json_nodes.specs.At.{At, Found}
 use Rattle.json_nodes.specs.Doc.{Doc}
 use Rattle.rpc_message.specs.declared.envelope.Envelope.{Envelope}
-use Rattle.rpc_message.specs.declared.envelope.Envelope.TheVariants.{Other, Request, Notification, Outcome, Failure}
+use Rattle.rpc_message.specs.declared.envelope.Envelope.TheVariants.{Request, Notification, Outcome, Failure}
 use Rattle.rpc_message.specs.Message.{Id, Message, not_message, request, notification, result, error, id_of, response_id, is_null, is_two, no_name_twice, result_tree, called, answered}
 
 -- what the members of these names make
@@ -66,11 +66,15 @@ pub record IsFailure (doc : Doc) (at failure_at : ℕ) (message : Message) : Typ
 
 -- the envelope tells of this message
 abbrev pub Tells : Doc → Envelope → Message → Type 0
-Tells doc Other message = message ≡ not_message
 Tells doc (Request id method params) message = IsRequest doc id method params message
 Tells doc (Notification method params) message = IsNotification doc method params message
 Tells doc (Outcome id value) message = IsOutcome doc id value message
 Tells doc (Failure id failure) message = IsFailure doc id failure message
+
+-- so does an answer that may be none, which tells of no message
+abbrev pub TellsIf : Doc → Option Envelope → Message → Type 0
+TellsIf doc None message = message ≡ not_message
+TellsIf doc (Some envelope) message = Tells doc envelope message
 
 -- an object without doubled names that says "jsonrpc": "2.0"
 abbrev pub is_enveloped : Json → Bool

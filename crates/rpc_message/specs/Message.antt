@@ -14,6 +14,12 @@ pub data Id : Type 0 where
   integer : List ℕ → Id
   text : List ℕ → Id
 
+abbrev pub same_id : Id → Id → Bool
+same_id (integer a) (integer b) = bytes_eq a b
+same_id (integer a) (text b) = false
+same_id (text a) (integer b) = false
+same_id (text a) (text b) = bytes_eq a b
+
 -- what a body says. The id of a response is None where it is null; params and results are without places; null params count as absent, an absent result as null.
 pub data Message : Type 0 where
   not_json : Message

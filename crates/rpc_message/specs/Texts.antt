@@ -1,5 +1,7 @@
 -- The fixed texts, byte for byte. ID, R and items are bytes as they came.
-use Rattle.std.specs.Prelude.{ℕ, List, [], ◌∷◌, ◌++◌, codes}
+use Rattle.std.specs.Prelude.{ℕ, ℤ, negsuc, List, [], ◌∷◌, ◌++◌, codes, decimal}
+use Rattle.std.specs.Fmt.{signed_decimal}
+use Rattle.json.specs.Print.{quoted}
 use Rattle.std.specs.Prelude.{Option, Some, None}
 use Rattle.json_text.specs.declared.span.Span.{Span}
 use Rattle.json_text.specs.declared.kind.Word.TheVariants.{Null}
@@ -32,6 +34,16 @@ code_text server_not_initialized = codes "-32002"
 code_text content_modified = codes "-32801"
 code_text request_failed = codes "-32803"
 
+-- the same as numbers; `negsuc n` is below zero by n + 1
+abbrev pub code_number : Code → ℤ
+code_number parse_error = negsuc 32699
+code_number invalid_request = negsuc 32599
+code_number method_not_found = negsuc 32600
+code_number invalid_params = negsuc 32601
+code_number server_not_initialized = negsuc 32001
+code_number content_modified = negsuc 32800
+code_number request_failed = negsuc 32802
+
 abbrev pub code_message : Code → List ℕ
 code_message parse_error = codes "Parse error"
 code_message invalid_request = codes "Invalid Request"
@@ -45,12 +57,19 @@ code_message request_failed = codes "Request failed"
 abbrev pub error_text : List ℕ → Code → List ℕ
 error_text id c = codes "{\"jsonrpc\":\"2.0\",\"id\":" ++ id ++ codes ",\"error\":{\"code\":" ++ code_text c ++ codes ",\"message\":\"" ++ code_message c ++ codes "\"}}"
 
+-- an error of any code and message
+abbrev pub error_reply_text : List ℕ → ℤ → List ℕ → List ℕ
+error_reply_text id code message = codes "{\"jsonrpc\":\"2.0\",\"id\":" ++ id ++ codes ",\"error\":{\"code\":" ++ signed_decimal code ++ codes ",\"message\":" ++ quoted message ++ codes "}}"
+
 abbrev pub initialized_text : List ℕ
 initialized_text = codes "{\"jsonrpc\":\"2.0\",\"method\":\"initialized\",\"params\":{}}"
 
--- the tree of an error
+-- the tree of an error, by its code's digits and the characters of its message
+abbrev pub failure_tree : List ℕ → List ℕ → Json
+failure_tree digits message = object nowhere (member nowhere (codes "code") (number nowhere digits) (member nowhere (codes "message") (string nowhere message) no_members))
+
 abbrev pub error_tree : Code → Json
-error_tree c = object nowhere (member nowhere (codes "code") (number nowhere (code_text c)) (member nowhere (codes "message") (string nowhere (code_message c)) no_members))
+error_tree c = failure_tree (code_text c) (code_message c)
 
 -- a member that may be there or not
 abbrev pub optional_text : List ℕ → Option (List ℕ) → List ℕ
@@ -60,6 +79,13 @@ optional_text name (Some bytes) = name ++ bytes
 abbrev pub optional_member : List ℕ → Option Json → Members → Members
 optional_member name None ms = ms
 optional_member name (Some j) ms = member nowhere name j ms
+
+-- a request and a notification, whose params may be there or not
+abbrev pub request_text : ℕ → List ℕ → Option (List ℕ) → List ℕ
+request_text n method params = codes "{\"jsonrpc\":\"2.0\",\"id\":" ++ decimal n ++ codes ",\"method\":" ++ quoted method ++ optional_text (codes ",\"params\":") params ++ codes "}"
+
+abbrev pub notification_text : List ℕ → Option (List ℕ) → List ℕ
+notification_text method params = codes "{\"jsonrpc\":\"2.0\",\"method\":" ++ quoted method ++ optional_text (codes ",\"params\":") params ++ codes "}"
 
 -- LSP 3.17, Initialize Request: with the root (null or a URI), the client's options, its capabilities and its workspace folders
 abbrev pub initialize_text : List ℕ → Option (List ℕ) → List ℕ → Option (List ℕ) → List ℕ

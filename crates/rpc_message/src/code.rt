@@ -1,6 +1,6 @@
 ghost use Rattle.std.specs.Prelude.{◌≡◌};
 ghost use Rattle.rpc_message.specs.Codes.{code_of};
-ghost use Rattle.rpc_message.specs.Texts.{code_message, code_text};
+ghost use Rattle.rpc_message.specs.Texts.{code_message, code_number};
 
 /// The error codes of JSON-RPC 2.0, section 5.1, and of LSP 3.17, that are written.
 #[derive(Clone, Copy, Debug)]
@@ -15,18 +15,18 @@ pub enum ErrorCode {
 }
 
 impl ErrorCode {
-    /// Its number, as it is written.
-    pub fn number(self) -> &'static str
-        ensures { result.now ≡ code_text (code_of self) }
+    /// Its number.
+    pub fn number(self) -> i32
+        ensures { result ≡ code_number (code_of self) }
     {
         match self {
-            ErrorCode::ParseError => "-32700",
-            ErrorCode::InvalidRequest => "-32600",
-            ErrorCode::MethodNotFound => "-32601",
-            ErrorCode::InvalidParams => "-32602",
-            ErrorCode::ServerNotInitialized => "-32002",
-            ErrorCode::ContentModified => "-32801",
-            ErrorCode::RequestFailed => "-32803",
+            ErrorCode::ParseError => -32700,
+            ErrorCode::InvalidRequest => -32600,
+            ErrorCode::MethodNotFound => -32601,
+            ErrorCode::InvalidParams => -32602,
+            ErrorCode::ServerNotInitialized => -32002,
+            ErrorCode::ContentModified => -32801,
+            ErrorCode::RequestFailed => -32803,
         }
     }
 

@@ -3,21 +3,20 @@ ghost use Rattle.std.specs.Prelude.{◌≡◌, ◌<◌, ℕ, List, length, is_so
 ghost use Rattle.json_text.specs.declared.span.Span.{Span};
 ghost use Rattle.json_text.specs.Json.{Json, Members, object};
 ghost use Rattle.json_nodes.specs.At.{At, Found};
-ghost use Rattle.rpc_message.specs.Envelopes.{Tells, by_names, is_enveloped, not_null};
+ghost use Rattle.rpc_message.specs.Envelopes.{TellsIf, by_names, is_enveloped, not_null};
 ghost use Rattle.rpc_message.specs.Message.{are_params, answered, id_of, is_error, is_integer, is_integer_value, is_string_value, is_two, message_in, no_name_twice, response_id};
 
+use crate::id::is_integer;
 use json_nodes::{
     Node, bytes_in, first_in, kind_in, last_spelled, member_in, name_in, next_in, string_in,
 };
 use json_text::Kind;
 use json_token::spells_text;
 
-/// What a body is: which of its values are its id, its method, its params, its result and its error, by their numbers. Params
+/// What a message is: which of its values are its id, its method, its params, its result and its error, by their numbers. Params
 /// that are null count as absent.
 #[derive(Clone, Copy, Debug)]
 pub enum Envelope {
-    /// No message.
-    Other,
     Request {
         id: u32,
         method: u32,
@@ -37,19 +36,6 @@ pub enum Envelope {
         id: u32,
         error: u32,
     },
-}
-
-// Whether a number's text has no fraction and no exponent.
-#[tactic(auto, unfolding(crate::specs::Message::is_integer))]
-fn is_integer(text: &[u8]) -> bool
-    ensures { result ≡ is_integer text.now }
-{
-    for byte in text {
-        if !(byte.is_ascii_digit() || *byte == b'-') {
-            return false;
-        }
-    }
-    true
 }
 
 // Whether a value is an id.
@@ -182,20 +168,20 @@ fn called(
     method: u32,
     id: Option<u32>,
     params: Option<u32>,
-) -> Envelope
+) -> Option<Envelope>
     requires method { method < length nodes.now }
     requires id { MatchOption id (Unit {0}) (λ n. n < length nodes.now) }
     requires params { MatchOption params (Unit {0}) (λ n. n < length nodes.now) }
-    ensures { (m : Json) (i p f v : Option Json) → At (record { bytes = bytes.now; nodes = nodes.now }) method m → Found (record { bytes = bytes.now; nodes = nodes.now }) i id → Found (record { bytes = bytes.now; nodes = nodes.now }) p params → Tells (record { bytes = bytes.now; nodes = nodes.now }) result (by_names (Some m) i p f v) }
+    ensures { (m : Json) (i p f v : Option Json) → At (record { bytes = bytes.now; nodes = nodes.now }) method m → Found (record { bytes = bytes.now; nodes = nodes.now }) i id → Found (record { bytes = bytes.now; nodes = nodes.now }) p params → TellsIf (record { bytes = bytes.now; nodes = nodes.now }) result (by_names (Some m) i p f v) }
 {
     if !is_string_value(nodes, Some(method)) || !are_params(nodes, params) {
-        return Envelope::Other;
+        return None;
     }
     let params = not_null(nodes, params);
     match id {
-        Some(id) if is_id(bytes, nodes, id) => Envelope::Request { id, method, params },
-        Some(_) => Envelope::Other,
-        None => Envelope::Notification { method, params },
+        Some(id) if is_id(bytes, nodes, id) => Some(Envelope::Request { id, method, params }),
+        Some(_) => None,
+        None => Some(Envelope::Notification { method, params }),
     }
 }
 
@@ -206,31 +192,32 @@ fn answered(
     id: Option<u32>,
     failure: Option<u32>,
     value: Option<u32>,
-) -> Envelope
+) -> Option<Envelope>
     requires id { MatchOption id (Unit {0}) (λ n. n < length nodes.now) }
     requires failure { MatchOption failure (Unit {0}) (λ n. n < length nodes.now) }
     requires value { MatchOption value (Unit {0}) (λ n. n < length nodes.now) }
-    ensures { (i f v : Option Json) → Found (record { bytes = bytes.now; nodes = nodes.now }) i id → Found (record { bytes = bytes.now; nodes = nodes.now }) f failure → Found (record { bytes = bytes.now; nodes = nodes.now }) v value → Tells (record { bytes = bytes.now; nodes = nodes.now }) result (answered i f v) }
+    ensures { (i f v : Option Json) → Found (record { bytes = bytes.now; nodes = nodes.now }) i id → Found (record { bytes = bytes.now; nodes = nodes.now }) f failure → Found (record { bytes = bytes.now; nodes = nodes.now }) v value → TellsIf (record { bytes = bytes.now; nodes = nodes.now }) result (answered i f v) }
 {
-    let Some(id) = id else { return Envelope::Other };
+    let id = id?;
     if !is_response_id(bytes, nodes, id) {
-        return Envelope::Other;
+        return None;
     }
     match not_null(nodes, failure) {
-        None => Envelope::Outcome { id, value },
-        Some(error) if is_error(bytes, nodes, error) && not_null(nodes, value).is_none() =>
+        None => Some(Envelope::Outcome { id, value }),
+        Some(error) if is_error(bytes, nodes, error) && not_null(nodes, value).is_none() => Some(
             Envelope::Failure { id, error },
-        Some(_) => Envelope::Other,
+        ),
+        Some(_) => None,
     }
 }
 
-/// What a body is, by the nodes of its values.
-pub fn envelope_in(bytes: &[u8], nodes: &[Node]) -> Envelope
+/// What a body is, by the nodes of its values; none where it is no message.
+pub fn envelope_in(bytes: &[u8], nodes: &[Node]) -> Option<Envelope>
     requires { 0 < length nodes.now }
-    ensures { (j : Json) → At (record { bytes = bytes.now; nodes = nodes.now }) 0 j → Tells (record { bytes = bytes.now; nodes = nodes.now }) result (message_in (Some j)) }
+    ensures { (j : Json) → At (record { bytes = bytes.now; nodes = nodes.now }) 0 j → TellsIf (record { bytes = bytes.now; nodes = nodes.now }) result (message_in (Some j)) }
 {
     if !is_enveloped(bytes, nodes) {
-        return Envelope::Other;
+        return None;
     }
     let id = member_in(bytes, nodes, 0, "id");
     match member_in(bytes, nodes, 0, "method") {

@@ -1,15 +1,32 @@
 //! Laws: what the texts that are written say as messages, and what stays of a body under another id.
-ghost use Rattle.std.specs.Prelude.{◌≡◌, ◌≤◌, ◌<◌, ◌^◌, ℕ, List, Option, Some, codes, decimal};
+ghost use Rattle.std.specs.Prelude.{◌≡◌, ◌↔◌, ◌≤◌, ◌<◌, ◌^◌, ℕ, ℤ, List, IsUtf8, Option, Some, codes, decimal, true};
+ghost use Rattle.std.specs.Int.{w32};
+ghost use Rattle.std.specs.Fmt.{signed_decimal};
+ghost use Rattle.std.specs.Int.RustNames.{FitsSigned};
+ghost use Rattle.std.specs.Str.{chars};
 ghost use Rattle.json_text.specs.Bare.{nowhere};
-ghost use Rattle.json_text.specs.Json.{Json, depth, no_members, object};
-ghost use Rattle.rpc_message.specs.Message.{Id, error, id_bytes, integer, message_of, notification, request, result as outcome, result_bytes};
-ghost use Rattle.rpc_message.specs.Texts.{Code, error_text, error_tree, initialize_params, initialize_text, initialized_text, ok_text, with_id_text};
+ghost use Rattle.json_text.specs.Json.{IsText, Json, depth, no_members, object};
+ghost use Rattle.rpc_message.specs.Message.{Id, are_params, error, given, id_bytes, integer, message_of, not_json, notification, request, result as outcome, result_bytes};
+ghost use Rattle.rpc_message.specs.Texts.{Code, error_reply_text, error_text, error_tree, failure_tree, initialize_params, initialize_text, initialized_text, notification_text, ok_text, request_text, with_id_text};
 ghost use Rattle.rpc_message.specs.ValueTexts.{IsIdText, IsOptionText, IsResponseIdText, IsShallowText, IsValueText, option_depth};
 
 /// What is answered is a result, or an error, under the id that it was given (JSON-RPC 2.0, section 5).
 pub fn answers_law()
     ensures ok { (i : Option Id) (v : Json) (id r : List ℕ) → IsResponseIdText i id → IsValueText v r → depth v ≤ 1023 → message_of (ok_text id r) ≡ outcome i v }
     ensures failure { (i : Option Id) (id : List ℕ) (c : Code) → IsResponseIdText i id → message_of (error_text id c) ≡ error i (error_tree c) }
+    ensures any_failure { (i : Option Id) (id : List ℕ) (code : ℤ) (text : List ℕ) → IsResponseIdText i id → FitsSigned w32 code → IsUtf8 text → message_of (error_reply_text id code text) ≡ error i (failure_tree (signed_decimal code) (chars text)) }
+{}
+
+/// What is asked is a request of this number, and what is told is a notification, of this method and with these params
+/// (JSON-RPC 2.0, sections 4 and 4.1).
+pub fn calls_law()
+    ensures request { (n : ℕ) (method : List ℕ) (ps : Option Json) (params : Option (List ℕ)) → n < 2 ^ 128 → IsUtf8 method → IsOptionText ps params → are_params ps ≡ true → option_depth ps ≤ 1023 → message_of (request_text n method params) ≡ request (integer (decimal n)) (chars method) (given ps) }
+    ensures notification { (method : List ℕ) (ps : Option Json) (params : Option (List ℕ)) → IsUtf8 method → IsOptionText ps params → are_params ps ≡ true → option_depth ps ≤ 1023 → message_of (notification_text method params) ≡ notification (chars method) (given ps) }
+{}
+
+/// A body is no JSON just where it is no text of RFC 8259 that nests at most 1,024 deep.
+pub fn refusals_law()
+    ensures { (bytes : List ℕ) → (message_of bytes ≡ not_json) ↔ ((j : Json) → IsText bytes j → depth j ≤ 1024 → ⊥) }
 {}
 
 /// What is sent to a server first is the request `initialize` under the id 1, and then the notification `initialized`

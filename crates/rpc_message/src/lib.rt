@@ -3,15 +3,21 @@
 
 mod code;
 mod envelope;
+mod id;
 mod laws;
 mod message;
 mod parts;
+mod sort;
 #[cfg(test)]
 mod tests;
 mod texts;
 
 pub use code::ErrorCode;
 pub use envelope::Envelope;
-pub use laws::{answers_law, opening_law, parts_law, renamed_law};
+pub use id::{is_integer, is_quoted, same_id};
+pub use laws::{answers_law, calls_law, opening_law, parts_law, refusals_law, renamed_law};
 pub use message::Message;
-pub use texts::{error_answer, initialize, initialized, ok_answer};
+pub use sort::{Malformed, Sort};
+pub use texts::{
+    error_answer, error_reply, initialize, initialized, notification, ok_reply, request,
+};

@@ -1,48 +1,98 @@
-//! A body that is a JSON text, and what it is as a message.
-ghost use Rattle.std.specs.Prelude.{◌≡◌, ◌≤◌, ◌⊎◌, ℕ, List, length, encode_utf8_all, IfErr, IfOk};
-ghost use Rattle.json_text.specs.declared.span.Span.{Span};
-ghost use Rattle.json_text.specs.Json.{string};
-ghost use Rattle.json_nodes.specs.At.{At};
-ghost use Rattle.rpc_message.specs.Message.{id_bytes, message_of, not_json, result_bytes};
-ghost use Rattle.rpc_message.specs.Parsed.{IsRead, method_of};
+//! A body that is a message of JSON-RPC 2.0, and its parts.
+ghost use Rattle.std.specs.Prelude.{◌≡◌, ◌≤◌, ◌<◌, ℕ, List, length, codes, option_map, Some, IfErr, IfOk, MatchOption};
+ghost use Rattle.json_text.specs.Changes.{edits_of};
+ghost use Rattle.json_text.specs.Replace.{replace, Rise};
+ghost use Rattle.json_text.specs.Tree.{tree_of};
+ghost use Rattle.rpc_message.specs.Envelopes.{Tells};
+ghost use Rattle.rpc_message.specs.Message.{Message as Meaning, id_bytes, message_of, place_in, result_bytes};
+ghost use Rattle.rpc_message.specs.Parsed.{FoundBare, FoundResultOf, IsRead, error_of, method_of, params_of};
+ghost use Rattle.rpc_message.specs.Sorts.{Refuses, sort_of};
 ghost use Rattle.rpc_message.specs.Texts.{with_id_text};
 
 use crate::envelope::{Envelope, envelope_in};
-use crate::parts::{member_bytes, with_id};
-use json_nodes::text_in;
+use crate::parts::{member_bytes, member_span, with_id};
+use crate::sort::{Malformed, Sort};
+use json_nodes::{Node, text_in};
 use json_span::{JsonFault, Tape};
-use json_text::{Body, Memory};
+use json_text::{Body, Change, Memory, Span, splice};
 use std::alloc::Global;
 use std::marker::Model;
 
-/// A body that is a JSON text, and what it is as a message.
+/// A body that is a message, with its values and what they are.
 #[derive(Drop)]
 pub struct Message<'a> {
     tape: Tape<'a>,
     envelope: Envelope,
+    method: Option<Body>,
 }
 
 impl<'a> Model for Message<'a> {
-    ghost use Rattle.rpc_message.specs.Parsed.{Parsed};
+    ghost use Rattle.rpc_message.specs.Parsed.{Parsed, IsRead};
 
     ghost Value = { Parsed };
 
-    ghost view = { λ m. record { doc = m.tape; envelope = m.envelope } };
+    ghost view = { λ m. record { doc = m.tape; envelope = m.envelope; method = m.method } };
+
+    ghost invariant = { λ m. IsRead (record { doc = m.tape; envelope = m.envelope; method = m.method }) m.tape.bytes };
+}
+
+// The characters of a message's method, in UTF-8, where it has one.
+fn decoded_method(
+    alloc: Global,
+    bytes: &[u8],
+    nodes: &[Node],
+    envelope: Envelope,
+) -> Result<Option<Body>, Memory>
+    requires { (m : Meaning) × Tells (record { bytes = bytes.now; nodes = nodes.now }) envelope m }
+    ensures { (m : Meaning) → Tells (record { bytes = bytes.now; nodes = nodes.now }) envelope m → IfOk result (λ name. name ≡ method_of m) }
+{
+    match envelope {
+        Envelope::Request { method, .. } | Envelope::Notification { method, .. } => Ok(Some(text_in(
+            alloc, bytes, nodes, method,
+        )?)),
+        Envelope::Outcome { .. } | Envelope::Failure { .. } => Ok(None),
+    }
 }
 
 impl<'a> Message<'a> {
-    /// Reads a body. A fault that isn't want of memory says that the body is no JSON text, or nests more than 1,024 deep.
-    pub fn read(alloc: Global, bytes: &'a [u8]) -> Result<Message<'a>, JsonFault>
+    /// Reads a body. It is taken just where it is a message, unless memory is wanting.
+    pub fn read(alloc: Global, bytes: &'a [u8]) -> Result<Message<'a>, Malformed>
         requires { length bytes.now ≤ 268435456 }
         ensures ok { IfOk result (λ m. IsRead m bytes.now) }
-        ensures fault { IfErr result (λ e. (e ≡ JsonFault.Memory) ⊎ (message_of bytes.now ≡ not_json)) }
+        ensures refused { IfErr result (λ e. Refuses e (message_of bytes.now)) }
     {
-        let tape = Tape::read(alloc, bytes)?;
-        let envelope = envelope_in(tape.bytes(), tape.nodes());
-        Ok(Message { tape, envelope })
+        let tape = match Tape::read(alloc, bytes) {
+            Ok(tape) => tape,
+            Err(JsonFault::Memory) => return Err(Malformed::Memory),
+            Err(JsonFault::Syntax(_)) => return Err(Malformed::NotJson),
+            Err(JsonFault::TooDeep(_)) => return Err(Malformed::NotJson),
+        };
+        let Some(envelope) = envelope_in(tape.bytes(), tape.nodes()) else {
+            return Err(Malformed::NotMessage);
+        };
+        match decoded_method(alloc, tape.bytes(), tape.nodes(), envelope) {
+            Ok(method) => Ok(Message {
+                tape,
+                envelope,
+                method,
+            }),
+            Err(Memory) => Err(Malformed::Memory),
+        }
     }
 
-    /// What it is.
+    /// Its class.
+    pub fn sort(&self) -> Sort
+        ensures { (bytes : List ℕ) → IsRead self.now bytes → sort_of (message_of bytes) ≡ Some result }
+    {
+        match self.envelope {
+            Envelope::Request { .. } => Sort::Request,
+            Envelope::Notification { .. } => Sort::Notification,
+            Envelope::Outcome { .. } => Sort::Result,
+            Envelope::Failure { .. } => Sort::Error,
+        }
+    }
+
+    /// Which of its values say what it is.
     pub fn envelope(&self) -> Envelope
         ensures { result ≡ self.now.envelope }
     {
@@ -56,6 +106,21 @@ impl<'a> Message<'a> {
         &self.tape
     }
 
+    /// The body's bytes, as they came.
+    pub fn bytes(&self) -> &'a [u8]
+        ensures bytes { result.now ≡ self.now.doc.bytes }
+        ensures read { IsRead self.now result.now }
+    {
+        self.tape.bytes()
+    }
+
+    /// Where its id stands, with the quotation marks of a string; none just where it has no member `id`.
+    pub fn id(&self) -> Option<Span>
+        ensures { (bytes : List ℕ) → IsRead self.now bytes → result ≡ place_in (codes "id") (tree_of bytes) }
+    {
+        member_span(self.tape.bytes(), self.tape.nodes(), "id")
+    }
+
     /// The bytes of its id, as they came; `null` where it has none.
     pub fn id_bytes(&self) -> &[u8]
         ensures { (bytes : List ℕ) → IsRead self.now bytes → result.now ≡ id_bytes bytes }
@@ -63,41 +128,68 @@ impl<'a> Message<'a> {
         member_bytes(self.tape.bytes(), self.tape.nodes(), "id")
     }
 
-    /// The bytes of its result, as they came; `null` where it has none.
+    /// The characters of its method, in UTF-8; none where it is a response.
+    pub fn method(&self) -> Option<&[u8]>
+        ensures { (bytes : List ℕ) → IsRead self.now bytes → option_map (λ b. b.now) result ≡ method_of (message_of bytes) }
+    {
+        match &self.method {
+            Some(method) => Some(method.bytes()),
+            None => None,
+        }
+    }
+
+    /// The number of its params; none where it has none, or they are null.
+    pub fn params(&self) -> Option<u32>
+        ensures value { (bytes : List ℕ) → IsRead self.now bytes → FoundBare self.now.doc (params_of (message_of bytes)) result }
+        ensures inside { MatchOption result (Unit {0}) (λ node. node < length self.now.doc.nodes) }
+    {
+        match self.envelope {
+            Envelope::Request { params, .. } | Envelope::Notification { params, .. } => params,
+            Envelope::Outcome { .. } | Envelope::Failure { .. } => None,
+        }
+    }
+
+    /// The number of its result; none where it has none, which reads as null, and where it is no response with a result.
+    pub fn result(&self) -> Option<u32>
+        ensures value { (bytes : List ℕ) → IsRead self.now bytes → FoundResultOf self.now.doc (message_of bytes) result }
+        ensures inside { MatchOption result (Unit {0}) (λ node. node < length self.now.doc.nodes) }
+    {
+        match self.envelope {
+            Envelope::Outcome { value, .. } => value,
+            _ => None,
+        }
+    }
+
+    /// The bytes of its member `result`, as they came; `null` where it has none.
     pub fn result_bytes(&self) -> &[u8]
         ensures { (bytes : List ℕ) → IsRead self.now bytes → result.now ≡ result_bytes bytes }
     {
         member_bytes(self.tape.bytes(), self.tape.nodes(), "result")
     }
 
-    /// The body with another id, and all else as it came.
+    /// The number of its error; none where it is no response with an error.
+    pub fn error(&self) -> Option<u32>
+        ensures value { (bytes : List ℕ) → IsRead self.now bytes → FoundBare self.now.doc (error_of (message_of bytes)) result }
+        ensures inside { MatchOption result (Unit {0}) (λ node. node < length self.now.doc.nodes) }
+    {
+        match self.envelope {
+            Envelope::Failure { error, .. } => Some(error),
+            _ => None,
+        }
+    }
+
+    /// The body with another id, and all else as it came; unchanged where it has none.
     pub fn with_id(&self, alloc: Global, id: &[u8]) -> Result<Body, Memory>
         ensures { (bytes : List ℕ) → IsRead self.now bytes → IfOk result (λ body. body ≡ with_id_text bytes id.now) }
     {
         with_id(alloc, self.tape.bytes(), self.tape.nodes(), id)
     }
 
-    /// The characters of its method, in UTF-8; empty where it is a response or no message.
-    pub fn method(&self, alloc: Global) -> Result<Body, Memory>
-        ensures { (bytes : List ℕ) → IsRead self.now bytes → IfOk result (λ text. text ≡ encode_utf8_all (method_of (message_of bytes))) }
+    /// The body with each change made, and all else as it came; the places rise and don't overlap.
+    pub fn with_cuts(&self, alloc: Global, changes: &[Change]) -> Result<Body, Memory>
+        requires { Rise self.now.doc.bytes (edits_of changes.now) }
+        ensures { (bytes : List ℕ) → IsRead self.now bytes → IfOk result (λ body. body ≡ replace bytes (edits_of changes.now)) }
     {
-        match self.envelope {
-            Envelope::Request { method, .. } | Envelope::Notification { method, .. } => self.text(
-                alloc, method,
-            ),
-            _ => Ok(Body::new(Vec::new(alloc))),
-        }
-    }
-
-    // The characters of a string, in UTF-8.
-    fn text(&self, alloc: Global, node: u32) -> Result<Body, Memory>
-        ensures { (s : Span) (cs : List ℕ) → At self.now.doc node (string s cs) → IfOk result (λ text. text ≡ encode_utf8_all cs) }
-    {
-        let nodes = self.tape.nodes();
-        if (node as usize) < nodes.len() {
-            text_in(alloc, self.tape.bytes(), nodes, node)
-        } else {
-            Ok(Body::new(Vec::new(alloc)))
-        }
+        splice(alloc, self.tape.bytes(), changes)
     }
 }

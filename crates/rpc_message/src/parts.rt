@@ -4,9 +4,10 @@ ghost use Rattle.std.specs.Str.{chars};
 ghost use Rattle.json_text.specs.Json.{Json};
 ghost use Rattle.json_text.specs.Named.{named_in};
 ghost use Rattle.json_text.specs.Replace.{replace};
+ghost use Rattle.json_text.specs.Tree.{tree_of};
 ghost use Rattle.json_nodes.specs.At.{Found};
 ghost use Rattle.json_nodes.specs.Doc.{Holds};
-ghost use Rattle.rpc_message.specs.Message.{member_bytes};
+ghost use Rattle.rpc_message.specs.Message.{member_bytes, place_in};
 ghost use Rattle.rpc_message.specs.Texts.{with_id_text};
 
 use json_nodes::{Node, member_in, span_in};
@@ -44,6 +45,16 @@ fn root_member(bytes: &[u8], nodes: &[Node], name: &str) -> Option<u32>
         None
     } else {
         member_in(bytes, nodes, 0, name)
+    }
+}
+
+/// Where the last member of this name stands, in a body that is an object; none where it has none.
+pub fn member_span(bytes: &[u8], nodes: &[Node], name: &str) -> Option<Span>
+    ensures { (j : Json) → Holds (record { bytes = bytes.now; nodes = nodes.now }) j → result ≡ place_in (chars name.now) (tree_of bytes.now) }
+{
+    match root_member(bytes, nodes, name) {
+        Some(node) => Some(span_in(nodes, node)),
+        None => None,
     }
 }
 

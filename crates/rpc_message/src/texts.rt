@@ -1,15 +1,17 @@
-//! The fixed texts that are written: answers, errors, `initialize` and `initialized`.
+//! The texts that are written: answers, errors, requests, notifications, `initialize` and `initialized`.
 ghost use Rattle.std.specs.Prelude.{◌≡◌, ◌++◌, IfOk};
 ghost use Rattle.std.specs.Option.{option_map};
 ghost use Rattle.rpc_message.specs.Codes.{code_of};
-ghost use Rattle.rpc_message.specs.Texts.{error_text, initialize_text, initialized_text, ok_text, optional_text};
+ghost use Rattle.rpc_message.specs.Texts.{error_reply_text, error_text, initialize_text, initialized_text, notification_text, ok_text, optional_text, request_text};
 
 use crate::code::ErrorCode;
+use itoa::Buffer;
+use json_span::quote;
 use json_text::{Body, Memory};
 use std::alloc::Global;
 
 /// The answer of a request: its id, and the result's bytes (JSON-RPC 2.0, section 5).
-pub fn ok_answer(alloc: Global, id: &[u8], value: &[u8]) -> Result<Body, Memory>
+pub fn ok_reply(alloc: Global, id: &[u8], value: &[u8]) -> Result<Body, Memory>
     ensures { IfOk result (λ body. body ≡ ok_text id.now value.now) }
 {
     let mut text = Vec::new(alloc);
@@ -21,18 +23,61 @@ pub fn ok_answer(alloc: Global, id: &[u8], value: &[u8]) -> Result<Body, Memory>
     Ok(Body::new(text))
 }
 
-/// An answer that tells of an error (JSON-RPC 2.0, section 5.1).
-pub fn error_answer(alloc: Global, id: &[u8], code: ErrorCode) -> Result<Body, Memory>
-    ensures { IfOk result (λ body. body ≡ error_text id.now (code_of code)) }
+/// An answer that tells of an error, by its code and its message (JSON-RPC 2.0, section 5.1).
+pub fn error_reply(alloc: Global, id: &[u8], code: i32, message: &str) -> Result<Body, Memory>
+    ensures { IfOk result (λ body. body ≡ error_reply_text id.now code message.now) }
 {
+    let message = quote(alloc, message.as_bytes())?;
+    let mut digits = Buffer::new();
     let mut text = Vec::new(alloc);
     text.extend_from_slice("{\"jsonrpc\":\"2.0\",\"id\":".as_bytes())?;
     text.extend_from_slice(id)?;
     text.extend_from_slice(",\"error\":{\"code\":".as_bytes())?;
-    text.extend_from_slice(code.number().as_bytes())?;
-    text.extend_from_slice(",\"message\":\"".as_bytes())?;
-    text.extend_from_slice(code.message().as_bytes())?;
-    text.extend_from_slice("\"}}".as_bytes())?;
+    text.extend_from_slice(digits.format(code).as_bytes())?;
+    text.extend_from_slice(",\"message\":".as_bytes())?;
+    text.extend_from_slice(message.bytes())?;
+    text.extend_from_slice("}}".as_bytes())?;
+    Ok(Body::new(text))
+}
+
+/// An answer that tells of one of the errors that are written.
+pub fn error_answer(alloc: Global, id: &[u8], code: ErrorCode) -> Result<Body, Memory>
+    ensures { IfOk result (λ body. body ≡ error_text id.now (code_of code)) }
+{
+    error_reply(alloc, id, code.number(), code.message())
+}
+
+/// A request of this number (JSON-RPC 2.0, section 4), with its params' bytes, where it has some.
+pub fn request(
+    alloc: Global,
+    number: u128,
+    method: &str,
+    params: Option<&[u8]>,
+) -> Result<Body, Memory>
+    ensures { IfOk result (λ body. body ≡ request_text number method.now (option_map (λ b. b.now) params.entry)) }
+{
+    let method = quote(alloc, method.as_bytes())?;
+    let mut digits = Buffer::new();
+    let mut text = Vec::new(alloc);
+    text.extend_from_slice("{\"jsonrpc\":\"2.0\",\"id\":".as_bytes())?;
+    text.extend_from_slice(digits.format(number).as_bytes())?;
+    text.extend_from_slice(",\"method\":".as_bytes())?;
+    text.extend_from_slice(method.bytes())?;
+    add_optional(&mut text, ",\"params\":", params)?;
+    text.extend_from_slice("}".as_bytes())?;
+    Ok(Body::new(text))
+}
+
+/// A notification (JSON-RPC 2.0, section 4.1), with its params' bytes, where it has some.
+pub fn notification(alloc: Global, method: &str, params: Option<&[u8]>) -> Result<Body, Memory>
+    ensures { IfOk result (λ body. body ≡ notification_text method.now (option_map (λ b. b.now) params.entry)) }
+{
+    let method = quote(alloc, method.as_bytes())?;
+    let mut text = Vec::new(alloc);
+    text.extend_from_slice("{\"jsonrpc\":\"2.0\",\"method\":".as_bytes())?;
+    text.extend_from_slice(method.bytes())?;
+    add_optional(&mut text, ",\"params\":", params)?;
+    text.extend_from_slice("}".as_bytes())?;
     Ok(Body::new(text))
 }
 

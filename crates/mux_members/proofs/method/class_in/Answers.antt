@@ -1,10 +1,12 @@
-use Rattle.std.proofs.Common.{◌∙◌, ap}
+use Rattle.std.proofs.Common.{option_map, ◌∙◌, ap}
 use Rattle.lsp_method.specs.Class.{editor_request}
-use Rattle.rpc_message.specs.Parsed.{method_of}
-use Rattle.std.specs.Prelude.{encode_utf8_all}
 use Rattle.mux_members.proofs.Encoded.{class_encoded}
+use Rattle.mux_members.proofs.Told.{method_told, no_method_told}
 use Rattle.mux_members.proofs.method.class_in.Goals as goal
 
-pub returns : goal.returns
-returns c = λ bytes method id params read is.
-    c.class.ensures ∙ ap editor_request (c.bytes.ensures ∙ c.in_ok-method.ensures bytes read ∙ ap (λ m. encode_utf8_all (method_of m)) is) ∙ class_encoded method
+pub returns-in-Some : goal.returns-in-Some
+returns-in-Some c = λ bytes method id params read is.
+    c.class.ensures ∙ ap editor_request (method_told bytes c.in-Some.method.now id method params is (option_map (λ b. b.now) c.method.result) (ap (λ o. option_map (λ b. b.now) o) c.in-Some.is) (c.method.ensures bytes read)) ∙ class_encoded method
+
+pub returns-in-None : goal.returns-in-None
+returns-in-None c = λ bytes method id params read is. absurd (no_method_told bytes id method params is (option_map (λ b. b.now) c.method.result) (ap (λ o. option_map (λ b. b.now) o) c.in-None.is) (c.method.ensures bytes read))

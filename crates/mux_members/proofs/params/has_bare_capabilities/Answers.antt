@@ -1,6 +1,6 @@
 use Rattle.std.proofs.Common.{◌∙◌, sym, ap, codes, refl}
 use Rattle.mux_model.specs.Members.{is_bare_capabilities, named_of}
-use Rattle.mux_members.specs.Finds.{FoundBare}
+use Rattle.rpc_message.specs.Parsed.{FoundBare}
 use Rattle.rpc_message.specs.Message.{message_of}
 use Rattle.mux_members.proofs.Bared.{params_capabilities}
 use Rattle.mux_members.proofs.Told.{told_params, found_there}

@@ -1,22 +1,40 @@
-use Rattle.std.proofs.Common.{◌≡◌, ◌⊎◌, ap, sym, subst, length, Err, Some}
-use Rattle.json_span.specs.declared.fault.JsonFault.TheVariants.{Memory}
-use Rattle.json_nodes.specs.At.{At}
-use Rattle.rpc_message.specs.Envelopes.{Tells}
-use Rattle.rpc_message.specs.Message.{message_in, message_of, not_json}
-use Rattle.rpc_message.proofs.Reading.{err_and, read_fault, has_root, read_is, same_doc}
+use Rattle.std.proofs.Common.{ap, sym, subst, length, Err}
+use Rattle.rpc_message.specs.Envelopes.{Tells, TellsIf}
+use Rattle.rpc_message.specs.Message.{message_of}
+use Rattle.rpc_message.specs.Parsed.{IsRead}
+use Rattle.rpc_message.proofs.Reading.{syntax_refused, depth_refused, has_root, told_read, read_is, same_doc}
 use Rattle.rpc_message.proofs.message.Message.read.Goals as goal
 
-pub returns-in_err-tape-clause-fault : goal.returns-in_err-tape-clause-fault
-returns-in_err-tape-clause-fault c =
-    err_and c.from_residual.result _ (λ e. (e ≡ Memory) ⊎ (message_of c.args.bytes.now ≡ not_json)) c.from_residual.ensures.1
-    (λ e q. subst (λ z. (z ≡ Memory) ⊎ (message_of c.args.bytes.now ≡ not_json)) (sym q)
-    (read_fault c.args.bytes.now c.in_err-tape.field-0.0 (λ p h. c.in_err-tape.ensures.syntax p (ap Err h)) (λ p h. c.in_err-tape.ensures.too_deep p (ap Err h))))
+pub envelope_in-requires : goal.envelope_in-requires
+envelope_in-requires c = has_root c.in-Ok.tape c.in-Ok.ensures.ok.1.0 (length c.nodes.result.now) c.in-Ok.ensures.ok.1.1 (ap length c.nodes.ensures)
 
-pub envelope_in-envelope-requires : goal.envelope_in-envelope-requires
-envelope_in-envelope-requires c = has_root c.in_ok-tape.tape c.in_ok-tape.ensures.ok.1.0 (length c.nodes.result.now) c.in_ok-tape.ensures.ok.1.1 (ap length c.nodes.ensures)
+pub returns-in_default-clause-refused : goal.returns-in_default-clause-refused
+returns-in_default-clause-refused c =
+    let told : TellsIf c.in-Ok.tape c.envelope_in.result (message_of c.args.bytes.now) = told_read c.in-Ok.tape (record { bytes = c.bytes.result.now; nodes = c.nodes.result.now }) c.envelope_in.result c.args.bytes.now c.in-Ok.ensures.ok.1.0
+    (same_doc c.in-Ok.tape c.bytes.result.now c.nodes.result.now c.bytes.ensures c.nodes.ensures) c.in-Ok.ensures.ok.0 c.in-Ok.ensures.ok.1.1 c.envelope_in.ensures in
+    subst (λ e. TellsIf c.in-Ok.tape e (message_of c.args.bytes.now)) c.in_default.is told
 
-pub returns-clause-ok : goal.returns-clause-ok
-returns-clause-ok c =
-    let e = same_doc c.in_ok-tape.tape c.bytes.result.now c.nodes.result.now c.bytes.ensures c.nodes.ensures in
-    read_is c.in_ok-tape.tape c.envelope_in-envelope.result c.args.bytes.now c.in_ok-tape.ensures.ok.1.0 c.in_ok-tape.ensures.ok.0 c.in_ok-tape.ensures.ok.1.1
-    (λ j a. subst (λ d. Tells d c.envelope_in-envelope.result (message_in (Some j))) e (c.envelope_in-envelope.ensures j (subst (λ d. At d 0 j) (sym e) a)))
+pub decoded_method-requires : goal.decoded_method-requires
+decoded_method-requires c =
+    let told : TellsIf c.in-Ok.tape c.envelope_in.result (message_of c.args.bytes.now) = told_read c.in-Ok.tape (record { bytes = c.bytes.result.now; nodes = c.nodes.result.now }) c.envelope_in.result c.args.bytes.now c.in-Ok.ensures.ok.1.0
+    (same_doc c.in-Ok.tape c.bytes.result.now c.nodes.result.now c.bytes.ensures c.nodes.ensures) c.in-Ok.ensures.ok.0 c.in-Ok.ensures.ok.1.1 c.envelope_in.ensures in
+    let some : Tells c.in-Ok.tape c.in-Some.envelope (message_of c.args.bytes.now) = subst (λ e. TellsIf c.in-Ok.tape e (message_of c.args.bytes.now)) c.in-Some.is told in
+    (message_of c.args.bytes.now, subst (λ d. Tells d c.in-Some.envelope (message_of c.args.bytes.now)) (sym (same_doc c.in-Ok.tape c.bytes-2.result.now c.nodes-2.result.now c.bytes-2.ensures c.nodes-2.ensures)) some)
+
+pub returns-in-Ok-decoded_method-clause-ok : goal.returns-in-Ok-decoded_method-clause-ok
+returns-in-Ok-decoded_method-clause-ok c =
+    let told : TellsIf c.in-Ok.tape c.envelope_in.result (message_of c.args.bytes.now) = told_read c.in-Ok.tape (record { bytes = c.bytes.result.now; nodes = c.nodes.result.now }) c.envelope_in.result c.args.bytes.now c.in-Ok.ensures.ok.1.0
+    (same_doc c.in-Ok.tape c.bytes.result.now c.nodes.result.now c.bytes.ensures c.nodes.ensures) c.in-Ok.ensures.ok.0 c.in-Ok.ensures.ok.1.1 c.envelope_in.ensures in
+    let some : Tells c.in-Ok.tape c.in-Some.envelope (message_of c.args.bytes.now) = subst (λ e. TellsIf c.in-Ok.tape e (message_of c.args.bytes.now)) c.in-Some.is told in
+    read_is c.in-Ok.tape c.in-Some.envelope c.in-Ok-decoded_method.method c.args.bytes.now c.in-Ok.ensures.ok.1.0 c.in-Ok.ensures.ok.0 c.in-Ok.ensures.ok.1.1 some
+    (c.in-Ok-decoded_method.ensures (message_of c.args.bytes.now)
+    (subst (λ d. Tells d c.in-Some.envelope (message_of c.args.bytes.now)) (sym (same_doc c.in-Ok.tape c.bytes-2.result.now c.nodes-2.result.now c.bytes-2.ensures c.nodes-2.ensures)) some))
+
+pub invariant_of-result : goal.invariant_of-result
+invariant_of-result c = subst (IsRead (record { doc = c.in-Ok.tape; envelope = c.in-Some.envelope; method = c.in-Ok-decoded_method.method })) (sym c.in-Ok.ensures.ok.0) (returns-in-Ok-decoded_method-clause-ok c)
+
+pub returns-in-Err-Syntax-clause-refused : goal.returns-in-Err-Syntax-clause-refused
+returns-in-Err-Syntax-clause-refused c = syntax_refused c.args.bytes.now c.in-Err-Syntax.field-0-0 (c.in-Err-Syntax.ensures.syntax c.in-Err-Syntax.field-0-0 (ap Err c.in-Err-Syntax.field-0-is))
+
+pub returns-in-Err-TooDeep-clause-refused : goal.returns-in-Err-TooDeep-clause-refused
+returns-in-Err-TooDeep-clause-refused c = depth_refused c.args.bytes.now c.in-Err-TooDeep.field-0-0 (c.in-Err-TooDeep.ensures.too_deep c.in-Err-TooDeep.field-0-0 (ap Err c.in-Err-TooDeep.field-0-is))

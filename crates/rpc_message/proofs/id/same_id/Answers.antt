@@ -1,6 +1,6 @@
 use Rattle.std.proofs.Common.{◌∙◌, sym}
-use Rattle.mux_members.proofs.Ids.{id_shape, texts_same}
-use Rattle.mux_members.proofs.id.same_id.Goals as goal
+use Rattle.rpc_message.proofs.SameIds.{id_shape, texts_same}
+use Rattle.rpc_message.proofs.id.same_id.Goals as goal
 
 pub returns-then-is_quoted-2 : goal.returns-then-is_quoted-2
 returns-then-is_quoted-2 c = λ i j h k. texts_same i j c.args.a.now c.args.b.now c.between_quotes.result.now c.between_quotes-then-is_quoted-2.result.now c.same_characters.result (id_shape i c.args.a.now h) (id_shape j c.args.b.now k)

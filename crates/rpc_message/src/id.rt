@@ -1,0 +1,52 @@
+//! Identifiers, by their bytes (JSON-RPC 2.0, section 4; LSP 3.17, Request Message).
+ghost use Rattle.std.specs.Prelude.{◌≡◌, ℕ, List, [], ◌∷◌, ◌++◌};
+ghost use Rattle.rpc_message.specs.Ids.{is_quoted};
+ghost use Rattle.rpc_message.specs.Message.{Id, is_integer, same_id};
+ghost use Rattle.rpc_message.specs.ValueTexts.{IsIdText};
+
+use json_token::same_characters;
+
+/// Whether a number's text has no fraction and no exponent.
+#[tactic(auto, unfolding(crate::specs::Message::is_integer))]
+pub fn is_integer(text: &[u8]) -> bool
+    ensures { result ≡ is_integer text.now }
+{
+    for byte in text {
+        if !(byte.is_ascii_digit() || *byte == b'-') {
+            return false;
+        }
+    }
+    true
+}
+
+/// Whether an identifier is a string, by its first byte.
+pub fn is_quoted(id: &[u8]) -> bool
+    ensures { result ≡ is_quoted id.now }
+{
+    match id {
+        [first, ..] => *first == b'"',
+        [] => false,
+    }
+}
+
+// What is between the quotation marks of a string.
+fn between_quotes(id: &[u8]) -> &[u8]
+    ensures { (raw : List ℕ) → id.now ≡ 34 ∷ (raw ++ (34 ∷ [])) → result.now ≡ raw }
+{
+    if id.len() >= 2 {
+        &id[1..id.len() - 1]
+    } else {
+        &[]
+    }
+}
+
+/// Whether two identifiers are the same: two integers of one text, or two strings of the same characters.
+pub fn same_id(a: &[u8], b: &[u8]) -> bool
+    ensures { (i j : Id) → IsIdText i a.now → IsIdText j b.now → result ≡ same_id i j }
+{
+    if is_quoted(a) && is_quoted(b) {
+        same_characters(between_quotes(a), between_quotes(b))
+    } else {
+        a == b
+    }
+}
