@@ -1,1 +1,6 @@
 pub mod Faults
+pub mod Told
+pub mod Sessions
+pub mod Arrivals
+-- pub mod Doors
+-- pub mod Files

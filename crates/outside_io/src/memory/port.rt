@@ -1,0 +1,74 @@
+// A port over links in memory.
+ghost use Rattle.std.specs.Prelude.{◌≡◌, ℕ, ◌+◌, ◌<◌, ◌≤◌, ◌⊎◌, List, [], ◌∷◌, IsSome, IfSome, Option, Some, None, slice_get, map};
+ghost use Rattle.outside_io.specs.Sessions.{session_of, sessions_of};
+
+use crate::memory::links::Links;
+use crate::memory::sink::MemSink;
+use crate::memory::source::MemSource;
+use crate::port::{Arrival, Port};
+use crate::sink::Sink;
+use crate::source::Source;
+use std::alloc::Global;
+
+/// A port that gives its links in order, and is then closed.
+///
+/// Where no memory is left to keep room for a link's return, an accept answers `Closed` and the count rises.
+#[derive(Drop)]
+pub struct MemPort {
+    links: Links,
+    faults: u64,
+}
+
+impl MemPort {
+    pub fn new(alloc: Global, links: Vec<(MemSource, MemSink)>) -> MemPort
+        ensures sessions { ⟦<MemPort as Port>⟧.sessions result ≡ Some [] }
+        ensures links { ⟦<MemPort as Port>⟧.links result ≡ Some (sessions_of ⟦<MemSource as Source>⟧.taken ⟦<MemSource as Source>⟧.left ⟦<MemSource as Source>⟧.faults ⟦<MemSink as Sink>⟧.written ⟦<MemSink as Sink>⟧.faults links.items) }
+        ensures held { ⟦<MemPort as Port>⟧.held result ≡ 0 }
+        ensures faults { ⟦<MemPort as Port>⟧.faults result ≡ 0 }
+    {
+        MemPort {
+            links: Links::new(alloc, links),
+            faults: 0,
+        }
+    }
+
+    /// The link that was handed back as number `i`, from 0.
+    pub fn session(&self, i: usize) -> Option<&(MemSource, MemSink)>
+    {
+        self.links.back.get(i)
+    }
+}
+
+impl Port for MemPort {
+    type In = MemSource;
+    type Out = MemSink;
+
+    ghost sessions = { λ p. Some (sessions_of ⟦<MemSource as Source>⟧.taken ⟦<MemSource as Source>⟧.left ⟦<MemSource as Source>⟧.faults ⟦<MemSink as Sink>⟧.written ⟦<MemSink as Sink>⟧.faults p.links.back.items) };
+
+    ghost links = { λ p. Some (sessions_of ⟦<MemSource as Source>⟧.taken ⟦<MemSource as Source>⟧.left ⟦<MemSource as Source>⟧.faults ⟦<MemSink as Sink>⟧.written ⟦<MemSink as Sink>⟧.faults p.links.left.items) };
+
+    ghost held = { λ p. p.links.out };
+
+    ghost faults = { λ p. p.faults };
+
+    fn accept(&mut self, inn: &mut Option<MemSource>, out: &mut Option<MemSink>) -> Arrival {
+        match self.links.give() {
+            Ok(Some((source, sink))) => {
+                *inn = Some(source);
+                *out = Some(sink);
+                Arrival::Link
+            }
+            Ok(None) => Arrival::Closed,
+            Err(_) => {
+                self.faults = self.faults.saturating_add(1);
+                Arrival::Closed
+            }
+        }
+    }
+
+    fn hang_up(&mut self, inn: &mut Option<MemSource>, out: &mut Option<MemSink>) {
+        if let (Some(source), Some(sink)) = (inn.take(), out.take()) {
+            self.links.take_back(source, sink);
+        }
+    }
+}
