@@ -2,5 +2,5 @@ pub mod Faults
 pub mod Told
 pub mod Sessions
 pub mod Arrivals
--- pub mod Doors
--- pub mod Files
+pub mod Doors
+pub mod Files

@@ -2,12 +2,23 @@
 //! the clock with a count of its faults, and forms of them in memory.
 #![tactic(auto)]
 
+mod berth;
+mod clock;
+mod door;
+mod folder;
 mod memory;
 mod meter;
 mod port;
 mod sink;
 mod source;
 
+pub use berth::{Berth, StartFault};
+pub use clock::Clock;
+pub use door::{Door, DoorFault, Place};
+pub use folder::{Folder, FolderFault};
+pub use memory::berth::MemBerth;
+pub use memory::clock::SetClock;
+pub use memory::folder::MemFolder;
 pub use memory::port::MemPort;
 pub use memory::sink::MemSink;
 pub use memory::source::MemSource;

@@ -1,5 +1,8 @@
 // Forms of the outside in memory, which tell their contents.
 
+pub(crate) mod berth;
+pub(crate) mod clock;
+pub(crate) mod folder;
 pub(crate) mod links;
 pub(crate) mod port;
 pub(crate) mod sink;

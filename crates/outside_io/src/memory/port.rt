@@ -1,5 +1,5 @@
 // A port over links in memory.
-ghost use Rattle.std.specs.Prelude.{◌≡◌, ℕ, ◌+◌, ◌<◌, ◌≤◌, ◌⊎◌, List, [], ◌∷◌, IsSome, IfSome, Option, Some, None, slice_get, map};
+ghost use Rattle.std.specs.Prelude.{◌≡◌, ℕ, ◌+◌, ◌<◌, ◌≤◌, ◌⊎◌, List, [], ◌∷◌, IsSome, IfSome, Option, Some, None, option_map, slice_get};
 ghost use Rattle.outside_io.specs.Sessions.{session_of, sessions_of};
 
 use crate::memory::links::Links;
@@ -34,6 +34,7 @@ impl MemPort {
 
     /// The link that was handed back as number `i`, from 0.
     pub fn session(&self, i: usize) -> Option<&(MemSource, MemSink)>
+        ensures { option_map (λ sessions. slice_get sessions i) (⟦<MemPort as Port>⟧.sessions self.now) ≡ Some (option_map (λ session. session_of ⟦<MemSource as Source>⟧.taken ⟦<MemSource as Source>⟧.left ⟦<MemSource as Source>⟧.faults ⟦<MemSink as Sink>⟧.written ⟦<MemSink as Sink>⟧.faults session.now.0 session.now.1) result) }
     {
         self.links.back.get(i)
     }
