@@ -4,3 +4,4 @@ pub mod Sessions
 pub mod Arrivals
 pub mod Doors
 pub mod Files
+pub mod MemoryDoors

@@ -5,6 +5,7 @@ ghost use Rattle.outside_io.specs.Faults.{Rose};
 ghost use Rattle.outside_io.specs.Told.{append_to, prepend_to};
 
 use crate::port::Port;
+use std::alloc::AllocError;
 
 /// Where a daemon is met: the path of a Unix socket, or a TCP port of the loopback address.
 #[derive(Clone, Debug, Drop)]
@@ -18,6 +19,17 @@ pub enum Place {
 pub enum DoorFault {
     Failed,
     Memory,
+}
+
+impl From<AllocError> for DoorFault {
+    ghost use Rattle.std.specs.Prelude.{◌≡◌};
+    ghost use Rattle.outside_io.specs.declared.door.DoorFault.TheVariants.{Memory};
+
+    ghost from_gives = { λ _ fault. fault ≡ Memory };
+
+    fn from(_: AllocError) -> DoorFault {
+        DoorFault::Memory
+    }
 }
 
 /// What opens places for links to come, and dials places for one link.

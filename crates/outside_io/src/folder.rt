@@ -3,11 +3,24 @@ ghost use Rattle.std.specs.Prelude.{◌≡◌, ℕ, ◌≤◌, List, IfOk, IsErr
 ghost use Rattle.outside_io.specs.Faults.{Rose};
 ghost use Rattle.outside_io.specs.Files.{File, bytes_at};
 
+use std::alloc::AllocError;
+
 /// A read that gave no file: the outside failed, or memory was wanted.
 #[derive(Clone, Copy, Debug, PartialEq, Eq)]
 pub enum FolderFault {
     Failed,
     Memory,
+}
+
+impl From<AllocError> for FolderFault {
+    ghost use Rattle.std.specs.Prelude.{◌≡◌};
+    ghost use Rattle.outside_io.specs.declared.folder.FolderFault.TheVariants.{Memory};
+
+    ghost from_gives = { λ _ fault. fault ≡ Memory };
+
+    fn from(_: AllocError) -> FolderFault {
+        FolderFault::Memory
+    }
 }
 
 /// Where files are read.

@@ -18,6 +18,7 @@ pub use door::{Door, DoorFault, Place};
 pub use folder::{Folder, FolderFault};
 pub use memory::berth::MemBerth;
 pub use memory::clock::SetClock;
+pub use memory::door::MemDoor;
 pub use memory::folder::MemFolder;
 pub use memory::port::MemPort;
 pub use memory::sink::MemSink;

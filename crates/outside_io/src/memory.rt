@@ -2,6 +2,7 @@
 
 pub(crate) mod berth;
 pub(crate) mod clock;
+pub(crate) mod door;
 pub(crate) mod folder;
 pub(crate) mod links;
 pub(crate) mod port;

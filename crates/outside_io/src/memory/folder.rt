@@ -44,6 +44,6 @@ impl Folder for MemFolder {
             self.faults = self.faults.saturating_add(1);
             return Err(FolderFault::Failed);
         };
-        bytes.clone().map_err(|_| FolderFault::Memory)
+        Ok(bytes.clone()?)
     }
 }

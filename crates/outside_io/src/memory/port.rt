@@ -38,6 +38,15 @@ impl MemPort {
     {
         self.links.back.get(i)
     }
+
+    // Starts the count anew.
+    pub(crate) fn renew(&mut self)
+        ensures sessions { ⟦<MemPort as Port>⟧.sessions self.new ≡ ⟦<MemPort as Port>⟧.sessions self.old }
+        ensures links { ⟦<MemPort as Port>⟧.links self.new ≡ ⟦<MemPort as Port>⟧.links self.old }
+        ensures faults { ⟦<MemPort as Port>⟧.faults self.new ≡ 0 }
+    {
+        self.faults = 0;
+    }
 }
 
 impl Port for MemPort {
