@@ -1,10 +1,9 @@
 -- What an `open` gave, port by port.
-use Rattle.std.proofs.Common.{◌≡◌, ℕ, ◌+◌, ◌≤◌, ◌⊎◌, inl, inr, List, [], ◌∷◌, ◌++◌, length, map, All, refl, ap, ◌∙◌, sym, append_assoc, arith}
-use Rattle.std.specs.Prelude.{Option, Some, None, IfSome}
+use Rattle.std.proofs.Common.{◌≡◌, ℕ, ◌+◌, ◌≤◌, inl, inr, List, [], ◌∷◌, ◌++◌, length, map, refl, ap, ◌∙◌, sym, append_assoc, arith}
+use Rattle.std.specs.Prelude.{Option, Some}
 use Rattle.std.proofs.lemmas.List.{map-append, length-append, append-nil}
 use Rattle.std.proofs.lemmas.List.Elements.{All-append, All-cons, All-nil}
 use Rattle.outside_io.specs.Doors.{Told, Gave}
-use Rattle.outside_io.specs.Told.{prepend_to}
 
 pub gave_none : {P : Type 0} (told : P → Told) (faults : P → ℕ) (before : List P) (left : List Told) → Gave told faults 0 before before (Some left) (Some left)
 gave_none told faults before left = record {

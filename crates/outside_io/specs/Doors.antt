@@ -1,5 +1,5 @@
 -- The calls and the ports of a door.
-use Rattle.std.specs.Prelude.{◌≡◌, ℕ, ◌+◌, ◌≤◌, ◌⊎◌, List, ◌++◌, [], ◌∷◌, length, map, All, Option, IfSome, string_bytes}
+use Rattle.std.specs.Prelude.{◌≡◌, ℕ, ◌≤◌, ◌⊎◌, List, ◌++◌, [], length, map, All, Option, IfSome, string_bytes}
 use Rattle.outside_io.specs.Sessions.{Session}
 use Rattle.outside_io.specs.Told.{prepend_to}
 use Rattle.outside_io.specs.declared.door.Place.{Place}

@@ -5,3 +5,4 @@ pub mod Arrivals
 pub mod Doors
 pub mod Files
 pub mod MemoryDoors
+pub mod MemoryLinks

@@ -1,5 +1,5 @@
 -- Sessions over a link or with a program: what was read from the source and written to the sink.
-use Rattle.std.specs.Prelude.{ℕ, List, map, Option}
+use Rattle.std.specs.Prelude.{ℕ, List, Option}
 
 -- the bytes read, the bytes left and the bytes written, where they are told, and the counts of faults of the source and of the sink
 pub record Session : Type 0 where
@@ -18,7 +18,3 @@ session_of taken left source_faults written sink_faults source sink = record {
   source_faults = source_faults source;
   sink_faults = sink_faults sink;
 }
-
--- the session of each link
-abbrev pub sessions_of : {I O : Type 0} → (I → Option (List ℕ)) → (I → Option (List ℕ)) → (I → ℕ) → (O → Option (List ℕ)) → (O → ℕ) → List (I × O) → List Session
-sessions_of taken left source_faults written sink_faults links = map (λ link. session_of taken left source_faults written sink_faults link.0 link.1) links

@@ -1,13 +1,12 @@
 // A berth over runs in memory.
-ghost use Rattle.std.specs.Prelude.{◌≡◌, ℕ, ◌+◌, ◌<◌, ◌≤◌, List, [], ◌∷◌, OnOk, OnErr, IsErrOf, IsSome, IfSome, Option, Some, None, option_map, slice_get};
-ghost use Rattle.outside_io.specs.Sessions.{session_of, sessions_of};
+ghost use Rattle.std.specs.Prelude.{◌≡◌, ℕ, ◌+◌, ◌<◌, ◌≤◌, List, [], ◌∷◌, OnOk, OnErr, IsErrOf, IsSome, IfSome, Option, Some, None, map, option_map, slice_get};
+ghost use Rattle.outside_io.specs.MemoryLinks.{link_of};
+ghost use Rattle.outside_io.specs.Sessions.{Session};
 
 use crate::berth::{Berth, StartFault};
 use crate::memory::links::Links;
 use crate::memory::sink::MemSink;
 use crate::memory::source::MemSource;
-use crate::sink::Sink;
-use crate::source::Source;
 use std::alloc::Global;
 
 /// A berth that gives its runs in order, whatever the words are.
@@ -25,7 +24,7 @@ pub struct MemBerth {
 impl MemBerth {
     pub fn new(alloc: Global, runs: Vec<(MemSource, MemSink)>, fails: Vec<u64>) -> MemBerth
         ensures runs { ⟦<MemBerth as Berth>⟧.runs result ≡ Some [] }
-        ensures left { ⟦<MemBerth as Berth>⟧.left result ≡ Some (sessions_of ⟦<MemSource as Source>⟧.taken ⟦<MemSource as Source>⟧.left ⟦<MemSource as Source>⟧.faults ⟦<MemSink as Sink>⟧.written ⟦<MemSink as Sink>⟧.faults runs.items) }
+        ensures left { ⟦<MemBerth as Berth>⟧.left result ≡ Some (map link_of runs.items) }
         ensures held { ⟦<MemBerth as Berth>⟧.held result ≡ 0 }
         ensures faults { ⟦<MemBerth as Berth>⟧.faults result ≡ 0 }
     {
@@ -39,7 +38,7 @@ impl MemBerth {
 
     /// The run that was handed back as number `i`, from 0.
     pub fn run(&self, i: usize) -> Option<&(MemSource, MemSink)>
-        ensures { option_map (λ runs. slice_get runs i) (⟦<MemBerth as Berth>⟧.runs self.now) ≡ Some (option_map (λ run. session_of ⟦<MemSource as Source>⟧.taken ⟦<MemSource as Source>⟧.left ⟦<MemSource as Source>⟧.faults ⟦<MemSink as Sink>⟧.written ⟦<MemSink as Sink>⟧.faults run.now.0 run.now.1) result) }
+        ensures { option_map (λ runs. slice_get runs i) (⟦<MemBerth as Berth>⟧.runs self.now) ≡ Some (option_map (λ run. link_of run.now) result) }
     {
         self.links.back.get(i)
     }
@@ -49,9 +48,9 @@ impl Berth for MemBerth {
     type In = MemSource;
     type Out = MemSink;
 
-    ghost runs = { λ b. Some (sessions_of ⟦<MemSource as Source>⟧.taken ⟦<MemSource as Source>⟧.left ⟦<MemSource as Source>⟧.faults ⟦<MemSink as Sink>⟧.written ⟦<MemSink as Sink>⟧.faults b.links.back.items) };
+    ghost runs = { λ b. Some (map link_of b.links.back.items) };
 
-    ghost left = { λ b. Some (sessions_of ⟦<MemSource as Source>⟧.taken ⟦<MemSource as Source>⟧.left ⟦<MemSource as Source>⟧.faults ⟦<MemSink as Sink>⟧.written ⟦<MemSink as Sink>⟧.faults b.links.left.items) };
+    ghost left = { λ b. Some (map link_of b.links.left.items) };
 
     ghost held = { λ b. b.links.out };
 

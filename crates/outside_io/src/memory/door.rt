@@ -2,7 +2,7 @@
 ghost use Rattle.std.specs.Prelude.{◌≡◌, ℕ, ◌+◌, ◌≤◌, List, [], ◌∷◌, OnOk, OnErr, IfOk, IfSome, IsErrOf, IsSome, MatchOption, Option, Some, map};
 ghost use Rattle.std.specs.VecDeque.{deque_len};
 ghost use Rattle.outside_io.specs.Doors.{address_of, Call, opened, dialled, Told, told_of, Gave};
-ghost use Rattle.outside_io.specs.MemoryDoors.{call_of};
+ghost use Rattle.outside_io.specs.MemoryDoors.{call_of, port_of};
 
 use crate::door::{Door, DoorFault, Place};
 use crate::memory::port::MemPort;
@@ -33,7 +33,7 @@ pub struct MemDoor {
 impl MemDoor {
     pub fn new(alloc: Global, ports: Vec<MemPort>, fails: Vec<u64>) -> MemDoor
         ensures calls { ⟦<MemDoor as Door>⟧.calls result ≡ Some [] }
-        ensures left { ⟦<MemDoor as Door>⟧.left result ≡ Some (map (told_of ⟦<MemPort as Port>⟧.sessions ⟦<MemPort as Port>⟧.links) ports.items) }
+        ensures left { ⟦<MemDoor as Door>⟧.left result ≡ Some (map port_of ports.items) }
         ensures faults { ⟦<MemDoor as Door>⟧.faults result ≡ 0 }
     {
         MemDoor {
@@ -56,7 +56,7 @@ fn fails(fails: &[u64], number: &mut u64) -> bool {
 // Takes the next port, whose count starts at 0.
 fn next(ports: &mut VecDeque<MemPort>) -> Option<MemPort>
     ensures fresh { IfSome result (λ port. ⟦<MemPort as Port>⟧.faults port ≡ 0) }
-    ensures left { MatchOption result ((ports.old.items ≡ []) × (ports.new.items ≡ [])) (λ port. map (told_of ⟦<MemPort as Port>⟧.sessions ⟦<MemPort as Port>⟧.links) ports.old.items ≡ told_of ⟦<MemPort as Port>⟧.sessions ⟦<MemPort as Port>⟧.links port ∷ map (told_of ⟦<MemPort as Port>⟧.sessions ⟦<MemPort as Port>⟧.links) ports.new.items) }
+    ensures left { MatchOption result ((ports.old.items ≡ []) × (ports.new.items ≡ [])) (λ port. map port_of ports.old.items ≡ port_of port ∷ map port_of ports.new.items) }
     ensures count { MatchOption result (deque_len ports.new ≡ deque_len ports.old) (λ _. deque_len ports.new + 1 ≡ deque_len ports.old) }
 {
     let mut port = ports.pop_front()?;
@@ -67,7 +67,7 @@ fn next(ports: &mut VecDeque<MemPort>) -> Option<MemPort>
 // Moves the first `n` ports, or all where there are fewer, to the end of `to`.
 #[tactic(auto, using(crate::proofs::Gifts::gave_none, crate::proofs::Gifts::gave_more, crate::proofs::Gifts::gave_all))]
 fn give(from: &mut VecDeque<MemPort>, n: u32, to: &mut Vec<MemPort>) -> Result<(), AllocError>
-    ensures gave { OnOk result (Gave (told_of ⟦<MemPort as Port>⟧.sessions ⟦<MemPort as Port>⟧.links) ⟦<MemPort as Port>⟧.faults n to.old.items to.new.items (Some (map (told_of ⟦<MemPort as Port>⟧.sessions ⟦<MemPort as Port>⟧.links) from.old.items)) (Some (map (told_of ⟦<MemPort as Port>⟧.sessions ⟦<MemPort as Port>⟧.links) from.new.items))) }
+    ensures gave { OnOk result (Gave port_of ⟦<MemPort as Port>⟧.faults n to.old.items to.new.items (Some (map port_of from.old.items)) (Some (map port_of from.new.items))) }
     ensures kept { OnErr result ((to.new.items ≡ to.old.items) × (from.new.items ≡ from.old.items)) }
 {
     to.reserve(from.len().min(n as usize))?;
@@ -85,7 +85,7 @@ impl Door for MemDoor {
 
     ghost calls = { λ d. Some (map call_of d.calls.items) };
 
-    ghost left = { λ d. Some (map (told_of ⟦<MemPort as Port>⟧.sessions ⟦<MemPort as Port>⟧.links) d.ports.items) };
+    ghost left = { λ d. Some (map port_of d.ports.items) };
 
     ghost faults = { λ d. d.faults };
 

@@ -1,6 +1,6 @@
 // A folder in memory.
 ghost use Rattle.std.specs.Prelude.{◌≡◌, ℕ, ◌≤◌, List, IfOk, IsErrOf, IfSome, Option, Some, map, option_map, string_bytes};
-ghost use Rattle.outside_io.specs.Files.{File, bytes_at};
+ghost use Rattle.outside_io.specs.Files.{File, bytes_at, file_of};
 
 use crate::folder::{Folder, FolderFault};
 
@@ -15,7 +15,7 @@ pub struct MemFolder {
 
 impl MemFolder {
     pub fn new(files: Vec<(String, Vec<u8>)>) -> MemFolder
-        ensures files { ⟦<MemFolder as Folder>⟧.files result ≡ Some (map (λ file. record { path = string_bytes file.0; bytes = file.1.items }) files.items) }
+        ensures files { ⟦<MemFolder as Folder>⟧.files result ≡ Some (map file_of files.items) }
         ensures faults { ⟦<MemFolder as Folder>⟧.faults result ≡ 0 }
     {
         MemFolder { files, faults: 0 }
@@ -24,7 +24,7 @@ impl MemFolder {
 
 // The bytes of the first file of that path.
 fn find<'a>(files: &'a [(String, Vec<u8>)], path: &str) -> Option<&'a Vec<u8>>
-    ensures { option_map (λ bytes. bytes.now.items) result ≡ bytes_at path.now (map (λ file. record { path = string_bytes file.0; bytes = file.1.items }) files.now) }
+    ensures { option_map (λ bytes. bytes.now.items) result ≡ bytes_at path.now (map file_of files.now) }
 {
     for (name, bytes) in files {
         if name.as_str() == path {
@@ -35,7 +35,7 @@ fn find<'a>(files: &'a [(String, Vec<u8>)], path: &str) -> Option<&'a Vec<u8>>
 }
 
 impl Folder for MemFolder {
-    ghost files = { λ f. Some (map (λ file. record { path = string_bytes file.0; bytes = file.1.items }) f.files.items) };
+    ghost files = { λ f. Some (map file_of f.files.items) };
 
     ghost faults = { λ f. f.faults };
 

@@ -1,13 +1,12 @@
 // A port over links in memory.
-ghost use Rattle.std.specs.Prelude.{◌≡◌, ℕ, ◌+◌, ◌<◌, ◌≤◌, ◌⊎◌, List, [], ◌∷◌, IsSome, IfSome, Option, Some, None, option_map, slice_get};
-ghost use Rattle.outside_io.specs.Sessions.{session_of, sessions_of};
+ghost use Rattle.std.specs.Prelude.{◌≡◌, ℕ, ◌+◌, ◌<◌, ◌≤◌, ◌⊎◌, List, [], ◌∷◌, IsSome, IfSome, Option, Some, None, map, option_map, slice_get};
+ghost use Rattle.outside_io.specs.MemoryLinks.{link_of};
+ghost use Rattle.outside_io.specs.Sessions.{Session};
 
 use crate::memory::links::Links;
 use crate::memory::sink::MemSink;
 use crate::memory::source::MemSource;
 use crate::port::{Arrival, Port};
-use crate::sink::Sink;
-use crate::source::Source;
 use std::alloc::Global;
 
 /// A port that gives its links in order, and is then closed.
@@ -22,7 +21,7 @@ pub struct MemPort {
 impl MemPort {
     pub fn new(alloc: Global, links: Vec<(MemSource, MemSink)>) -> MemPort
         ensures sessions { ⟦<MemPort as Port>⟧.sessions result ≡ Some [] }
-        ensures links { ⟦<MemPort as Port>⟧.links result ≡ Some (sessions_of ⟦<MemSource as Source>⟧.taken ⟦<MemSource as Source>⟧.left ⟦<MemSource as Source>⟧.faults ⟦<MemSink as Sink>⟧.written ⟦<MemSink as Sink>⟧.faults links.items) }
+        ensures links { ⟦<MemPort as Port>⟧.links result ≡ Some (map link_of links.items) }
         ensures held { ⟦<MemPort as Port>⟧.held result ≡ 0 }
         ensures faults { ⟦<MemPort as Port>⟧.faults result ≡ 0 }
     {
@@ -34,7 +33,7 @@ impl MemPort {
 
     /// The link that was handed back as number `i`, from 0.
     pub fn session(&self, i: usize) -> Option<&(MemSource, MemSink)>
-        ensures { option_map (λ sessions. slice_get sessions i) (⟦<MemPort as Port>⟧.sessions self.now) ≡ Some (option_map (λ session. session_of ⟦<MemSource as Source>⟧.taken ⟦<MemSource as Source>⟧.left ⟦<MemSource as Source>⟧.faults ⟦<MemSink as Sink>⟧.written ⟦<MemSink as Sink>⟧.faults session.now.0 session.now.1) result) }
+        ensures { option_map (λ sessions. slice_get sessions i) (⟦<MemPort as Port>⟧.sessions self.now) ≡ Some (option_map (λ session. link_of session.now) result) }
     {
         self.links.back.get(i)
     }
@@ -53,9 +52,9 @@ impl Port for MemPort {
     type In = MemSource;
     type Out = MemSink;
 
-    ghost sessions = { λ p. Some (sessions_of ⟦<MemSource as Source>⟧.taken ⟦<MemSource as Source>⟧.left ⟦<MemSource as Source>⟧.faults ⟦<MemSink as Sink>⟧.written ⟦<MemSink as Sink>⟧.faults p.links.back.items) };
+    ghost sessions = { λ p. Some (map link_of p.links.back.items) };
 
-    ghost links = { λ p. Some (sessions_of ⟦<MemSource as Source>⟧.taken ⟦<MemSource as Source>⟧.left ⟦<MemSource as Source>⟧.faults ⟦<MemSink as Sink>⟧.written ⟦<MemSink as Sink>⟧.faults p.links.left.items) };
+    ghost links = { λ p. Some (map link_of p.links.left.items) };
 
     ghost held = { λ p. p.links.out };
 
