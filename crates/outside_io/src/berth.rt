@@ -21,6 +21,7 @@ pub enum StartFault {
 /// each run that was given until it is handed back.
 pub trait Berth {
     type In: Source + Send + Drop;
+
     type Out: Sink + Send + Drop;
 
     /// The runs that were handed back, where they are told.
@@ -37,7 +38,12 @@ pub trait Berth {
 
     /// Starts the program of `words` and puts its source and sink into the two places, which are empty. `Failed` comes
     /// only where the count rose.
-    fn start(&mut self, words: &[String], inn: &mut Option<Self::In>, out: &mut Option<Self::Out>) -> Result<(), StartFault>
+    fn start(
+        &mut self,
+        words: &[String],
+        inn: &mut Option<Self::In>,
+        out: &mut Option<Self::Out>,
+    ) -> Result<(), StartFault>
         requires source { inn.old ≡ None }
         requires sink { out.old ≡ None }
         ensures filled { OnOk result (IsSome inn.new × IsSome out.new) }

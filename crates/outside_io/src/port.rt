@@ -23,6 +23,7 @@ pub enum Arrival {
 /// for each link that was given until it is handed back.
 pub trait Port {
     type In: Source + Send + Drop;
+
     type Out: Sink + Send + Drop;
 
     /// The sessions that were handed back, where they are told.

@@ -82,8 +82,9 @@ fn a_gate_opens_once_a_sink_in_another_thread_has_the_bytes(rt: HostRuntime) -> 
     };
     let source = MemSource::new(b"ab".to_vec(alloc)?, Vec::new(alloc), Some(gate));
     let sink = MemSink::new(alloc, Vec::new(alloc), Some(meter));
-    let ((source, read), (sink, wrote)) =
-        thread::join(&rt, move || read_twice(source), move || write_twice(sink));
+    let (reader, writer) = thread::join(&rt, move || read_twice(source), move || write_twice(sink));
+    let (source, read) = reader;
+    let (sink, wrote) = writer;
     assert_eq!(rt; read, [Ok(1), Ok(1)]);
     assert_eq!(rt; wrote, [Ok(()), Ok(())]);
     assert_eq!(rt; source.taken(), b"ab".as_slice());
@@ -203,11 +204,17 @@ fn a_door_gives_its_ports_in_order_until_they_are_used_up(rt: HostRuntime) -> Re
     assert_eq!(rt; door.dial(&Place::Tcp(4000), &mut dialled), Ok(()));
     assert_eq!(rt; door.open(&place, 9, &mut given), Ok(()));
     assert_eq!(rt; given.len(), 3);
-    assert_eq!(rt; door.dial(&Place::Tcp(4000), &mut dialled), Err(DoorFault::Failed));
+    assert_eq!(rt;
+        door.dial(&Place::Tcp(4000), &mut dialled),
+        Err(DoorFault::Failed)
+    );
     given.extend(dialled)?;
     for (port, bytes) in given.iter_mut().zip([b"a", b"b", b"d", b"c"]) {
         assert_eq!(rt; echo(port), Arrival::Link);
-        assert!(rt; port.session(0).is_some_and(|link| link.1.bytes() == bytes.as_slice()));
+        assert!(rt;
+            port.session(0)
+                .is_some_and(|link| link.1.bytes() == bytes.as_slice())
+        );
     }
     Ok(())
 }
@@ -220,7 +227,12 @@ fn a_folder_gives_the_first_file_of_a_path(rt: HostRuntime) -> Result<(), Fail> 
         files.push((String::from_str(alloc, path)?, bytes.to_vec(alloc)?))?;
     }
     let mut folder = MemFolder::new(files);
-    assert_eq!(rt; folder.read("b.toml").map(|bytes| bytes.as_slice() == b"2".as_slice()), Ok(true));
+    assert_eq!(rt;
+        folder
+            .read("b.toml")
+            .map(|bytes| bytes.as_slice() == b"2".as_slice()),
+        Ok(true)
+    );
     assert_eq!(rt; folder.read("b"), Err(FolderFault::Failed));
     Ok(())
 }

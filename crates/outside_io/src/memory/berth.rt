@@ -46,6 +46,7 @@ impl MemBerth {
 
 impl Berth for MemBerth {
     type In = MemSource;
+
     type Out = MemSink;
 
     ghost runs = { λ b. Some (map link_of b.links.back.items) };
@@ -56,7 +57,12 @@ impl Berth for MemBerth {
 
     ghost faults = { λ b. b.faults };
 
-    fn start(&mut self, _words: &[String], inn: &mut Option<MemSource>, out: &mut Option<MemSink>) -> Result<(), StartFault> {
+    fn start(
+        &mut self,
+        _words: &[String],
+        inn: &mut Option<MemSource>,
+        out: &mut Option<MemSink>,
+    ) -> Result<(), StartFault> {
         let fails = self.fails.contains(&self.calls);
         self.calls = self.calls.saturating_add(1);
         if !fails {

@@ -50,6 +50,7 @@ impl MemPort {
 
 impl Port for MemPort {
     type In = MemSource;
+
     type Out = MemSink;
 
     ghost sessions = { λ p. Some (map link_of p.links.back.items) };
