@@ -20,16 +20,16 @@ pub data Call : Type 0 where
   dialled : Address → Call
 
 -- what a port tells: the sessions handed back, and the links left
-pub record Told : Type 0 where
+pub record PortTold : Type 0 where
   pub sessions : Option (List Session)
   pub links : Option (List Session)
 
-abbrev pub told_of : {P : Type 0} → (P → Option (List Session)) → (P → Option (List Session)) → P → Told
+abbrev pub told_of : {P : Type 0} → (P → Option (List Session)) → (P → Option (List Session)) → P → PortTold
 told_of sessions links port = record { sessions = sessions port; links = links port }
 
 -- an `open` for n ports that answered Ok: the given ports stand behind those that were there; their counts are 0; they are the first of
 -- those that were left; they number at most n, and n unless none is left
-pub record Gave {P : Type 0} (told : P → Told) (faults : P → ℕ) (n : ℕ) (before after : List P) (left_before left_after : Option (List Told)) : Type 0 where
+pub record Gave {P : Type 0} (told : P → PortTold) (faults : P → ℕ) (n : ℕ) (before after : List P) (left_before left_after : Option (List PortTold)) : Type 0 where
   pub given : List P
   pub added : after ≡ before ++ given
   pub fresh : All (λ port. faults port ≡ 0) given

@@ -1,6 +1,6 @@
 // A door, behind which a place's ports are.
 ghost use Rattle.std.specs.Prelude.{◌≡◌, ℕ, ◌≤◌, List, [], ◌∷◌, OnOk, OnErr, IfSome, IsErrOf, IsSome, Option};
-ghost use Rattle.outside_io.specs.Doors.{address_of, Call, opened, dialled, Told, told_of, Gave};
+ghost use Rattle.outside_io.specs.Doors.{address_of, Call, opened, dialled, PortTold, told_of, Gave};
 ghost use Rattle.outside_io.specs.Faults.{Rose};
 ghost use Rattle.outside_io.specs.Told.{append_to, prepend_to};
 
@@ -44,7 +44,7 @@ pub trait Door {
     ghost calls: { Self → Option (List Call) };
 
     /// What the ports tell that are left, where it is told.
-    ghost left: { Self → Option (List Told) };
+    ghost left: { Self → Option (List PortTold) };
 
     /// How many calls failed.
     ghost faults: { Self → ℕ };

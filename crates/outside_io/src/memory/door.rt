@@ -1,7 +1,7 @@
 // A door in memory.
 ghost use Rattle.std.specs.Prelude.{◌≡◌, ℕ, ◌+◌, ◌≤◌, List, [], ◌∷◌, OnOk, OnErr, IfOk, IfSome, IsErrOf, IsSome, MatchOption, Option, Some, map};
 ghost use Rattle.std.specs.VecDeque.{deque_len};
-ghost use Rattle.outside_io.specs.Doors.{address_of, Call, opened, dialled, Told, told_of, Gave};
+ghost use Rattle.outside_io.specs.Doors.{address_of, Call, opened, dialled, PortTold, told_of, Gave};
 ghost use Rattle.outside_io.specs.MemoryDoors.{call_of, port_of};
 
 use crate::door::{Door, DoorFault, Place};
