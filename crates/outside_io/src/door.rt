@@ -49,8 +49,8 @@ pub trait Door {
     /// How many calls failed.
     ghost faults: { Self → ℕ };
 
-    /// Opens a place and adds at most `n` ports to `ports`. The counts of the ports start at 0. `Failed` comes only
-    /// where the count rose; either fault leaves the ports as they were.
+    /// Opens a place and adds at most `n` ports to `ports`; fewer only where none is left, if that is told. The counts
+    /// of the ports start at 0. `Failed` comes only where the count rose; either fault leaves `ports` as it was.
     fn open(&mut self, place: &Place, n: u32, ports: &mut Vec<Self::Port>) -> Result<(), DoorFault>
         ensures ports { OnOk result (Gave (told_of Self.Port.Port.sessions Self.Port.Port.links) Self.Port.Port.faults n ports.old.items ports.new.items (left self.old) (left self.new)) }
         ensures kept { OnErr result ((ports.new.items ≡ ports.old.items) × (left self.new ≡ left self.old)) }

@@ -44,7 +44,7 @@ impl Meter {
         self.count.fetch_add(bytes, Ordering::SeqCst);
     }
 
-    pub(crate) fn reads(&self) -> u64 {
+    pub(crate) fn shown(&self) -> u64 {
         self.count.load(Ordering::SeqCst)
     }
 }
@@ -65,11 +65,11 @@ impl Gate {
     /// Waits, and says whether the meter shows enough.
     pub(crate) fn opens(&self) -> bool {
         for _ in 0..self.turns {
-            if self.meter.reads() >= self.bytes {
+            if self.meter.shown() >= self.bytes {
                 return true;
             }
             thread::yield_now();
         }
-        self.meter.reads() >= self.bytes
+        self.meter.shown() >= self.bytes
     }
 }

@@ -187,6 +187,16 @@ fn port(alloc: Global, bytes: &[u8]) -> Result<MemPort, Fail> {
     Ok(MemPort::new(alloc, vec![in alloc; link(alloc, bytes)?]?))
 }
 
+// Dials a place, and serves one link there.
+fn visit<D: Door>(door: &mut D, place: &Place) -> Result<Arrival, DoorFault> {
+    let mut dialled = None;
+    door.dial(place, &mut dialled)?;
+    let Some(port) = &mut dialled else {
+        unreachable!()
+    };
+    Ok(echo(port))
+}
+
 #[test]
 fn a_door_gives_its_ports_in_order_until_they_are_used_up(rt: HostRuntime) -> Result<(), Fail> {
     let alloc = rt.alloc();
@@ -196,20 +206,15 @@ fn a_door_gives_its_ports_in_order_until_they_are_used_up(rt: HostRuntime) -> Re
     }
     let mut door = MemDoor::new(alloc, ports, vec![in alloc; 1]?);
     let mut given = Vec::new(alloc);
-    let mut dialled = None;
     let place = Place::Unix(String::from_str(alloc, "lspmux.sock")?);
     assert_eq!(rt; door.open(&place, 2, &mut given), Ok(()));
     assert_eq!(rt; door.open(&place, 1, &mut given), Err(DoorFault::Failed));
     assert_eq!(rt; given.len(), 2);
-    assert_eq!(rt; door.dial(&Place::Tcp(4000), &mut dialled), Ok(()));
+    assert_eq!(rt; visit(&mut door, &Place::Tcp(4000)), Ok(Arrival::Link));
     assert_eq!(rt; door.open(&place, 9, &mut given), Ok(()));
     assert_eq!(rt; given.len(), 3);
-    assert_eq!(rt;
-        door.dial(&Place::Tcp(4000), &mut dialled),
-        Err(DoorFault::Failed)
-    );
-    given.extend(dialled)?;
-    for (port, bytes) in given.iter_mut().zip([b"a", b"b", b"d", b"c"]) {
+    assert_eq!(rt; visit(&mut door, &Place::Tcp(4000)), Err(DoorFault::Failed));
+    for (port, bytes) in given.iter_mut().zip([b"a", b"b", b"d"]) {
         assert_eq!(rt; echo(port), Arrival::Link);
         assert!(rt;
             port.session(0)
