@@ -91,8 +91,8 @@ fn outside_of(alloc: Global, input: &str, fails: [Vec<u64>; 3]) -> Result<InMemo
     let [appends, reads, writes] = fails;
     Ok(Outside {
         journal: Some(MemJournal::new(alloc, appends)),
-        input: MemSource::new(Vec::from_slice(alloc, input.as_bytes())?, reads),
-        output: MemSink::new(alloc, writes),
+        input: MemSource::new(Vec::from_slice(alloc, input.as_bytes())?, reads, None),
+        output: MemSink::new(alloc, writes, None),
     })
 }
 
