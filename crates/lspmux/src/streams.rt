@@ -12,7 +12,9 @@ pub struct Reading<R: Read> {
 }
 
 impl<R: Read> Reading<R> {
-    pub fn new(inner: R) -> Reading<R> {
+    pub fn new(inner: R) -> Reading<R>
+        ensures { ⟦<Reading<R> as Source>⟧.faults result ≡ 0 }
+    {
         Reading { inner, faults: 0 }
     }
 }
@@ -43,7 +45,9 @@ pub struct Writing<W: Write> {
 }
 
 impl<W: Write> Writing<W> {
-    pub fn new(inner: W) -> Writing<W> {
+    pub fn new(inner: W) -> Writing<W>
+        ensures { ⟦<Writing<W> as Sink>⟧.faults result ≡ 0 }
+    {
         Writing { inner, faults: 0 }
     }
 }
