@@ -7,6 +7,9 @@ use std::env;
 use std::io::{self, Read, Write};
 use std::process::ExitCode;
 
+// The most bytes that a tape reads. Room for them is asked for at once, so that the memory that is in use is that of the bytes.
+const MOST: usize = 268_435_456;
+
 // Whether the first word behind the program's name is `skip`.
 fn skips(rt: &HostRuntime) -> io::Result<bool> {
     let mut words = env::args(rt)?.skip(1);
@@ -18,7 +21,7 @@ fn skips(rt: &HostRuntime) -> io::Result<bool> {
 
 // How many values the text has; None where it is none, is too long, or memory is wanting.
 fn count_values(rt: &HostRuntime, bytes: &[u8]) -> Option<usize> {
-    if bytes.len() > 268_435_456 {
+    if bytes.len() > MOST {
         return None;
     }
     match Tape::read(rt.alloc(), bytes) {
@@ -28,8 +31,7 @@ fn count_values(rt: &HostRuntime, bytes: &[u8]) -> Option<usize> {
 }
 
 fn main(rt: HostRuntime) -> ExitCode {
-    let mut bytes = Vec::new(rt.alloc());
-    let Ok(skips) = skips(&rt) else {
+    let (Ok(mut bytes), Ok(skips)) = (Vec::with_capacity(rt.alloc(), MOST), skips(&rt)) else {
         return ExitCode::from(2);
     };
     if rt.stdin().read_to_end(&mut bytes).is_err() {
