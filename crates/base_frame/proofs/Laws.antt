@@ -1,5 +1,5 @@
 -- More bytes change no frame and no fault.
-use Rattle.std.proofs.Common.{◌≡◌, refl, ap, ◌∙◌, sym, subst, ℕ, ◌+◌, ◌<◌, ◌≤◌, Bool, true, false, List, [], ◌∷◌, ◌++◌, length, take, drop, arith, append_assoc}
+use Rattle.std.proofs.Common.{◌≡◌, refl, ap, ◌∙◌, sym, subst, ℕ, ◌+◌, ◌<◌, ◌≤◌, Bool, true, false, List, [], ◌∷◌, ◌++◌, length, take, drop, arith}
 use Rattle.std.proofs.lemmas.List.{take-append-le, drop-append-le, length-append, length-drop}
 use Rattle.std.specs.Prelude.{nat_le, if◌then◌else◌}
 use Rattle.std.proofs.lemmas.Bool.{leb-true, le-leb}

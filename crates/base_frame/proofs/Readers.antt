@@ -1,14 +1,10 @@
 -- What a reader keeps, over plain lists.
-use Rattle.std.proofs.Common.{◌≡◌, refl, ap, ◌∙◌, sym, subst, ℕ, Bool, true, false, List, [], ◌∷◌, ◌++◌, length, take, ◌⊎◌, inl, inr, append_assoc, append-nil}
+use Rattle.std.proofs.Common.{◌≡◌, refl, ap, ◌∙◌, sym, subst, ℕ, true, false, List, [], ◌∷◌, ◌++◌, ◌⊎◌, inl, inr, append_assoc, append-nil}
 use Rattle.std.specs.Prelude.{IsTrue}
 use Rattle.base_frame.specs.declared.block.BadWhy.{BadWhy}
-use Rattle.base_frame.specs.declared.reader.Next.{Next}
-use Rattle.base_frame.specs.declared.reader.Next.TheVariants.{Frame, NotYet, BadFrame}
-use Rattle.base_frame.specs.Block.{start}
 use Rattle.base_frame.specs.Frames.{Front, whole, fault, short, front_from, front_of, NotWhole, Splits}
-use Rattle.base_frame.specs.Reader.{Held, Keeps, Stands, Added, is_fault, is_whole}
-use Rattle.base_frame.specs.Answer.{Gives}
-use Rattle.base_frame.proofs.Laws.{front_grows, fault_grows, splits_grow, splits_then}
+use Rattle.base_frame.specs.Reader.{Held, Stands, Added, is_fault, is_whole}
+use Rattle.base_frame.proofs.Laws.{fault_grows, splits_grow, splits_then}
 
 abbrev pub held : ℕ → List (List ℕ) → List ℕ → Held
 held limit ready rest = record { limit = limit; ready = ready; rest = rest }

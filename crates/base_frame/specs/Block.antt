@@ -1,7 +1,6 @@
 -- A header block, a byte at a time (LSP 3.17, Base Protocol, Header Part).
-use Rattle.std.specs.Prelude.{ℕ, ◌+◌, ◌-◌, ◌*◌, Bool, true, false, ◌&&◌, ◌||◌, not, ◌==◌, nat_le, nat_lt, if◌then◌else◌, List, [], ◌∷◌, codes, slice_get}
+use Rattle.std.specs.Prelude.{ℕ, ◌+◌, ◌-◌, ◌*◌, Bool, ◌&&◌, ◌||◌, not, ◌==◌, nat_le, nat_lt, if◌then◌else◌, codes, slice_get}
 use Rattle.std.specs.Prelude.{Option, Some, None, is_none}
-use Rattle.base_frame.specs.declared.block.BadWhy.{BadWhy}
 use Rattle.base_frame.specs.declared.block.BadWhy.TheVariants.{Byte, TwoLengths, NoLength, TooLong, LongHeader}
 use Rattle.base_frame.specs.declared.block.Part.{Part}
 use Rattle.base_frame.specs.declared.block.Part.TheVariants.{Start, LengthName, OtherName, Value, Before, Digits, After, LineEnd, BlockEnd}

@@ -1,6 +1,5 @@
 -- A stream of frames (LSP 3.17, Base Protocol).
-use Rattle.std.specs.Prelude.{◌≡◌, ℕ, ◌+◌, Bool, ◌==◌, nat_le, if◌then◌else◌, List, [], ◌∷◌, ◌++◌, length, take, drop, ◌⊎◌}
-use Rattle.std.specs.Borrow.{Bor}
+use Rattle.std.specs.Prelude.{◌≡◌, ℕ, ◌+◌, nat_le, if◌then◌else◌, List, [], ◌∷◌, length, take, drop}
 use Rattle.base_frame.specs.declared.block.BadWhy.{BadWhy}
 use Rattle.base_frame.specs.declared.block.State.{State}
 use Rattle.base_frame.specs.declared.block.Move.{Move}

@@ -1,7 +1,7 @@
 -- Laws of streams of frames.
 use Rattle.std.specs.Prelude.{◌≡◌, ℕ, List, ◌++◌}
 use Rattle.base_frame.specs.declared.block.BadWhy.{BadWhy}
-use Rattle.base_frame.specs.Frames.{whole, fault, front_of, NotWhole, Splits}
+use Rattle.base_frame.specs.Frames.{fault, front_of, NotWhole, Splits}
 
 -- a stream is frames and bytes that begin with no whole frame in one way alone
 abbrev pub OneSplit : Type 0

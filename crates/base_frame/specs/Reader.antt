@@ -1,6 +1,5 @@
 -- What a reader of frames stands for.
 use Rattle.std.specs.Prelude.{◌≡◌, ℕ, Bool, true, false, List, ◌++◌, ◌⊎◌, IsTrue}
-use Rattle.base_frame.specs.declared.block.BadWhy.{BadWhy}
 use Rattle.base_frame.specs.Frames.{Front, whole, fault, short, front_of, NotWhole, Splits}
 
 pub record Held : Type 0 where

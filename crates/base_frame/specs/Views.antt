@@ -1,5 +1,4 @@
 -- What the code's values stand for.
-use Rattle.std.specs.Prelude.{ℕ, List}
 use Rattle.base_frame.specs.declared.front.Found.{Found}
 use Rattle.base_frame.specs.declared.front.Found.TheVariants.{Whole, Fault, Short}
 use Rattle.base_frame.specs.Frames.{Front, whole, fault, short}

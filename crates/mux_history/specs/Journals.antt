@@ -1,5 +1,5 @@
 -- What an append does to the entries that a journal tells, and to its count of faults.
-use Rattle.std.specs.Prelude.{◌≡◌, ℕ, ◌≤◌, List, ◌++◌, Option, option_map, Result, IsErrOf}
+use Rattle.std.specs.Prelude.{ℕ, ◌≤◌, List, ◌++◌, Option, option_map, Result, IsErrOf}
 use Rattle.mux_history.specs.declared.entry.Entry.{Entry}
 use Rattle.mux_history.specs.declared.journal.JournalFault.{JournalFault}
 use Rattle.mux_history.specs.declared.journal.JournalFault.TheVariants.{Failed}

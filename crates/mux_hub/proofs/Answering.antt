@@ -1,31 +1,28 @@
 -- The rows of a server: its result to initialize, and its answers.
-use Rattle.std.proofs.Common.{◌≡◌, ℕ, ◌+◌, ◌-◌, ◌^◌, ◌<◌, ◌≤◌, min, List, [], ◌∷◌, ◌++◌, map, fold, length, refl, ap, sym, subst, ◌∙◌, append_assoc, append-nil, Bool, true, false, arith}
-use Rattle.std.specs.Prelude.{Option, Some, None, codes, nat_eq, filter, ◌&&◌, ◌||◌, not, bytes_eq, decimal, slice_get}
-use Rattle.std.specs.List.{AllByRecursion, remove}
-use Rattle.std.proofs.lemmas.List.Sums.{fold-append}
+use Rattle.std.proofs.Common.{◌≡◌, ℕ, ◌+◌, ◌-◌, ◌^◌, min, List, [], ◌∷◌, map, length, refl, ap, sym, subst, ◌∙◌, append_assoc, true, false}
+use Rattle.std.specs.Prelude.{Option, Some, None, codes, not, slice_get}
+use Rattle.std.specs.List.{remove}
 use Rattle.json_text.specs.Json.{Json}
-use Rattle.mux_history.specs.declared.cause.Cause.{Cause}
-use Rattle.mux_history.specs.declared.cause.Cause.TheVariants.{Joined, FromEditor, Started, FromServer}
-use Rattle.mux_history.specs.declared.out.Out.{Out}
-use Rattle.mux_history.specs.declared.out.Out.TheVariants.{ToEditor, ToServer, Spawn}
-use Rattle.rpc_message.specs.Message.{Message, not_message, request, notification, result, error, Id, integer, id_bytes, result_bytes, message_of}
+use Rattle.mux_history.specs.declared.cause.Cause.TheVariants.{FromServer}
+use Rattle.mux_history.specs.declared.out.Out.TheVariants.{ToEditor, ToServer}
+use Rattle.rpc_message.specs.Message.{Message, notification, result, error, Id, integer, id_bytes, result_bytes, message_of}
 use Rattle.rpc_message.specs.Texts.{ok_text, initialized_text, with_id_text}
 use Rattle.mux_model.specs.declared.phase.Phase.{Phase}
 use Rattle.mux_model.specs.declared.phase.Phase.TheVariants.{Absent, New, Waiting, Answered, Running, Down, Closed, Gone}
 use Rattle.mux_model.specs.declared.stage.Stage.{Stage}
-use Rattle.mux_model.specs.declared.stage.Stage.TheVariants.{Unspawned, Spawning, Initializing, Ready, Stopping, Ending, Ended}
-use Rattle.mux_model.specs.Event.{Event, took, did, heard, said, requests, with_cause, behind, same_id}
-use Rattle.mux_model.specs.Phases.{Desk, desk_of, desk_behind, phase_told, no_desk, editors_of, is_there}
-use Rattle.mux_model.specs.Requests.{Asked, asking_of, asked_by, answered_id, without, answers}
-use Rattle.mux_model.specs.Row.{Row, outs, each}
-use Rattle.mux_model.specs.Rows.{outs_of, from_server, first_result, welcome, waiting_for, is_waiting, response_row, pass_on}
+use Rattle.mux_model.specs.declared.stage.Stage.TheVariants.{Unspawned, Initializing, Ready}
+use Rattle.mux_model.specs.Event.{Event, heard, said, with_cause, behind, same_id}
+use Rattle.mux_model.specs.Phases.{Desk, desk_of, phase_told, editors_of, is_there}
+use Rattle.mux_model.specs.Requests.{asking_of, asked_by, answered_id, answers}
+use Rattle.mux_model.specs.Row.{outs, each}
+use Rattle.mux_model.specs.Rows.{outs_of, welcome, waiting_for, is_waiting}
 use Rattle.mux_model.specs.Settings.{Settings}
 use Rattle.mux_model.specs.Spawns.{home_of, group_of}
 use Rattle.mux_model.specs.Stages.{life_of, is_first_result}
 use Rattle.mux_hub.specs.declared.pending.Pending.{Pending}
-use Rattle.mux_hub.specs.Stands.{Stands, MeansId, PhaseTies, StageTies, Distinct}
+use Rattle.mux_hub.specs.Stands.{Stands, MeansId, PhaseTies}
 use Rattle.mux_hub.specs.Steps.{Steps}
-use Rattle.mux_hub.specs.Tables.{Kept, ids_of, asked_of, asked_for, joined_in, spawned_in, first_in, open_in, id_meant}
+use Rattle.mux_hub.specs.Tables.{Kept, ids_of, asked_of, asked_for, joined_in, open_in, id_meant}
 use Rattle.mux_hub.proofs.Entries.{Goes, steps_so, stands_further}
 use Rattle.mux_hub.proofs.Ids.{closes, removed, all_removed, distinct_removed, no_place}
 use Rattle.mux_hub.proofs.Numbers.{not_zero}

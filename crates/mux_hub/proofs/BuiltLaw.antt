@@ -1,6 +1,6 @@
 -- What is built by the tables is what is built of the history.
-use Rattle.std.proofs.Common.{◌≡◌, ℕ, zero, suc, ◌+◌, ◌<◌, ◌≤◌, List, [], ◌∷◌, length, drop, get_or, Bool, true, false, refl, ap, sym, subst, ◌∙◌, arith, add-one}
-use Rattle.std.specs.Prelude.{Option, Some, None, is_some, nat_eq, ◌&&◌, ◌||◌, not}
+use Rattle.std.proofs.Common.{◌≡◌, ℕ, zero, suc, ◌+◌, ◌<◌, List, [], ◌∷◌, length, drop, get_or, true, false, refl, ap, sym, subst, ◌∙◌, arith, add-one}
+use Rattle.std.specs.Prelude.{Option, Some, None, is_some, nat_eq, ◌||◌, not}
 use Rattle.std.specs.List.{AllByRecursion}
 use Rattle.std.proofs.Math.Seq.{drop-cons, drop-length}
 use Rattle.std.proofs.lemmas.Bool.Decides.{nat_tests}
@@ -11,11 +11,10 @@ use Rattle.mux_model.specs.Members.{reads_versions}
 use Rattle.mux_hub.specs.Turns.{place_of}
 use Rattle.rpc_message.specs.Message.{Message, request, notification, result, error, not_json, not_message, Id, message_of}
 use Rattle.mux_model.specs.declared.phase.Phase.TheVariants.{Absent}
-use Rattle.mux_model.specs.declared.stage.Stage.TheVariants.{Unspawned}
 use Rattle.mux_model.specs.Built.{is_passed_plainly, built_behind, built_from_editor, built_from_server}
 use Rattle.mux_model.specs.Event.{Event, same_id}
 use Rattle.mux_model.specs.Phases.{desk_of}
-use Rattle.mux_model.specs.Requests.{open_of, is_open, asking_of, asked_by, Asked}
+use Rattle.mux_model.specs.Requests.{open_of, is_open, asking_of, asked_by}
 use Rattle.mux_model.specs.Stages.{life_of}
 use Rattle.mux_hub.specs.declared.pending.Pending.{Pending}
 use Rattle.mux_hub.specs.Stands.{Stands, MeansId}

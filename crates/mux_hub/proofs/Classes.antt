@@ -1,16 +1,11 @@
 -- A method of class Other is none of those that the multiplexer answers itself.
 use Rattle.std.proofs.Common.{◌≡◌, ℕ, List, Bool, true, false, refl, sym, ◌∙◌, ap, arith}
-use Rattle.std.specs.Prelude.{codes, bytes_eq, Option, Some, None}
-use Rattle.json_text.specs.Json.{Json}
+use Rattle.std.specs.Prelude.{codes, bytes_eq}
 use Rattle.json_text.proofs.Put.{same_name}
 use Rattle.std.proofs.lemmas.Slice.Eq.{bytes_eq-Decides}
-use Rattle.lsp_method.specs.Class.{class_of, own_request, own_notification, goes_nowhere, editor_request}
-use Rattle.lsp_method.specs.declared.variants.Class.TheVariants.{Other}
+use Rattle.lsp_method.specs.Class.{class_of, own_request, editor_request}
 use Rattle.lsp_method.specs.declared.variants.Origin.TheVariants.{Editor}
 use Rattle.mux_model.specs.Built.{is_other}
-use Rattle.rpc_message.specs.Message.{Id, request}
-use Rattle.mux_model.specs.Phases.{makes_running}
-use Rattle.mux_model.specs.Event.{requests}
 use Rattle.mux_model.specs.Requests.{is_own}
 
 pub record NotOwn (m : List ℕ) : Type 0 where

@@ -1,20 +1,18 @@
 -- An entry's events behind those for which the tables stood.
-use Rattle.std.proofs.Common.{◌≡◌, ℕ, ◌+◌, ◌-◌, ◌^◌, ◌<◌, ◌≤◌, min, List, [], ◌∷◌, ◌++◌, map, fold, refl, ap, sym, subst, ◌∙◌, append_assoc}
-use Rattle.std.specs.Prelude.{Option, Some, None}
+use Rattle.std.proofs.Common.{◌≡◌, ℕ, ◌-◌, ◌^◌, ◌<◌, min, List, [], ◌∷◌, ◌++◌, map, fold, ap, sym, subst, ◌∙◌, append_assoc}
+use Rattle.std.specs.Prelude.{None}
 use Rattle.std.specs.List.{AllByRecursion}
 use Rattle.std.proofs.lemmas.List.Sums.{fold-append}
-use Rattle.rpc_message.specs.Message.{id_bytes, Id}
 use Rattle.mux_history.specs.declared.cause.Cause.{Cause}
 use Rattle.mux_history.specs.declared.out.Out.{Out}
 use Rattle.mux_model.specs.Rows.{outs_of}
 use Rattle.mux_model.specs.Settings.{Settings}
 use Rattle.mux_hub.specs.Steps.{Steps}
-use Rattle.mux_model.specs.Event.{Event, behind, with_cause, heard, said}
-use Rattle.mux_model.specs.Phases.{Desk, desk_of, desk_behind, no_desk, editors_of, editors_behind, backlog_of, backlog_behind}
-use Rattle.mux_model.specs.Requests.{Asking, open_of, open_behind, asking_of, asking_behind}
-use Rattle.mux_model.specs.Spawns.{Home, Founding, starts_of, starts_behind, groups_of, groups_behind, start_of, start_behind, home_of, home_behind, founding_of, founding_behind, group_of, group_behind}
-use Rattle.mux_model.specs.Stages.{Life, life_of, life_behind, no_life}
-use Rattle.mux_hub.specs.declared.pending.Pending.{Pending}
+use Rattle.mux_model.specs.Event.{Event, heard, said}
+use Rattle.mux_model.specs.Phases.{desk_behind, no_desk, editors_behind, backlog_of, backlog_behind}
+use Rattle.mux_model.specs.Requests.{Asking, open_behind, asking_of, asking_behind}
+use Rattle.mux_model.specs.Spawns.{Home, Founding, starts_behind, groups_behind, start_behind, home_of, home_behind, founding_of, founding_behind, group_behind}
+use Rattle.mux_model.specs.Stages.{life_behind, no_life}
 use Rattle.mux_hub.specs.Tables.{Kept, asked_for, joined_in, spawned_in, first_in, open_in}
 use Rattle.mux_hub.specs.Stands.{Stands, Distinct, MeansId, PhaseTies, StageTies}
 

@@ -1,22 +1,21 @@
 -- What a body that was read says of the turn.
-use Rattle.std.proofs.Common.{◌≡◌, ℕ, suc, ◌≤◌, List, [], ◌∷◌, ◌++◌, length, refl, ap, sym, subst, ◌∙◌, Bool, true, false, arith}
-use Rattle.std.specs.Prelude.{Option, Some, None, bytes_eq, decimal, codes, nat_eq, option_map, ◌&&◌, ◌||◌, if◌then◌else◌}
+use Rattle.std.proofs.Common.{◌≡◌, ℕ, suc, List, [], ◌∷◌, ◌++◌, refl, ap, sym, subst, ◌∙◌, Bool, true, false, arith}
+use Rattle.std.specs.Prelude.{Option, Some, None, bytes_eq, decimal, nat_eq, option_map, ◌&&◌, ◌||◌, if◌then◌else◌}
 use Rattle.json_text.specs.Json.{Json, word, number, string, array, object, value, quoted}
 use Rattle.json_text.specs.Number.{is_digit}
 use Rattle.std.proofs.lemmas.Bool.Decides.{nat_tests}
 use Rattle.json_text.specs.declared.kind.Word.TheVariants.{Null, False, True}
-use Rattle.rpc_message.specs.Message.{Message, request, notification, result, error, not_json, not_message, Id, integer, text, message_of, id_bytes, response_id, is_integer}
+use Rattle.rpc_message.specs.Message.{request, Id, integer, text, message_of, id_bytes, response_id, is_integer}
 use Rattle.rpc_message.specs.ValueTexts.{IsResponseIdText}
 use Rattle.rpc_message.specs.Parsed.{Parsed, IsRead}
-use Rattle.rpc_message.specs.Envelopes.{Tells, IsRequest, IsNotification, IsOutcome, IsFailure}
-use Rattle.rpc_message.specs.declared.envelope.Envelope.{Envelope}
+use Rattle.rpc_message.specs.Envelopes.{Tells, IsRequest, IsOutcome, IsFailure}
 use Rattle.rpc_message.specs.declared.envelope.Envelope.TheVariants as envelope
 use Rattle.rpc_message.proofs.Ids.{result_id_bytes, error_id_bytes}
-use Rattle.mux_model.specs.Requests.{answered_id, has_number}
+use Rattle.mux_model.specs.Requests.{has_number}
 use Rattle.mux_model.specs.declared.stage.Stage.TheVariants.{Ready}
 use Rattle.mux_hub.specs.declared.pending.Pending.{Pending}
 use Rattle.mux_hub.specs.Tables.{Kept, asked_of}
-use Rattle.mux_hub.specs.Turns.{Turn, from_editor, from_server, requested, noted, quiet, place_of, place_written, place_if, is_no_number, or_next, answered}
+use Rattle.mux_hub.specs.Turns.{from_editor, from_server, requested, place_of, place_written, place_if, is_no_number, or_next, answered}
 
 -- a request that was read
 pub record ReadRequest (body : List ℕ) : Type 0 where

@@ -1,22 +1,21 @@
 -- A step of the hub leads from a history to the longer one.
-use Rattle.std.proofs.Common.{◌≡◌, ℕ, ◌<◌, ◌^◌, List, [], ◌∷◌, ◌++◌, refl, ap, sym, subst, ◌∙◌, append_assoc, append-nil, Bool, true, false}
-use Rattle.std.specs.Prelude.{Option, Some, None, IsTrue, option_map}
+use Rattle.std.proofs.Common.{◌≡◌, ◌<◌, ◌^◌, List, [], ◌∷◌, ◌++◌, ap, sym, subst, ◌∙◌, append_assoc, append-nil, Bool, false}
+use Rattle.std.specs.Prelude.{Option, Some, None, IsTrue}
 use Rattle.std.proofs.lemmas.List.Sums.{fold-append}
 use Rattle.mux_history.specs.declared.cause.Cause.{Cause}
 use Rattle.mux_history.specs.declared.out.Out.{Out}
 use Rattle.mux_history.specs.declared.entry.Entry.{Entry}
 use Rattle.mux_history.specs.Journals.{append_told}
 use Rattle.mux_model.specs.Built.{built}
-use Rattle.mux_model.specs.Event.{Event, events_of, with_entry}
+use Rattle.mux_model.specs.Event.{events_of, with_entry}
 use Rattle.mux_model.specs.Fits.{fits}
 use Rattle.mux_model.specs.Legal.{Legal, LegalFrom}
 use Rattle.mux_model.specs.Rows.{emits, entry_of}
 use Rattle.mux_model.specs.Settings.{Settings}
 use Rattle.mux_hub.specs.Hubs.{HubView, HubStands, Tells}
 use Rattle.mux_hub.specs.Stands.{Stands}
-use Rattle.mux_hub.specs.Steps.{Steps}
 use Rattle.mux_hub.specs.Tables.{Kept, built_in}
-use Rattle.mux_hub.specs.Turns.{Turn, turn, Gives}
+use Rattle.mux_hub.specs.Turns.{turn, Gives}
 use Rattle.mux_hub.proofs.BuiltLaw.{built_so}
 use Rattle.mux_hub.proofs.TurnLaw.{turn_right}
 

@@ -1,12 +1,12 @@
 -- Lists of ids: what an answer takes out of them.
-use Rattle.std.proofs.Common.{◌≡◌, ℕ, ◌<◌, suc, zero, List, [], ◌∷◌, ◌++◌, map, Bool, true, false, refl, ap, sym, subst, ◌∙◌, arith, cond, length, take, drop}
-use Rattle.std.specs.Prelude.{Option, Some, None, filter, find, not, ◌||◌, ◌&&◌, bytes_eq, nat_eq, decimal}
+use Rattle.std.proofs.Common.{◌≡◌, ℕ, suc, zero, List, [], ◌∷◌, ◌++◌, map, Bool, true, false, refl, ap, sym, subst, ◌∙◌}
+use Rattle.std.specs.Prelude.{Option, Some, None, filter, not, ◌||◌}
 use Rattle.std.specs.List.{remove, AllByRecursion}
 use Rattle.std.specs.Prelude.{slice_get}
 use Rattle.json_text.proofs.Put.{same_name}
 use Rattle.rpc_message.specs.Message.{Id, integer, text}
 use Rattle.mux_model.specs.Event.{same_id}
-use Rattle.mux_model.specs.Requests.{Asked, is_open, without, answers}
+use Rattle.mux_model.specs.Requests.{is_open, without, answers}
 use Rattle.mux_hub.specs.Stands.{Distinct, MeansId}
 use Rattle.mux_hub.proofs.Classes.{swapped}
 use Rattle.mux_hub.specs.declared.pending.Pending.{Pending}

@@ -1,5 +1,5 @@
 -- What the bytes of an id mean.
-use Rattle.std.proofs.Common.{◌≡◌, ℕ, ◌≤◌, List, [], ◌++◌, refl, ap, sym, subst, ◌∙◌, append-nil, arith}
+use Rattle.std.proofs.Common.{◌≡◌, ℕ, ◌≤◌, List, [], refl, ap, sym, subst, ◌∙◌, append-nil, arith}
 use Rattle.std.specs.Prelude.{Option, Some, None}
 use Rattle.json_text.specs.Json.{Json, word, number, string, array, object, IsText, depth, value}
 use Rattle.json_text.specs.Tree.{tree_of}

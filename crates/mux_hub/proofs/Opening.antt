@@ -1,19 +1,17 @@
 -- The rows that open a session: an editor joins, it initialises, its server's program runs.
-use Rattle.std.proofs.Common.{◌≡◌, ℕ, ◌+◌, ◌-◌, ◌^◌, ◌<◌, ◌≤◌, min, List, [], ◌∷◌, ◌++◌, map, fold, refl, ap, sym, subst, ◌∙◌, append_assoc, append-nil, Bool, true, false}
-use Rattle.std.specs.Prelude.{Option, Some, None, codes, nat_eq}
-use Rattle.mux_history.specs.declared.cause.Cause.{Cause}
-use Rattle.mux_history.specs.declared.cause.Cause.TheVariants.{Joined, FromEditor, Started, FromServer}
-use Rattle.mux_history.specs.declared.out.Out.{Out}
-use Rattle.mux_history.specs.declared.out.Out.TheVariants.{ToEditor, ToServer, Spawn}
+use Rattle.std.proofs.Common.{◌≡◌, ℕ, List, [], ◌∷◌, ◌++◌, refl, ap, sym, subst, ◌∙◌, append-nil, true, false}
+use Rattle.std.specs.Prelude.{Option, Some, codes}
+use Rattle.mux_history.specs.declared.cause.Cause.TheVariants.{Joined, FromEditor, Started}
+use Rattle.mux_history.specs.declared.out.Out.TheVariants.{ToServer, Spawn}
 use Rattle.json_text.specs.Json.{Json}
-use Rattle.rpc_message.specs.Message.{Message, not_message, request, notification, result, error, Id, integer, id_bytes, message_of}
+use Rattle.rpc_message.specs.Message.{request, Id, integer, id_bytes, message_of}
 use Rattle.mux_model.specs.declared.phase.Phase.{Phase}
 use Rattle.mux_model.specs.declared.phase.Phase.TheVariants.{Absent, New, Waiting, Answered, Running, Down, Closed, Gone}
 use Rattle.mux_model.specs.declared.stage.Stage.{Stage}
-use Rattle.mux_model.specs.declared.stage.Stage.TheVariants.{Unspawned, Spawning, Initializing, Ready, Ending}
-use Rattle.mux_model.specs.Event.{Event, took, did, heard, said, requests}
+use Rattle.mux_model.specs.declared.stage.Stage.TheVariants.{Unspawned, Spawning, Initializing, Ending}
+use Rattle.mux_model.specs.Event.{Event, took}
 use Rattle.mux_model.specs.Phases.{desk_of}
-use Rattle.mux_model.specs.Rows.{outs_of, initialize_for, founder_body, initialize_in, initialize_by}
+use Rattle.mux_model.specs.Rows.{initialize_for, founder_body, initialize_in, initialize_by}
 use Rattle.mux_model.specs.Stages.{life_of}
 use Rattle.mux_hub.specs.declared.pending.Pending.{Pending}
 use Rattle.mux_model.specs.Spawns.{group_of, founding_of, starts_of, starts_behind, groups_of, groups_behind, first_of, founded_by}
@@ -21,8 +19,8 @@ use Rattle.std.proofs.lemmas.List.Sums.{fold-append}
 use Rattle.mux_model.specs.Settings.{Settings}
 use Rattle.mux_hub.specs.Stands.{Stands, Opens, MeansId, PhaseTies, StageTies}
 use Rattle.mux_hub.specs.Steps.{Steps}
-use Rattle.mux_hub.specs.Tables.{Kept, asked_for, joined_in, spawned_in, first_in, open_in, id_meant}
-use Rattle.mux_hub.proofs.Entries.{Goes, steps_so}
+use Rattle.mux_hub.specs.Tables.{Kept, spawned_in, first_in, id_meant}
+use Rattle.mux_hub.proofs.Entries.{steps_so}
 use Rattle.mux_hub.proofs.Numbers.{not_zero}
 
 absent_ties : (t : Kept) (events : List Event) → Stands t events → t.phase ≡ Absent → (t.stage ≡ Unspawned) × (t.pending ≡ [])

@@ -1,6 +1,6 @@
 -- Looking for a number from a place on.
-use Rattle.std.proofs.Common.{◌≡◌, ℕ, zero, suc, ◌+◌, ◌-◌, ◌<◌, ◌≤◌, List, [], ◌∷◌, length, drop, take, get_or, Bool, true, false, refl, ap, sym, subst, ◌∙◌, arith, add-one}
-use Rattle.std.specs.Prelude.{Option, Some, None, option_map, slice_get, bytes_eq, decimal}
+use Rattle.std.proofs.Common.{◌≡◌, ℕ, suc, ◌+◌, ◌<◌, List, ◌∷◌, length, drop, get_or, true, false, refl, ap, sym, ◌∙◌, arith, add-one}
+use Rattle.std.specs.Prelude.{Option, Some, None, option_map, bytes_eq, decimal}
 use Rattle.std.proofs.Math.Seq.{drop-cons, drop-length}
 use Rattle.mux_hub.specs.declared.pending.Pending.{Pending}
 use Rattle.mux_hub.specs.Turns.{place_written, or_next}

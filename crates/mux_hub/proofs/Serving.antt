@@ -1,34 +1,32 @@
 -- The rows of an editor that was answered: its `initialized`, and its requests.
-use Rattle.std.proofs.Common.{◌≡◌, ℕ, ◌+◌, ◌-◌, ◌^◌, ◌<◌, ◌≤◌, min, List, [], ◌∷◌, ◌++◌, map, fold, length, refl, ap, sym, subst, ◌∙◌, append_assoc, append-nil, Bool, true, false, arith}
-use Rattle.std.specs.Prelude.{Option, Some, None, codes, nat_eq, nat_lt, ◌&&◌, ◌||◌, not, bytes_eq, decimal}
+use Rattle.std.proofs.Common.{◌≡◌, ℕ, ◌+◌, ◌-◌, ◌^◌, min, List, [], ◌∷◌, ◌++◌, map, length, refl, ap, sym, subst, ◌∙◌, true, false, arith}
+use Rattle.std.specs.Prelude.{Option, Some, codes, nat_lt, bytes_eq, decimal}
 use Rattle.std.specs.List.{AllByRecursion}
 use Rattle.std.proofs.lemmas.List.Sums.{fold-append}
 use Rattle.json_text.specs.Json.{Json}
-use Rattle.mux_history.specs.declared.cause.Cause.{Cause}
-use Rattle.mux_history.specs.declared.cause.Cause.TheVariants.{Joined, FromEditor, Started, FromServer}
-use Rattle.mux_history.specs.declared.out.Out.{Out}
-use Rattle.mux_history.specs.declared.out.Out.TheVariants.{ToEditor, ToServer, Spawn}
-use Rattle.rpc_message.specs.Message.{Message, not_message, request, notification, result, error, Id, integer, id_bytes, message_of}
+use Rattle.mux_history.specs.declared.cause.Cause.TheVariants.{FromEditor}
+use Rattle.mux_history.specs.declared.out.Out.TheVariants.{ToEditor, ToServer}
+use Rattle.rpc_message.specs.Message.{request, notification, error, Id, integer, id_bytes, message_of}
 use Rattle.rpc_message.specs.Texts.{error_text, request_failed, with_id_text}
 use Rattle.mux_model.specs.declared.phase.Phase.{Phase}
 use Rattle.mux_model.specs.declared.phase.Phase.TheVariants.{Absent, New, Waiting, Answered, Running, Down, Closed, Gone}
 use Rattle.mux_model.specs.declared.stage.Stage.{Stage}
 use Rattle.mux_model.specs.declared.stage.Stage.TheVariants.{Unspawned, Spawning, Initializing, Ready, Stopping, Ending, Ended}
-use Rattle.mux_model.specs.Event.{Event, took, did, heard, said, requests, with_cause}
-use Rattle.mux_model.specs.Phases.{Desk, desk_of, desk_behind, desk_hears, no_desk}
-use Rattle.mux_model.specs.Requests.{Asker, Asking, asking_of, asking_behind, no_asking, is_open, is_own, numbered}
-use Rattle.mux_model.specs.Row.{Row, outs}
-use Rattle.mux_model.specs.Rows.{outs_of, from_editor, request_row, answer_error, start_for, start_in, forward}
+use Rattle.mux_model.specs.Event.{Event, took}
+use Rattle.mux_model.specs.Phases.{desk_of, desk_hears}
+use Rattle.mux_model.specs.Requests.{Asker, asking_of, asking_behind, no_asking, is_open, is_own}
+use Rattle.mux_model.specs.Row.{outs}
+use Rattle.mux_model.specs.Rows.{from_editor, request_row, answer_error, start_for, start_in}
 use Rattle.mux_model.specs.Settings.{Settings}
 use Rattle.mux_model.specs.Spawns.{start_of, home_of}
-use Rattle.mux_model.specs.Stages.{life_of, is_ready}
+use Rattle.mux_model.specs.Stages.{life_of}
 use Rattle.mux_hub.specs.declared.pending.Pending.{Pending}
 use Rattle.mux_hub.specs.Stands.{Stands, MeansId, PhaseTies, StageTies}
 use Rattle.mux_hub.specs.Steps.{Steps}
 use Rattle.mux_hub.specs.Turns.{can_go}
-use Rattle.mux_hub.specs.Tables.{Kept, ids_of, asked_of, asked_for, joined_in, spawned_in, first_in, open_in, id_meant, after_message}
+use Rattle.mux_hub.specs.Tables.{Kept, ids_of, asked_of, asked_for, joined_in, first_in, open_in, id_meant, after_message}
 use Rattle.mux_hub.proofs.Classes.{NotOwn, Serves, serves}
-use Rattle.mux_hub.proofs.Entries.{Goes, steps_so}
+use Rattle.mux_hub.proofs.Entries.{steps_so}
 use Rattle.mux_hub.proofs.Ids.{closes, untouched, distinct_snoc}
 use Rattle.mux_hub.proofs.Numbers.{not_zero}
 

@@ -1,7 +1,6 @@
 -- What the hub does over its tables is what the routing table says of the history.
-use Rattle.std.proofs.Common.{◌≡◌, ℕ, suc, zero, ◌+◌, ◌-◌, ◌^◌, ◌<◌, ◌≤◌, min, List, [], ◌∷◌, ◌++◌, map, length, refl, ap, sym, subst, ◌∙◌, Bool, true, false, arith}
+use Rattle.std.proofs.Common.{◌≡◌, ℕ, suc, zero, ◌^◌, ◌<◌, List, [], ◌∷◌, refl, ap, sym, subst, ◌∙◌, Bool, true, false, arith}
 use Rattle.std.specs.Prelude.{Option, Some, None, option_map, IsTrue, codes, nat_eq, nat_lt, ◌&&◌, not, bytes_eq, decimal, slice_get}
-use Rattle.std.specs.List.{list_all}
 use Rattle.std.proofs.lemmas.Bool.Decides.{nat_tests}
 use Rattle.std.proofs.lemmas.Slice.Eq.{bytes_eq-Decides}
 use Rattle.json_text.specs.Json.{Json}
@@ -11,8 +10,8 @@ use Rattle.mux_model.proofs.Openings.{opening_law}
 use Rattle.mux_history.specs.declared.cause.Cause.{Cause}
 use Rattle.mux_history.specs.declared.cause.Cause.TheVariants.{Joined, FromEditor, EditorGone, Started, StartFailed, FromServer, ServerGone, Drained, Tick}
 use Rattle.rpc_message.specs.Message.{Message, request, notification, result, error, not_json, not_message, Id, integer, text, message_of, id_bytes, result_bytes}
-use Rattle.rpc_message.specs.Texts.{error_text, request_failed, with_id_text, initialized_text, ok_text, error_tree}
-use Rattle.rpc_message.specs.ValueTexts.{IsIdText, IsResponseIdText}
+use Rattle.rpc_message.specs.Texts.{error_text, request_failed, with_id_text, error_tree}
+use Rattle.rpc_message.specs.ValueTexts.{IsIdText}
 use Rattle.rpc_message.proofs.Fixed.{ok_law, error_law, initialized_law, id_as_response}
 use Rattle.rpc_message.proofs.Ids.{request_with_id, result_with_id, error_with_id, request_id_bytes, result_bytes_law}
 use Rattle.rpc_message.proofs.Decimals.{decimal_law}
@@ -20,7 +19,7 @@ use Rattle.mux_model.specs.declared.phase.Phase.{Phase}
 use Rattle.mux_model.specs.declared.phase.Phase.TheVariants.{Absent, New, Waiting, Answered, Running, Down, Closed, Gone}
 use Rattle.mux_model.specs.declared.stage.Stage.{Stage}
 use Rattle.mux_model.specs.declared.stage.Stage.TheVariants.{Unspawned, Spawning, Initializing, Ready, Stopping, Ending, Ended}
-use Rattle.mux_model.specs.Built.{built_behind, built_from_editor, built_from_server, built_request, built_response, is_plain_result, is_other}
+use Rattle.mux_model.specs.Built.{built_behind, built_from_editor, built_from_server, built_request, built_response, is_other}
 use Rattle.mux_model.specs.Event.{Event, with_cause}
 use Rattle.mux_model.specs.Fits.{fits_behind}
 use Rattle.mux_model.specs.Phases.{desk_of, editors_of, is_linked, is_there}
@@ -32,7 +31,7 @@ use Rattle.mux_hub.specs.declared.pending.Pending.{Pending}
 use Rattle.mux_hub.specs.Stands.{Stands, MeansId, PhaseTies}
 use Rattle.mux_hub.specs.Steps.{Steps}
 use Rattle.mux_hub.specs.Tables.{Kept, ids_of, asked_of, asked_for, joined_in, open_in, id_meant}
-use Rattle.mux_hub.specs.Turns.{Turn, turn, from_editor, from_server, resulted, failed, requested, place_of, or_next, answered, pass_if, pass_on, welcome_text, can_go, ask_if, found, started, ready_if}
+use Rattle.mux_hub.specs.Turns.{Turn, turn, from_editor, from_server, resulted, failed, requested, place_of, or_next, answered, pass_if, welcome_text, can_go, ask_if, found, started, ready_if}
 use Rattle.mux_hub.proofs.Answering.{readied_steps, welcomed_steps, unasked_steps, left_steps, passed_steps}
 use Rattle.mux_hub.proofs.Classes.{not_own}
 use Rattle.mux_hub.proofs.Ids.{means_at}

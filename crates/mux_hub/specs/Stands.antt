@@ -1,13 +1,13 @@
 -- When the hub's tables stand for events.
-use Rattle.std.specs.Prelude.{◌≡◌, ℕ, ◌-◌, ◌^◌, ◌<◌, ◌≤◌, min, List, [], ◌∷◌, map, false, codes, Option}
+use Rattle.std.specs.Prelude.{◌≡◌, ℕ, ◌-◌, ◌^◌, ◌<◌, min, List, [], ◌∷◌, map, false, codes, Option}
 use Rattle.std.specs.List.{AllByRecursion}
 use Rattle.json_text.specs.Json.{Json}
 use Rattle.rpc_message.specs.Message.{id_bytes, message_of, request, integer}
 use Rattle.rpc_message.specs.ValueTexts.{IsIdText}
 use Rattle.mux_model.specs.declared.phase.Phase.{Phase}
-use Rattle.mux_model.specs.declared.phase.Phase.TheVariants.{Absent, New, Waiting, Answered, Running, Down, Closed, Gone}
+use Rattle.mux_model.specs.declared.phase.Phase.TheVariants.{Absent, New, Waiting}
 use Rattle.mux_model.specs.declared.stage.Stage.{Stage}
-use Rattle.mux_model.specs.declared.stage.Stage.TheVariants.{Unspawned, Spawning, Initializing, Ready, Stopping, Ending, Ended}
+use Rattle.mux_model.specs.declared.stage.Stage.TheVariants.{Unspawned, Spawning}
 use Rattle.mux_model.specs.Event.{Event}
 use Rattle.mux_model.specs.Phases.{desk_of, no_desk, editors_of, backlog_of}
 use Rattle.mux_model.specs.Requests.{open_of, asking_of, is_open}

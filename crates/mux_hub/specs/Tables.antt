@@ -1,22 +1,17 @@
 -- When the tables of the hub stand for events.
-use Rattle.std.specs.Prelude.{◌≡◌, ℕ, ◌-◌, ◌^◌, ◌<◌, min, List, [], ◌∷◌, map, length, Bool, true, false, ◌&&◌, nat_eq, IsTrue, if◌then◌else◌}
+use Rattle.std.specs.Prelude.{ℕ, List, [], ◌∷◌, map, Bool, true, false, nat_eq, if◌then◌else◌}
 use Rattle.std.specs.Prelude.{Option, Some, None}
-use Rattle.std.specs.List.{AllByRecursion}
 use Rattle.rpc_message.specs.Message.{Id, integer, id_of, message_of}
 use Rattle.json_text.specs.Json.{Json}
 use Rattle.json_text.specs.Tree.{tree_of}
 use Rattle.mux_model.specs.declared.phase.Phase.{Phase}
-use Rattle.mux_model.specs.declared.phase.Phase.TheVariants.{Absent, New, Waiting, Answered, Running, Down, Closed, Gone}
+use Rattle.mux_model.specs.declared.phase.Phase.TheVariants.{Absent, New, Waiting, Answered, Running}
 use Rattle.mux_model.specs.declared.stage.Stage.{Stage}
-use Rattle.mux_model.specs.declared.stage.Stage.TheVariants.{Unspawned, Spawning, Initializing, Ready, Stopping, Ending, Ended}
+use Rattle.mux_model.specs.declared.stage.Stage.TheVariants.{Unspawned}
 use Rattle.mux_history.specs.declared.cause.Cause.{Cause}
 use Rattle.mux_history.specs.declared.cause.Cause.TheVariants.{Joined, FromEditor, Started, FromServer}
 use Rattle.mux_model.specs.Built.{built_from_editor, built_from_server}
-use Rattle.mux_model.specs.Event.{Event}
-use Rattle.mux_model.specs.Phases.{desk_of, no_desk, editors_of, backlog_of}
-use Rattle.mux_model.specs.Requests.{Asked, open_of, asking_of}
-use Rattle.mux_model.specs.Spawns.{starts_of, groups_of, start_of, home_of, founding_of, group_of}
-use Rattle.mux_model.specs.Stages.{life_of, no_life}
+use Rattle.mux_model.specs.Requests.{Asked}
 use Rattle.mux_hub.specs.declared.pending.Pending.{Pending}
 
 -- what the hub keeps: of editor 0, of start 0, and the open requests between them

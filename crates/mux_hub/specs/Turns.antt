@@ -1,5 +1,5 @@
 -- What the hub does over its tables, for a cause that meets rows that are built: the outs, and the tables behind them.
-use Rattle.std.specs.Prelude.{◌≡◌, ℕ, suc, ◌+◌, ◌-◌, ◌^◌, min, Bool, true, false, ◌&&◌, List, [], ◌∷◌, ◌++◌, length, codes, decimal, bytes_eq, nat_lt, nat_eq, ◌||◌, slice_get, if◌then◌else◌}
+use Rattle.std.specs.Prelude.{◌≡◌, ℕ, suc, ◌+◌, ◌-◌, ◌^◌, min, Bool, true, false, ◌&&◌, List, [], ◌∷◌, ◌++◌, length, decimal, bytes_eq, nat_lt, nat_eq, ◌||◌, slice_get}
 use Rattle.std.specs.Prelude.{Option, Some, None, option_map}
 use Rattle.std.specs.List.{remove}
 use Rattle.mux_history.specs.declared.cause.Cause.{Cause}
@@ -13,7 +13,7 @@ use Rattle.mux_model.specs.declared.phase.Phase.TheVariants.{New, Waiting, Answe
 use Rattle.mux_model.specs.declared.stage.Stage.{Stage}
 use Rattle.mux_model.specs.declared.stage.Stage.TheVariants.{Spawning, Initializing, Ready}
 use Rattle.mux_model.specs.Phases.{is_there}
-use Rattle.mux_model.specs.Requests.{has_number, answered_id}
+use Rattle.mux_model.specs.Requests.{has_number}
 use Rattle.mux_model.specs.Rows.{initialize_for, is_waiting, malformed_text}
 use Rattle.mux_model.specs.Stages.{is_ready}
 use Rattle.mux_hub.specs.declared.pending.Pending.{Pending}

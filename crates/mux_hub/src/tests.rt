@@ -224,7 +224,10 @@ fn malformed_bodies_of_an_editor_are_answered(rt: HostRuntime) -> Result<(), Fai
         ),
     ] {
         let outs = step(&rt, &mut hub, from_editor(alloc, text)?)?;
-        assert!(rt; outs.len() == 1 && is_to_editor(outs.get(0), answer), "at {text}");
+        assert!(rt;
+            outs.len() == 1 && is_to_editor(outs.get(0), answer),
+            "at {text}"
+        );
         let none = step(&rt, &mut hub, from_server(alloc, text)?)?;
         assert!(rt; none.is_empty(), "at {text}");
     }
@@ -242,10 +245,7 @@ fn what_is_not_built_is_told(rt: HostRuntime) -> Result<(), Fail> {
         hub.built(&from_editor(alloc, "{\"jsonrpc\":\"2.0\",\"id\":1,\"method\":\"x\"}")?)?
     );
     assert!(rt;
-        !hub.built(&from_editor(
-            alloc,
-            "{\"jsonrpc\":\"2.0\",\"id\":1,\"result\":null}"
-        )?)?
+        !hub.built(&from_editor(alloc, "{\"jsonrpc\":\"2.0\",\"id\":1,\"result\":null}")?)?
     );
     assert!(rt;
         !hub.built(&from_editor(

@@ -1,11 +1,11 @@
 -- A history as a list of events: each cause and each out, in order, with what its body says.
-use Rattle.std.specs.Prelude.{ℕ, Bool, true, false, List, [], ◌∷◌, ◌++◌, map, fold, bytes_eq, nat_eq, ◌&&◌}
+use Rattle.std.specs.Prelude.{ℕ, Bool, false, List, [], ◌∷◌, ◌++◌, map, fold, bytes_eq}
 use Rattle.mux_history.specs.declared.cause.Cause.{Cause}
 use Rattle.mux_history.specs.declared.cause.Cause.TheVariants.{Joined, FromEditor, EditorGone, Started, StartFailed, FromServer, ServerGone, Drained, Tick}
 use Rattle.mux_history.specs.declared.out.Out.{Out}
 use Rattle.mux_history.specs.declared.out.Out.TheVariants.{ToEditor, ToServer, Spawn, CloseEditor, EndServer}
 use Rattle.mux_history.specs.declared.entry.Entry.{Entry}
-use Rattle.rpc_message.specs.Message.{Message, not_json, not_message, request, notification, result, error, message_of}
+use Rattle.rpc_message.specs.Message.{Message, not_message, request, notification, message_of}
 pub use Rattle.rpc_message.specs.Message.{same_id}
 
 -- a cause without a body, or an out without one, has `not_message` as its message

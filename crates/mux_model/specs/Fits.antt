@@ -1,5 +1,5 @@
 -- Which causes can come behind a history.
-use Rattle.std.specs.Prelude.{ℕ, Bool, true, false, ◌&&◌, List, nat_eq, nat_le}
+use Rattle.std.specs.Prelude.{Bool, true, ◌&&◌, List, nat_eq, nat_le}
 use Rattle.mux_history.specs.declared.cause.Cause.{Cause}
 use Rattle.mux_history.specs.declared.cause.Cause.TheVariants.{Joined, FromEditor, EditorGone, Started, StartFailed, FromServer, ServerGone, Drained, Tick}
 use Rattle.mux_history.specs.declared.entry.Entry.{Entry}

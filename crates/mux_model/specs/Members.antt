@@ -1,9 +1,9 @@
 -- What the routing table reads in the params and results of bodies (LSP 3.17, initialize, and VersionedTextDocumentIdentifier).
-use Rattle.std.specs.Prelude.{ℕ, Bool, true, false, not, ◌&&◌, ◌||◌, List, [], ◌∷◌, codes, is_some, nat_lt, if◌then◌else◌, encode_utf8_all}
+use Rattle.std.specs.Prelude.{ℕ, Bool, true, false, ◌&&◌, ◌||◌, List, [], ◌∷◌, codes, is_some, if◌then◌else◌, encode_utf8_all}
 use Rattle.std.specs.Prelude.{Option, Some, None}
 use Rattle.std.specs.List.{list_any}
 use Rattle.json.specs.Print.{quoted}
-use Rattle.json_text.specs.Json.{Json, word, number, string, array, object, Items, no_items, item, Members, no_members, member}
+use Rattle.json_text.specs.Json.{Json, string, array, object, member}
 use Rattle.json_text.specs.Named.{named_in, items_list, named}
 use Rattle.json_text.specs.Tree.{tree_of}
 use Rattle.rpc_message.specs.Message.{place_in, slice_of, is_integer_value, is_string_value}

@@ -1,9 +1,8 @@
 -- The phase of an editor, and its initialize (LSP 3.17, Lifecycle Messages).
-use Rattle.std.specs.Prelude.{ℕ, ◌+◌, ◌-◌, Bool, true, false, not, ◌&&◌, ◌||◌, List, [], ◌∷◌, length, fold, codes, nat_eq, if◌then◌else◌}
-use Rattle.std.specs.Prelude.{Option, Some, None}
+use Rattle.std.specs.Prelude.{ℕ, ◌+◌, ◌-◌, Bool, true, false, not, ◌||◌, List, [], length, fold, codes, nat_eq, if◌then◌else◌}
 use Rattle.mux_history.specs.declared.cause.Cause.TheVariants.{Joined, FromEditor, EditorGone, Drained}
 use Rattle.mux_history.specs.declared.out.Out.TheVariants.{ToEditor, CloseEditor}
-use Rattle.rpc_message.specs.Message.{Message, not_json, not_message, request, notification, result, error}
+use Rattle.rpc_message.specs.Message.{Message, not_json, not_message, result}
 use Rattle.mux_model.specs.declared.phase.Phase.{Phase}
 use Rattle.mux_model.specs.declared.phase.Phase.TheVariants.{Absent, New, Waiting, Answered, Running, Down, Closed, Gone}
 use Rattle.mux_model.specs.Event.{Event, took, did, requests, notifies}

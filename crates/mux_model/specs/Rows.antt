@@ -1,17 +1,17 @@
 -- The routing table: for each cause, what is sent.
-use Rattle.std.specs.Prelude.{ℕ, zero, suc, ◌+◌, Bool, true, false, not, ◌&&◌, ◌||◌, List, [], ◌∷◌, ◌++◌, filter, codes, nat_eq, nat_lt, decimal, if◌then◌else◌}
+use Rattle.std.specs.Prelude.{ℕ, zero, suc, Bool, true, false, ◌&&◌, List, [], ◌∷◌, ◌++◌, filter, codes, nat_eq, nat_lt, decimal}
 use Rattle.std.specs.Prelude.{Option, Some, None}
 use Rattle.mux_history.specs.declared.cause.Cause.{Cause}
-use Rattle.mux_history.specs.declared.cause.Cause.TheVariants.{Joined, FromEditor, EditorGone, Started, StartFailed, FromServer, ServerGone, Drained, Tick}
+use Rattle.mux_history.specs.declared.cause.Cause.TheVariants.{FromEditor, Started, FromServer}
 use Rattle.mux_history.specs.declared.out.Out.{Out}
-use Rattle.mux_history.specs.declared.out.Out.TheVariants.{ToEditor, ToServer, Spawn, CloseEditor, EndServer}
+use Rattle.mux_history.specs.declared.out.Out.TheVariants.{ToEditor, ToServer, Spawn}
 use Rattle.mux_history.specs.declared.entry.Entry.{Entry}
-use Rattle.rpc_message.specs.Message.{Message, request, notification, result, error, not_json, not_message, Id, message_of, id_bytes, result_bytes}
+use Rattle.rpc_message.specs.Message.{Message, request, not_json, message_of, id_bytes, result_bytes}
 use Rattle.rpc_message.specs.Texts.{ok_text, error_text, initialized_text, initialize_text, with_id_text, Code, parse_error, invalid_request, request_failed}
 use Rattle.mux_model.specs.declared.phase.Phase.{Phase}
-use Rattle.mux_model.specs.declared.phase.Phase.TheVariants.{Absent, New, Waiting, Answered, Running, Down, Closed, Gone}
+use Rattle.mux_model.specs.declared.phase.Phase.TheVariants.{New, Waiting, Answered, Running}
 use Rattle.mux_model.specs.declared.stage.Stage.{Stage}
-use Rattle.mux_model.specs.declared.stage.Stage.TheVariants.{Unspawned, Spawning, Initializing, Ready, Stopping, Ending, Ended}
+use Rattle.mux_model.specs.declared.stage.Stage.TheVariants.{Spawning, Initializing, Ready}
 use Rattle.mux_model.specs.Event.{Event, events_of, with_cause, requests}
 use Rattle.mux_model.specs.Members.{params_of, root_uri, string_or_null, options_of}
 use Rattle.mux_model.specs.Phases.{desk_of, editors_of, is_there, is_malformed}

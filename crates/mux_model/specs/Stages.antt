@@ -1,9 +1,9 @@
 -- The stage of a start of a server (LSP 3.17, Lifecycle Messages).
-use Rattle.std.specs.Prelude.{ℕ, Bool, true, false, not, ◌&&◌, List, [], ◌∷◌, fold, codes, nat_eq, bytes_eq, if◌then◌else◌}
-use Rattle.std.specs.Prelude.{Option, Some, None}
+use Rattle.std.specs.Prelude.{ℕ, Bool, true, false, not, ◌&&◌, List, fold, codes, nat_eq, bytes_eq, if◌then◌else◌}
+use Rattle.std.specs.Prelude.{Some}
 use Rattle.mux_history.specs.declared.cause.Cause.TheVariants.{Started, StartFailed, FromServer, ServerGone}
 use Rattle.mux_history.specs.declared.out.Out.TheVariants.{ToServer, Spawn, EndServer}
-use Rattle.rpc_message.specs.Message.{Message, result, Id, integer, text}
+use Rattle.rpc_message.specs.Message.{Message, result, integer}
 use Rattle.mux_model.specs.declared.stage.Stage.{Stage}
 use Rattle.mux_model.specs.declared.stage.Stage.TheVariants.{Unspawned, Spawning, Initializing, Ready, Stopping, Ending, Ended}
 use Rattle.mux_model.specs.Event.{Event, took, did, requests}

@@ -1,4 +1,4 @@
-use Rattle.std.proofs.Common.{arith, refl, ap, ◌∙◌, option_map, ◌+◌}
+use Rattle.std.proofs.Common.{arith, refl, ap, ◌∙◌, ◌+◌}
 use Rattle.std.proofs.lemmas.Result.{err_from_is_err_and}
 use Rattle.std.specs.Prelude.{Err}
 use Rattle.lspmux_program.specs.declared.line.LineStop.{LineStop}

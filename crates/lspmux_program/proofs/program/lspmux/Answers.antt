@@ -1,8 +1,7 @@
-use Rattle.std.proofs.Common.{option_map, subst, map, ap, sym, ◌∙◌, Global}
+use Rattle.std.proofs.Common.{subst, map, ap, sym, ◌∙◌, Global}
 use Rattle.std.specs.Prelude.{Result, Err, Some}
 use Rattle.std.specs.String.{string_bytes}
 use Rattle.outside_io.specs.Faults.{Rose}
-use Rattle.lspmux_program.specs.Lines.{lines_of}
 use Rattle.lspmux_program.specs.Program.{Ran, JournalRose}
 use Rattle.lspmux_program.specs.declared.stop.Stop.{Stop}
 use Rattle.lspmux_program.proofs.Ends.{drove_done, drove_words, drove_reported, complete, rose_until}

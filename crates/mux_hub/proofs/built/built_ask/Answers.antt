@@ -1,13 +1,7 @@
-use Rattle.std.proofs.Common.{◌≡◌, ap, sym, subst, ◌∙◌, refl}
-use Rattle.std.specs.Prelude.{not, ◌&&◌}
-use Rattle.lsp_method.specs.Class.{class_of}
-use Rattle.lsp_method.specs.declared.variants.Origin.TheVariants.{Editor}
+use Rattle.std.proofs.Common.{ap, sym, subst, ◌∙◌, refl}
 use Rattle.rpc_message.specs.ValueTexts.{IsIdText}
 use Rattle.rpc_message.proofs.Ids.{request_id_bytes}
 use Rattle.mux_model.specs.Built.{is_other}
-use Rattle.mux_model.specs.Members.{has_token}
-use Rattle.mux_model.specs.Requests.{is_open}
-use Rattle.mux_hub.specs.Tables.{ids_of}
 use Rattle.mux_hub.proofs.built.built_ask.Goals as goal
 
 pub returns : goal.returns

@@ -1,5 +1,4 @@
-use Rattle.std.proofs.Common.{◌≡◌, ap, sym, subst, ◌∙◌}
-use Rattle.std.specs.Prelude.{IfOk}
+use Rattle.std.proofs.Common.{◌≡◌, sym, subst, ◌∙◌}
 use Rattle.rpc_message.specs.Parsed.{IsRead}
 use Rattle.rpc_message.specs.Message.{Message}
 use Rattle.mux_model.specs.Built.{built_from_editor}

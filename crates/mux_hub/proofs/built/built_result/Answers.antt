@@ -1,9 +1,7 @@
-use Rattle.std.proofs.Common.{◌≡◌, sym, subst, ap, ◌∙◌}
-use Rattle.std.specs.Prelude.{is_some, not}
-use Rattle.rpc_message.specs.Parsed.{IsRead}
+use Rattle.std.proofs.Common.{sym, subst, ap, ◌∙◌}
+use Rattle.std.specs.Prelude.{not}
 use Rattle.rpc_message.specs.ValueTexts.{IsResponseIdText}
 use Rattle.rpc_message.proofs.Ids.{result_id_bytes}
-use Rattle.mux_hub.specs.Turns.{place_of}
 use Rattle.mux_hub.proofs.BuiltLaw.{plain_none, plain_some}
 use Rattle.mux_hub.proofs.Heard.{place_by_id}
 use Rattle.mux_hub.proofs.built.built_result.Goals as goal

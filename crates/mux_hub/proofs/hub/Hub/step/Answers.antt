@@ -1,5 +1,5 @@
 -- A step that answers Ok: the turn is the routing table's, and the hub stands for the longer history.
-use Rattle.std.proofs.Common.{◌≡◌, ℕ, List, [], ◌∷◌, ◌++◌, ap, sym, subst, ◌∙◌, false}
+use Rattle.std.proofs.Common.{◌≡◌, [], ◌∷◌, ◌++◌, ap, sym, subst, ◌∙◌, false}
 use Rattle.mux_model.specs.Rows.{emits, entry_of}
 use Rattle.mux_hub.specs.Hubs.{HubView, HubStands}
 use Rattle.mux_hub.proofs.HubLaw.{stepped}
