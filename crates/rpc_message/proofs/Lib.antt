@@ -6,6 +6,7 @@ pub mod Fixed
 pub mod Ids
 pub mod KindTests
 pub mod Meaning
+pub mod NamesMet
 pub mod Opening
 pub mod Reading
 pub mod Replies

@@ -2,6 +2,7 @@ pub mod Codes
 pub mod Envelopes
 pub mod Ids
 pub mod Message
+pub mod Names
 pub mod Parsed
 pub mod Sorts
 pub mod Texts

@@ -1,17 +1,16 @@
 //! What a body is, by the members of its object (JSON-RPC 2.0, sections 4 and 5; LSP 3.17, Base Protocol).
-ghost use Rattle.std.specs.Prelude.{◌≡◌, ◌<◌, ℕ, List, length, is_some, MatchOption, Option, Some};
-ghost use Rattle.json_text.specs.declared.span.Span.{Span};
-ghost use Rattle.json_text.specs.Json.{Json, Members, object};
+ghost use Rattle.std.specs.Prelude.{◌≡◌, ◌<◌, ℕ, List, length, true, is_some, IfOk, MatchOption, Option, Some};
+ghost use Rattle.json_text.specs.Json.{Json};
 ghost use Rattle.json_nodes.specs.At.{At, Found};
 ghost use Rattle.rpc_message.specs.Envelopes.{TellsIf, by_names, is_enveloped, not_null};
-ghost use Rattle.rpc_message.specs.Message.{are_params, answered, id_of, is_error, is_integer, is_integer_value, is_string_value, is_two, message_in, no_name_twice, response_id};
+ghost use Rattle.rpc_message.specs.Message.{are_params, answered, id_of, is_error, is_integer, is_integer_value, is_string_value, is_two, message_in, response_id};
 
 use crate::id::is_integer;
-use json_nodes::{
-    Node, bytes_in, first_in, kind_in, last_spelled, member_in, name_in, next_in, string_in,
-};
-use json_text::Kind;
+use crate::names::names_once;
+use json_nodes::{Node, bytes_in, kind_in, member_in, string_in};
+use json_text::{Kind, Memory};
 use json_token::spells_text;
+use std::alloc::Global;
 
 /// What a message is: which of its values are its id, its method, its params, its result and its error, by their numbers. Params
 /// that are null count as absent.
@@ -133,31 +132,17 @@ fn is_error(bytes: &[u8], nodes: &[Node], node: u32) -> bool
         && is_string_value(nodes, member_in(bytes, nodes, node, "message"))
 }
 
-// Whether no two members of an object have one name.
-fn names_once(bytes: &[u8], nodes: &[Node], node: u32) -> bool
-    requires { node < length nodes.now }
-    ensures { (s : Span) (ms : Members) → At (record { bytes = bytes.now; nodes = nodes.now }) node (object s ms) → result ≡ no_name_twice ms }
-{
-    let mut next = first_in(nodes, node);
-    while let Some(member) = next {
-        let following = next_in(nodes, member);
-        if last_spelled(name_in(bytes, nodes, member), bytes, nodes, following).is_some() {
-            return false;
-        }
-        next = following;
-    }
-    true
-}
-
 // Whether a body is an object without doubled names that says `"jsonrpc": "2.0"`.
-fn is_enveloped(bytes: &[u8], nodes: &[Node]) -> bool
+fn is_enveloped(alloc: Global, bytes: &[u8], nodes: &[Node]) -> Result<bool, Memory>
     requires { 0 < length nodes.now }
-    ensures { (j : Json) → At (record { bytes = bytes.now; nodes = nodes.now }) 0 j → result ≡ is_enveloped j }
+    ensures { (j : Json) → At (record { bytes = bytes.now; nodes = nodes.now }) 0 j → IfOk result (λ answer. answer ≡ is_enveloped j) }
 {
     match kind_in(nodes, 0) {
-        Kind::Object => names_once(bytes, nodes, 0)
-            && is_two(bytes, nodes, member_in(bytes, nodes, 0, "jsonrpc")),
-        _ => false,
+        Kind::Object => {
+            let once = names_once(alloc, bytes, nodes, 0)?;
+            Ok(once && is_two(bytes, nodes, member_in(bytes, nodes, 0, "jsonrpc")))
+        }
+        _ => Ok(false),
     }
 }
 
@@ -211,14 +196,11 @@ fn answered(
     }
 }
 
-/// What a body is, by the nodes of its values; none where it is no message.
-pub fn envelope_in(bytes: &[u8], nodes: &[Node]) -> Option<Envelope>
+// What a body is that is enveloped so.
+fn by_members(bytes: &[u8], nodes: &[Node]) -> Option<Envelope>
     requires { 0 < length nodes.now }
-    ensures { (j : Json) → At (record { bytes = bytes.now; nodes = nodes.now }) 0 j → TellsIf (record { bytes = bytes.now; nodes = nodes.now }) result (message_in (Some j)) }
+    ensures { (j : Json) → At (record { bytes = bytes.now; nodes = nodes.now }) 0 j → is_enveloped j ≡ true → TellsIf (record { bytes = bytes.now; nodes = nodes.now }) result (message_in (Some j)) }
 {
-    if !is_enveloped(bytes, nodes) {
-        return None;
-    }
     let id = member_in(bytes, nodes, 0, "id");
     match member_in(bytes, nodes, 0, "method") {
         Some(method) => called(
@@ -235,5 +217,17 @@ pub fn envelope_in(bytes: &[u8], nodes: &[Node]) -> Option<Envelope>
             member_in(bytes, nodes, 0, "error"),
             member_in(bytes, nodes, 0, "result"),
         ),
+    }
+}
+
+/// What a body is, by the nodes of its values; none where it is no message.
+pub fn envelope_in(alloc: Global, bytes: &[u8], nodes: &[Node]) -> Result<Option<Envelope>, Memory>
+    requires { 0 < length nodes.now }
+    ensures { (j : Json) → At (record { bytes = bytes.now; nodes = nodes.now }) 0 j → IfOk result (λ envelope. TellsIf (record { bytes = bytes.now; nodes = nodes.now }) envelope (message_in (Some j))) }
+{
+    if is_enveloped(alloc, bytes, nodes)? {
+        Ok(by_members(bytes, nodes))
+    } else {
+        Ok(None)
     }
 }

@@ -6,6 +6,7 @@ mod envelope;
 mod id;
 mod laws;
 mod message;
+mod names;
 mod parts;
 mod sort;
 #[cfg(test)]

@@ -67,8 +67,10 @@ impl<'a> Message<'a> {
             Err(JsonFault::Syntax(_)) => return Err(Malformed::NotJson),
             Err(JsonFault::TooDeep(_)) => return Err(Malformed::NotJson),
         };
-        let Some(envelope) = envelope_in(tape.bytes(), tape.nodes()) else {
-            return Err(Malformed::NotMessage);
+        let envelope = match envelope_in(alloc, tape.bytes(), tape.nodes()) {
+            Ok(Some(envelope)) => envelope,
+            Ok(None) => return Err(Malformed::NotMessage),
+            Err(Memory) => return Err(Malformed::Memory),
         };
         match decoded_method(alloc, tape.bytes(), tape.nodes(), envelope) {
             Ok(method) => Ok(Message {

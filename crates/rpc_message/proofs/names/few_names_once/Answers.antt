@@ -6,7 +6,7 @@ use Rattle.json_nodes.specs.Same.{drop_members}
 use Rattle.json_nodes.proofs.Sames.{walk_on, walk_fails, walk_holds, found_some}
 use Rattle.rpc_message.specs.Message.{no_name_twice}
 use Rattle.rpc_message.proofs.Enveloped.{once_first, once_by}
-use Rattle.rpc_message.proofs.envelope.names_once.Goals as goal
+use Rattle.rpc_message.proofs.names.few_names_once.Goals as goal
 
 pub returns-then-is_some : goal.returns-then-is_some
 returns-then-is_some c = λ s ms a.

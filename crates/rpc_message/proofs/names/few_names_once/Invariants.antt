@@ -2,7 +2,7 @@ use Rattle.std.proofs.Common.{length}
 use Rattle.rpc_message.specs.Message.{no_name_twice}
 use Rattle.json_nodes.proofs.Members.{left}
 use Rattle.json_nodes.proofs.Sames.{MembersWalk}
-use Rattle.rpc_message.proofs.envelope.names_once.Given as goal
+use Rattle.rpc_message.proofs.names.few_names_once.Given as goal
 
 abbrev pub invariant-loop-next : goal.invariant-loop-next
 invariant-loop-next l = MembersWalk (record { bytes = l.bytes; nodes = l.nodes }) (record { bytes = l.bytes; nodes = l.nodes }) l.node l.node (λ ms ns. no_name_twice ms) l.next

@@ -1,0 +1,6 @@
+use Rattle.std.proofs.Common.{length}
+use Rattle.json_nodes.proofs.Members.{Inside}
+use Rattle.rpc_message.proofs.names.has_few.Given as goal
+
+abbrev pub invariant-loop : goal.invariant-loop
+invariant-loop l = Inside (length l.nodes) l.next

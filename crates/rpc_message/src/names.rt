@@ -1,0 +1,96 @@
+//! Whether the members of an object have names of their own.
+ghost use Rattle.std.specs.Prelude.{◌≡◌, ◌<◌, ◌||◌, ℕ, List, bytes_eq, length, not, IfOk, MatchOption, OnOk};
+ghost use Rattle.json_text.specs.declared.span.Span.{Span};
+ghost use Rattle.json_text.specs.Json.{Members, object};
+ghost use Rattle.json_text.specs.String.{SpellsCharacters};
+ghost use Rattle.json_nodes.specs.At.{At};
+ghost use Rattle.rpc_message.specs.Message.{no_name_twice};
+ghost use Rattle.rpc_message.specs.Names.{has_name};
+
+use json_nodes::{Node, first_in, last_spelled, name_in, next_in};
+use json_text::Memory;
+use json_token::decode;
+use std::alloc::Global;
+use std::collections::BTreeSet;
+
+// Objects of up to so many members are searched pair by pair, which takes no memory.
+const FEW: usize = 16;
+
+/// Whether no two members of an object have one name. It takes n log n comparisons of n names, whatever the names are.
+pub fn names_once(
+    alloc: Global,
+    bytes: &[u8],
+    nodes: &[Node],
+    node: u32,
+) -> Result<bool, Memory>
+    requires { node < length nodes.now }
+    ensures { (s : Span) (ms : Members) → At (record { bytes = bytes.now; nodes = nodes.now }) node (object s ms) → IfOk result (λ once. once ≡ no_name_twice ms) }
+{
+    if has_few(nodes, node) {
+        Ok(few_names_once(bytes, nodes, node))
+    } else {
+        many_names_once(alloc, bytes, nodes, node)
+    }
+}
+
+// Whether an object has few members.
+fn has_few(nodes: &[Node], node: u32) -> bool
+    requires { node < length nodes.now }
+{
+    let mut next = first_in(nodes, node);
+    for _ in 0..FEW {
+        let Some(member) = next else { return true };
+        next = next_in(nodes, member);
+    }
+    next.is_none()
+}
+
+// The same, each name against those behind it.
+fn few_names_once(bytes: &[u8], nodes: &[Node], node: u32) -> bool
+    requires { node < length nodes.now }
+    ensures { (s : Span) (ms : Members) → At (record { bytes = bytes.now; nodes = nodes.now }) node (object s ms) → result ≡ no_name_twice ms }
+{
+    let mut next = first_in(nodes, node);
+    while let Some(member) = next {
+        let following = next_in(nodes, member);
+        if last_spelled(name_in(bytes, nodes, member), bytes, nodes, following).is_some() {
+            return false;
+        }
+        next = following;
+    }
+    true
+}
+
+// The same, each name against those before it, which are kept in order.
+fn many_names_once(
+    alloc: Global,
+    bytes: &[u8],
+    nodes: &[Node],
+    node: u32,
+) -> Result<bool, Memory>
+    requires { node < length nodes.now }
+    ensures { (s : Span) (ms : Members) → At (record { bytes = bytes.now; nodes = nodes.now }) node (object s ms) → IfOk result (λ once. once ≡ no_name_twice ms) }
+{
+    let mut names = BTreeSet::new(alloc);
+    let mut next = first_in(nodes, node);
+    while let Some(member) = next {
+        if !add_name(alloc, &mut names, name_in(bytes, nodes, member))? {
+            return Ok(false);
+        }
+        next = next_in(nodes, member);
+    }
+    Ok(true)
+}
+
+// Adds the name that these bytes spell to the names so far, and says whether it is new.
+fn add_name(
+    alloc: Global,
+    names: &mut BTreeSet<Vec<u8>>,
+    raw: &[u8],
+) -> Result<bool, Memory>
+    ensures new { (cs : List ℕ) → SpellsCharacters cs raw.now → IfOk result (λ is_new. is_new ≡ not (has_name names.old cs)) }
+    ensures names { (cs : List ℕ) → SpellsCharacters cs raw.now → OnOk result ((ds : List ℕ) → has_name names.new ds ≡ (bytes_eq cs ds || has_name names.old ds)) }
+{
+    let name = decode(alloc, raw)?;
+    Ok(names.insert(name)?)
+}
