@@ -1,18 +1,5 @@
-use Rattle.json_nodes.specs.Doc.{Doc}
-use Rattle.rpc_message.proofs.Enveloped.{no_envelope, told_called, told_answered}
+use Rattle.rpc_message.proofs.Enveloped.{no_envelope}
 use Rattle.rpc_message.proofs.envelope.envelope_in.Goals as goal
 
-pub returns-then-not-is_enveloped : goal.returns-then-not-is_enveloped
-returns-then-not-is_enveloped c = λ j a. no_envelope j c.is_enveloped.result (c.is_enveloped.ensures j a) c.if-not-is_enveloped.true
-
-pub returns-in-Some : goal.returns-in-Some
-returns-in-Some c = λ j a.
-    let doc : Doc = record { bytes = c.args.bytes.now; nodes = c.args.nodes.now } in
-    told_called doc j c.called.result c.is_enveloped.result (c.is_enveloped.ensures j a) c.if-not-is_enveloped.false c.in-Some.method c.member_in.result c.member_in-id.result c.member_in-in-Some.result
-    (c.member_in.ensures.member j a) c.in-Some.is (c.member_in-id.ensures.member j a) (c.member_in-in-Some.ensures.member j a) (λ m i p f v x y z. c.called.ensures m i p f v x y z)
-
-pub returns-in-None : goal.returns-in-None
-returns-in-None c = λ j a.
-    let doc : Doc = record { bytes = c.args.bytes.now; nodes = c.args.nodes.now } in
-    told_answered doc j c.answered.result c.is_enveloped.result (c.is_enveloped.ensures j a) c.if-not-is_enveloped.false c.member_in.result c.member_in-id.result c.member_in-in-None.result c.member_in-in-None-2.result
-    (c.member_in.ensures.member j a) c.in-None.is (c.member_in-id.ensures.member j a) (c.member_in-in-None.ensures.member j a) (c.member_in-in-None-2.ensures.member j a) (λ i f v x y z. c.answered.ensures i f v x y z)
+pub returns-else-branch : goal.returns-else-branch
+returns-else-branch c = λ j a. no_envelope j c.in_ok-is_enveloped.field-0 (c.in_ok-is_enveloped.ensures j a) c.if-branch.false

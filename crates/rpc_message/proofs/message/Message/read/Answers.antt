@@ -8,30 +8,30 @@ use Rattle.rpc_message.proofs.message.Message.read.Goals as goal
 pub envelope_in-requires : goal.envelope_in-requires
 envelope_in-requires c = has_root c.in-Ok.tape c.in-Ok.ensures.ok.1.0 (length c.nodes.result.now) c.in-Ok.ensures.ok.1.1 (ap length c.nodes.ensures)
 
-pub returns-in_default-clause-refused : goal.returns-in_default-clause-refused
-returns-in_default-clause-refused c =
-    let told : TellsIf c.in-Ok.tape c.envelope_in.result (message_of c.args.bytes.now) = told_read c.in-Ok.tape (record { bytes = c.bytes.result.now; nodes = c.nodes.result.now }) c.envelope_in.result c.args.bytes.now c.in-Ok.ensures.ok.1.0
-    (same_doc c.in-Ok.tape c.bytes.result.now c.nodes.result.now c.bytes.ensures c.nodes.ensures) c.in-Ok.ensures.ok.0 c.in-Ok.ensures.ok.1.1 c.envelope_in.ensures in
-    subst (λ e. TellsIf c.in-Ok.tape e (message_of c.args.bytes.now)) c.in_default.is told
+pub returns-in-Ok-None-clause-refused : goal.returns-in-Ok-None-clause-refused
+returns-in-Ok-None-clause-refused c =
+    let told : TellsIf c.in-Ok.tape c.in-Ok-None.field-0 (message_of c.args.bytes.now) = told_read c.in-Ok.tape (record { bytes = c.bytes.result.now; nodes = c.nodes.result.now }) c.in-Ok-None.field-0 c.args.bytes.now c.in-Ok.ensures.ok.1.0
+    (same_doc c.in-Ok.tape c.bytes.result.now c.nodes.result.now c.bytes.ensures c.nodes.ensures) c.in-Ok.ensures.ok.0 c.in-Ok.ensures.ok.1.1 c.in-Ok-None.ensures in
+    subst (λ e. TellsIf c.in-Ok.tape e (message_of c.args.bytes.now)) c.in-Ok-None.field-0-is told
 
 pub decoded_method-requires : goal.decoded_method-requires
 decoded_method-requires c =
-    let told : TellsIf c.in-Ok.tape c.envelope_in.result (message_of c.args.bytes.now) = told_read c.in-Ok.tape (record { bytes = c.bytes.result.now; nodes = c.nodes.result.now }) c.envelope_in.result c.args.bytes.now c.in-Ok.ensures.ok.1.0
-    (same_doc c.in-Ok.tape c.bytes.result.now c.nodes.result.now c.bytes.ensures c.nodes.ensures) c.in-Ok.ensures.ok.0 c.in-Ok.ensures.ok.1.1 c.envelope_in.ensures in
-    let some : Tells c.in-Ok.tape c.in-Some.envelope (message_of c.args.bytes.now) = subst (λ e. TellsIf c.in-Ok.tape e (message_of c.args.bytes.now)) c.in-Some.is told in
-    (message_of c.args.bytes.now, subst (λ d. Tells d c.in-Some.envelope (message_of c.args.bytes.now)) (sym (same_doc c.in-Ok.tape c.bytes-2.result.now c.nodes-2.result.now c.bytes-2.ensures c.nodes-2.ensures)) some)
+    let told : TellsIf c.in-Ok.tape c.in-Ok-Some.field-0 (message_of c.args.bytes.now) = told_read c.in-Ok.tape (record { bytes = c.bytes.result.now; nodes = c.nodes.result.now }) c.in-Ok-Some.field-0 c.args.bytes.now c.in-Ok.ensures.ok.1.0
+    (same_doc c.in-Ok.tape c.bytes.result.now c.nodes.result.now c.bytes.ensures c.nodes.ensures) c.in-Ok.ensures.ok.0 c.in-Ok.ensures.ok.1.1 c.in-Ok-Some.ensures in
+    let some : Tells c.in-Ok.tape c.in-Ok-Some.envelope (message_of c.args.bytes.now) = subst (λ e. TellsIf c.in-Ok.tape e (message_of c.args.bytes.now)) c.in-Ok-Some.field-0-is told in
+    (message_of c.args.bytes.now, subst (λ d. Tells d c.in-Ok-Some.envelope (message_of c.args.bytes.now)) (sym (same_doc c.in-Ok.tape c.bytes-2.result.now c.nodes-2.result.now c.bytes-2.ensures c.nodes-2.ensures)) some)
 
 pub returns-in-Ok-decoded_method-clause-ok : goal.returns-in-Ok-decoded_method-clause-ok
 returns-in-Ok-decoded_method-clause-ok c =
-    let told : TellsIf c.in-Ok.tape c.envelope_in.result (message_of c.args.bytes.now) = told_read c.in-Ok.tape (record { bytes = c.bytes.result.now; nodes = c.nodes.result.now }) c.envelope_in.result c.args.bytes.now c.in-Ok.ensures.ok.1.0
-    (same_doc c.in-Ok.tape c.bytes.result.now c.nodes.result.now c.bytes.ensures c.nodes.ensures) c.in-Ok.ensures.ok.0 c.in-Ok.ensures.ok.1.1 c.envelope_in.ensures in
-    let some : Tells c.in-Ok.tape c.in-Some.envelope (message_of c.args.bytes.now) = subst (λ e. TellsIf c.in-Ok.tape e (message_of c.args.bytes.now)) c.in-Some.is told in
-    read_is c.in-Ok.tape c.in-Some.envelope c.in-Ok-decoded_method.method c.args.bytes.now c.in-Ok.ensures.ok.1.0 c.in-Ok.ensures.ok.0 c.in-Ok.ensures.ok.1.1 some
+    let told : TellsIf c.in-Ok.tape c.in-Ok-Some.field-0 (message_of c.args.bytes.now) = told_read c.in-Ok.tape (record { bytes = c.bytes.result.now; nodes = c.nodes.result.now }) c.in-Ok-Some.field-0 c.args.bytes.now c.in-Ok.ensures.ok.1.0
+    (same_doc c.in-Ok.tape c.bytes.result.now c.nodes.result.now c.bytes.ensures c.nodes.ensures) c.in-Ok.ensures.ok.0 c.in-Ok.ensures.ok.1.1 c.in-Ok-Some.ensures in
+    let some : Tells c.in-Ok.tape c.in-Ok-Some.envelope (message_of c.args.bytes.now) = subst (λ e. TellsIf c.in-Ok.tape e (message_of c.args.bytes.now)) c.in-Ok-Some.field-0-is told in
+    read_is c.in-Ok.tape c.in-Ok-Some.envelope c.in-Ok-decoded_method.method c.args.bytes.now c.in-Ok.ensures.ok.1.0 c.in-Ok.ensures.ok.0 c.in-Ok.ensures.ok.1.1 some
     (c.in-Ok-decoded_method.ensures (message_of c.args.bytes.now)
-    (subst (λ d. Tells d c.in-Some.envelope (message_of c.args.bytes.now)) (sym (same_doc c.in-Ok.tape c.bytes-2.result.now c.nodes-2.result.now c.bytes-2.ensures c.nodes-2.ensures)) some))
+    (subst (λ d. Tells d c.in-Ok-Some.envelope (message_of c.args.bytes.now)) (sym (same_doc c.in-Ok.tape c.bytes-2.result.now c.nodes-2.result.now c.bytes-2.ensures c.nodes-2.ensures)) some))
 
 pub invariant_of-result : goal.invariant_of-result
-invariant_of-result c = subst (IsRead (record { doc = c.in-Ok.tape; envelope = c.in-Some.envelope; method = c.in-Ok-decoded_method.method })) (sym c.in-Ok.ensures.ok.0) (returns-in-Ok-decoded_method-clause-ok c)
+invariant_of-result c = subst (IsRead (record { doc = c.in-Ok.tape; envelope = c.in-Ok-Some.envelope; method = c.in-Ok-decoded_method.method })) (sym c.in-Ok.ensures.ok.0) (returns-in-Ok-decoded_method-clause-ok c)
 
 pub returns-in-Err-Syntax-clause-refused : goal.returns-in-Err-Syntax-clause-refused
 returns-in-Err-Syntax-clause-refused c = syntax_refused c.args.bytes.now c.in-Err-Syntax.field-0-0 (c.in-Err-Syntax.ensures.syntax c.in-Err-Syntax.field-0-0 (ap Err c.in-Err-Syntax.field-0-is))
