@@ -7,7 +7,7 @@ use Rattle.json_text.specs.declared.span.Span.{Span}
 use Rattle.json_text.specs.declared.kind.Kind.{Kind}
 use Rattle.json_text.specs.declared.kind.Kind.TheVariants as kind
 use Rattle.json_text.specs.Json.{Json, word, number, string, array, object, value, span_of}
-use Rattle.json_text.specs.Named.{named_in, items_list}
+use Rattle.json_text.specs.Named.{named_in}
 use Rattle.json_text.specs.String.{SpellsCharacters}
 use Rattle.json_token.proofs.Scalars.{scalar_characters, utf8_characters}
 use Rattle.json_nodes.specs.declared.node.Node.{Node}
@@ -17,7 +17,6 @@ use Rattle.json_nodes.specs.Nodes.{kind_of}
 use Rattle.json_nodes.proofs.Sames.{number_of, string_of}
 use Rattle.doc_text.specs.declared.change.Position.{Position}
 use Rattle.doc_text.specs.declared.change.Range.{Range}
-use Rattle.doc_text.specs.declared.change.Extent.{Extent}
 use Rattle.doc_text.specs.declared.change.Extent.TheVariants.{Whole, Part}
 use Rattle.doc_text.specs.declared.fault.ChangeFault.{ChangeFault}
 use Rattle.doc_text.specs.Changes.{both, coordinate, position_of, position_in, range_of, extent_in, extent_of, string_text, text_of, changes_of}

@@ -6,11 +6,10 @@ use Rattle.std.specs.Str.{chars}
 use Rattle.json_text.specs.Computes.{computes}
 use Rattle.json_text.specs.Named.{named}
 use Rattle.json_text.specs.Tree.{tree_of}
-use Rattle.position_codec.specs.declared.Encoding.{Encoding}
 use Rattle.position_codec.specs.declared.Encoding.TheVariants.{Utf8, Utf16, Utf32}
 use Rattle.doc_text.specs.declared.change.ContentChange.{ContentChange}
-use Rattle.doc_text.specs.declared.change.Extent.TheVariants.{Whole, Part}
-use Rattle.doc_text.specs.Changes.{changed, changed_all, changes_of, text_behind}
+use Rattle.doc_text.specs.declared.change.Extent.TheVariants.{Part}
+use Rattle.doc_text.specs.Changes.{changed, changed_all, text_behind}
 use Rattle.doc_text.specs.Numbers.{unsigned}
 
 -- `a😀b\r\nc\rd`

@@ -5,7 +5,7 @@ use Rattle.std.specs.Prelude.{Option, Some, None}
 use Rattle.std.specs.List.{replace_range}
 use Rattle.std.specs.Option.{option_map, option_and_then}
 use Rattle.std.specs.Str.{chars}
-use Rattle.json_text.specs.Json.{Json, word, number, string, array, object}
+use Rattle.json_text.specs.Json.{Json, number, string, array}
 use Rattle.json_text.specs.Named.{named_in, items_list}
 use Rattle.position_codec.specs.declared.Encoding.{Encoding}
 use Rattle.position_codec.specs.Position.{lines, offset_at}

@@ -1,9 +1,8 @@
 use crate::{ChangeFault, DocText, Text};
 use json_span::Tape;
-use json_text::Body;
+use json_text::{Body, Memory};
 use position_codec::Encoding;
 use std::alloc::Global;
-use std::test::Fail;
 
 /// Eleven bytes: a character of four bytes, an end of two bytes, and a `\r` alone.
 const TEXT: &str = "a😀b\r\nc\rd";
@@ -14,20 +13,20 @@ fn change(
     text: &str,
     encoding: Encoding,
     changes: &[u8],
-) -> Result<(Result<(), ChangeFault>, Body), Fail> {
+) -> Result<(Result<(), ChangeFault>, Body), Memory> {
     let mut text = DocText::new(alloc, text.as_bytes())?;
     if changes.len() > 1000 {
-        return Err(Fail);
+        return Err(Memory);
     }
     let Ok(tape) = Tape::read(alloc, changes) else {
-        return Err(Fail);
+        return Err(Memory);
     };
     let done = text.apply(alloc, encoding, &tape, tape.root());
     Ok((done, text.whole(alloc)?))
 }
 
 #[test]
-fn makes_changes(rt: HostRuntime) -> Result<(), Fail> {
+fn makes_changes(rt: HostRuntime) -> Result<(), Memory> {
     let rows: [(&[u8], &str); 12] = [
         (b"[]", TEXT),
         (b"[{\"text\":\"\"}]", ""),
@@ -78,7 +77,7 @@ fn makes_changes(rt: HostRuntime) -> Result<(), Fail> {
 }
 
 #[test]
-fn counts_by_the_encoding(rt: HostRuntime) -> Result<(), Fail> {
+fn counts_by_the_encoding(rt: HostRuntime) -> Result<(), Memory> {
     let rows: [(Encoding, &[u8]); 3] = [
         (
             Encoding::Utf8,
@@ -102,7 +101,7 @@ fn counts_by_the_encoding(rt: HostRuntime) -> Result<(), Fail> {
 }
 
 #[test]
-fn leaves_the_text_where_the_shape_is_bad(rt: HostRuntime) -> Result<(), Fail> {
+fn leaves_the_text_where_the_shape_is_bad(rt: HostRuntime) -> Result<(), Memory> {
     let rows: [&[u8]; 11] = [
         b"7",
         b"{\"text\":\"x\"}",
@@ -125,7 +124,7 @@ fn leaves_the_text_where_the_shape_is_bad(rt: HostRuntime) -> Result<(), Fail> {
 }
 
 #[test]
-fn compares_and_copies(rt: HostRuntime) -> Result<(), Fail> {
+fn compares_and_copies(rt: HostRuntime) -> Result<(), Memory> {
     let text = DocText::new(rt.alloc(), TEXT.as_bytes())?;
     let copied = text.copy(rt.alloc())?;
     assert!(rt; text.equals(&copied));
