@@ -1,0 +1,5 @@
+pub mod Documents
+pub mod Notices
+pub mod Rows
+pub mod Shown
+pub mod Texts
