@@ -50,6 +50,10 @@ send u (Some x) s = tell s.start u x s
 abbrev pub switch : ℕ → Open → ℕ → Telling
 switch versions o v = if nat_lt v versions then Changes (v + 1) (full_text o.uri (v + 1) o.text) else OpensAnew (close_text o.uri) (open_text o.uri o.language o.text)
 
+-- the server is told an editor's text, where it has another
+abbrev pub differing : Open → ℕ → Documents → Option Telling
+differing o v s = if holds o.uri o.text s.opens then None else Some (switch s.versions o v)
+
 -- behind a step, an editor touches a document
 abbrev pub touch : Open → Step → Step
 touch o step = record { outs = step.outs; after = record step.after { opens = put_open o step.after.opens; turn = step.after.turn + 1 } }
@@ -57,7 +61,7 @@ touch o step = record { outs = step.outs; after = record step.after { opens = pu
 -- an editor opens a document, or opens it again
 abbrev pub open_sends : Open → Option ℕ → Documents → Option Telling
 open_sends o None s = Some (Opens (open_text o.uri o.language o.text))
-open_sends o (Some v) s = if holds o.uri o.text s.opens then None else Some (switch s.versions o v)
+open_sends o (Some v) s = differing o v s
 
 abbrev pub open_row : ℕ → List ℕ → List ℕ → List ℕ → List ℕ → Documents → Step
 open_row e u l v t s =
@@ -93,14 +97,13 @@ change_row e body t s =
 -- an editor closes a document: the last one closes it at the server, and else the next holder's text counts
 abbrev pub close_sends : ℕ → List ℕ → Option ℕ → Documents → Option Telling
 close_sends e u None s = None
-close_sends e u (Some v) s = option_map_or (λ h. if holds u h.text s.opens then None else Some (switch s.versions h v))
-    (holder_beside e u s.opens) (Some (Closes (close_text u)))
+close_sends e u (Some v) s = option_map_or (λ h. differing h v s) (holder_beside e u s.opens) (Some (Closes (close_text u)))
 
 abbrev pub forget : ℕ → List ℕ → Step → Step
 forget e u step = record { outs = step.outs; after = record step.after { opens = drop_open e u step.after.opens } }
 
 abbrev pub close_row : ℕ → List ℕ → Documents → Step
-close_row e u s = or_nothing (find (is_open_at e u) s.opens) s (λ o. forget e u (send u (close_sends e u (held_of u s.helds).version s) s))
+close_row e u s = or_nothing (find (is_open_at e u) s.opens) s (λ o. forget e o.uri (send o.uri (close_sends e o.uri (held_of o.uri s.helds).version s) s))
 
 -- a start is ready: it is told of each document that is open, in the order of its earliest opening, with the holder's language and text
 abbrev pub replay_sends : Open → Option ℕ → Documents → Option Telling
@@ -110,11 +113,17 @@ replay_sends o None s = option_map_or (λ h. Some (Opens (open_text o.uri h.lang
 abbrev pub and_then : Step → (Documents → Step) → Step
 and_then step f = record { outs = step.outs ++ (f step.after).outs; after = (f step.after).after }
 
+abbrev pub replayed : Documents → Open → Step
+replayed s o = send o.uri (replay_sends o (held_of o.uri s.helds).version s) s
+
 abbrev pub replay : Step → Open → Step
-replay step o = and_then step (λ s. send o.uri (replay_sends o (held_of o.uri s.helds).version s) s)
+replay step o = and_then step (λ s. replayed s o)
+
+abbrev pub replay_all : Documents → Step
+replay_all s = fold replay (nothing s) s.opens
 
 abbrev pub ready_row : ℕ → Encoding → Documents → Step
-ready_row start encoding s = fold replay (nothing (record s { start = Some start; encoding = Some encoding; helds = [] })) s.opens
+ready_row start encoding s = replay_all (record s { start = Some start; encoding = Some encoding; helds = [] })
 
 -- no start is ready
 abbrev pub unready_row : Documents → Documents

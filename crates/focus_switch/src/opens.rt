@@ -1,5 +1,5 @@
 //! What is open at the editors.
-ghost use Rattle.std.specs.Prelude.{◌≡◌, [], find, Some, None, OnOk, option_map, if◌then◌else◌};
+ghost use Rattle.std.specs.Prelude.{◌≡◌, [], find, length, slice_get, Some, None, OnOk, option_map, if◌then◌else◌};
 ghost use Rattle.std.specs.List.{position_or_len};
 ghost use Rattle.focus_switch.specs.Documents.{drop_open, holder, holder_beside, is_open_at, later, put_open};
 ghost use Rattle.focus_switch.specs.Shown.{shown};
@@ -45,6 +45,18 @@ impl<T: Text + Drop> Opens<T> {
         Opens {
             list: Vec::new(alloc),
         }
+    }
+
+    pub fn len(&self) -> usize
+        ensures { result ≡ length self.now }
+    {
+        self.list.len()
+    }
+
+    pub fn get(&self, i: usize) -> Option<&Opening<T>>
+        ensures { option_map (λ o. shown T.bytes o.now) result ≡ slice_get self.now i }
+    {
+        self.list.as_slice().get(i)
     }
 
     // The place of a document of an editor, or the length.

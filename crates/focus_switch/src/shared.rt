@@ -1,12 +1,13 @@
 //! The documents that a group of editors shares.
-ghost use Rattle.std.specs.Prelude.{◌≡◌, ◌≤◌, ◌<◌, ◌^◌, ◌+◌, ℕ, List, [], Some, None, IsUtf8, IfOk, OnOk};
+ghost use Rattle.std.specs.Prelude.{◌≡◌, ◌≤◌, ◌<◌, ◌^◌, ◌+◌, ℕ, List, [], Some, None, IsUtf8, IfOk, OnOk, slice_get};
 ghost use Rattle.focus_switch.specs.Documents.{Open, held_of, holds, put_open};
-ghost use Rattle.focus_switch.specs.Rows.{Step, open_row, open_sends, send};
+ghost use Rattle.focus_switch.specs.Rows.{Step, close_row, close_sends, differing, open_row, open_sends, or_nothing, ready_row, replay_all, replay_sends, replayed, send, unready_row};
 ghost use Rattle.focus_switch.specs.Shown.{shown};
 
 use crate::held::Helds;
 use crate::opens::{Opening, Opens};
 use crate::telling::{Telling, opens, switch};
+use crate::texts::close_text;
 use doc_text::Text;
 use json_text::{Body, Memory};
 use mux_history::Outs;
@@ -74,6 +75,96 @@ impl<T: Text + Drop> Shared<T> {
         Ok(outs)
     }
 
+    /// An editor closes a document (LSP 3.17, DidCloseTextDocumentParams). One that isn't open there changes nothing.
+    pub fn close(&mut self, e: u64, uri: &[u8]) -> Result<Outs, Memory>
+        requires counts { (u : List ℕ) → (held_of u self.old.helds).sent < 2 ^ 100 }
+        ensures { IfOk result (λ outs. record { outs = outs; after = self.new } ≡ close_row e uri.now self.old) }
+    {
+        let Some(opening) = self.opens.find(e, uri) else {
+            return Ok(Outs::new(self.alloc))
+        };
+        let uri = String::from_str(self.alloc, opening.uri.as_str())?;
+        let telling = self.closing_tells(e, uri.as_str())?;
+        let outs = self.tell(uri.as_bytes(), telling)?;
+        self.opens.remove(e, uri.as_bytes());
+        Ok(outs)
+    }
+
+    /// A start of the server is ready, and counts positions in this encoding: it is told of each document that is open.
+    pub fn ready(&mut self, start: u64, encoding: Encoding) -> Result<Outs, Memory>
+        ensures { IfOk result (λ outs. record { outs = outs; after = self.new } ≡ ready_row start encoding self.old) }
+    {
+        self.start = Some(start);
+        self.encoding = Some(encoding);
+        self.helds.clear();
+        self.replay_all()
+    }
+
+    /// The start is ready no more. The encoding stays.
+    pub fn unready(&mut self)
+        ensures { self.new ≡ unready_row self.old }
+    {
+        self.start = None;
+        self.helds.clear();
+    }
+
+    // Tells a start that was told nothing of each document that is open.
+    fn replay_all(&mut self) -> Result<Outs, Memory>
+        requires { self.old.helds ≡ [] }
+        ensures { IfOk result (λ outs. record { outs = outs; after = self.new } ≡ replay_all self.old) }
+    {
+        let mut outs = Outs::new(self.alloc);
+        for i in 0..self.opens.len() {
+            outs.append(self.replay(i)?)?;
+        }
+        Ok(outs)
+    }
+
+    // Tells the start of one document, unless it has it.
+    fn replay(&mut self, i: usize) -> Result<Outs, Memory>
+        requires { (u : List ℕ) → (held_of u self.old.helds).sent < 2 ^ 100 }
+        ensures { IfOk result (λ outs. record { outs = outs; after = self.new } ≡ or_nothing (slice_get self.old.opens i) self.old (λ o. replayed self.old o)) }
+    {
+        let Some(opening) = self.opens.get(i) else {
+            return Ok(Outs::new(self.alloc))
+        };
+        let uri = String::from_str(self.alloc, opening.uri.as_str())?;
+        let telling = self.replay_tells(uri.as_str())?;
+        self.tell(uri.as_bytes(), telling)
+    }
+
+    // What the start is told of a document that it doesn't have.
+    fn replay_tells(&self, uri: &str) -> Result<Option<Telling>, Memory>
+        ensures { IfOk result (λ x. (o : Open) → o.uri ≡ uri.now → x ≡ replay_sends o (held_of uri.now self.now.helds).version self.now) }
+    {
+        match (
+            self.helds.get(uri.as_bytes()).version,
+            self.opens.holder(uri.as_bytes()),
+        ) {
+            (None, Some(holder)) => {
+                let body = opens(self.alloc, uri, holder)?;
+                Ok(Some(Telling::Opens(body)))
+            }
+            _ => Ok(None),
+        }
+    }
+
+    // What the start is told where an editor closes a document.
+    fn closing_tells(&self, e: u64, uri: &str) -> Result<Option<Telling>, Memory>
+        ensures { IfOk result (λ x. x ≡ close_sends e uri.now (held_of uri.now self.now.helds).version self.now) }
+    {
+        let Some(version) = self.helds.get(uri.as_bytes()).version else {
+            return Ok(None)
+        };
+        match self.opens.holder_beside(e, uri.as_bytes()) {
+            Some(holder) => self.switch_tells(holder, version),
+            None => {
+                let body = close_text(self.alloc, uri)?;
+                Ok(Some(Telling::Closes(body)))
+            }
+        }
+    }
+
     // Whether the server has this text of the document, where it has the document.
     fn holds(&self, uri: &[u8], text: &T) -> bool
         ensures { result ≡ holds uri.now (T.bytes text.now) self.now.opens }
@@ -99,7 +190,7 @@ impl<T: Text + Drop> Shared<T> {
 
     // What the start is told where an editor's text is to be the server's.
     fn switch_tells(&self, opening: &Opening<T>, version: u32) -> Result<Option<Telling>, Memory>
-        ensures { IfOk result (λ x. x ≡ open_sends (shown T.bytes opening.now) (Some version) self.now) }
+        ensures { IfOk result (λ x. x ≡ differing (shown T.bytes opening.now) version self.now) }
     {
         if self.holds(opening.uri.as_bytes(), &opening.text) {
             Ok(None)
@@ -112,7 +203,7 @@ impl<T: Text + Drop> Shared<T> {
     // Tells the start, where one is ready.
     fn tell(&mut self, uri: &[u8], telling: Option<Telling>) -> Result<Outs, Memory>
         requires { (held_of uri.now self.old.helds).sent < 2 ^ 100 }
-        ensures { IfOk result (λ outs. record { outs = outs; after = self.new } ≡ send uri.now telling.entry self.old) }
+        ensures { IfOk result (λ outs. record { outs = outs; after = self.new } ≡ send uri.now telling self.old) }
     {
         let Some(telling) = telling else {
             return Ok(Outs::new(self.alloc))
