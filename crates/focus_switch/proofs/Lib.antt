@@ -1,2 +1,5 @@
+mod Changing
 mod Helds
+mod Noticed
 mod Placing
+mod Replays

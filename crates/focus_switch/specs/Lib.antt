@@ -1,4 +1,5 @@
 pub mod Documents
+pub mod Noted
 pub mod Notices
 pub mod Rows
 pub mod Shown

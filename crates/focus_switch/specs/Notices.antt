@@ -5,7 +5,7 @@ use Rattle.std.specs.Prelude.{Option, Some, None}
 use Rattle.std.specs.Option.{option_and_then}
 use Rattle.json_text.specs.Json.{Json, word, number, string, array, object, Members, no_members, member, span_of}
 use Rattle.json_text.specs.Named.{named_in}
-use Rattle.json_text.specs.Replace.{Edit, replace}
+use Rattle.json_text.specs.Replace.{Edit, replace, replace_from}
 use Rattle.rpc_message.specs.Message.{is_integer}
 use Rattle.doc_text.specs.Changes.{string_text}
 
@@ -42,7 +42,11 @@ did_change t = did_change_of (uri_in t) (version_in t) (changes_in t)
 -- each `version` of the document with another value
 abbrev pub version_edits : List ℕ → Members → List Edit
 version_edits text no_members = []
-version_edits text (member s cs j ms) = if bytes_eq cs (codes "version") then record { span = span_of j; text = text } ∷ version_edits text ms else version_edits text ms
+version_edits text (member s cs j ms) = if bytes_eq (codes "version") cs then record { span = span_of j; text = text } ∷ version_edits text ms else version_edits text ms
+
+-- the bytes from a place on, with those versions written
+abbrev pub written_from : ℕ → List ℕ → List ℕ → Members → List ℕ
+written_from at bytes text ms = replace_from at bytes (version_edits text ms)
 
 abbrev pub edits_in : List ℕ → Option Json → List Edit
 edits_in text (Some (object s ms)) = version_edits text ms

@@ -1,7 +1,7 @@
 -- What the server is told when an editor opens, changes or closes a document, and when a start of the server is ready.
 use Rattle.std.specs.Prelude.{ℕ, ◌+◌, Bool, true, false, ◌&&◌, List, [], ◌∷◌, ◌++◌, map, length, fold, find, nat_lt, if◌then◌else◌}
 use Rattle.std.specs.Prelude.{Option, Some, None}
-use Rattle.std.specs.Option.{option_and_then, option_map_or}
+use Rattle.std.specs.Option.{option_and_then, option_map, option_map_or}
 use Rattle.json_text.specs.Json.{Json}
 use Rattle.mux_history.specs.declared.out.Out.{Out}
 use Rattle.mux_history.specs.declared.out.Out.TheVariants.{ToServer}
@@ -68,13 +68,17 @@ open_row e u l v t s =
     let o : Open = record { editor = e; uri = u; language = l; version = v; text = t; touched = s.turn } in
     touch o (send u (open_sends o (held_of u s.helds).version s) s)
 
--- an editor changes a document from one text to another: its body goes on where the server has the one, under the server's version
-abbrev pub change_sends : Open → Open → List ℕ → Json → Option ℕ → Documents → Option Telling
-change_sends o new body t None s = None
-change_sends o new body t (Some v) s =
-    if holds o.uri new.text s.opens then None else
-    if holds o.uri o.text s.opens && nat_lt v s.versions then Some (Changes (v + 1) (with_version (v + 1) body t))
-    else Some (switch s.versions new v)
+-- whether the server has the text that an editor has of a document
+abbrev pub had : ℕ → List ℕ → Documents → Bool
+had e u s = option_map_or (λ o. holds o.uri o.text s.opens) (find (is_open_at e u) s.opens) false
+
+-- an editor changes a document: its body goes on, where the server has the text before, under the server's next version
+abbrev pub change_tells : Open → List ℕ → Json → ℕ → Documents → Telling
+change_tells new body t v s = if nat_lt v s.versions && had new.editor new.uri s then Changes (v + 1) (with_version (v + 1) body t) else switch s.versions new v
+
+abbrev pub change_sends : Open → List ℕ → Json → Option ℕ → Documents → Option Telling
+change_sends new body t None s = None
+change_sends new body t (Some v) s = if holds new.uri new.text s.opens then None else Some (change_tells new body t v s)
 
 abbrev pub changed : Open → DidChange → List ℕ → ℕ → Open
 changed o q t turn = record { editor = o.editor; uri = o.uri; language = o.language; version = q.version; text = t; touched = turn }
@@ -86,13 +90,14 @@ or_nothing (Some a) s f = f a
 abbrev pub text_after : Option Encoding → Json → List ℕ → Option (List ℕ)
 text_after e cs t = option_and_then (λ encoding. text_behind encoding cs t) e
 
+-- the document at e behind a change, where it is open there and the change has the right shape
+abbrev pub changed_open : ℕ → DidChange → Documents → Option Open
+changed_open e q s = option_and_then (λ o. option_map (λ text. changed o q text s.turn) (text_after s.encoding q.changes o.text)) (find (is_open_at e q.uri) s.opens)
+
 -- a body that isn't a didChange of a document that is open at e changes nothing
 abbrev pub change_row : ℕ → List ℕ → Json → Documents → Step
 change_row e body t s =
-    or_nothing (did_change t) s (λ q.
-    or_nothing (find (is_open_at e q.uri) s.opens) s (λ o.
-    or_nothing (text_after s.encoding q.changes o.text) s (λ text.
-    touch (changed o q text s.turn) (send o.uri (change_sends o (changed o q text s.turn) body t (held_of o.uri s.helds).version s) s))))
+    or_nothing (did_change t) s (λ q. or_nothing (changed_open e q s) s (λ new. touch new (send new.uri (change_sends new body t (held_of new.uri s.helds).version s) s)))
 
 -- an editor closes a document: the last one closes it at the server, and else the next holder's text counts
 abbrev pub close_sends : ℕ → List ℕ → Option ℕ → Documents → Option Telling

@@ -2,6 +2,7 @@
 #![tactic(auto)]
 
 mod held;
+mod notice;
 mod opens;
 mod shared;
 mod telling;

@@ -1,17 +1,24 @@
 //! The documents that a group of editors shares.
-ghost use Rattle.std.specs.Prelude.{◌≡◌, ◌≤◌, ◌<◌, ◌^◌, ◌+◌, ℕ, List, [], Some, None, IsUtf8, IfOk, OnOk, slice_get};
+ghost use Rattle.std.specs.Prelude.{◌≡◌, ◌≤◌, ◌<◌, ◌^◌, ◌+◌, ℕ, List, [], Some, None, IsUtf8, IfOk, OnOk, length, option_map, slice_get};
+ghost use Rattle.json_text.specs.Json.{Json};
+ghost use Rattle.json_nodes.specs.At.{At};
+ghost use Rattle.focus_switch.specs.Noted.{FoundChange};
+ghost use Rattle.focus_switch.specs.Notices.{DidChange};
 ghost use Rattle.focus_switch.specs.Documents.{Open, held_of, holds, put_open};
-ghost use Rattle.focus_switch.specs.Rows.{Step, close_row, close_sends, differing, open_row, open_sends, or_nothing, ready_row, replay_all, replay_sends, replayed, send, unready_row};
+ghost use Rattle.focus_switch.specs.Rows.{Step, change_row, change_sends, change_tells, changed_open, close_row, close_sends, differing, open_row, open_sends, had, or_nothing, ready_row, replay_all, replay_sends, replayed, send, text_after, unready_row};
 ghost use Rattle.focus_switch.specs.Shown.{shown};
 
 use crate::held::Helds;
+use crate::notice::{Change, did_change, with_version};
 use crate::opens::{Opening, Opens};
 use crate::telling::{Telling, opens, switch};
 use crate::texts::close_text;
-use doc_text::Text;
+use doc_text::{ChangeFault, Text};
+use json_span::Tape;
 use json_text::{Body, Memory};
 use mux_history::Outs;
 use position_codec::Encoding;
+use rpc_message::Message;
 use std::alloc::Global;
 use std::marker::Model;
 
@@ -73,6 +80,65 @@ impl<T: Text + Drop> Shared<T> {
         let outs = self.tell(opening.uri.as_bytes(), telling)?;
         self.touch(opening)?;
         Ok(outs)
+    }
+
+    /// An editor changes a document (LSP 3.17, DidChangeTextDocumentParams), by a message. One that is no change of a document that is
+    /// open there changes nothing.
+    pub fn change(&mut self, e: u64, message: &Message) -> Result<Outs, Memory>
+        requires turns { self.old.turn < 2 ^ 100 }
+        requires counts { (u : List ℕ) → (held_of u self.old.helds).sent < 2 ^ 100 }
+        ensures { (t : Json) → At message.now.doc 0 t → IfOk result (λ outs. record { outs = outs; after = self.new } ≡ change_row e message.now.doc.bytes t self.old) }
+    {
+        let tape = message.tape();
+        let Some(change) = did_change(self.alloc, tape)? else {
+            return Ok(Outs::new(self.alloc))
+        };
+        let Some(changed) = self.changed(e, tape, change)? else {
+            return Ok(Outs::new(self.alloc))
+        };
+        let telling = self.changing_tells(tape, &changed)?;
+        let outs = self.tell(changed.uri.as_bytes(), telling)?;
+        self.touch(changed)?;
+        Ok(outs)
+    }
+
+    // The document at the editor behind a change, where it is open there and the list of changes has the right shape.
+    fn changed(&self, e: u64, tape: &Tape, change: Change) -> Result<Option<Opening<T>>, Memory>
+        requires { change.changes < length tape.now.nodes }
+        ensures { (q : DidChange) → FoundChange tape.now (Some q) (Some change) → IfOk result (λ o. option_map (shown T.bytes) o ≡ changed_open e q self.now) }
+    {
+        let Some(opening) = self.opens.find(e, change.uri.bytes()) else {
+            return Ok(None)
+        };
+        let Some(text) = self.text_behind(&opening.text, tape, change.changes)? else {
+            return Ok(None)
+        };
+        let uri = String::from_str(self.alloc, opening.uri.as_str())?;
+        let language = String::from_str(self.alloc, opening.language.as_str())?;
+        Ok(Some(Opening {
+            editor: opening.editor,
+            uri,
+            language,
+            version: change.version,
+            text,
+            touched: self.turn,
+        }))
+    }
+
+    // A text behind the changes that a node lists, where it lists changes and a start was ready.
+    fn text_behind(&self, text: &T, tape: &Tape, changes: u32) -> Result<Option<T>, Memory>
+        requires { changes < length tape.now.nodes }
+        ensures { (cs : Json) → At tape.now changes cs → IfOk result (λ x. option_map T.bytes x ≡ text_after self.now.encoding cs (T.bytes text.now)) }
+    {
+        let Some(encoding) = self.encoding else {
+            return Ok(None)
+        };
+        let mut changed = text.copy(self.alloc)?;
+        match changed.apply(self.alloc, encoding, tape, changes) {
+            Ok(()) => Ok(Some(changed)),
+            Err(ChangeFault::BadShape) => Ok(None),
+            Err(ChangeFault::Memory) => Err(Memory),
+        }
     }
 
     /// An editor closes a document (LSP 3.17, DidCloseTextDocumentParams). One that isn't open there changes nothing.
@@ -146,6 +212,47 @@ impl<T: Text + Drop> Shared<T> {
                 Ok(Some(Telling::Opens(body)))
             }
             _ => Ok(None),
+        }
+    }
+
+    // What the start is told where an editor changes a document.
+    fn changing_tells(&self, tape: &Tape, new: &Opening<T>) -> Result<Option<Telling>, Memory>
+        ensures { (t : Json) → At tape.now 0 t → IfOk result (λ x. x ≡ change_sends (shown T.bytes new.now) tape.now.bytes t (held_of (shown T.bytes new.now).uri self.now.helds).version self.now) }
+    {
+        let Some(version) = self.helds.get(new.uri.as_bytes()).version else {
+            return Ok(None)
+        };
+        if self.holds(new.uri.as_bytes(), &new.text) {
+            return Ok(None);
+        }
+        let telling = self.change_or_switch(tape, new, version)?;
+        Ok(Some(telling))
+    }
+
+    // The message under the server's next version, or the whole text.
+    fn change_or_switch(
+        &self,
+        tape: &Tape,
+        new: &Opening<T>,
+        version: u32,
+    ) -> Result<Telling, Memory>
+        ensures { (t : Json) → At tape.now 0 t → IfOk result (λ x. x ≡ change_tells (shown T.bytes new.now) tape.now.bytes t version self.now) }
+    {
+        if version < self.versions && self.had(new.editor, new.uri.as_bytes()) {
+            let body = with_version(self.alloc, tape, version + 1)?;
+            Ok(Telling::Changes(version + 1, body))
+        } else {
+            switch(self.alloc, self.versions, new, version)
+        }
+    }
+
+    // Whether the server has the text that an editor has of a document.
+    fn had(&self, e: u64, uri: &[u8]) -> bool
+        ensures { result ≡ had e uri.now self.now }
+    {
+        match self.opens.find(e, uri) {
+            Some(opening) => self.holds(opening.uri.as_bytes(), &opening.text),
+            None => false,
         }
     }
 
