@@ -3,3 +3,4 @@ mod Helds
 mod Noticed
 mod Placing
 mod Replays
+mod Worked
