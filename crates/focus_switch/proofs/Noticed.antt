@@ -1,13 +1,12 @@
 -- What a didChange says, and its versions.
 use Rattle.std.proofs.Common.{◌≡◌, ℕ, suc, ◌-◌, ◌<◌, Bool, true, false, List, [], ◌∷◌, ◌++◌, length, take, drop, codes, refl, sym, ◌∙◌, ap, ap₂, subst, add-one, append_assoc}
-use Rattle.std.specs.Prelude.{Option, Some, None, Result, Ok, Err, IfOk, MatchOption, bytes_eq, if◌then◌else◌}
+use Rattle.std.specs.Prelude.{Option, Some, None, Result, IfOk, MatchOption, bytes_eq, if◌then◌else◌}
 use Rattle.std.specs.Option.{option_and_then}
 use Rattle.std.specs.Str.{chars}
 use Rattle.json_text.specs.declared.span.Span.{Span}
 use Rattle.json_text.specs.declared.kind.Kind.{Kind}
 use Rattle.json_text.specs.declared.kind.Kind.TheVariants as kind
-use Rattle.json_text.specs.Json.{Json, word, number, string, array, object, Members, no_members, member, value, span_of}
-use Rattle.json_text.specs.Named.{named_in}
+use Rattle.json_text.specs.Json.{Json, word, number, string, array, object, Members, no_members, value, span_of}
 use Rattle.json_text.specs.Replace.{replace, replace_from}
 use Rattle.json_nodes.specs.declared.node.Node.{Node}
 use Rattle.json_nodes.specs.At.{At, Found, ChildAt, FoundChild}
@@ -16,12 +15,11 @@ use Rattle.json_nodes.specs.Names.{Tests}
 use Rattle.json_nodes.specs.Nodes.{kind_of}
 use Rattle.json_nodes.specs.Same.{drop_members}
 use Rattle.json_nodes.proofs.Members.{Inside, Follows, found_child_is, no_child, inside_more}
-use Rattle.json_nodes.proofs.Numbers.{child_at}
 use Rattle.json_nodes.proofs.Sames.{number_of, object_of}
 use Rattle.json_nodes.proofs.Spelling.{IsMember, is_member, members_end}
 use Rattle.rpc_message.specs.Message.{is_integer}
 use Rattle.focus_switch.specs.declared.notice.Change.{Change}
-use Rattle.focus_switch.specs.Notices.{DidChange, did_change, did_change_of, document_in, integer_text, uri_in, version_in, changes_in, version_edits, edits_in, written_from}
+use Rattle.focus_switch.specs.Notices.{did_change, did_change_of, integer_text, uri_in, version_in, changes_in, version_edits, edits_in, written_from}
 use Rattle.focus_switch.specs.Noted.{FoundChange, FirstMember, made}
 
 pub same_doc : (doc : Doc) (bs : List ℕ) (ns : List Node) → bs ≡ doc.bytes → ns ≡ doc.nodes → ◌≡◌ {A = Doc} (record { bytes = bs; nodes = ns }) doc

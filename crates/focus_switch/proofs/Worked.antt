@@ -1,6 +1,6 @@
 -- Documents that two editors share, worked out by the checker.
 use Rattle.std.proofs.Common.{◌≡◌, ℕ, List, [], ◌∷◌, ◌++◌, codes, decimal, refl}
-use Rattle.std.specs.Prelude.{Option, Some, None}
+use Rattle.std.specs.Prelude.{None}
 use Rattle.std.specs.Str.{chars}
 use Rattle.json_text.specs.Computes.{computes}
 use Rattle.json_text.specs.Named.{named}
@@ -58,8 +58,8 @@ same_text = refl
 abbrev inserts : List ℕ
 inserts = codes "{\"jsonrpc\":\"2.0\",\"params\":{\"textDocument\":{\"version\":6,\"uri\":\"file:///u\",\"version\":7},\"contentChanges\":[{\"range\":{\"start\":{\"line\":0,\"character\":1},\"end\":{\"line\":0,\"character\":1}},\"text\":\"y\"}]},\"method\":\"textDocument/didChange\"}"
 
-abbrev inserts_fourth : List ℕ
-inserts_fourth = codes "{\"jsonrpc\":\"2.0\",\"params\":{\"textDocument\":{\"version\":" ++ decimal 4 ++ codes ",\"uri\":\"file:///u\",\"version\":" ++ decimal 4 ++ codes "},\"contentChanges\":[{\"range\":{\"start\":{\"line\":0,\"character\":1},\"end\":{\"line\":0,\"character\":1}},\"text\":\"y\"}]},\"method\":\"textDocument/didChange\"}"
+abbrev inserts_second : List ℕ
+inserts_second = codes "{\"jsonrpc\":\"2.0\",\"params\":{\"textDocument\":{\"version\":" ++ (decimal 2 ++ (codes ",\"uri\":\"file:///u\",\"version\":" ++ (decimal 2 ++ codes "},\"contentChanges\":[{\"range\":{\"start\":{\"line\":0,\"character\":1},\"end\":{\"line\":0,\"character\":1}},\"text\":\"y\"}]},\"method\":\"textDocument/didChange\"}")))
 
 abbrev whole_b : List ℕ
 whole_b = codes "{\"jsonrpc\":\"2.0\",\"method\":\"textDocument/didChange\",\"params\":{\"textDocument\":{\"uri\":\"file:///u\",\"version\":2},\"contentChanges\":[{\"text\":\"b\"}]}}"
@@ -73,8 +73,12 @@ whole_c = codes "{\"jsonrpc\":\"2.0\",\"method\":\"textDocument/didChange\",\"pa
 abbrev no_list : List ℕ
 no_list = codes "{\"jsonrpc\":\"2.0\",\"method\":\"textDocument/didChange\",\"params\":{\"textDocument\":{\"uri\":\"file:///u\",\"version\":9},\"contentChanges\":7}}"
 
-forwarded : outs (opens 0 u (codes "a") ∷ opens 1 u (codes "b") ∷ changes 0 inserts ∷ changes 0 inserts ∷ changes 0 no_list ∷ []) (begun 100)
-    ≡ sent (open_text u x (codes "a")) ∷ sent (full_text u 2 (codes "b")) ∷ sent (full_text u 3 (codes "ay")) ∷ sent inserts_fourth ∷ []
+switched : outs (opens 0 u (codes "a") ∷ opens 1 u (codes "b") ∷ changes 0 inserts ∷ changes 0 no_list ∷ []) (begun 100)
+    ≡ sent (open_text u x (codes "a")) ∷ sent (full_text u 2 (codes "b")) ∷ sent (full_text u 3 (codes "ay")) ∷ []
+unfolding computes named is_integer chars
+switched = refl
+
+forwarded : outs (opens 0 u (codes "a") ∷ changes 0 inserts ∷ changes 1 inserts ∷ []) (begun 100) ≡ sent (open_text u x (codes "a")) ∷ sent inserts_second ∷ []
 unfolding computes named is_integer chars
 forwarded = refl
 

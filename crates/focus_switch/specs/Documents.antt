@@ -1,7 +1,7 @@
 -- The documents of the editors that share a server (LSP 3.17, Text Document Synchronization).
-use Rattle.std.specs.Prelude.{ℕ, Bool, false, not, ◌&&◌, List, [], ◌∷◌, fold, find, nat_eq, nat_lt, bytes_eq, if◌then◌else◌}
+use Rattle.std.specs.Prelude.{ℕ, Bool, false, not, ◌&&◌, List, [], ◌∷◌, fold, nat_eq, nat_lt, bytes_eq, if◌then◌else◌}
 use Rattle.std.specs.Prelude.{Option, Some, None}
-use Rattle.std.specs.Option.{unwrap_or, option_map_or}
+use Rattle.std.specs.Option.{option_map_or}
 use Rattle.position_codec.specs.declared.Encoding.{Encoding}
 use Rattle.focus_switch.specs.declared.held.Held.{Held}
 

@@ -3,7 +3,7 @@
 use Rattle.std.specs.Prelude.{ℕ, List, [], ◌∷◌, codes, bytes_eq, decimal, if◌then◌else◌}
 use Rattle.std.specs.Prelude.{Option, Some, None}
 use Rattle.std.specs.Option.{option_and_then}
-use Rattle.json_text.specs.Json.{Json, word, number, string, array, object, Members, no_members, member, span_of}
+use Rattle.json_text.specs.Json.{Json, number, object, Members, no_members, member, span_of}
 use Rattle.json_text.specs.Named.{named_in}
 use Rattle.json_text.specs.Replace.{Edit, replace, replace_from}
 use Rattle.rpc_message.specs.Message.{is_integer}

@@ -71,8 +71,6 @@ impl<T: Text + Drop> Shared<T> {
         requires uri { IsUtf8 uri }
         requires language { IsUtf8 language }
         requires text { IsUtf8 text }
-        requires turns { self.old.turn < 2 ^ 100 }
-        requires counts { (u : List ℕ) → (held_of u self.old.helds).sent < 2 ^ 100 }
         ensures { IfOk result (λ outs. record { outs = outs; after = self.new } ≡ open_row e uri language version text self.old) }
     {
         let opening = opening_of(self.alloc, e, &uri, &language, version, &text, self.turn)?;
@@ -85,8 +83,6 @@ impl<T: Text + Drop> Shared<T> {
     /// An editor changes a document (LSP 3.17, DidChangeTextDocumentParams), by a message. One that is no change of a document that is
     /// open there changes nothing.
     pub fn change(&mut self, e: u64, message: &Message) -> Result<Outs, Memory>
-        requires turns { self.old.turn < 2 ^ 100 }
-        requires counts { (u : List ℕ) → (held_of u self.old.helds).sent < 2 ^ 100 }
         ensures { (t : Json) → At message.now.doc 0 t → IfOk result (λ outs. record { outs = outs; after = self.new } ≡ change_row e message.now.doc.bytes t self.old) }
     {
         let tape = message.tape();
@@ -143,7 +139,6 @@ impl<T: Text + Drop> Shared<T> {
 
     /// An editor closes a document (LSP 3.17, DidCloseTextDocumentParams). One that isn't open there changes nothing.
     pub fn close(&mut self, e: u64, uri: &[u8]) -> Result<Outs, Memory>
-        requires counts { (u : List ℕ) → (held_of u self.old.helds).sent < 2 ^ 100 }
         ensures { IfOk result (λ outs. record { outs = outs; after = self.new } ≡ close_row e uri.now self.old) }
     {
         let Some(opening) = self.opens.find(e, uri) else {
@@ -188,7 +183,6 @@ impl<T: Text + Drop> Shared<T> {
 
     // Tells the start of one document, unless it has it.
     fn replay(&mut self, i: usize) -> Result<Outs, Memory>
-        requires { (u : List ℕ) → (held_of u self.old.helds).sent < 2 ^ 100 }
         ensures { IfOk result (λ outs. record { outs = outs; after = self.new } ≡ or_nothing (slice_get self.old.opens i) self.old (λ o. replayed self.old o)) }
     {
         let Some(opening) = self.opens.get(i) else {
@@ -309,7 +303,6 @@ impl<T: Text + Drop> Shared<T> {
 
     // Tells the start, where one is ready.
     fn tell(&mut self, uri: &[u8], telling: Option<Telling>) -> Result<Outs, Memory>
-        requires { (held_of uri.now self.old.helds).sent < 2 ^ 100 }
         ensures { IfOk result (λ outs. record { outs = outs; after = self.new } ≡ send uri.now telling self.old) }
     {
         let Some(telling) = telling else {
@@ -318,18 +311,22 @@ impl<T: Text + Drop> Shared<T> {
         let Some(start) = self.start else {
             return Ok(Outs::new(self.alloc))
         };
-        let held = telling.behind(self.helds.get(uri));
+        let Some(held) = telling.behind(self.helds.get(uri)) else {
+            return Err(Memory)
+        };
         self.helds.put(self.alloc, uri, held)?;
         telling.outs(self.alloc, start)
     }
 
     // An editor touches a document.
     fn touch(&mut self, opening: Opening<T>) -> Result<(), Memory>
-        requires { self.old.turn < 2 ^ 100 }
         ensures { OnOk result (self.new ≡ record self.old { opens = put_open (shown T.bytes opening) self.old.opens; turn = self.old.turn + 1 }) }
     {
+        let Some(turn) = self.turn.checked_add(1) else {
+            return Err(Memory)
+        };
         self.opens.put(opening)?;
-        self.turn += 1;
+        self.turn = turn;
         Ok(())
     }
 }

@@ -1,5 +1,5 @@
 //! What a start of the server is told of a document.
-ghost use Rattle.std.specs.Prelude.{◌≡◌, ◌<◌, ◌+◌, ◌^◌, map, IfOk};
+ghost use Rattle.std.specs.Prelude.{◌≡◌, ◌+◌, map, IfOk, IfSome};
 ghost use Rattle.mux_history.specs.declared.out.Out.TheVariants.{ToServer};
 ghost use Rattle.focus_switch.specs.Rows.{bodies_told, held_behind, switch};
 ghost use Rattle.focus_switch.specs.Shown.{shown};
@@ -42,29 +42,18 @@ impl Telling {
         Ok(outs)
     }
 
-    /// What a start was told, with this.
-    pub fn behind(&self, held: Held) -> Held
-        requires { held.sent < 2 ^ 100 }
-        ensures { result ≡ held_behind held self.now }
+    /// What a start was told, with this; none where the count has no room.
+    pub fn behind(&self, held: Held) -> Option<Held>
+        ensures { IfSome result (λ h. h ≡ held_behind held self.now) }
     {
-        match self {
-            Telling::Opens(_) => Held {
-                version: Some(1),
-                sent: held.sent + 1,
-            },
-            Telling::Changes(version, _) => Held {
-                version: Some(*version),
-                sent: held.sent + 1,
-            },
-            Telling::Closes(_) => Held {
-                version: None,
-                sent: held.sent + 1,
-            },
-            Telling::OpensAnew(_, _) => Held {
-                version: Some(1),
-                sent: held.sent + 2,
-            },
-        }
+        let (version, bodies) = match self {
+            Telling::Opens(_) => (Some(1), 1),
+            Telling::Changes(version, _) => (Some(*version), 1),
+            Telling::Closes(_) => (None, 1),
+            Telling::OpensAnew(_, _) => (Some(1), 2),
+        };
+        let sent = held.sent.checked_add(bodies)?;
+        Some(Held { version, sent })
     }
 }
 

@@ -1,4 +1,4 @@
-use Rattle.std.proofs.Common.{sym, subst, ap, codes}
+use Rattle.std.proofs.Common.{sym, subst, codes}
 use Rattle.std.specs.Option.{option_and_then}
 use Rattle.json_text.specs.Named.{named_in}
 use Rattle.json_nodes.specs.At.{At, Found}

@@ -1,4 +1,4 @@
-use Rattle.std.proofs.Common.{◌≡◌, ◌++◌, ◌-◌, List, ℕ, take, drop, ◌∙◌, ap, ap₂}
+use Rattle.std.proofs.Common.{◌++◌, ◌-◌, List, ℕ, take, drop, ◌∙◌, ap}
 use Rattle.focus_switch.proofs.Noticed.{other_member, version_member}
 use Rattle.json_nodes.proofs.Numbers.{child_at}
 use Rattle.focus_switch.proofs.notice.write_member.Goals as goal
