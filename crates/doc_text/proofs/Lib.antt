@@ -1,0 +1,3 @@
+mod Items
+mod Reading
+mod Worked

@@ -1,0 +1,6 @@
+mod Changing
+mod Helds
+mod Noticed
+mod Placing
+mod Replays
+mod Worked

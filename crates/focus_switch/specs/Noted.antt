@@ -1,0 +1,27 @@
+-- What is found of a didChange.
+use Rattle.std.specs.Prelude.{◌≡◌, ℕ, List}
+use Rattle.std.specs.Prelude.{Option, Some, None}
+use Rattle.json_text.specs.Json.{Json, object}
+use Rattle.json_nodes.specs.At.{At, FoundChild}
+use Rattle.json_nodes.specs.Doc.{Doc}
+use Rattle.focus_switch.specs.declared.notice.Change.{Change}
+use Rattle.focus_switch.specs.Notices.{DidChange}
+
+-- the answer is this change, by the number of its list of changes, or there is neither
+abbrev pub FoundChange : Doc → Option DidChange → Option Change → Type 0
+FoundChange doc (Some q) (Some c) = (c.uri ≡ q.uri) × (c.version ≡ q.version) × At doc c.changes q.changes
+FoundChange doc None None = Unit {0}
+FoundChange doc (Some q) None = ⊥
+FoundChange doc None (Some c) = ⊥
+
+-- the answer is the number of the first member of this value, where it is an object that has one
+abbrev pub FirstMember : Doc → Option Json → Option ℕ → Type 0
+FirstMember doc (Some (object s ms)) first = (k : ℕ) × FoundChild doc k (object s ms) 0 first
+FirstMember doc _ first = first ≡ None
+
+-- what three parts make, where each is there
+abbrev pub made : Option (List ℕ) → Option (List ℕ) → Option ℕ → Option Change
+made (Some u) (Some v) (Some k) = Some (record { uri = u; version = v; changes = k })
+made (Some u) (Some v) None = None
+made (Some u) None k = None
+made None v k = None

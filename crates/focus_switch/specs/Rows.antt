@@ -1,0 +1,135 @@
+-- What the server is told when an editor opens, changes or closes a document, and when a start of the server is ready.
+use Rattle.std.specs.Prelude.{ℕ, ◌+◌, Bool, false, ◌&&◌, List, [], ◌∷◌, ◌++◌, map, length, fold, find, nat_lt, if◌then◌else◌}
+use Rattle.std.specs.Prelude.{Option, Some, None}
+use Rattle.std.specs.Option.{option_and_then, option_map, option_map_or}
+use Rattle.json_text.specs.Json.{Json}
+use Rattle.mux_history.specs.declared.out.Out.{Out}
+use Rattle.mux_history.specs.declared.out.Out.TheVariants.{ToServer}
+use Rattle.position_codec.specs.declared.Encoding.{Encoding}
+use Rattle.doc_text.specs.Changes.{text_behind}
+use Rattle.focus_switch.specs.declared.held.Held.{Held}
+use Rattle.focus_switch.specs.declared.telling.Telling.{Telling}
+use Rattle.focus_switch.specs.declared.telling.Telling.TheVariants.{Opens, Changes, Closes, OpensAnew}
+use Rattle.focus_switch.specs.Documents.{Open, Documents, is_open_at, put_open, drop_open, holder, holder_beside, holds, held_of, put_held}
+use Rattle.focus_switch.specs.Notices.{DidChange, did_change, with_version}
+use Rattle.focus_switch.specs.Texts.{open_text, full_text, close_text}
+
+-- the outs of a call, and the documents behind it
+pub record Step : Type 0 where
+  pub outs : List Out
+  pub after : Documents
+
+abbrev pub nothing : Documents → Step
+nothing s = record { outs = []; after = s }
+
+-- the version that the start has of the document then, where it has the document
+abbrev pub version_told : Telling → Option ℕ
+version_told (Opens body) = Some 1
+version_told (Changes v body) = Some v
+version_told (Closes body) = None
+version_told (OpensAnew closing opening) = Some 1
+
+abbrev pub bodies_told : Telling → List (List ℕ)
+bodies_told (Opens body) = body ∷ []
+bodies_told (Changes v body) = body ∷ []
+bodies_told (Closes body) = body ∷ []
+bodies_told (OpensAnew closing opening) = closing ∷ opening ∷ []
+
+abbrev pub held_behind : Held → Telling → Held
+held_behind h x = record { version = version_told x; sent = h.sent + length (bodies_told x) }
+
+abbrev pub tell : Option ℕ → List ℕ → Telling → Documents → Step
+tell None u x s = nothing s
+tell (Some start) u x s = record { outs = map (λ b. ToServer start b) (bodies_told x); after = record s { helds = put_held u (held_behind (held_of u s.helds) x) s.helds } }
+
+abbrev pub send : List ℕ → Option Telling → Documents → Step
+send u None s = nothing s
+send u (Some x) s = tell s.start u x s
+
+-- the server is told the whole text; at the limit of versions it is told to close the document and to open it anew
+abbrev pub switch : ℕ → Open → ℕ → Telling
+switch versions o v = if nat_lt v versions then Changes (v + 1) (full_text o.uri (v + 1) o.text) else OpensAnew (close_text o.uri) (open_text o.uri o.language o.text)
+
+-- the server is told an editor's text, where it has another
+abbrev pub differing : Open → ℕ → Documents → Option Telling
+differing o v s = if holds o.uri o.text s.opens then None else Some (switch s.versions o v)
+
+-- behind a step, an editor touches a document
+abbrev pub touch : Open → Step → Step
+touch o step = record { outs = step.outs; after = record step.after { opens = put_open o step.after.opens; turn = step.after.turn + 1 } }
+
+-- an editor opens a document, or opens it again
+abbrev pub open_sends : Open → Option ℕ → Documents → Option Telling
+open_sends o None s = Some (Opens (open_text o.uri o.language o.text))
+open_sends o (Some v) s = differing o v s
+
+abbrev pub open_row : ℕ → List ℕ → List ℕ → List ℕ → List ℕ → Documents → Step
+open_row e u l v t s =
+    let o : Open = record { editor = e; uri = u; language = l; version = v; text = t; touched = s.turn } in
+    touch o (send u (open_sends o (held_of u s.helds).version s) s)
+
+-- whether the server has the text that an editor has of a document
+abbrev pub had : ℕ → List ℕ → Documents → Bool
+had e u s = option_map_or (λ o. holds o.uri o.text s.opens) (find (is_open_at e u) s.opens) false
+
+-- an editor changes a document: its body goes on, where the server has the text before, under the server's next version
+abbrev pub change_tells : Open → List ℕ → Json → ℕ → Documents → Telling
+change_tells new body t v s = if nat_lt v s.versions && had new.editor new.uri s then Changes (v + 1) (with_version (v + 1) body t) else switch s.versions new v
+
+abbrev pub change_sends : Open → List ℕ → Json → Option ℕ → Documents → Option Telling
+change_sends new body t None s = None
+change_sends new body t (Some v) s = if holds new.uri new.text s.opens then None else Some (change_tells new body t v s)
+
+abbrev pub changed : Open → DidChange → List ℕ → ℕ → Open
+changed o q t turn = record { editor = o.editor; uri = o.uri; language = o.language; version = q.version; text = t; touched = turn }
+
+abbrev pub or_nothing : {A : Type 0} → Option A → Documents → (A → Step) → Step
+or_nothing None s f = nothing s
+or_nothing (Some a) s f = f a
+
+abbrev pub text_after : Option Encoding → Json → List ℕ → Option (List ℕ)
+text_after e cs t = option_and_then (λ encoding. text_behind encoding cs t) e
+
+-- the document at e behind a change, where it is open there and the change has the right shape
+abbrev pub changed_open : ℕ → DidChange → Documents → Option Open
+changed_open e q s = option_and_then (λ o. option_map (λ text. changed o q text s.turn) (text_after s.encoding q.changes o.text)) (find (is_open_at e q.uri) s.opens)
+
+-- a body that isn't a didChange of a document that is open at e changes nothing
+abbrev pub change_row : ℕ → List ℕ → Json → Documents → Step
+change_row e body t s =
+    or_nothing (did_change t) s (λ q. or_nothing (changed_open e q s) s (λ new. touch new (send new.uri (change_sends new body t (held_of new.uri s.helds).version s) s)))
+
+-- an editor closes a document: the last one closes it at the server, and else the next holder's text counts
+abbrev pub close_sends : ℕ → List ℕ → Option ℕ → Documents → Option Telling
+close_sends e u None s = None
+close_sends e u (Some v) s = option_map_or (λ h. differing h v s) (holder_beside e u s.opens) (Some (Closes (close_text u)))
+
+abbrev pub forget : ℕ → List ℕ → Step → Step
+forget e u step = record { outs = step.outs; after = record step.after { opens = drop_open e u step.after.opens } }
+
+abbrev pub close_row : ℕ → List ℕ → Documents → Step
+close_row e u s = or_nothing (find (is_open_at e u) s.opens) s (λ o. forget e o.uri (send o.uri (close_sends e o.uri (held_of o.uri s.helds).version s) s))
+
+-- a start is ready: it is told of each document that is open, in the order of its earliest opening, with the holder's language and text
+abbrev pub replay_sends : Open → Option ℕ → Documents → Option Telling
+replay_sends o (Some v) s = None
+replay_sends o None s = option_map_or (λ h. Some (Opens (open_text o.uri h.language h.text))) (holder o.uri s.opens) None
+
+abbrev pub and_then : Step → (Documents → Step) → Step
+and_then step f = record { outs = step.outs ++ (f step.after).outs; after = (f step.after).after }
+
+abbrev pub replayed : Documents → Open → Step
+replayed s o = send o.uri (replay_sends o (held_of o.uri s.helds).version s) s
+
+abbrev pub replay : Step → Open → Step
+replay step o = and_then step (λ s. replayed s o)
+
+abbrev pub replay_all : Documents → Step
+replay_all s = fold replay (nothing s) s.opens
+
+abbrev pub ready_row : ℕ → Encoding → Documents → Step
+ready_row start encoding s = replay_all (record s { start = Some start; encoding = Some encoding; helds = [] })
+
+-- no start is ready
+abbrev pub unready_row : Documents → Documents
+unready_row s = record s { start = None; helds = [] }

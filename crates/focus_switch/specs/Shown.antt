@@ -1,0 +1,18 @@
+-- What contracts see of what the code keeps.
+use Rattle.std.specs.Prelude.{ℕ, List, map}
+use Rattle.focus_switch.specs.declared.opens.Opening.{Opening}
+use Rattle.focus_switch.specs.Documents.{Open}
+
+-- a document at an editor, with the bytes of its text
+abbrev pub shown : {T : Type 0} → (T → List ℕ) → Opening T → Open
+shown bytes o = record {
+  editor = o.editor;
+  uri = o.uri.bytes.items;
+  language = o.language.bytes.items;
+  version = o.version;
+  text = bytes o.text;
+  touched = o.touched;
+}
+
+abbrev pub all_shown : {T : Type 0} → (T → List ℕ) → List (Opening T) → List Open
+all_shown bytes os = map (shown bytes) os

@@ -1,0 +1,13 @@
+//! The documents of the editors that share a server: what each editor has open, and what the server is told of it (LSP 3.17, Text Document Synchronization).
+#![tactic(auto)]
+
+mod held;
+mod notice;
+mod opens;
+mod shared;
+mod telling;
+#[cfg(test)]
+mod tests;
+mod texts;
+
+pub use shared::Shared;

@@ -1,0 +1,158 @@
+//! What is open at the editors.
+ghost use Rattle.std.specs.Prelude.{◌≡◌, [], find, length, slice_get, Some, None, OnOk, option_map, if◌then◌else◌};
+ghost use Rattle.std.specs.List.{position_or_len};
+ghost use Rattle.focus_switch.specs.Documents.{drop_open, holder, holder_beside, is_open_at, later, put_open};
+ghost use Rattle.focus_switch.specs.Shown.{shown};
+
+use doc_text::Text;
+use json_text::{Body, Memory};
+use std::alloc::Global;
+use std::marker::Model;
+
+/// A document that is open at an editor, as that editor has it.
+#[derive(Drop)]
+pub struct Opening<T: Text> {
+    pub editor: u64,
+    pub uri: String,
+    pub language: String,
+    pub version: Body,
+    pub text: T,
+    /// The turn of the editor's last touch of it.
+    pub touched: u128,
+}
+
+/// What is open, in the order of opening.
+#[derive(Drop)]
+pub struct Opens<T: Text> {
+    list: Vec<Opening<T>>,
+}
+
+impl<T: Text> Model for Opens<T> {
+    ghost use Rattle.std.specs.Prelude.{List};
+    ghost use Rattle.focus_switch.specs.Documents.{Open};
+
+    ghost Value = { List Open };
+
+    ghost use Rattle.focus_switch.specs.Shown.{all_shown};
+
+    ghost view = { λ o. all_shown T.bytes o.list.items };
+}
+
+impl<T: Text + Drop> Opens<T> {
+    pub fn new(alloc: Global) -> Self
+        ensures { result ≡ [] }
+    {
+        Opens {
+            list: Vec::new(alloc),
+        }
+    }
+
+    pub fn len(&self) -> usize
+        ensures { result ≡ length self.now }
+    {
+        self.list.len()
+    }
+
+    pub fn get(&self, i: usize) -> Option<&Opening<T>>
+        ensures { option_map (λ o. shown T.bytes o.now) result ≡ slice_get self.now i }
+    {
+        self.list.as_slice().get(i)
+    }
+
+    // The place of a document of an editor, or the length.
+    fn place(&self, editor: u64, uri: &[u8]) -> usize
+        ensures place { result ≡ position_or_len (is_open_at editor uri.now) self.now }
+    {
+        let mut place = 0;
+        for opening in &self.list {
+            if opening.editor == editor && opening.uri.as_bytes() == uri {
+                return place;
+            }
+            place += 1;
+        }
+        place
+    }
+
+    /// The document at the editor, where it is open there.
+    pub fn find(&self, editor: u64, uri: &[u8]) -> Option<&Opening<T>>
+        ensures { option_map (λ o. shown T.bytes o.now) result ≡ find (is_open_at editor uri.now) self.now }
+    {
+        for opening in &self.list {
+            if opening.editor == editor && opening.uri.as_bytes() == uri {
+                return Some(opening);
+            }
+        }
+        None
+    }
+
+    /// The editor that touched a document last, of those at which it is open, or of those beside one.
+    pub fn holder(&self, uri: &[u8]) -> Option<&Opening<T>>
+        ensures { option_map (λ o. shown T.bytes o.now) result ≡ holder uri.now self.now }
+    {
+        let mut best: Option<&Opening<T>> = None;
+        for opening in &self.list {
+            best = latest(opening, best, opening.uri.as_bytes() == uri);
+        }
+        best
+    }
+
+    /// The same, of the editors but for one.
+    pub fn holder_beside(&self, editor: u64, uri: &[u8]) -> Option<&Opening<T>>
+        ensures { option_map (λ o. shown T.bytes o.now) result ≡ holder_beside editor uri.now self.now }
+    {
+        let mut best: Option<&Opening<T>> = None;
+        for opening in &self.list {
+            let counts = opening.uri.as_bytes() == uri && opening.editor != editor;
+            best = latest(opening, best, counts);
+        }
+        best
+    }
+
+    /// Puts a document of an editor in the place of the same one, or behind all.
+    pub fn put(&mut self, opening: Opening<T>) -> Result<(), Memory>
+        ensures { OnOk result (self.new ≡ put_open (shown T.bytes opening) self.old) }
+    {
+        let place = self.place(opening.editor, opening.uri.as_bytes());
+        if place < self.list.len() {
+            self.list[place] = opening;
+        } else {
+            self.list.push(opening)?;
+        }
+        Ok(())
+    }
+
+    /// Takes a document of an editor away.
+    pub fn remove(&mut self, editor: u64, uri: &[u8])
+        ensures { self.new ≡ drop_open editor uri.now self.old }
+    {
+        let place = self.place(editor, uri);
+        if place < self.list.len() {
+            let _gone = self.list.remove(place);
+        }
+    }
+}
+
+// Of two, the one that was touched last.
+fn later<'a, T: Text>(opening: &'a Opening<T>, best: Option<&'a Opening<T>>) -> &'a Opening<T>
+    ensures { Some (shown T.bytes result.now) ≡ later (shown T.bytes opening.now) (option_map (λ o. shown T.bytes o.now) best.entry) }
+{
+    match best {
+        Some(best) if opening.touched < best.touched => best,
+        _ => opening,
+    }
+}
+
+// The one that was touched last, with one more that may count or not.
+fn latest<'a, T: Text>(
+    opening: &'a Opening<T>,
+    best: Option<&'a Opening<T>>,
+    counts: bool,
+) -> Option<&'a Opening<T>>
+    ensures { option_map (λ o. shown T.bytes o.now) result ≡ (if counts then later (shown T.bytes opening.now) (option_map (λ o. shown T.bytes o.now) best.entry) else option_map (λ o. shown T.bytes o.now) best.entry) }
+{
+    if counts {
+        Some(later(opening, best))
+    } else {
+        best
+    }
+}

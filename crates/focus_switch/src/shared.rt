@@ -1,0 +1,369 @@
+//! The documents that a group of editors shares.
+ghost use Rattle.std.specs.Prelude.{◌≡◌, ◌≤◌, ◌<◌, ◌^◌, ◌+◌, ℕ, List, [], Some, None, IsUtf8, IfOk, OnOk, length, option_map, slice_get};
+ghost use Rattle.json_text.specs.Json.{Json};
+ghost use Rattle.json_nodes.specs.At.{At};
+ghost use Rattle.focus_switch.specs.Noted.{FoundChange};
+ghost use Rattle.focus_switch.specs.Notices.{DidChange};
+ghost use Rattle.focus_switch.specs.Documents.{Open, held_of, holds, put_open};
+ghost use Rattle.focus_switch.specs.Rows.{Step, change_row, change_sends, change_tells, changed_open, close_row, close_sends, differing, open_row, open_sends, had, or_nothing, ready_row, replay_all, replay_sends, replayed, send, text_after, unready_row};
+ghost use Rattle.focus_switch.specs.Shown.{shown};
+
+use crate::held::Helds;
+use crate::notice::{Change, did_change, with_version};
+use crate::opens::{Opening, Opens};
+use crate::telling::{Telling, opens, switch};
+use crate::texts::close_text;
+use doc_text::{ChangeFault, Text};
+use json_span::Tape;
+use json_text::{Body, Memory};
+use mux_history::Outs;
+use position_codec::Encoding;
+use rpc_message::Message;
+use std::alloc::Global;
+use std::marker::Model;
+
+/// The documents that are open at the editors of a group, and what the ready start of its server was told of them.
+#[derive(Drop)]
+pub struct Shared<T: Text> {
+    alloc: Global,
+    start: Option<u64>,
+    encoding: Option<Encoding>,
+    versions: u32,
+    turn: u128,
+    opens: Opens<T>,
+    helds: Helds,
+}
+
+impl<T: Text> Model for Shared<T> {
+    ghost use Rattle.focus_switch.specs.Documents.{Documents};
+
+    ghost Value = { Documents };
+
+    ghost view = { λ s. record { start = s.start; encoding = s.encoding; versions = s.versions; turn = s.turn; opens = s.opens; helds = s.helds } };
+}
+
+impl<T: Text + Drop> Shared<T> {
+    /// No documents, and no start that is ready. A document has at most `versions` versions at a start before it is closed and opened again.
+    pub fn new(alloc: Global, versions: u32) -> Self
+        requires { 1 ≤ versions }
+        ensures { result ≡ record { start = None; encoding = None; versions = versions; turn = 0; opens = []; helds = [] } }
+    {
+        Shared {
+            alloc,
+            start: None,
+            encoding: None,
+            versions,
+            turn: 0,
+            opens: Opens::new(alloc),
+            helds: Helds::new(alloc),
+        }
+    }
+
+    /// An editor opens a document (LSP 3.17, DidOpenTextDocumentParams).
+    pub fn open(
+        &mut self,
+        e: u64,
+        uri: Body,
+        language: Body,
+        version: Body,
+        text: Body,
+    ) -> Result<Outs, Memory>
+        requires uri { IsUtf8 uri }
+        requires language { IsUtf8 language }
+        requires text { IsUtf8 text }
+        ensures { IfOk result (λ outs. record { outs = outs; after = self.new } ≡ open_row e uri language version text self.old) }
+    {
+        let opening = opening_of(self.alloc, e, &uri, &language, version, &text, self.turn)?;
+        let telling = self.opening_tells(&opening)?;
+        let outs = self.tell(opening.uri.as_bytes(), telling)?;
+        self.touch(opening)?;
+        Ok(outs)
+    }
+
+    /// An editor changes a document (LSP 3.17, DidChangeTextDocumentParams), by a message. One that is no change of a document that is
+    /// open there changes nothing.
+    pub fn change(&mut self, e: u64, message: &Message) -> Result<Outs, Memory>
+        ensures { (t : Json) → At message.now.doc 0 t → IfOk result (λ outs. record { outs = outs; after = self.new } ≡ change_row e message.now.doc.bytes t self.old) }
+    {
+        let tape = message.tape();
+        let Some(change) = did_change(self.alloc, tape)? else {
+            return Ok(Outs::new(self.alloc))
+        };
+        let Some(changed) = self.changed(e, tape, change)? else {
+            return Ok(Outs::new(self.alloc))
+        };
+        let telling = self.changing_tells(tape, &changed)?;
+        let outs = self.tell(changed.uri.as_bytes(), telling)?;
+        self.touch(changed)?;
+        Ok(outs)
+    }
+
+    // The document at the editor behind a change, where it is open there and the list of changes has the right shape.
+    fn changed(&self, e: u64, tape: &Tape, change: Change) -> Result<Option<Opening<T>>, Memory>
+        requires { change.changes < length tape.now.nodes }
+        ensures { (q : DidChange) → FoundChange tape.now (Some q) (Some change) → IfOk result (λ o. option_map (shown T.bytes) o ≡ changed_open e q self.now) }
+    {
+        let Some(opening) = self.opens.find(e, change.uri.bytes()) else {
+            return Ok(None)
+        };
+        let Some(text) = self.text_behind(&opening.text, tape, change.changes)? else {
+            return Ok(None)
+        };
+        let uri = String::from_str(self.alloc, opening.uri.as_str())?;
+        let language = String::from_str(self.alloc, opening.language.as_str())?;
+        Ok(Some(Opening {
+            editor: opening.editor,
+            uri,
+            language,
+            version: change.version,
+            text,
+            touched: self.turn,
+        }))
+    }
+
+    // A text behind the changes that a node lists, where it lists changes and a start was ready.
+    fn text_behind(&self, text: &T, tape: &Tape, changes: u32) -> Result<Option<T>, Memory>
+        requires { changes < length tape.now.nodes }
+        ensures { (cs : Json) → At tape.now changes cs → IfOk result (λ x. option_map T.bytes x ≡ text_after self.now.encoding cs (T.bytes text.now)) }
+    {
+        let Some(encoding) = self.encoding else {
+            return Ok(None)
+        };
+        let mut changed = text.copy(self.alloc)?;
+        match changed.apply(self.alloc, encoding, tape, changes) {
+            Ok(()) => Ok(Some(changed)),
+            Err(ChangeFault::BadShape) => Ok(None),
+            Err(ChangeFault::Memory) => Err(Memory),
+        }
+    }
+
+    /// An editor closes a document (LSP 3.17, DidCloseTextDocumentParams). One that isn't open there changes nothing.
+    pub fn close(&mut self, e: u64, uri: &[u8]) -> Result<Outs, Memory>
+        ensures { IfOk result (λ outs. record { outs = outs; after = self.new } ≡ close_row e uri.now self.old) }
+    {
+        let Some(opening) = self.opens.find(e, uri) else {
+            return Ok(Outs::new(self.alloc))
+        };
+        let uri = String::from_str(self.alloc, opening.uri.as_str())?;
+        let telling = self.closing_tells(e, uri.as_str())?;
+        let outs = self.tell(uri.as_bytes(), telling)?;
+        self.opens.remove(e, uri.as_bytes());
+        Ok(outs)
+    }
+
+    /// A start of the server is ready, and counts positions in this encoding: it is told of each document that is open.
+    pub fn ready(&mut self, start: u64, encoding: Encoding) -> Result<Outs, Memory>
+        ensures { IfOk result (λ outs. record { outs = outs; after = self.new } ≡ ready_row start encoding self.old) }
+    {
+        self.start = Some(start);
+        self.encoding = Some(encoding);
+        self.helds.clear();
+        self.replay_all()
+    }
+
+    /// The start is ready no more. The encoding stays.
+    pub fn unready(&mut self)
+        ensures { self.new ≡ unready_row self.old }
+    {
+        self.start = None;
+        self.helds.clear();
+    }
+
+    // Tells a start that was told nothing of each document that is open.
+    fn replay_all(&mut self) -> Result<Outs, Memory>
+        requires { self.old.helds ≡ [] }
+        ensures { IfOk result (λ outs. record { outs = outs; after = self.new } ≡ replay_all self.old) }
+    {
+        let mut outs = Outs::new(self.alloc);
+        for i in 0..self.opens.len() {
+            outs.append(self.replay(i)?)?;
+        }
+        Ok(outs)
+    }
+
+    // Tells the start of one document, unless it has it.
+    fn replay(&mut self, i: usize) -> Result<Outs, Memory>
+        ensures { IfOk result (λ outs. record { outs = outs; after = self.new } ≡ or_nothing (slice_get self.old.opens i) self.old (λ o. replayed self.old o)) }
+    {
+        let Some(opening) = self.opens.get(i) else {
+            return Ok(Outs::new(self.alloc))
+        };
+        let uri = String::from_str(self.alloc, opening.uri.as_str())?;
+        let telling = self.replay_tells(uri.as_str())?;
+        self.tell(uri.as_bytes(), telling)
+    }
+
+    // What the start is told of a document that it doesn't have.
+    fn replay_tells(&self, uri: &str) -> Result<Option<Telling>, Memory>
+        ensures { IfOk result (λ x. (o : Open) → o.uri ≡ uri.now → x ≡ replay_sends o (held_of uri.now self.now.helds).version self.now) }
+    {
+        match (
+            self.helds.get(uri.as_bytes()).version,
+            self.opens.holder(uri.as_bytes()),
+        ) {
+            (None, Some(holder)) => {
+                let body = opens(self.alloc, uri, holder)?;
+                Ok(Some(Telling::Opens(body)))
+            }
+            _ => Ok(None),
+        }
+    }
+
+    // What the start is told where an editor changes a document.
+    fn changing_tells(&self, tape: &Tape, new: &Opening<T>) -> Result<Option<Telling>, Memory>
+        ensures { (t : Json) → At tape.now 0 t → IfOk result (λ x. x ≡ change_sends (shown T.bytes new.now) tape.now.bytes t (held_of (shown T.bytes new.now).uri self.now.helds).version self.now) }
+    {
+        let Some(version) = self.helds.get(new.uri.as_bytes()).version else {
+            return Ok(None)
+        };
+        if self.holds(new.uri.as_bytes(), &new.text) {
+            return Ok(None);
+        }
+        let telling = self.change_or_switch(tape, new, version)?;
+        Ok(Some(telling))
+    }
+
+    // The message under the server's next version, or the whole text.
+    fn change_or_switch(
+        &self,
+        tape: &Tape,
+        new: &Opening<T>,
+        version: u32,
+    ) -> Result<Telling, Memory>
+        ensures { (t : Json) → At tape.now 0 t → IfOk result (λ x. x ≡ change_tells (shown T.bytes new.now) tape.now.bytes t version self.now) }
+    {
+        if version < self.versions && self.had(new.editor, new.uri.as_bytes()) {
+            let body = with_version(self.alloc, tape, version + 1)?;
+            Ok(Telling::Changes(version + 1, body))
+        } else {
+            switch(self.alloc, self.versions, new, version)
+        }
+    }
+
+    // Whether the server has the text that an editor has of a document.
+    fn had(&self, e: u64, uri: &[u8]) -> bool
+        ensures { result ≡ had e uri.now self.now }
+    {
+        match self.opens.find(e, uri) {
+            Some(opening) => self.holds(opening.uri.as_bytes(), &opening.text),
+            None => false,
+        }
+    }
+
+    // What the start is told where an editor closes a document.
+    fn closing_tells(&self, e: u64, uri: &str) -> Result<Option<Telling>, Memory>
+        ensures { IfOk result (λ x. x ≡ close_sends e uri.now (held_of uri.now self.now.helds).version self.now) }
+    {
+        let Some(version) = self.helds.get(uri.as_bytes()).version else {
+            return Ok(None)
+        };
+        match self.opens.holder_beside(e, uri.as_bytes()) {
+            Some(holder) => self.switch_tells(holder, version),
+            None => {
+                let body = close_text(self.alloc, uri)?;
+                Ok(Some(Telling::Closes(body)))
+            }
+        }
+    }
+
+    // Whether the server has this text of the document, where it has the document.
+    fn holds(&self, uri: &[u8], text: &T) -> bool
+        ensures { result ≡ holds uri.now (T.bytes text.now) self.now.opens }
+    {
+        match self.opens.holder(uri) {
+            Some(holder) => holder.text.equals(text),
+            None => false,
+        }
+    }
+
+    // What the start is told where an editor opens a document.
+    fn opening_tells(&self, opening: &Opening<T>) -> Result<Option<Telling>, Memory>
+        ensures { IfOk result (λ x. x ≡ open_sends (shown T.bytes opening.now) (held_of (shown T.bytes opening.now).uri self.now.helds).version self.now) }
+    {
+        match self.helds.get(opening.uri.as_bytes()).version {
+            None => {
+                let body = opens(self.alloc, opening.uri.as_str(), opening)?;
+                Ok(Some(Telling::Opens(body)))
+            }
+            Some(version) => self.switch_tells(opening, version),
+        }
+    }
+
+    // What the start is told where an editor's text is to be the server's.
+    fn switch_tells(&self, opening: &Opening<T>, version: u32) -> Result<Option<Telling>, Memory>
+        ensures { IfOk result (λ x. x ≡ differing (shown T.bytes opening.now) version self.now) }
+    {
+        if self.holds(opening.uri.as_bytes(), &opening.text) {
+            Ok(None)
+        } else {
+            let telling = switch(self.alloc, self.versions, opening, version)?;
+            Ok(Some(telling))
+        }
+    }
+
+    // Tells the start, where one is ready.
+    fn tell(&mut self, uri: &[u8], telling: Option<Telling>) -> Result<Outs, Memory>
+        ensures { IfOk result (λ outs. record { outs = outs; after = self.new } ≡ send uri.now telling self.old) }
+    {
+        let Some(telling) = telling else {
+            return Ok(Outs::new(self.alloc))
+        };
+        let Some(start) = self.start else {
+            return Ok(Outs::new(self.alloc))
+        };
+        let Some(held) = telling.behind(self.helds.get(uri)) else {
+            return Err(Memory)
+        };
+        self.helds.put(self.alloc, uri, held)?;
+        telling.outs(self.alloc, start)
+    }
+
+    // An editor touches a document.
+    fn touch(&mut self, opening: Opening<T>) -> Result<(), Memory>
+        ensures { OnOk result (self.new ≡ record self.old { opens = put_open (shown T.bytes opening) self.old.opens; turn = self.old.turn + 1 }) }
+    {
+        let Some(turn) = self.turn.checked_add(1) else {
+            return Err(Memory)
+        };
+        self.opens.put(opening)?;
+        self.turn = turn;
+        Ok(())
+    }
+}
+
+// A text that owns its bytes.
+fn owned(alloc: Global, body: &Body) -> Result<String, Memory>
+    requires { IsUtf8 body.now }
+    ensures { IfOk result (λ text. text.bytes.items ≡ body.now) }
+{
+    let text = std::str::from_utf8(body.bytes()).unwrap();
+    Ok(String::from_str(alloc, text)?)
+}
+
+// A document that an editor has open.
+fn opening_of<T: Text + Drop>(
+    alloc: Global,
+    editor: u64,
+    uri: &Body,
+    language: &Body,
+    version: Body,
+    text: &Body,
+    turn: u128,
+) -> Result<Opening<T>, Memory>
+    requires uri { IsUtf8 uri.now }
+    requires language { IsUtf8 language.now }
+    requires text { IsUtf8 text.now }
+    ensures { IfOk result (λ o. shown T.bytes o ≡ record { editor = editor; uri = uri.now; language = language.now; version = version; text = text.now; touched = turn }) }
+{
+    let uri = owned(alloc, uri)?;
+    let language = owned(alloc, language)?;
+    let text = T::new(alloc, text.bytes())?;
+    Ok(Opening {
+        editor,
+        uri,
+        language,
+        version,
+        text,
+        touched: turn,
+    })
+}

@@ -1,0 +1,99 @@
+//! What a start of the server is told of a document.
+ghost use Rattle.std.specs.Prelude.{◌≡◌, ◌+◌, map, IfOk, IfSome};
+ghost use Rattle.mux_history.specs.declared.out.Out.TheVariants.{ToServer};
+ghost use Rattle.focus_switch.specs.Rows.{bodies_told, held_behind, switch};
+ghost use Rattle.focus_switch.specs.Shown.{shown};
+ghost use Rattle.focus_switch.specs.Texts.{full_text, open_text};
+
+use crate::held::Held;
+use crate::opens::Opening;
+use crate::texts::{close_text, full_text, open_text};
+use doc_text::Text;
+use json_text::{Body, Memory};
+use mux_history::{Out, Outs};
+use std::alloc::Global;
+
+/// What a start is told of a document, with the bodies that say so.
+#[derive(Debug, Drop)]
+pub enum Telling {
+    Opens(Body),
+    /// The version that the document has then.
+    Changes(u32, Body),
+    Closes(Body),
+    /// It is closed and opened again.
+    OpensAnew(Body, Body),
+}
+
+impl Telling {
+    /// The bodies, to a start.
+    pub fn outs(self, alloc: Global, start: u64) -> Result<Outs, Memory>
+        ensures { IfOk result (λ outs. outs ≡ map (λ b. ToServer start b) (bodies_told self)) }
+    {
+        let mut outs = Outs::new(alloc);
+        match self {
+            Telling::Opens(body) | Telling::Changes(_, body) | Telling::Closes(body) => outs.push(
+                Out::ToServer(start, body),
+            )?,
+            Telling::OpensAnew(closing, opening) => {
+                outs.push(Out::ToServer(start, closing))?;
+                outs.push(Out::ToServer(start, opening))?;
+            }
+        }
+        Ok(outs)
+    }
+
+    /// What a start was told, with this; none where the count has no room.
+    pub fn behind(&self, held: Held) -> Option<Held>
+        ensures { IfSome result (λ h. h ≡ held_behind held self.now) }
+    {
+        let (version, bodies) = match self {
+            Telling::Opens(_) => (Some(1), 1),
+            Telling::Changes(version, _) => (Some(*version), 1),
+            Telling::Closes(_) => (None, 1),
+            Telling::OpensAnew(_, _) => (Some(1), 2),
+        };
+        let sent = held.sent.checked_add(bodies)?;
+        Some(Held { version, sent })
+    }
+}
+
+/// didOpen of a document, in a language and with the text that an editor has.
+pub fn opens<T: Text + Drop>(alloc: Global, uri: &str, opening: &Opening<T>) -> Result<Body, Memory>
+    ensures { IfOk result (λ body. body ≡ open_text uri.now (shown T.bytes opening.now).language (shown T.bytes opening.now).text) }
+{
+    let text = opening.text.whole(alloc)?;
+    let text = std::str::from_utf8(text.bytes()).unwrap();
+    open_text(alloc, uri, opening.language.as_str(), text)
+}
+
+// didChange of a document to the text that an editor has.
+fn changes<T: Text + Drop>(
+    alloc: Global,
+    opening: &Opening<T>,
+    version: u32,
+) -> Result<Body, Memory>
+    ensures { IfOk result (λ body. body ≡ full_text (shown T.bytes opening.now).uri version (shown T.bytes opening.now).text) }
+{
+    let text = opening.text.whole(alloc)?;
+    let text = std::str::from_utf8(text.bytes()).unwrap();
+    full_text(alloc, opening.uri.as_str(), version, text)
+}
+
+/// The start is told the whole text that an editor has: as a change, or, at the limit of versions, by closing and opening.
+pub fn switch<T: Text + Drop>(
+    alloc: Global,
+    versions: u32,
+    opening: &Opening<T>,
+    version: u32,
+) -> Result<Telling, Memory>
+    ensures { IfOk result (λ x. x ≡ switch versions (shown T.bytes opening.now) version) }
+{
+    if version < versions {
+        let body = changes(alloc, opening, version + 1)?;
+        Ok(Telling::Changes(version + 1, body))
+    } else {
+        let closing = close_text(alloc, opening.uri.as_str())?;
+        let opening = opens(alloc, opening.uri.as_str(), opening)?;
+        Ok(Telling::OpensAnew(closing, opening))
+    }
+}
