@@ -17,12 +17,7 @@ use std::collections::BTreeSet;
 const FEW: usize = 16;
 
 /// Whether no two members of an object have one name. It takes n log n comparisons of n names, whatever the names are.
-pub fn names_once(
-    alloc: Global,
-    bytes: &[u8],
-    nodes: &[Node],
-    node: u32,
-) -> Result<bool, Memory>
+pub fn names_once(alloc: Global, bytes: &[u8], nodes: &[Node], node: u32) -> Result<bool, Memory>
     requires { node < length nodes.now }
     ensures { (s : Span) (ms : Members) → At (record { bytes = bytes.now; nodes = nodes.now }) node (object s ms) → IfOk result (λ once. once ≡ no_name_twice ms) }
 {
@@ -62,12 +57,7 @@ fn few_names_once(bytes: &[u8], nodes: &[Node], node: u32) -> bool
 }
 
 // The same, each name against those before it, which are kept in order.
-fn many_names_once(
-    alloc: Global,
-    bytes: &[u8],
-    nodes: &[Node],
-    node: u32,
-) -> Result<bool, Memory>
+fn many_names_once(alloc: Global, bytes: &[u8], nodes: &[Node], node: u32) -> Result<bool, Memory>
     requires { node < length nodes.now }
     ensures { (s : Span) (ms : Members) → At (record { bytes = bytes.now; nodes = nodes.now }) node (object s ms) → IfOk result (λ once. once ≡ no_name_twice ms) }
 {
@@ -83,11 +73,7 @@ fn many_names_once(
 }
 
 // Adds the name that these bytes spell to the names so far, and says whether it is new.
-fn add_name(
-    alloc: Global,
-    names: &mut BTreeSet<Vec<u8>>,
-    raw: &[u8],
-) -> Result<bool, Memory>
+fn add_name(alloc: Global, names: &mut BTreeSet<Vec<u8>>, raw: &[u8]) -> Result<bool, Memory>
     ensures new { (cs : List ℕ) → SpellsCharacters cs raw.now → IfOk result (λ is_new. is_new ≡ not (has_name names.old cs)) }
     ensures names { (cs : List ℕ) → SpellsCharacters cs raw.now → OnOk result ((ds : List ℕ) → has_name names.new ds ≡ (bytes_eq cs ds || has_name names.old ds)) }
 {

@@ -152,6 +152,35 @@ fn tells_what_is_no_message(rt: HostRuntime) {
     }
 }
 
+// A notification with the members `n0` to `n999`, and then this one.
+fn many_members(alloc: Global, last: &str) -> Result<Vec<u8>, AllocError> {
+    let mut body = Vec::from_slice(alloc, b"{\"jsonrpc\":\"2.0\",\"method\":\"m\"")?;
+    for number in 0..1_000u32 {
+        let member = format!(in alloc; ",\"n{number}\":0")?;
+        body.extend_from_slice(member.as_bytes())?;
+    }
+    body.extend_from_slice(last.as_bytes())?;
+    body.push(b'}')?;
+    Ok(body)
+}
+
+#[test]
+fn tells_doubled_names_of_many(rt: HostRuntime) -> Result<(), AllocError> {
+    for (last, want) in [
+        ("", Ok(Sort::Notification)),
+        (",\"n1000\":0", Ok(Sort::Notification)),
+        (",\"N0\":0", Ok(Sort::Notification)),
+        (",\"n0\":0", Err(Malformed::NotMessage)),
+        (",\"\\u006e0\":0", Err(Malformed::NotMessage)),
+        (",\"n999\":0", Err(Malformed::NotMessage)),
+        (",\"\\u006dethod\":0", Err(Malformed::NotMessage)),
+    ] {
+        let body = many_members(rt.alloc(), last)?;
+        assert_eq!(rt; sort_in(rt.alloc(), &body), want, "at {last}");
+    }
+    Ok(())
+}
+
 #[test]
 fn reads_a_request(rt: HostRuntime) -> Result<(), Memory> {
     let body: &[u8] =
