@@ -1,5 +1,5 @@
 -- The names that a walk over the members of an object has met, and those that are left.
-use Rattle.std.proofs.Common.{◌<◌, ◌≡◌, ℕ, zero, suc, ◌+◌, Bool, true, false, not, ◌&&◌, ◌||◌, ◌↔◌, IsTrue, List, [], ◌∷◌, length, refl, sym, ◌∙◌, ap, subst, add-one, is_some, encode_utf8_all}
+use Rattle.std.proofs.Common.{◌<◌, ◌≡◌, ℕ, suc, Bool, true, false, not, ◌&&◌, ◌||◌, ◌↔◌, IsTrue, List, [], ◌∷◌, length, refl, sym, ◌∙◌, ap, subst, add-one, is_some, encode_utf8_all}
 use Rattle.std.specs.Prelude.{Option, Some, None, Vec, bytes_eq, MatchOption}
 use Rattle.std.specs.declared.cmp.Ordering.{Ordering}
 use Rattle.std.specs.Ordering.{is_eq, nat_cmp, match_ordering}
