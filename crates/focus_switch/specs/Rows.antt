@@ -1,5 +1,5 @@
 -- What the server is told when an editor opens, changes or closes a document, and when a start of the server is ready.
-use Rattle.std.specs.Prelude.{ℕ, ◌+◌, Bool, false, ◌&&◌, List, [], ◌∷◌, ◌++◌, map, length, fold, find, nat_eq, nat_lt, if◌then◌else◌}
+use Rattle.std.specs.Prelude.{ℕ, ◌+◌, Bool, false, ◌&&◌, List, [], ◌∷◌, ◌++◌, map, length, flat_map, fold, find, nat_eq, nat_lt, if◌then◌else◌}
 use Rattle.std.specs.Prelude.{Option, Some, None}
 use Rattle.std.specs.Option.{option_and_then, option_map, option_map_or}
 use Rattle.json_text.specs.Json.{Json}
@@ -161,3 +161,14 @@ agreement_of o h s = option_map_or (λ v. if holds o.uri o.text s.opens then Agr
 
 abbrev pub agreement : ℕ → List ℕ → Documents → Agreement
 agreement e u s = option_map_or (λ o. agreement_of o (held_of o.uri s.helds) s) (find (is_open_at e u) s.opens) NotOpen
+
+-- the documents that are open at e, in the order of their opening
+abbrev pub uris_of : ℕ → List Open → List (List ℕ)
+uris_of e os = flat_map (λ o. if nat_eq o.editor e then o.uri ∷ [] else []) os
+
+-- e leaves: it closes each of its documents
+abbrev pub close_next : ℕ → Step → List ℕ → Step
+close_next e step u = and_then step (λ s. close_row e u s)
+
+abbrev pub leave_row : ℕ → Documents → Step
+leave_row e s = fold (close_next e) (nothing s) (uris_of e s.opens)

@@ -5,8 +5,8 @@ ghost use Rattle.json_nodes.specs.At.{At};
 ghost use Rattle.focus_switch.specs.Noted.{FoundChange};
 ghost use Rattle.focus_switch.specs.Notices.{DidChange};
 ghost use Rattle.focus_switch.specs.Documents.{Open, held_of, holds, put_open};
-ghost use Rattle.focus_switch.specs.Rows.{Step, agreement, agreement_of, change_row, change_sends, change_tells, changed_open, close_row, close_sends, differing, each, open_row, open_sends, had, nothing, or_nothing, ready_row, replay_all, replay_sends, replayed, send, sync_row, sync_sends, synced, text_after, touched_at, unready_row};
-ghost use Rattle.focus_switch.specs.Shown.{shown};
+ghost use Rattle.focus_switch.specs.Rows.{Step, agreement, agreement_of, change_row, change_sends, change_tells, changed_open, close_next, close_row, close_sends, differing, each, open_row, open_sends, had, leave_row, nothing, or_nothing, ready_row, replay_all, replay_sends, replayed, send, sync_row, sync_sends, synced, text_after, touched_at, unready_row};
+ghost use Rattle.focus_switch.specs.Shown.{all_bytes, shown};
 
 use crate::agreement::Agreement;
 use crate::held::Helds;
@@ -207,6 +207,25 @@ impl<T: Text + Drop> Shared<T> {
             None => Ok(None),
             Some(version) => self.switch_tells(opening, version),
         }
+    }
+
+    /// An editor leaves: it closes each of its documents, in the order of their opening.
+    pub fn leave(&mut self, e: u64) -> Result<Outs, Memory>
+        ensures { IfOk result (λ outs. record { outs = outs; after = self.new } ≡ leave_row e self.old) }
+    {
+        let uris = self.opens.uris_of(self.alloc, e)?;
+        self.close_all(e, uris.as_slice())
+    }
+
+    // An editor closes these documents.
+    fn close_all(&mut self, e: u64, uris: &[String]) -> Result<Outs, Memory>
+        ensures { IfOk result (λ outs. record { outs = outs; after = self.new } ≡ fold (close_next e) (nothing self.old) (all_bytes uris.now)) }
+    {
+        let mut outs = Outs::new(self.alloc);
+        for uri in uris {
+            outs.append(self.close(e, uri.as_bytes())?)?;
+        }
+        Ok(outs)
     }
 
     /// Whether the server has the text that an editor has of a document. It takes no memory.
