@@ -1,5 +1,5 @@
 -- A document that is put among others, or taken from them.
-use Rattle.std.proofs.Common.{◌≡◌, ℕ, suc, ◌+◌, ◌<◌, ◌≤◌, Bool, true, false, cond, not, List, [], ◌∷◌, ◌++◌, length, refl, sym, ◌∙◌, ap, subst, arith}
+use Rattle.std.proofs.Common.{◌≡◌, ℕ, zero, suc, ◌+◌, ◌<◌, ◌≤◌, Bool, true, false, cond, not, List, [], ◌∷◌, ◌++◌, length, map, get_or, take, drop, refl, sym, ◌∙◌, ap, ap₂, subst, arith}
 use Rattle.std.specs.Prelude.{slice_set}
 use Rattle.std.specs.List.{position_or_len, remove}
 use Rattle.focus_switch.specs.declared.opens.Opening.{Opening}
@@ -59,3 +59,22 @@ module _ {T : Type 0} (bytes : T → List ℕ) (o : Opening T) where
 
   pub pushed : (os new : List (Opening T)) (view : List Open) (u : List ℕ) (p n : ℕ) → all_shown bytes os ≡ view → u ≡ o.uri.bytes.items → p ≡ position_or_len (is_open_at o.editor u) view → n ≡ length os → n ≤ p → new ≡ os ++ o ∷ [] → all_shown bytes new ≡ put_open (shown bytes o) view
   pushed os new view u p n v same h k l r = ap (all_shown bytes) r ∙ put_behind bytes o.editor u o refl (sym same) os p (h ∙ ap (position_or_len (is_open_at o.editor u)) (sym v)) (omega arith) ∙ ap (put_open (shown bytes o)) v
+
+module _ {T : Type 0} (bytes : T → List ℕ) (f : Open → Open) where
+  -- one more of them in another form
+  touched_here : (os : List (Opening T)) (vs : List Open) (i : ℕ) (x d : Opening T) → all_shown bytes os ≡ map f (take i vs) ++ drop i vs → i < length os → shown bytes x ≡ f (shown bytes (get_or os i d)) → all_shown bytes (slice_set os i x) ≡ map f (take (i + 1) vs) ++ drop (i + 1) vs
+  touched_here [] vs i x d e l h = absurd (omega arith)
+  touched_here (o ∷ os) [] zero x d e l h = absurd (cc)
+  touched_here (o ∷ os) [] (suc i) x d e l h = absurd (cc)
+  touched_here (o ∷ os) (v ∷ vs) zero x d e l h =
+      let first : shown bytes o ≡ v = cc in
+      let rest : all_shown bytes os ≡ vs = cc in
+      ap₂ (λ (y : Open) (ys : List Open). y ∷ ys) (h ∙ ap f first) rest
+  touched_here (o ∷ os) (v ∷ vs) (suc i) x d e l h =
+      let first : shown bytes o ≡ f v = cc in
+      let rest : all_shown bytes os ≡ map f (take i vs) ++ drop i vs = cc in
+      let more : suc i + 1 ≡ suc (i + 1) = omega arith in
+      rw more (ap₂ (λ (y : Open) (ys : List Open). y ∷ ys) first (touched_here os vs i x d rest (omega arith) h))
+
+  pub touched_more : (os new : List (Opening T)) (vs : List Open) (i : ℕ) (x d : Opening T) → all_shown bytes os ≡ map f (take i vs) ++ drop i vs → i < length os → shown bytes x ≡ f (shown bytes (get_or os i d)) → new ≡ slice_set os i x → all_shown bytes new ≡ map f (take (i + 1) vs) ++ drop (i + 1) vs
+  touched_more os new vs i x d e l h is = ap (all_shown bytes) is ∙ touched_here os vs i x d e l h

@@ -10,7 +10,7 @@ use Rattle.mux_history.specs.declared.out.Out.TheVariants.{ToServer}
 use Rattle.rpc_message.specs.Message.{is_integer}
 use Rattle.position_codec.specs.declared.Encoding.TheVariants.{Utf16}
 use Rattle.focus_switch.specs.Documents.{Documents}
-use Rattle.focus_switch.specs.Rows.{Step, nothing, or_nothing, open_row, change_row, close_row, ready_row, unready_row}
+use Rattle.focus_switch.specs.Rows.{Step, nothing, or_nothing, open_row, change_row, close_row, ready_row, unready_row, sync_row}
 use Rattle.focus_switch.specs.Texts.{open_text, full_text, close_text}
 
 -- no documents, and start 0 is ready
@@ -41,6 +41,9 @@ changes e body s = or_nothing (tree_of body) s (λ t. change_row e body t s)
 abbrev closes : ℕ → List ℕ → Documents → Step
 closes e uri s = close_row e uri s
 
+abbrev syncs : ℕ → Documents → Step
+syncs e s = sync_row e s
+
 abbrev sent : List ℕ → Out
 sent body = ToServer 0 body
 
@@ -48,6 +51,11 @@ sent body = ToServer 0 body
 two_editors : outs (opens 0 u (codes "a") ∷ opens 1 u (codes "b") ∷ closes 1 u ∷ closes 0 u ∷ closes 0 u ∷ []) (begun 100)
     ≡ sent (open_text u x (codes "a")) ∷ sent (full_text u 2 (codes "b")) ∷ sent (full_text u 3 (codes "a")) ∷ sent (close_text u) ∷ []
 two_editors = refl
+
+-- before a message of an editor the server is told that editor's text, where it has another
+synchronised : outs (opens 0 u (codes "a") ∷ opens 1 u (codes "b") ∷ opens 1 v (codes "b") ∷ syncs 0 ∷ syncs 1 ∷ syncs 1 ∷ []) (begun 100)
+    ≡ sent (open_text u x (codes "a")) ∷ sent (full_text u 2 (codes "b")) ∷ sent (open_text v x (codes "b")) ∷ sent (full_text u 3 (codes "a")) ∷ sent (full_text u 4 (codes "b")) ∷ []
+synchronised = refl
 
 -- the same text is told once, also where it is opened again; the text of one that isn't the holder matters not when it closes
 same_text : outs (opens 0 u (codes "a") ∷ opens 1 u (codes "a") ∷ opens 1 u (codes "a") ∷ opens 1 u (codes "b") ∷ closes 0 u ∷ []) (begun 100)

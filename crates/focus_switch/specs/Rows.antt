@@ -1,5 +1,5 @@
 -- What the server is told when an editor opens, changes or closes a document, and when a start of the server is ready.
-use Rattle.std.specs.Prelude.{ℕ, ◌+◌, Bool, false, ◌&&◌, List, [], ◌∷◌, ◌++◌, map, length, fold, find, nat_lt, if◌then◌else◌}
+use Rattle.std.specs.Prelude.{ℕ, ◌+◌, Bool, false, ◌&&◌, List, [], ◌∷◌, ◌++◌, map, length, flat_map, fold, find, nat_eq, nat_lt, if◌then◌else◌}
 use Rattle.std.specs.Prelude.{Option, Some, None}
 use Rattle.std.specs.Option.{option_and_then, option_map, option_map_or}
 use Rattle.json_text.specs.Json.{Json}
@@ -8,6 +8,8 @@ use Rattle.mux_history.specs.declared.out.Out.TheVariants.{ToServer}
 use Rattle.position_codec.specs.declared.Encoding.{Encoding}
 use Rattle.doc_text.specs.Changes.{text_behind}
 use Rattle.focus_switch.specs.declared.held.Held.{Held}
+use Rattle.focus_switch.specs.declared.agreement.Agreement.{Agreement}
+use Rattle.focus_switch.specs.declared.agreement.Agreement.TheVariants.{NotOpen, Differs, Agrees}
 use Rattle.focus_switch.specs.declared.telling.Telling.{Telling}
 use Rattle.focus_switch.specs.declared.telling.Telling.TheVariants.{Opens, Changes, Closes, OpensAnew}
 use Rattle.focus_switch.specs.Documents.{Open, Documents, is_open_at, put_open, drop_open, holder, holder_beside, holds, held_of, put_held}
@@ -121,11 +123,12 @@ and_then step f = record { outs = step.outs ++ (f step.after).outs; after = (f s
 abbrev pub replayed : Documents → Open → Step
 replayed s o = send o.uri (replay_sends o (held_of o.uri s.helds).version s) s
 
-abbrev pub replay : Step → Open → Step
-replay step o = and_then step (λ s. replayed s o)
+-- a step of each document, one behind the other
+abbrev pub each : (Documents → Open → Step) → Step → Open → Step
+each f step o = and_then step (λ s. f s o)
 
 abbrev pub replay_all : Documents → Step
-replay_all s = fold replay (nothing s) s.opens
+replay_all s = fold (each replayed) (nothing s) s.opens
 
 abbrev pub ready_row : ℕ → Encoding → Documents → Step
 ready_row start encoding s = replay_all (record s { start = Some start; encoding = Some encoding; helds = [] })
@@ -133,3 +136,39 @@ ready_row start encoding s = replay_all (record s { start = Some start; encoding
 -- no start is ready
 abbrev pub unready_row : Documents → Documents
 unready_row s = record s { start = None; helds = [] }
+
+-- Before a message of e goes on: of each document that is open at e, in the order of its opening, the server is told e's text, where it has another.
+-- The message is a touch of all of them.
+abbrev pub sync_sends : Open → Option ℕ → Documents → Option Telling
+sync_sends o None s = None
+sync_sends o (Some v) s = differing o v s
+
+abbrev pub synced : ℕ → Documents → Open → Step
+synced e s o = if nat_eq o.editor e then send o.uri (sync_sends o (held_of o.uri s.helds).version s) s else nothing s
+
+abbrev pub touched_at : ℕ → ℕ → Open → Open
+touched_at e turn o = if nat_eq o.editor e then record o { touched = turn } else o
+
+abbrev pub touch_all : ℕ → Step → Step
+touch_all e step = record { outs = step.outs; after = record step.after { opens = map (touched_at e step.after.turn) step.after.opens; turn = step.after.turn + 1 } }
+
+abbrev pub sync_row : ℕ → Documents → Step
+sync_row e s = touch_all e (fold (each (synced e)) (nothing s) s.opens)
+
+-- whether the server has a document, and with the text that an editor has
+abbrev pub agreement_of : Open → Held → Documents → Agreement
+agreement_of o h s = option_map_or (λ v. if holds o.uri o.text s.opens then Agrees v h.sent else Differs) h.version Differs
+
+abbrev pub agreement : ℕ → List ℕ → Documents → Agreement
+agreement e u s = option_map_or (λ o. agreement_of o (held_of o.uri s.helds) s) (find (is_open_at e u) s.opens) NotOpen
+
+-- the documents that are open at e, in the order of their opening
+abbrev pub uris_of : ℕ → List Open → List (List ℕ)
+uris_of e os = flat_map (λ o. if nat_eq o.editor e then o.uri ∷ [] else []) os
+
+-- e leaves: it closes each of its documents
+abbrev pub close_next : ℕ → Step → List ℕ → Step
+close_next e step u = and_then step (λ s. close_row e u s)
+
+abbrev pub leave_row : ℕ → Documents → Step
+leave_row e s = fold (close_next e) (nothing s) (uris_of e s.opens)

@@ -1,5 +1,6 @@
 -- What contracts see of what the code keeps.
 use Rattle.std.specs.Prelude.{ℕ, List, map}
+use Rattle.std.specs.declared.string.String.{String}
 use Rattle.focus_switch.specs.declared.opens.Opening.{Opening}
 use Rattle.focus_switch.specs.Documents.{Open}
 
@@ -16,3 +17,7 @@ shown bytes o = record {
 
 abbrev pub all_shown : {T : Type 0} → (T → List ℕ) → List (Opening T) → List Open
 all_shown bytes os = map (shown bytes) os
+
+-- the bytes of texts
+abbrev pub all_bytes : {A : Type 0} → List (String A) → List (List ℕ)
+all_bytes texts = map (λ t. t.bytes.items) texts

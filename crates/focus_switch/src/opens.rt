@@ -1,8 +1,9 @@
 //! What is open at the editors.
-ghost use Rattle.std.specs.Prelude.{◌≡◌, [], find, length, slice_get, Some, None, OnOk, option_map, if◌then◌else◌};
+ghost use Rattle.std.specs.Prelude.{◌≡◌, ◌++◌, [], ◌∷◌, find, length, map, slice_get, Some, None, IfOk, OnOk, option_map, if◌then◌else◌};
 ghost use Rattle.std.specs.List.{position_or_len};
 ghost use Rattle.focus_switch.specs.Documents.{drop_open, holder, holder_beside, is_open_at, later, put_open};
-ghost use Rattle.focus_switch.specs.Shown.{shown};
+ghost use Rattle.focus_switch.specs.Rows.{touched_at, uris_of};
+ghost use Rattle.focus_switch.specs.Shown.{all_bytes, all_shown, shown};
 
 use doc_text::Text;
 use json_text::{Body, Memory};
@@ -121,6 +122,24 @@ impl<T: Text + Drop> Opens<T> {
         Ok(())
     }
 
+    /// The URIs of the documents that are open at an editor, in the order of their opening.
+    pub fn uris_of(&self, alloc: Global, editor: u64) -> Result<Vec<String>, Memory>
+        ensures { IfOk result (λ uris. all_bytes uris.items ≡ uris_of editor self.now) }
+    {
+        let mut uris = Vec::new(alloc);
+        for opening in &self.list {
+            add_uri(alloc, &mut uris, editor, opening)?;
+        }
+        Ok(uris)
+    }
+
+    /// An editor touches each of its documents.
+    pub fn touch_all(&mut self, editor: u64, turn: u128)
+        ensures { self.new ≡ map (touched_at editor turn) self.old }
+    {
+        touch_all(&mut self.list, editor, turn);
+    }
+
     /// Takes a document of an editor away.
     pub fn remove(&mut self, editor: u64, uri: &[u8])
         ensures { self.new ≡ drop_open editor uri.now self.old }
@@ -129,6 +148,38 @@ impl<T: Text + Drop> Opens<T> {
         if place < self.list.len() {
             let _gone = self.list.remove(place);
         }
+    }
+}
+
+// Puts a document's URI behind others, where it is the editor's.
+fn add_uri<T: Text>(
+    alloc: Global,
+    uris: &mut Vec<String>,
+    editor: u64,
+    opening: &Opening<T>,
+) -> Result<(), Memory>
+    ensures { OnOk result (all_bytes uris.new.items ≡ all_bytes uris.old.items ++ uris_of editor (shown T.bytes opening.now ∷ [])) }
+{
+    if opening.editor == editor {
+        let uri = String::from_str(alloc, opening.uri.as_str())?;
+        uris.push(uri)?;
+    }
+    Ok(())
+}
+
+fn touch_all<T: Text>(list: &mut Vec<Opening<T>>, editor: u64, turn: u128)
+    ensures { all_shown T.bytes list.new.items ≡ map (touched_at editor turn) (all_shown T.bytes list.old.items) }
+{
+    for i in 0..list.len() {
+        touch_one(&mut list[i], editor, turn);
+    }
+}
+
+fn touch_one<T: Text>(opening: &mut Opening<T>, editor: u64, turn: u128)
+    ensures { shown T.bytes opening.new ≡ touched_at editor turn (shown T.bytes opening.old) }
+{
+    if opening.editor == editor {
+        opening.touched = turn;
     }
 }
 

@@ -1,13 +1,14 @@
 //! The documents that a group of editors shares.
-ghost use Rattle.std.specs.Prelude.{◌≡◌, ◌≤◌, ◌<◌, ◌^◌, ◌+◌, ℕ, List, [], Some, None, IsUtf8, IfOk, OnOk, length, option_map, slice_get};
+ghost use Rattle.std.specs.Prelude.{◌≡◌, ◌≤◌, ◌<◌, ◌^◌, ◌+◌, ℕ, List, [], Some, None, IsUtf8, IfOk, OnOk, fold, length, map, option_map, slice_get};
 ghost use Rattle.json_text.specs.Json.{Json};
 ghost use Rattle.json_nodes.specs.At.{At};
 ghost use Rattle.focus_switch.specs.Noted.{FoundChange};
 ghost use Rattle.focus_switch.specs.Notices.{DidChange};
 ghost use Rattle.focus_switch.specs.Documents.{Open, held_of, holds, put_open};
-ghost use Rattle.focus_switch.specs.Rows.{Step, change_row, change_sends, change_tells, changed_open, close_row, close_sends, differing, open_row, open_sends, had, or_nothing, ready_row, replay_all, replay_sends, replayed, send, text_after, unready_row};
-ghost use Rattle.focus_switch.specs.Shown.{shown};
+ghost use Rattle.focus_switch.specs.Rows.{Step, agreement, agreement_of, change_row, change_sends, change_tells, changed_open, close_next, close_row, close_sends, differing, each, open_row, open_sends, had, leave_row, nothing, or_nothing, ready_row, replay_all, replay_sends, replayed, send, sync_row, sync_sends, synced, text_after, touched_at, unready_row};
+ghost use Rattle.focus_switch.specs.Shown.{all_bytes, shown};
 
+use crate::agreement::Agreement;
 use crate::held::Helds;
 use crate::notice::{Change, did_change, with_version};
 use crate::opens::{Opening, Opens};
@@ -149,6 +150,106 @@ impl<T: Text + Drop> Shared<T> {
         let outs = self.tell(uri.as_bytes(), telling)?;
         self.opens.remove(e, uri.as_bytes());
         Ok(outs)
+    }
+
+    /// Before a message of an editor goes on to the start: it is told the editor's text of each document, where it has another.
+    pub fn sync(&mut self, e: u64) -> Result<Outs, Memory>
+        ensures { IfOk result (λ outs. record { outs = outs; after = self.new } ≡ sync_row e self.old) }
+    {
+        let outs = self.sync_all(e)?;
+        self.touch_all(e)?;
+        Ok(outs)
+    }
+
+    // An editor touches each of its documents.
+    fn touch_all(&mut self, e: u64) -> Result<(), Memory>
+        ensures { OnOk result (self.new ≡ record self.old { opens = map (touched_at e self.old.turn) self.old.opens; turn = self.old.turn + 1 }) }
+    {
+        let Some(turn) = self.turn.checked_add(1) else {
+            return Err(Memory)
+        };
+        self.opens.touch_all(e, self.turn);
+        self.turn = turn;
+        Ok(())
+    }
+
+    // Tells the start an editor's texts, where it has others.
+    fn sync_all(&mut self, e: u64) -> Result<Outs, Memory>
+        ensures { IfOk result (λ outs. record { outs = outs; after = self.new } ≡ fold (each (synced e)) (nothing self.old) self.old.opens) }
+    {
+        let mut outs = Outs::new(self.alloc);
+        for i in 0..self.opens.len() {
+            outs.append(self.sync_one(e, i)?)?;
+        }
+        Ok(outs)
+    }
+
+    // Tells the start an editor's text of one document, where it has another.
+    fn sync_one(&mut self, e: u64, i: usize) -> Result<Outs, Memory>
+        ensures { IfOk result (λ outs. record { outs = outs; after = self.new } ≡ or_nothing (slice_get self.old.opens i) self.old (λ o. synced e self.old o)) }
+    {
+        let Some(opening) = self.opens.get(i) else {
+            return Ok(Outs::new(self.alloc))
+        };
+        if opening.editor != e {
+            return Ok(Outs::new(self.alloc));
+        }
+        let uri = String::from_str(self.alloc, opening.uri.as_str())?;
+        let telling = self.sync_tells(opening)?;
+        self.tell(uri.as_bytes(), telling)
+    }
+
+    // What the start is told of a document before a message of an editor.
+    fn sync_tells(&self, opening: &Opening<T>) -> Result<Option<Telling>, Memory>
+        ensures { IfOk result (λ x. x ≡ sync_sends (shown T.bytes opening.now) (held_of (shown T.bytes opening.now).uri self.now.helds).version self.now) }
+    {
+        match self.helds.get(opening.uri.as_bytes()).version {
+            None => Ok(None),
+            Some(version) => self.switch_tells(opening, version),
+        }
+    }
+
+    /// An editor leaves: it closes each of its documents, in the order of their opening.
+    pub fn leave(&mut self, e: u64) -> Result<Outs, Memory>
+        ensures { IfOk result (λ outs. record { outs = outs; after = self.new } ≡ leave_row e self.old) }
+    {
+        let uris = self.opens.uris_of(self.alloc, e)?;
+        self.close_all(e, uris.as_slice())
+    }
+
+    // An editor closes these documents.
+    fn close_all(&mut self, e: u64, uris: &[String]) -> Result<Outs, Memory>
+        ensures { IfOk result (λ outs. record { outs = outs; after = self.new } ≡ fold (close_next e) (nothing self.old) (all_bytes uris.now)) }
+    {
+        let mut outs = Outs::new(self.alloc);
+        for uri in uris {
+            outs.append(self.close(e, uri.as_bytes())?)?;
+        }
+        Ok(outs)
+    }
+
+    /// Whether the server has the text that an editor has of a document. It takes no memory.
+    pub fn agrees(&self, e: u64, uri: &[u8]) -> Agreement
+        ensures { result ≡ agreement e uri.now self.now }
+    {
+        match self.opens.find(e, uri) {
+            Some(opening) => self.agreement_of(opening),
+            None => Agreement::NotOpen,
+        }
+    }
+
+    fn agreement_of(&self, opening: &Opening<T>) -> Agreement
+        ensures { result ≡ agreement_of (shown T.bytes opening.now) (held_of (shown T.bytes opening.now).uri self.now.helds) self.now }
+    {
+        let held = self.helds.get(opening.uri.as_bytes());
+        match held.version {
+            Some(version) if self.holds(opening.uri.as_bytes(), &opening.text) =>
+                Agreement::Agrees {
+                    held: version,
+                    changed: held.sent,
+                },
+            _ => Agreement::Differs,
+        }
     }
 
     /// A start of the server is ready, and counts positions in this encoding: it is told of each document that is open.

@@ -1,6 +1,6 @@
 ghost use Rattle.std.specs.Prelude.{IfOk, IsUtf8};
 
-use crate::Shared;
+use crate::{Agreement, Shared};
 use doc_text::DocText;
 use json_text::{Body, Memory};
 use mux_history::{Out, Outs};
@@ -40,6 +40,7 @@ enum Act {
     Open(u64, &'static str, &'static str),
     Change(u64, &'static str),
     Close(u64, &'static str),
+    Sync(u64),
 }
 
 fn open(
@@ -76,6 +77,7 @@ fn done(alloc: Global, shared: &mut Shared<DocText>, act: Act) -> Result<Outs, M
         Act::Open(e, uri, text) => open(alloc, shared, e, uri, text),
         Act::Change(e, text) => change(alloc, shared, e, text),
         Act::Close(e, uri) => shared.close(e, uri.as_bytes()),
+        Act::Sync(e) => shared.sync(e),
     }
 }
 
@@ -104,8 +106,17 @@ fn two_editors_share_a_document(rt: HostRuntime) -> Result<(), Memory> {
             "0 {\"jsonrpc\":\"2.0\",\"method\":\"textDocument/didChange\",\"params\":{\"textDocument\":{\"uri\":\"file:///u\",\"version\":2},\"contentChanges\":[{\"text\":\"b\"}]}}\n",
         ),
         (
-            Act::Close(1, U),
+            Act::Sync(0),
             "0 {\"jsonrpc\":\"2.0\",\"method\":\"textDocument/didChange\",\"params\":{\"textDocument\":{\"uri\":\"file:///u\",\"version\":3},\"contentChanges\":[{\"text\":\"a\\\"\\n\"}]}}\n",
+        ),
+        (Act::Sync(0), ""),
+        (
+            Act::Sync(1),
+            "0 {\"jsonrpc\":\"2.0\",\"method\":\"textDocument/didChange\",\"params\":{\"textDocument\":{\"uri\":\"file:///u\",\"version\":4},\"contentChanges\":[{\"text\":\"b\"}]}}\n",
+        ),
+        (
+            Act::Close(1, U),
+            "0 {\"jsonrpc\":\"2.0\",\"method\":\"textDocument/didChange\",\"params\":{\"textDocument\":{\"uri\":\"file:///u\",\"version\":5},\"contentChanges\":[{\"text\":\"a\\\"\\n\"}]}}\n",
         ),
         (
             Act::Close(0, U),
@@ -114,6 +125,24 @@ fn two_editors_share_a_document(rt: HostRuntime) -> Result<(), Memory> {
         (Act::Close(0, U), ""),
     ];
     assert!(rt; tells(rt.alloc(), 100, &acts)?);
+    Ok(())
+}
+
+#[test]
+fn tells_whose_text_the_server_has(rt: HostRuntime) -> Result<(), Memory> {
+    let mut shared = Shared::new(rt.alloc(), 100);
+    let _none = shared.ready(0, Encoding::Utf16)?;
+    let _opened = open(rt.alloc(), &mut shared, 0, U, "a")?;
+    let _told = open(rt.alloc(), &mut shared, 1, U, "b")?;
+    assert_eq!(rt; shared.agrees(0, U.as_bytes()), Agreement::Differs);
+    assert_eq!(rt;
+        shared.agrees(1, U.as_bytes()),
+        Agreement::Agrees {
+            held: 2,
+            changed: 2
+        }
+    );
+    assert_eq!(rt; shared.agrees(1, V.as_bytes()), Agreement::NotOpen);
     Ok(())
 }
 

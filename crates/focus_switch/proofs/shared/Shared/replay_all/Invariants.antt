@@ -1,10 +1,10 @@
 use Rattle.std.proofs.Common.{◌≡◌, take}
 use Rattle.std.specs.Prelude.{fold}
-use Rattle.focus_switch.specs.Rows.{Step, nothing, replay}
+use Rattle.focus_switch.specs.Rows.{Step, nothing, each, replayed}
 use Rattle.focus_switch.proofs.shared.Shared.replay_all.Given as goal
 
 abbrev pub invariant-loop-i : goal.invariant-loop-i
 invariant-loop-i g l = record {
-  done : ◌≡◌ {A = Step} (record { outs = l.outs; after = l.self }) (fold replay (nothing l.initial.self) (take l.i l.initial.self.opens));
+  done : ◌≡◌ {A = Step} (record { outs = l.outs; after = l.self }) (fold (each replayed) (nothing l.initial.self) (take l.i l.initial.self.opens));
   opens : l.self.opens ≡ l.initial.self.opens;
 }

@@ -1,0 +1,14 @@
+/// Whether the server has the text that an editor has of a document.
+#[derive(Clone, Copy, Debug, PartialEq, Eq)]
+pub enum Agreement {
+    /// The document isn't open at the editor.
+    NotOpen,
+    /// The server doesn't have the document, or has another text.
+    Differs,
+    Agrees {
+        /// The version that the server has.
+        held: u32,
+        /// How many notifications on the document the server was sent.
+        changed: u128,
+    },
+}
