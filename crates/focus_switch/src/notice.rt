@@ -18,6 +18,7 @@ use json_nodes::{bytes_in, name_in};
 use json_span::Tape;
 use json_text::{Body, Kind, Memory};
 use json_token::spells_text;
+use rpc_message::is_integer;
 use std::alloc::Global;
 
 /// What a didChange says.
@@ -58,24 +59,11 @@ fn string(alloc: Global, tape: &Tape, node: Option<u32>) -> Result<Option<Body>,
     }
 }
 
-// Whether a number's text has no fraction and no exponent.
-#[tactic(auto, unfolding(rpc_message::specs::Message::is_integer))]
-fn is_whole(text: &[u8]) -> bool
-    ensures { result ≡ is_integer text.now }
-{
-    for byte in text {
-        if !(byte.is_ascii_digit() || *byte == b'-') {
-            return false;
-        }
-    }
-    true
-}
-
 // The bytes of a number, where it is an integer.
 fn whole(alloc: Global, number: &[u8]) -> Result<Option<Body>, Memory>
     ensures { IfOk result (λ text. text ≡ (if is_integer number.now then Some number.now else None)) }
 {
-    if is_whole(number) {
+    if is_integer(number) {
         let bytes = Vec::from_slice(alloc, number)?;
         Ok(Some(Body::new(bytes)))
     } else {

@@ -41,6 +41,7 @@ enum Act {
     Change(u64, &'static str),
     Close(u64, &'static str),
     Sync(u64),
+    Leave(u64),
 }
 
 fn open(
@@ -78,6 +79,7 @@ fn done(alloc: Global, shared: &mut Shared<DocText>, act: Act) -> Result<Outs, M
         Act::Change(e, text) => change(alloc, shared, e, text),
         Act::Close(e, uri) => shared.close(e, uri.as_bytes()),
         Act::Sync(e) => shared.sync(e),
+        Act::Leave(e) => shared.leave(e),
     }
 }
 
@@ -190,6 +192,40 @@ fn tells_a_later_start_of_each_document(rt: HostRuntime) -> Result<(), Memory> {
         (
             Act::Ready(1, Encoding::Utf8),
             "1 {\"jsonrpc\":\"2.0\",\"method\":\"textDocument/didOpen\",\"params\":{\"textDocument\":{\"uri\":\"file:///u\",\"languageId\":\"x\",\"version\":1,\"text\":\"c\"}}}\n1 {\"jsonrpc\":\"2.0\",\"method\":\"textDocument/didOpen\",\"params\":{\"textDocument\":{\"uri\":\"file:///v\",\"languageId\":\"x\",\"version\":1,\"text\":\"b\"}}}\n",
+        ),
+    ];
+    assert!(rt; tells(rt.alloc(), 100, &acts)?);
+    Ok(())
+}
+
+#[test]
+fn closes_what_an_editor_leaves(rt: HostRuntime) -> Result<(), Memory> {
+    let acts = [
+        (Act::Ready(0, Encoding::Utf16), ""),
+        (
+            Act::Open(0, U, "a"),
+            "0 {\"jsonrpc\":\"2.0\",\"method\":\"textDocument/didOpen\",\"params\":{\"textDocument\":{\"uri\":\"file:///u\",\"languageId\":\"x\",\"version\":1,\"text\":\"a\"}}}\n",
+        ),
+        (
+            Act::Open(0, V, "b"),
+            "0 {\"jsonrpc\":\"2.0\",\"method\":\"textDocument/didOpen\",\"params\":{\"textDocument\":{\"uri\":\"file:///v\",\"languageId\":\"x\",\"version\":1,\"text\":\"b\"}}}\n",
+        ),
+        (
+            Act::Open(1, V, "c"),
+            "0 {\"jsonrpc\":\"2.0\",\"method\":\"textDocument/didChange\",\"params\":{\"textDocument\":{\"uri\":\"file:///v\",\"version\":2},\"contentChanges\":[{\"text\":\"c\"}]}}\n",
+        ),
+        (
+            Act::Sync(0),
+            "0 {\"jsonrpc\":\"2.0\",\"method\":\"textDocument/didChange\",\"params\":{\"textDocument\":{\"uri\":\"file:///v\",\"version\":3},\"contentChanges\":[{\"text\":\"b\"}]}}\n",
+        ),
+        (
+            Act::Leave(0),
+            "0 {\"jsonrpc\":\"2.0\",\"method\":\"textDocument/didClose\",\"params\":{\"textDocument\":{\"uri\":\"file:///u\"}}}\n0 {\"jsonrpc\":\"2.0\",\"method\":\"textDocument/didChange\",\"params\":{\"textDocument\":{\"uri\":\"file:///v\",\"version\":4},\"contentChanges\":[{\"text\":\"c\"}]}}\n",
+        ),
+        (Act::Leave(0), ""),
+        (
+            Act::Leave(1),
+            "0 {\"jsonrpc\":\"2.0\",\"method\":\"textDocument/didClose\",\"params\":{\"textDocument\":{\"uri\":\"file:///v\"}}}\n",
         ),
     ];
     assert!(rt; tells(rt.alloc(), 100, &acts)?);
