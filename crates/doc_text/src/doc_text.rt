@@ -29,7 +29,7 @@ impl Model for DocText {
 
 impl DocText {
     // Bytes that are UTF-8; others are no text.
-    pub fn from_utf8(bytes: Vec<u8>) -> Result<DocText, ChangeFault>
+    pub(crate) fn from_utf8(bytes: Vec<u8>) -> Result<DocText, ChangeFault>
         ensures ok { IfOk result (λ text. text ≡ bytes.items) }
         ensures succeeds { IsUtf8 bytes.items → IsOk result }
     {

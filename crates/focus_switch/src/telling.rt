@@ -1,5 +1,5 @@
 //! What a start of the server is told of a document.
-ghost use Rattle.std.specs.Prelude.{◌≡◌, ◌+◌, map, IfOk, IfSome};
+ghost use Rattle.std.specs.Prelude.{◌≡◌, ◌+◌, ◌^◌, ◌≤◌, map, IfOk, IfNone, IfSome};
 ghost use Rattle.mux_history.specs.declared.out.Out.TheVariants.{ToServer};
 ghost use Rattle.focus_switch.specs.Rows.{bodies_told, held_behind, switch};
 ghost use Rattle.focus_switch.specs.Shown.{shown};
@@ -44,7 +44,8 @@ impl Telling {
 
     /// What a start was told, with this; none where the count has no room.
     pub fn behind(&self, held: Held) -> Option<Held>
-        ensures { IfSome result (λ h. h ≡ held_behind held self.now) }
+        ensures some { IfSome result (λ h. h ≡ held_behind held self.now) }
+        ensures none { IfNone result (2 ^ 128 ≤ held.sent + 2) }
     {
         let (version, bodies) = match self {
             Telling::Opens(_) => (Some(1), 1),
