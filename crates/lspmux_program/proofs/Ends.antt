@@ -68,7 +68,7 @@ pub drove_done : {J : Type 0} (told : J → Option (List Entry)) (journal : J) (
 drove_done told journal input left w v failed r = record {
   history = r.history;
   legal = r.legal;
-  sessions = sessions_kept built_in (lit< tt) r.history r.legal;
+  sessions = sessions_kept built_in (record { requests = lit< tt; versions = lit< tt }) r.history r.legal;
   told_by = r.told_by;
   finished = λ _. record { gives = given_input input (record { history = r.history; refused = None }) r.done.1; wrote = r.done.0 };
   refused = λ e. absurd (omega (arith, e));
@@ -103,7 +103,7 @@ silent : {J : Type 0} (told : J → Option (List Entry)) (journal : J) (input le
 silent told journal input left w v u failed s status r m six seven l e = record {
   history = r.history;
   legal = r.legal;
-  sessions = sessions_kept built_in (lit< tt) r.history r.legal;
+  sessions = sessions_kept built_in (record { requests = lit< tt; versions = lit< tt }) r.history r.legal;
   told_by = r.told_by;
   finished = λ e. absurd (omega (arith, e, m));
   refused = λ e. absurd (omega (arith, e, m));
@@ -133,7 +133,7 @@ spoken : {J : Type 0} (told : J → Option (List Entry)) (journal : J) (input le
 spoken told journal input left w v u failed s status r m o f six seven = record {
   history = r.history;
   legal = r.legal;
-  sessions = sessions_kept built_in (lit< tt) r.history r.legal;
+  sessions = sessions_kept built_in (record { requests = lit< tt; versions = lit< tt }) r.history r.legal;
   told_by = r.told_by;
   finished = λ e. absurd (omega (arith, e, m));
   refused = λ e. absurd (omega (arith, e, m));
@@ -153,7 +153,7 @@ refused_at : {J : Type 0} (told : J → Option (List Entry)) (journal : J) (inpu
 refused_at told journal input left w v u failed k refusal r f = record {
   history = r.history;
   legal = r.legal;
-  sessions = sessions_kept built_in (lit< tt) r.history r.legal;
+  sessions = sessions_kept built_in (record { requests = lit< tt; versions = lit< tt }) r.history r.legal;
   told_by = r.told_by;
   finished = λ e. absurd (omega (arith, e));
   refused = λ _. record {
@@ -187,7 +187,7 @@ pub drove_words : {J : Type 0} (told : J → Option (List Entry)) (journal : Opt
 drove_words told journal input left w v failed t f = record {
   history = [];
   legal = tt;
-  sessions = sessions_kept built_in (lit< tt) [] tt;
+  sessions = sessions_kept built_in (record { requests = lit< tt; versions = lit< tt }) [] tt;
   told_by = t;
   finished = λ e. absurd (omega (arith, e));
   refused = λ e. absurd (omega (arith, e));

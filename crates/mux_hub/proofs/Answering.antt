@@ -1,5 +1,5 @@
 -- The rows of a server: its result to initialize, and its answers.
-use Rattle.std.proofs.Common.{◌≡◌, ℕ, ◌+◌, ◌-◌, ◌^◌, min, List, [], ◌∷◌, map, length, refl, ap, sym, subst, ◌∙◌, append_assoc, true, false}
+use Rattle.std.proofs.Common.{◌≡◌, ℕ, ◌+◌, ◌-◌, ◌^◌, min, List, [], ◌∷◌, map, fold, length, refl, ap, sym, subst, ◌∙◌, append_assoc, true, false}
 use Rattle.std.specs.Prelude.{Option, Some, None, codes, not, slice_get}
 use Rattle.std.specs.List.{remove}
 use Rattle.json_text.specs.Json.{Json}
@@ -20,9 +20,18 @@ use Rattle.mux_model.specs.Settings.{Settings}
 use Rattle.mux_model.specs.Spawns.{home_of, group_of}
 use Rattle.mux_model.specs.Stages.{life_of, is_first_result}
 use Rattle.mux_hub.specs.declared.pending.Pending.{Pending}
-use Rattle.mux_hub.specs.Stands.{Stands, MeansId, PhaseTies}
+use Rattle.mux_hub.specs.Stands.{Stands, MeansId, PhaseTies, DocumentTies, EarlyDocuments, ReadyDocuments, is_early}
 use Rattle.mux_hub.specs.Steps.{Steps}
 use Rattle.mux_hub.specs.Tables.{Kept, ids_of, asked_of, asked_for, joined_in, open_in, id_meant}
+use Rattle.position_codec.specs.declared.Encoding.{Encoding}
+use Rattle.focus_switch.specs.Documents.{Documents, holder}
+use Rattle.focus_switch.specs.Rows.{ready_row, replayed}
+use Rattle.focus_switch.specs.Rows.{each as each_told, nothing as told_nothing}
+use Rattle.document_model.specs.Follows.{Matches}
+use Rattle.document_model.specs.Helds.{HeldText, told}
+use Rattle.document_model.specs.Sayings.{saying_of}
+use Rattle.mux_model.specs.Documents.{encoding_behind, encoding_by, encoding_in, held_at}
+use Rattle.mux_hub.proofs.Documents.{DocumentsGo, Still, documents_stay, still_given, still_to_editor}
 use Rattle.mux_hub.proofs.Entries.{Goes, steps_so, stands_further}
 use Rattle.mux_hub.proofs.Ids.{closes, removed, all_removed, distinct_removed, no_place}
 use Rattle.mux_hub.proofs.Numbers.{not_zero}
@@ -32,10 +41,42 @@ use Rattle.mux_hub.proofs.Serving.{more_sent}
 not_unspawned : Initializing ≡ Unspawned → ⊥
 not_unspawned e = cc
 
+-- a ready start that was told nothing of documents
+abbrev pub fresh : Documents → Encoding → Documents
+fresh d code = record d { start = Some 0; encoding = Some code; helds = [] }
+
+abbrev pub at_ready : Kept → Json → Kept
+at_ready t r = record t { stage = Ready; documents = fresh t.documents (encoding_in r) }
+
+-- where nothing is open, nothing is told
+pub ready_fresh : (d : Documents) (code : Encoding) → d.opens ≡ [] → ready_row 0 code d ≡ record { outs = []; after = fresh d code }
+ready_fresh d code e = ap (λ os. fold (each_told replayed) (told_nothing (fresh d code)) os) e
+
+pub initializing_ties : (t : Kept) (events : List Event) → Stands t events → t.stage ≡ Initializing → EarlyDocuments t.documents (λ v. held_at 0 v events)
+initializing_ties t events s g = subst (λ z. DocumentTies z t.documents (λ v. held_at 0 v events)) g s.document_ties
+
+nothing_held : (d : Documents) (v : List ℕ) (h : Option HeldText) → d.opens ≡ [] → h ≡ None → Matches None (holder v d.opens) h
+nothing_held d v h e f = subst (λ os. Matches None (holder v os) h) (sym e) (subst (λ k. Matches None None k) (sym f) tt)
+
+readied_documents : (t : Kept) (body : List ℕ) (r : Json) (ps : Option Json) (events : List Event) (s : Stands t events) → t.stage ≡ Initializing
+    → message_of body ≡ result (Some (integer (codes "1"))) r → message_of initialized_text ≡ notification (codes "initialized") ps
+    → DocumentsGo t (heard (FromServer 0 body) ∷ map said (ToServer 0 initialized_text ∷ [])) (at_ready t r)
+readied_documents t body r ps events s g m w =
+    let known : EarlyDocuments t.documents (λ v. held_at 0 v events) = initializing_ties t events s g in
+    let first : encoding_behind 0 t.documents.encoding (heard (FromServer 0 body)) ≡ Some (encoding_in r) = ap (λ o. encoding_behind 0 o (heard (FromServer 0 body))) known.1 ∙ ap encoding_by m in
+    record {
+      encoding = ap (λ o. encoding_behind 0 o (said (ToServer 0 initialized_text))) first;
+      texts = λ before p e. refl;
+      orderly = s.orderly;
+      spelt = s.spelt;
+      ties = λ held x. (refl, (encoding_in r, refl), λ v. nothing_held t.documents v _ known.2
+          (ap (λ y. told (encoding_behind 0 t.documents.encoding (heard (FromServer 0 body))) v (held v) y) (ap saying_of w) ∙ (subst (λ z. DocumentTies z t.documents held) g x).4 v));
+    }
+
 -- the start is ready, and told so
 readied : (t : Kept) (body : List ℕ) (r : Json) (ps : Option Json) (events : List Event) (s : Stands t events) → t.stage ≡ Initializing
     → message_of body ≡ result (Some (integer (codes "1"))) r → message_of initialized_text ≡ notification (codes "initialized") ps
-    → Goes s.initialize t (heard (FromServer 0 body) ∷ map said (ToServer 0 initialized_text ∷ [])) s.initialize (record t { stage = Ready })
+    → Goes s.initialize t (heard (FromServer 0 body) ∷ map said (ToServer 0 initialized_text ∷ [])) s.initialize (at_ready t r)
 readied t body r ps events s g m w = record {
   desk = refl;
   other_desks = λ n h. refl;
@@ -54,8 +95,9 @@ readied t body r ps events s g m w = record {
   opened = refl;
   ids = s.ids;
   distinct = s.distinct;
-  phase_ties = spawned_tie t.phase t.stage Ready t.pending t.id s.initialize s.phase_ties (λ q. not_unspawned (sym g ∙ q));
+  phase_ties = spawned_tie t.phase t.stage Ready t.pending t.id s.initialize s.phase_ties (λ q. not_unspawned (sym g ∙ q)) (ap is_early g);
   stage_ties = tt;
+  documents = readied_documents t body r ps events s g m w;
 }
 
 -- the events behind the result and the notification
@@ -64,10 +106,10 @@ told_ready events body = behind (with_cause events (FromServer 0 body)) (ToServe
 
 stands_ready : (t : Kept) (body : List ℕ) (r : Json) (ps : Option Json) (events : List Event) → Stands t events → t.stage ≡ Initializing
     → message_of body ≡ result (Some (integer (codes "1"))) r → message_of initialized_text ≡ notification (codes "initialized") ps
-    → Stands (record t { stage = Ready }) (told_ready events body)
+    → Stands (at_ready t r) (told_ready events body)
 stands_ready t body r ps events s g m w =
-    subst (λ evs. Stands (record t { stage = Ready }) evs) (sym (append_assoc events (heard (FromServer 0 body) ∷ []) (map said (ToServer 0 initialized_text ∷ []))))
-    (stands_further t (record t { stage = Ready }) events (heard (FromServer 0 body) ∷ map said (ToServer 0 initialized_text ∷ [])) s.initialize s (readied t body r ps events s g m w))
+    subst (λ evs. Stands (at_ready t r) evs) (sym (append_assoc events (heard (FromServer 0 body) ∷ []) (map said (ToServer 0 initialized_text ∷ []))))
+    (stands_further t (at_ready t r) events (heard (FromServer 0 body) ∷ map said (ToServer 0 initialized_text ∷ [])) s.initialize s (readied t body r ps events s g m w))
 
 -- nobody waits in the other phases
 nobody : (p : Phase) (evs : List Event) → (is_waiting p ≡ false) → editors_of evs ≡ joined_in p → (desk_of 0 evs).phase ≡ p → waiting_for 0 evs ≡ []
@@ -87,21 +129,21 @@ first_row settings events body r l m = let c : is_first_result (message_of body)
 -- S2 where nobody waits
 pub readied_steps : (settings : Settings) (events : List Event) (t : Kept) (body : List ℕ) (r : Json) (ps : Option Json) → Stands t events → t.stage ≡ Initializing
     → message_of body ≡ result (Some (integer (codes "1"))) r → message_of initialized_text ≡ notification (codes "initialized") ps → is_waiting t.phase ≡ false
-    → Steps settings events (FromServer 0 body) (ToServer 0 initialized_text ∷ []) (record t { stage = Ready })
+    → Steps settings events (FromServer 0 body) (ToServer 0 initialized_text ∷ []) (at_ready t r)
 readied_steps settings events t body r ps s g m w p =
     let l : (life_of 0 events).stage ≡ Initializing = ap (λ l. l.stage) s.life ∙ g in
     let u = stands_ready t body r ps events s g m w in
     let none : waiting_for 0 (told_ready events body) ≡ [] = nobody t.phase (told_ready events body) p u.editors (ap (λ d. d.phase) u.desk) in
-    steps_so settings events (FromServer 0 body) (ToServer 0 initialized_text ∷ []) t (record t { stage = Ready }) s.initialize s (readied t body r ps events s g m w)
+    steps_so settings events (FromServer 0 body) (ToServer 0 initialized_text ∷ []) t (at_ready t r) s.initialize s (readied t body r ps events s g m w)
     (sym (first_row settings events body r l m ∙ ap (λ es. ToServer 0 initialized_text ∷ outs (each (welcome body) es) (told_ready events body)) none))
 
 waiting_ties : (t : Kept) (events : List Event) (s : Stands t events) → t.phase ≡ Waiting → (t.pending ≡ []) × MeansId t.id × (t.id ≡ id_bytes s.initialize)
 waiting_ties t events s e = let P : Phase → Type 0 = λ p. PhaseTies p t.stage t.pending t.id s.initialize in subst P e s.phase_ties
 
 -- the waiting editor is answered
-welcomed : (t : Kept) (text : List ℕ) (v : Json) (events : List Event) (s : Stands t events) → t.phase ≡ Waiting → message_of text ≡ result (Some (id_meant t.id)) v
+welcomed : (t : Kept) (text : List ℕ) (v : Json) (events : List Event) (s : Stands t events) → t.phase ≡ Waiting → is_early t.stage ≡ false → message_of text ≡ result (Some (id_meant t.id)) v
     → Goes s.initialize t (map said (ToEditor 0 text ∷ [])) s.initialize (record t { phase = Answered; sent = min (t.sent + length text) (2 ^ 64 - 1) })
-welcomed t text v events s e w =
+welcomed t text v events s e late w =
     let ties = waiting_ties t events s e in
     let none : t.pending ≡ [] = ties.0 in
     record {
@@ -122,30 +164,35 @@ welcomed t text v events s e w =
       opened = rw (w, e, none) (closes (id_meant t.id) [] refl);
       ids = s.ids;
       distinct = s.distinct;
-      phase_ties = tt;
+      phase_ties = late;
       stage_ties = s.stage_ties;
+      documents = documents_stay t (record t { phase = Answered; sent = min (t.sent + length text) (2 ^ 64 - 1) }) (map said (ToEditor 0 text ∷ [])) s.orderly s.spelt
+          (still_to_editor t.documents.encoding 0 text (message_of text), tt) refl (λ held x. x);
     }
 
 one_waits : (evs : List Event) → editors_of evs ≡ 1 → (desk_of 0 evs).phase ≡ Waiting → (home_of 0 evs).group ≡ Some 0 → group_of 0 evs ≡ Some 0 → waiting_for 0 evs ≡ 0 ∷ []
 one_waits evs n d h g = rw (n, d, h, g) refl
 
+abbrev pub answered_with : Kept → Json → List ℕ → Kept
+answered_with t r text = record t { phase = Answered; sent = min (t.sent + length text) (2 ^ 64 - 1); stage = Ready; documents = fresh t.documents (encoding_in r) }
+
 -- S2: the editor that waits gets the result
 pub welcomed_steps : (settings : Settings) (events : List Event) (t : Kept) (body text : List ℕ) (r v : Json) (ps : Option Json) → Stands t events → t.stage ≡ Initializing
     → message_of body ≡ result (Some (integer (codes "1"))) r → message_of initialized_text ≡ notification (codes "initialized") ps → t.phase ≡ Waiting
     → text ≡ ok_text t.id (result_bytes body) → message_of text ≡ result (Some (id_meant t.id)) v
-    → Steps settings events (FromServer 0 body) (ToServer 0 initialized_text ∷ ToEditor 0 text ∷ []) (record t { phase = Answered; sent = min (t.sent + length text) (2 ^ 64 - 1); stage = Ready })
+    → Steps settings events (FromServer 0 body) (ToServer 0 initialized_text ∷ ToEditor 0 text ∷ []) (answered_with t r text)
 welcomed_steps settings events t body text r v ps s g m w p x n =
     let l : (life_of 0 events).stage ≡ Initializing = ap (λ l. l.stage) s.life ∙ g in
     let u = stands_ready t body r ps events s g m w in
     let evs : List Event = told_ready events body in
     let waits : waiting_for 0 evs ≡ 0 ∷ [] = one_waits evs (u.editors ∙ ap joined_in p) (ap (λ d. d.phase) u.desk ∙ p) u.home u.group in
-    let text_is : ok_text (id_bytes (desk_of 0 evs).initialize) (result_bytes body) ≡ text = ap (λ d. ok_text (id_bytes d.initialize) (result_bytes body)) u.desk ∙ (ap (λ i. ok_text i (result_bytes body)) (sym (waiting_ties (record t { stage = Ready }) evs u p).2) ∙ sym x) in
+    let text_is : ok_text (id_bytes (desk_of 0 evs).initialize) (result_bytes body) ≡ text = ap (λ d. ok_text (id_bytes d.initialize) (result_bytes body)) u.desk ∙ (ap (λ i. ok_text i (result_bytes body)) (sym (waiting_ties (at_ready t r) evs u p).2) ∙ sym x) in
     record {
       outs = sym (first_row settings events body r l m ∙ (ap (λ es. ToServer 0 initialized_text ∷ outs (each (welcome body) es) evs) waits ∙ ap (λ b. ToServer 0 initialized_text ∷ ToEditor 0 b ∷ []) text_is));
-      stands = subst (λ xs. Stands (record t { phase = Answered; sent = min (t.sent + length text) (2 ^ 64 - 1); stage = Ready }) xs)
+      stands = subst (λ xs. Stands (answered_with t r text) xs)
           (append_assoc (with_cause events (FromServer 0 body)) (said (ToServer 0 initialized_text) ∷ []) (said (ToEditor 0 text) ∷ []))
-          (stands_further (record t { stage = Ready }) (record t { phase = Answered; sent = min (t.sent + length text) (2 ^ 64 - 1); stage = Ready }) evs (map said (ToEditor 0 text ∷ [])) u.initialize u
-          (welcomed (record t { stage = Ready }) text v evs u p n));
+          (stands_further (at_ready t r) (answered_with t r text) evs (map said (ToEditor 0 text ∷ [])) u.initialize u
+          (welcomed (at_ready t r) text v evs u p refl n));
     }
 
 -- a response from the start
@@ -153,6 +200,12 @@ abbrev pub responds : Option Id → Message → Type 0
 responds i (result id r) = id ≡ i
 responds i (error id e) = id ≡ i
 responds i other = ⊥
+
+-- a ready start gave its encoding
+given_still : (t : Kept) (events : List Event) (body : List ℕ) → Stands t events → t.stage ≡ Ready → Still t.documents.encoding (heard (FromServer 0 body))
+given_still t events body s g =
+    let ties : ReadyDocuments t.documents (λ v. held_at 0 v events) = subst (λ z. DocumentTies z t.documents (λ v. held_at 0 v events)) g s.document_ties in
+    still_given t.documents.encoding ties.1.0 body (message_of body) ties.1.1
 
 heard_response : (t : Kept) (events : List Event) (body : List ℕ) (s : Stands t events) → t.stage ≡ Ready → Goes s.initialize t (heard (FromServer 0 body) ∷ map said []) s.initialize t
 heard_response t events body s g = record {
@@ -175,6 +228,7 @@ heard_response t events body s g = record {
   distinct = s.distinct;
   phase_ties = s.phase_ties;
   stage_ties = s.stage_ties;
+  documents = documents_stay t t (heard (FromServer 0 body) ∷ []) s.orderly s.spelt (given_still t events body s g, tt) refl (λ held x. x);
 }
 
 -- S5 where nobody asked
@@ -231,15 +285,15 @@ served_open Down ps i w = refl
 served_open Closed ps i w = refl
 served_open Gone ps i w = refl
 
-served_ties : (q : Phase) (g : Stage) (ps : List Pending) (i b : List ℕ) → WasServed q → PhaseTies q g ps i b
-served_ties Absent g ps i b w = absurd w
-served_ties New g ps i b w = absurd w
-served_ties Waiting g ps i b w = absurd w
-served_ties Answered g ps i b w = tt
-served_ties Running g ps i b w = tt
-served_ties Down g ps i b w = tt
-served_ties Closed g ps i b w = tt
-served_ties Gone g ps i b w = tt
+served_ties : (q : Phase) (g : Stage) (ps rest : List Pending) (i b : List ℕ) → WasServed q → PhaseTies q g ps i b → PhaseTies q g rest i b
+served_ties Absent g ps rest i b w t = absurd w
+served_ties New g ps rest i b w t = absurd w
+served_ties Waiting g ps rest i b w t = absurd w
+served_ties Answered g ps rest i b w t = t
+served_ties Running g ps rest i b w t = t
+served_ties Down g ps rest i b w t = tt
+served_ties Closed g ps rest i b w t = tt
+served_ties Gone g ps rest i b w t = tt
 
 abbrev desk_record : Phase → List ℕ → Desk
 desk_record q i = record { phase = q; initialize = i }
@@ -274,6 +328,8 @@ passed_steps settings events t body text k p s g a e here x w =
       opened = rw (w, opens) (removed (λ q. id_meant q.id) (λ o. not (same_id j o)) j t.pending k p (λ q. refl) s.distinct e refl ∙ sym (served_open t.phase (remove t.pending k) t.id served));
       ids = all_removed t.pending k p e s.ids;
       distinct = distinct_removed t.pending k p e s.distinct;
-      phase_ties = served_ties t.phase t.stage (remove t.pending k) t.id s.initialize served;
+      phase_ties = served_ties t.phase t.stage t.pending (remove t.pending k) t.id s.initialize served s.phase_ties;
       stage_ties = s.stage_ties;
+      documents = documents_stay t (record t { sent = min (t.sent + length text) (2 ^ 64 - 1); pending = remove t.pending k }) (heard (FromServer 0 body) ∷ map said (ToEditor 0 text ∷ [])) s.orderly s.spelt
+          (given_still t events body s g, (still_to_editor t.documents.encoding 0 text (message_of text), tt)) refl (λ held x. x);
     }) (rw (l, some, d) (ap (λ b. ToEditor 0 b ∷ []) x))

@@ -1,6 +1,13 @@
 -- An entry's events behind those for which the tables stood.
 use Rattle.std.proofs.Common.{◌≡◌, ℕ, ◌-◌, ◌^◌, ◌<◌, min, List, [], ◌∷◌, ◌++◌, map, fold, ap, sym, subst, ◌∙◌, append_assoc}
-use Rattle.std.specs.Prelude.{None}
+use Rattle.std.specs.Prelude.{Option, None}
+use Rattle.std.specs.Option.{option_and_then}
+use Rattle.focus_switch.specs.Documents.{Documents}
+use Rattle.document_model.specs.Helds.{HeldText}
+use Rattle.mux_model.proofs.DocumentFolds.{texts_more, sent_encoding}
+use Rattle.mux_model.specs.declared.stage.Stage.{Stage}
+use Rattle.mux_model.specs.declared.stage.Stage.TheVariants.{Unspawned, Spawning, Initializing, Ready, Stopping, Ending, Ended}
+use Rattle.mux_model.specs.Documents.{encoding_behind, encoding_of, encoding_for, start_for, texts_from, Sent, sent_behind, held_at}
 use Rattle.std.specs.List.{AllByRecursion}
 use Rattle.std.proofs.lemmas.List.Sums.{fold-append}
 use Rattle.mux_history.specs.declared.cause.Cause.{Cause}
@@ -9,12 +16,13 @@ use Rattle.mux_model.specs.Rows.{outs_of}
 use Rattle.mux_model.specs.Settings.{Settings}
 use Rattle.mux_hub.specs.Steps.{Steps}
 use Rattle.mux_model.specs.Event.{Event, heard, said}
-use Rattle.mux_model.specs.Phases.{desk_behind, no_desk, editors_behind, backlog_of, backlog_behind}
+use Rattle.mux_model.specs.Phases.{Desk, desk_behind, no_desk, editors_behind, backlog_of, backlog_behind}
 use Rattle.mux_model.specs.Requests.{Asking, open_behind, asking_of, asking_behind}
-use Rattle.mux_model.specs.Spawns.{Home, Founding, starts_behind, groups_behind, start_behind, home_of, home_behind, founding_of, founding_behind, group_behind}
+use Rattle.mux_model.specs.Spawns.{start_of, Home, Founding, starts_behind, groups_behind, start_behind, home_of, home_behind, founding_of, founding_behind, group_behind}
 use Rattle.mux_model.specs.Stages.{life_behind, no_life}
 use Rattle.mux_hub.specs.Tables.{Kept, asked_for, joined_in, spawned_in, first_in, open_in}
-use Rattle.mux_hub.specs.Stands.{Stands, Distinct, MeansId, PhaseTies, StageTies}
+use Rattle.mux_hub.specs.Stands.{Stands, Distinct, DocumentTies, MeansId, PhaseTies, StageTies}
+use Rattle.mux_hub.proofs.Documents.{DocumentsGo, ties_same}
 
 -- these events lead the tables t to u, and the initialize b to c
 pub record Goes (b : List ℕ) (t : Kept) (evs : List Event) (c : List ℕ) (u : Kept) : Type 0 where
@@ -37,9 +45,39 @@ pub record Goes (b : List ℕ) (t : Kept) (evs : List Event) (c : List ℕ) (u :
   pub distinct : Distinct u.pending
   pub phase_ties : PhaseTies u.phase u.stage u.pending u.id c
   pub stage_ties : StageTies u.stage u.next u.opening c
+  pub documents : DocumentsGo t evs u
 
 further : {A : Type 0} (f : A → Event → A) (b x : A) (events evs : List Event) → fold f b events ≡ x → fold f b (events ++ evs) ≡ fold f x evs
 further f b x events evs e = fold-append f b events evs ∙ ap (λ y. fold f y evs) e
+
+-- the encoding of the start of the editor's group
+encoding_so : (g : Stage) (d : Documents) (held : List ℕ → Option HeldText) (events : List Event) → start_for 0 events ≡ first_in g → encoding_of 0 events ≡ d.encoding → DocumentTies g d held → encoding_for 0 events ≡ d.encoding
+encoding_so Unspawned d held events s e x = ap (option_and_then (λ n. encoding_of n events)) s ∙ sym x.1
+encoding_so Spawning d held events s e x = ap (option_and_then (λ n. encoding_of n events)) s ∙ e
+encoding_so Initializing d held events s e x = ap (option_and_then (λ n. encoding_of n events)) s ∙ e
+encoding_so Ready d held events s e x = ap (option_and_then (λ n. encoding_of n events)) s ∙ e
+encoding_so Stopping d held events s e x = ap (option_and_then (λ n. encoding_of n events)) s ∙ e
+encoding_so Ending d held events s e x = ap (option_and_then (λ n. encoding_of n events)) s ∙ e
+encoding_so Ended d held events s e x = ap (option_and_then (λ n. encoding_of n events)) s ∙ e
+
+-- the start of the editor's group is start 0, once it was spawned
+pub started_for : (g : Stage) (events : List Event) → (home_of 0 events).group ≡ first_in g → start_of 0 events ≡ first_in g → start_for 0 events ≡ first_in g
+started_for Unspawned events h k = ap (option_and_then (λ g. start_of g events)) h
+started_for Spawning events h k = ap (option_and_then (λ g. start_of g events)) h ∙ k
+started_for Initializing events h k = ap (option_and_then (λ g. start_of g events)) h ∙ k
+started_for Ready events h k = ap (option_and_then (λ g. start_of g events)) h ∙ k
+started_for Stopping events h k = ap (option_and_then (λ g. start_of g events)) h ∙ k
+started_for Ending events h k = ap (option_and_then (λ g. start_of g events)) h ∙ k
+started_for Ended events h k = ap (option_and_then (λ g. start_of g events)) h ∙ k
+
+pub encoding_known : (t : Kept) (events : List Event) → Stands t events → encoding_for 0 events ≡ t.documents.encoding
+encoding_known t events s = encoding_so t.stage t.documents (λ v. held_at 0 v events) events (started_for t.stage events s.home s.start) s.encoding s.document_ties
+
+-- what a start has behind more events
+held_further : (t : Kept) (events evs : List Event) (v : List ℕ) → encoding_of 0 events ≡ t.documents.encoding
+    → (fold (sent_behind 0 v) (record { encoding = t.documents.encoding; held = held_at 0 v events }) evs).held ≡ held_at 0 v (events ++ evs)
+held_further t events evs v e = ap (λ o. (fold (sent_behind 0 v) (record { encoding = o; held = held_at 0 v events }) evs).held) (sym e ∙ sym (sent_encoding 0 v events))
+    ∙ ap (λ (x : Sent). x.held) (sym (fold-append (sent_behind 0 v) (record { encoding = None; held = None }) events evs))
 
 pub stands_further : (t u : Kept) (events evs : List Event) (c : List ℕ) (s : Stands t events) → Goes s.initialize t evs c u → Stands u (events ++ evs)
 stands_further t u events evs c s g = record {
@@ -63,6 +101,11 @@ stands_further t u events evs c s g = record {
   phase_ties = g.phase_ties;
   stage_ties = g.stage_ties;
   opened = further (open_behind 0) [] _ events evs s.opened ∙ g.opened;
+  encoding = further (encoding_behind 0) None _ events evs s.encoding ∙ g.documents.encoding;
+  texts = texts_more events evs ∙ ap (λ x. texts_from events x evs) s.texts ∙ g.documents.texts events (ap (λ (d : Desk). d.phase) s.desk) (encoding_known t events s);
+  orderly = g.documents.orderly;
+  spelt = g.documents.spelt;
+  document_ties = ties_same u.stage u.documents _ _ (λ v. held_further t events evs v s.encoding) (g.documents.ties (λ v. held_at 0 v events) s.document_ties);
 }
 
 -- an entry is its cause and then its outs

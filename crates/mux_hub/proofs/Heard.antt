@@ -1,6 +1,6 @@
 -- What a body that was read says of the turn.
-use Rattle.std.proofs.Common.{◌≡◌, ℕ, suc, List, [], ◌∷◌, ◌++◌, refl, ap, sym, subst, ◌∙◌, Bool, true, false, arith}
-use Rattle.std.specs.Prelude.{Option, Some, None, bytes_eq, decimal, nat_eq, option_map, ◌&&◌, ◌||◌, if◌then◌else◌}
+use Rattle.std.proofs.Common.{◌≡◌, ℕ, suc, List, [], ◌∷◌, ◌++◌, refl, ap, ap₂, sym, subst, ◌∙◌, Bool, true, false, arith}
+use Rattle.std.specs.Prelude.{Option, Some, None, Result, Ok, Err, IfOk, bytes_eq, decimal, nat_eq, option_map, ◌&&◌, ◌||◌, if◌then◌else◌}
 use Rattle.json_text.specs.Json.{Json, word, number, string, array, object, value, quoted}
 use Rattle.json_text.specs.Number.{is_digit}
 use Rattle.std.proofs.lemmas.Bool.Decides.{nat_tests}
@@ -11,11 +11,26 @@ use Rattle.rpc_message.specs.Parsed.{Parsed, IsRead}
 use Rattle.rpc_message.specs.Envelopes.{Tells, IsRequest, IsOutcome, IsFailure}
 use Rattle.rpc_message.specs.declared.envelope.Envelope.TheVariants as envelope
 use Rattle.rpc_message.proofs.Ids.{result_id_bytes, error_id_bytes}
+use Rattle.json_text.specs.Tree.{tree_of}
+use Rattle.json_nodes.specs.At.{At}
+use Rattle.json_nodes.proofs.Numbers.{root_at}
+use Rattle.mux_history.specs.declared.out.Out.{Out}
+use Rattle.mux_history.specs.declared.out.Out.TheVariants.{ToEditor}
+use Rattle.position_codec.specs.declared.Encoding.{Encoding}
+use Rattle.mux_model.specs.declared.phase.Phase.TheVariants.{Answered}
+use Rattle.mux_model.specs.Rows.{is_waiting}
+use Rattle.focus_switch.specs.Documents.{Documents}
+use Rattle.focus_switch.specs.Rows.{Step, change_row}
+use Rattle.document_model.specs.Sayings.{Saying, opens, changes, closes, misshapen, nothing, saying_of}
+use Rattle.rpc_message.proofs.Reading.{held_tree}
+use Rattle.mux_members.specs.declared.notice.Notice.{Notice}
+use Rattle.mux_members.specs.declared.notice.Notice.TheVariants.{Changes}
+use Rattle.mux_members.specs.Notices.{Says}
 use Rattle.mux_model.specs.Requests.{has_number}
 use Rattle.mux_model.specs.declared.stage.Stage.TheVariants.{Ready}
 use Rattle.mux_hub.specs.declared.pending.Pending.{Pending}
 use Rattle.mux_hub.specs.Tables.{Kept, asked_of}
-use Rattle.mux_hub.specs.Turns.{from_editor, from_server, requested, place_of, place_written, place_if, is_no_number, or_next, answered}
+use Rattle.mux_hub.specs.Turns.{from_editor, from_server, requested, place_of, place_written, place_if, is_no_number, or_next, answered, changed_by, document_step, DocumentGives, begun, ready_if, welcome_text, sent_more, Gives}
 
 -- a request that was read
 pub record ReadRequest (body : List ℕ) : Type 0 where
@@ -101,3 +116,38 @@ pub failure_turn : (t : Kept) (body : List ℕ) (doc : Parsed) (at error_at : �
 failure_turn t body doc at error_at r e =
     let tells : IsFailure doc.doc at error_at (message_of body) = subst (λ v. Tells doc.doc v (message_of body)) e r.tells in
     ap (λ m. from_server t body m Ready) tells.is ∙ ap (answered t body) (sym (place_by_id tells.id (id_bytes body) t.pending (error_id_bytes body tells.id _ tells.is)))
+
+abbrev step_record : List Out → Documents → Step
+step_record outs after = record { outs = outs; after = after }
+
+-- a didChange that was read
+given_by : (t : Kept) (body : List ℕ) (outs : List Out) (after : Documents) (step : Step) → step_record outs after ≡ step → (x : Saying) → document_step body x t.documents ≡ step → DocumentGives (document_step body x t.documents) t outs (record t { documents = after })
+given_by t body outs after step e x f = (ap (λ (z : Step). z.outs) (e ∙ sym f), ap (λ (z : Step). record t { documents = z.after }) (e ∙ sym f))
+
+changes_by : (t : Kept) (body : List ℕ) (doc : Parsed) (read : IsRead doc body) (outs : List Out) (after : Documents) → step_record outs after ≡ change_row 0 doc.doc.bytes read.tree t.documents → (x : Saying) → Says Changes x
+    → DocumentGives (document_step body x t.documents) t outs (record t { documents = after })
+changes_by t body doc read outs after e (changes u v cs) says =
+    given_by t body outs after (change_row 0 body read.tree t.documents) (e ∙ ap (λ bytes. change_row 0 bytes read.tree t.documents) read.bytes_are) (changes u v cs)
+    (ap (λ o. changed_by body o t.documents) (ap tree_of (sym read.bytes_are) ∙ held_tree doc.doc read.tree read.holds))
+changes_by t body doc read outs after e (opens u l v w) says = absurd says
+changes_by t body doc read outs after e (closes u) says = absurd says
+changes_by t body doc read outs after e misshapen says = absurd says
+changes_by t body doc read outs after e nothing says = absurd says
+
+pub changes_given : {E : Type 0} (t : Kept) (notice : Notice) (body : List ℕ) (doc : Parsed) (result : Result (List Out) E) (after : Documents) → IsRead doc body → Says notice (saying_of (message_of body)) → notice ≡ Changes
+    → ((j : Json) → At doc.doc 0 j → IfOk result (λ outs. step_record outs after ≡ change_row 0 doc.doc.bytes j t.documents))
+    → IfOk result (λ outs. DocumentGives (document_step body (saying_of (message_of body)) t.documents) t outs (record t { documents = after }))
+changes_given t notice body doc (Ok outs) after read says is f = changes_by t body doc read outs after (f read.tree (root_at doc.doc read.tree read.holds)) (saying_of (message_of body)) (subst (λ n. Says n (saying_of (message_of body))) is says)
+changes_given t notice body doc (Err e) after read says is f = tt
+
+-- the editor that waits is answered, once the session began
+pub welcomed_given : (t : Kept) (body : List ℕ) (code given : Encoding) (outs more : List Out) (now view : Kept) (words : List ℕ) (sent : ℕ) → Gives (begun t given) outs now → given ≡ code → view ≡ now → is_waiting view.phase ≡ true
+    → words ≡ welcome_text view body → more ≡ outs ++ ToEditor 0 words ∷ [] → sent ≡ sent_more view.sent words → Gives (ready_if (is_waiting t.phase) t body code) more (record view { phase = Answered; sent = sent })
+welcomed_given t body code given outs more now view words sent g same seen waits said pushed counted =
+    let v : view ≡ (begun t code).now = seen ∙ g.1 ∙ ap (λ c. (begun t c).now) same in
+    let w : is_waiting t.phase ≡ true = ap (λ (k : Kept). is_waiting k.phase) (sym v) ∙ waits in
+    let x : words ≡ welcome_text t body = said ∙ ap (λ (k : Kept). welcome_text k body) v in
+    subst (λ b. Gives (ready_if b t body code) more (record view { phase = Answered; sent = sent })) (sym w) (
+      pushed ∙ ap₂ (λ xs y. xs ++ ToEditor 0 y ∷ []) (g.0 ∙ ap (λ c. (begun t c).outs) same) x,
+      ap₂ (λ (k : Kept) n. record k { phase = Answered; sent = n }) v (counted ∙ ap₂ (λ (k : Kept) y. sent_more k.sent y) v x),
+    )

@@ -18,6 +18,7 @@ use Rattle.mux_hub.specs.Tables.{Kept, built_in}
 use Rattle.mux_hub.specs.Turns.{turn, Gives}
 use Rattle.mux_hub.proofs.BuiltLaw.{built_so}
 use Rattle.mux_hub.proofs.TurnLaw.{turn_right}
+use Rattle.mux_hub.proofs.Versions.{versions_kept}
 
 legal_from : (settings : Settings) (before rest : List Entry) (cause : Cause) → LegalFrom settings before rest → IsTrue (fits (before ++ rest) cause) → IsTrue (built (before ++ rest) cause)
     → LegalFrom settings before (rest ++ entry_of settings (before ++ rest) cause ∷ [])
@@ -50,10 +51,10 @@ pub record Stepped {J : Type 0} (told : J → Option (List Entry)) (hub : HubVie
   pub stands : HubStands told (record { settings = hub.settings; tables = now; spent = false; journal = journal }) (history ++ entry_of hub.settings history cause ∷ [])
 
 pub stepped : {J : Type 0} (told : J → Option (List Entry)) (hub : HubView J) (cause : Cause) (xs : List Out) (now : Kept) (journal : J) (history : List Entry) → HubStands told hub history → hub.spent ≡ false
-    → hub.settings.limits.requests < 2 ^ 32 → IsTrue (fits history cause) → IsTrue (built history cause) → Gives (turn hub.settings.limits.requests hub.tables cause) xs now
+    → hub.settings.limits.requests < 2 ^ 32 → hub.settings.limits.versions < 2 ^ 32 → IsTrue (fits history cause) → IsTrue (built history cause) → Gives (turn hub.settings.limits.requests hub.tables cause) xs now
     → told journal ≡ append_told (told hub.journal) (record { cause = cause; outs = xs } ∷ []) → Stepped told hub cause xs now journal history
-stepped told hub cause xs now journal history h s l f b g t =
-    let right = turn_right hub.settings (events_of history) hub.tables cause l (h.tables s) f b in
+stepped told hub cause xs now journal history h s l v f b g t =
+    let right = turn_right hub.settings (events_of history) hub.tables cause l v (h.versions s) (h.tables s) f b in
     let outs : xs ≡ emits hub.settings history cause = g.0 ∙ right.outs in
     let longer : events_of (history ++ entry_of hub.settings history cause ∷ []) ≡ with_entry (events_of history) (entry_of hub.settings history cause) = fold-append with_entry [] history (entry_of hub.settings history cause ∷ []) in
     let same : with_entry (events_of history) (entry_record cause (turn hub.settings.limits.requests hub.tables cause).outs) ≡ with_entry (events_of history) (entry_of hub.settings history cause) =
@@ -64,6 +65,7 @@ stepped told hub cause xs now journal history h s l f b g t =
         legal = legal_more hub.settings history cause h.legal f b;
         told_by = told_more (told journal) (told hub.journal) history (entry_of hub.settings history cause) (entry_record cause xs) h.told_by t (ap (entry_record cause) outs);
         tables = λ n. subst (λ evs. Stands now evs) (same ∙ sym longer) (subst (λ k. Stands k (with_entry (events_of history) (entry_record cause (turn hub.settings.limits.requests hub.tables cause).outs))) (sym g.1) right.stands);
+        versions = λ n. ap (λ (k : Kept). k.documents.versions) g.1 ∙ versions_kept hub.settings.limits.requests hub.tables cause ∙ h.versions s;
       };
     }
 

@@ -1,5 +1,5 @@
 -- Bodies that are no message: what the tables do for them is what the routing table says.
-use Rattle.std.proofs.Common.{◌≡◌, ℕ, ◌+◌, ◌-◌, ◌^◌, min, List, [], ◌∷◌, length, refl, ap, ap₂, sym, ◌∙◌, Bool, true, false}
+use Rattle.std.proofs.Common.{◌≡◌, ℕ, ◌+◌, ◌-◌, ◌^◌, min, List, [], ◌∷◌, map, length, refl, ap, ap₂, sym, ◌∙◌, Bool, true, false}
 use Rattle.std.specs.Prelude.{None, not, filter, codes}
 use Rattle.json_text.specs.Json.{Json}
 use Rattle.mux_history.specs.declared.cause.Cause.TheVariants.{FromEditor, FromServer}
@@ -11,7 +11,10 @@ use Rattle.mux_model.specs.declared.phase.Phase.{Phase}
 use Rattle.mux_model.specs.declared.phase.Phase.TheVariants.{Absent, New, Waiting, Answered, Running, Down, Closed, Gone}
 use Rattle.mux_model.specs.declared.stage.Stage.{Stage}
 use Rattle.mux_model.specs.declared.stage.Stage.TheVariants.{Unspawned, Spawning, Initializing, Ready, Stopping, Ending, Ended}
-use Rattle.mux_model.specs.Event.{Event, with_cause}
+use Rattle.document_model.specs.Sayings.{saying_of}
+use Rattle.document_model.specs.Sayings.{nothing as nothing_said}
+use Rattle.mux_model.specs.Documents.{encoding_by}
+use Rattle.mux_model.specs.Event.{Event, with_cause, heard, said, requests}
 use Rattle.mux_model.specs.Phases.{Desk, desk_of, desk_hears, phase_told, is_there, is_malformed}
 use Rattle.mux_model.specs.Requests.{Asked, answers, answered_id, asked_by, asking_of, asks, without}
 use Rattle.mux_model.specs.Row.{outs, choose, send, nothing}
@@ -22,6 +25,7 @@ use Rattle.mux_hub.specs.Stands.{Stands}
 use Rattle.mux_hub.specs.Steps.{Steps}
 use Rattle.mux_hub.specs.Tables.{Kept, open_in}
 use Rattle.mux_hub.specs.Turns.{malformed_if}
+use Rattle.mux_hub.proofs.Documents.{Still, documents_stay, still_from_editor, still_from_server, still_to_editor}
 use Rattle.mux_hub.proofs.Entries.{steps_so}
 use Rattle.mux_hub.proofs.Numbers.{not_zero}
 use Rattle.mux_hub.proofs.Serving.{more_sent}
@@ -33,6 +37,9 @@ pub record IsNone (m : Message) : Type 0 where
   pub stage : (g : Stage) → stage_hears g m ≡ g
   pub asks : (ids : List Id) → asks m ids ≡ ids
   pub answers : answered_id m ≡ None
+  pub saying : saying_of m ≡ nothing_said
+  pub stays : requests (codes "shutdown") m ≡ false
+  pub encoding : encoding_by m ≡ None
 
 json_desk : (p : Phase) (i body : List ℕ) → desk_hears p i body not_json ≡ record { phase = p; initialize = i }
 json_desk Absent i body = refl
@@ -73,10 +80,10 @@ message_stage Ending = refl
 message_stage Ended = refl
 
 pub no_json : IsNone not_json
-no_json = record { malformed = refl; desk = json_desk; stage = json_stage; asks = λ ids. refl; answers = refl }
+no_json = record { malformed = refl; desk = json_desk; stage = json_stage; asks = λ ids. refl; answers = refl; saying = refl; stays = refl; encoding = refl }
 
 pub no_message : IsNone not_message
-no_message = record { malformed = refl; desk = message_desk; stage = message_stage; asks = λ ids. refl; answers = refl }
+no_message = record { malformed = refl; desk = message_desk; stage = message_stage; asks = λ ids. refl; answers = refl; saying = refl; stays = refl; encoding = refl }
 
 error_told : (p : Phase) (x : Json) → phase_told p (error None x) ≡ p
 error_told Absent x = refl
@@ -101,6 +108,9 @@ abbrev desk_record : List ℕ → Phase → Desk
 desk_record i p = record { phase = p; initialize = i }
 
 module _ (settings : Settings) (events : List Event) (t : Kept) (body : List ℕ) (m : Message) (s : Stands t events) (says : message_of body ≡ m) (none : IsNone m) where
+  heard_still : Still t.documents.encoding (heard (FromEditor 0 body))
+  heard_still = still_from_editor t.documents.encoding body (message_of body) (ap saying_of says ∙ none.saying) (ap (requests (codes "shutdown")) says ∙ none.stays)
+
   heard_desk : desk_hears t.phase s.initialize body (message_of body) ≡ record { phase = t.phase; initialize = s.initialize }
   heard_desk = ap (desk_hears t.phase s.initialize body) says ∙ none.desk t.phase s.initialize body
 
@@ -138,6 +148,8 @@ module _ (settings : Settings) (events : List Event) (t : Kept) (body : List ℕ
         distinct = s.distinct;
         phase_ties = s.phase_ties;
         stage_ties = s.stage_ties;
+        documents = documents_stay t (record t { sent = min (t.sent + length text) (2 ^ 64 - 1) }) (heard (FromEditor 0 body) ∷ map said (ToEditor 0 text ∷ [])) s.orderly s.spelt
+            (heard_still, (still_to_editor t.documents.encoding 0 text (message_of text), tt)) refl (λ held x. x);
       }) (sym (row_is true there))
 
   unanswered_steps : is_there t.phase ≡ false → Steps settings events (FromEditor 0 body) [] t
@@ -161,6 +173,7 @@ module _ (settings : Settings) (events : List Event) (t : Kept) (body : List ℕ
     distinct = s.distinct;
     phase_ties = s.phase_ties;
     stage_ties = s.stage_ties;
+    documents = documents_stay t t (heard (FromEditor 0 body) ∷ []) s.orderly s.spelt (heard_still, tt) refl (λ held x. x);
   }) (sym (row_is false there))
 
   pub rejected_steps : (b : Bool) → is_there t.phase ≡ b → Steps settings events (FromEditor 0 body) (malformed_if b t (malformed_text m)).outs (malformed_if b t (malformed_text m)).now
@@ -192,6 +205,7 @@ module _ (settings : Settings) (events : List Event) (t : Kept) (body : List ℕ
     distinct = s.distinct;
     phase_ties = s.phase_ties;
     stage_ties = s.stage_ties;
+    documents = documents_stay t t (heard (FromServer 0 body) ∷ []) s.orderly s.spelt (still_from_server t.documents.encoding body (message_of body) (ap encoding_by says ∙ none.encoding), tt) refl (λ held x. x);
   }) (server_row (life_of 0 events).stage (row (life_of 0 events).stage))
 
 -- the row of a server's body that is no message, in each stage

@@ -1,15 +1,15 @@
 -- The rows that open a session: an editor joins, it initialises, its server's program runs.
-use Rattle.std.proofs.Common.{◌≡◌, ℕ, List, [], ◌∷◌, ◌++◌, refl, ap, sym, subst, ◌∙◌, append-nil, true, false}
+use Rattle.std.proofs.Common.{◌≡◌, ℕ, List, [], ◌∷◌, ◌++◌, map, refl, ap, sym, subst, ◌∙◌, append-nil, true, false}
 use Rattle.std.specs.Prelude.{Option, Some, codes}
 use Rattle.mux_history.specs.declared.cause.Cause.TheVariants.{Joined, FromEditor, Started}
 use Rattle.mux_history.specs.declared.out.Out.TheVariants.{ToServer, Spawn}
 use Rattle.json_text.specs.Json.{Json}
-use Rattle.rpc_message.specs.Message.{request, Id, integer, id_bytes, message_of}
+use Rattle.rpc_message.specs.Message.{request, not_message, Id, integer, id_bytes, message_of}
 use Rattle.mux_model.specs.declared.phase.Phase.{Phase}
 use Rattle.mux_model.specs.declared.phase.Phase.TheVariants.{Absent, New, Waiting, Answered, Running, Down, Closed, Gone}
 use Rattle.mux_model.specs.declared.stage.Stage.{Stage}
 use Rattle.mux_model.specs.declared.stage.Stage.TheVariants.{Unspawned, Spawning, Initializing, Ending}
-use Rattle.mux_model.specs.Event.{Event, took}
+use Rattle.mux_model.specs.Event.{Event, took, heard, said, requests}
 use Rattle.mux_model.specs.Phases.{desk_of}
 use Rattle.mux_model.specs.Rows.{initialize_for, founder_body, initialize_in, initialize_by}
 use Rattle.mux_model.specs.Stages.{life_of}
@@ -17,9 +17,11 @@ use Rattle.mux_hub.specs.declared.pending.Pending.{Pending}
 use Rattle.mux_model.specs.Spawns.{group_of, founding_of, starts_of, starts_behind, groups_of, groups_behind, first_of, founded_by}
 use Rattle.std.proofs.lemmas.List.Sums.{fold-append}
 use Rattle.mux_model.specs.Settings.{Settings}
-use Rattle.mux_hub.specs.Stands.{Stands, Opens, MeansId, PhaseTies, StageTies}
+use Rattle.document_model.specs.Sayings.{saying_of}
+use Rattle.mux_hub.specs.Stands.{Stands, Opens, MeansId, PhaseTies, StageTies, is_early}
 use Rattle.mux_hub.specs.Steps.{Steps}
 use Rattle.mux_hub.specs.Tables.{Kept, spawned_in, first_in, id_meant}
+use Rattle.mux_hub.proofs.Documents.{documents_stay, early_ties, still_joined, still_from_editor, still_spawn, still_started, still_to_server}
 use Rattle.mux_hub.proofs.Entries.{steps_so}
 use Rattle.mux_hub.proofs.Numbers.{not_zero}
 
@@ -36,15 +38,15 @@ spawning_ties : (t : Kept) (events : List Event) (s : Stands t events) → t.sta
 spawning_ties t events s g = let P : Stage → Type 0 = λ p. StageTies p t.next t.opening s.initialize in subst P g s.stage_ties
 
 -- where a start was spawned, the ties of the phase say nothing of its stage
-pub spawned_tie : (p : Phase) (g h : Stage) (ps : List Pending) (id body : List ℕ) → PhaseTies p g ps id body → (g ≡ Unspawned → ⊥) → PhaseTies p h ps id body
-spawned_tie Absent g h ps id body t n = absurd (n t.0)
-spawned_tie New g h ps id body t n = absurd (n t.0)
-spawned_tie Waiting g h ps id body t n = t
-spawned_tie Answered g h ps id body t n = tt
-spawned_tie Running g h ps id body t n = tt
-spawned_tie Down g h ps id body t n = tt
-spawned_tie Closed g h ps id body t n = tt
-spawned_tie Gone g h ps id body t n = tt
+pub spawned_tie : (p : Phase) (g h : Stage) (ps : List Pending) (id body : List ℕ) → PhaseTies p g ps id body → (g ≡ Unspawned → ⊥) → is_early g ≡ true → PhaseTies p h ps id body
+spawned_tie Absent g h ps id body t n e = absurd (n t.0)
+spawned_tie New g h ps id body t n e = absurd (n t.0)
+spawned_tie Waiting g h ps id body t n e = t
+spawned_tie Answered g h ps id body t n e = absurd (let z : true ≡ false = sym e ∙ t in cc)
+spawned_tie Running g h ps id body t n e = absurd (let z : true ≡ false = sym e ∙ t in cc)
+spawned_tie Down g h ps id body t n e = tt
+spawned_tie Closed g h ps id body t n e = tt
+spawned_tie Gone g h ps id body t n e = tt
 
 -- J1
 pub joined_steps : (settings : Settings) (events : List Event) (t : Kept) → Stands t events → t.phase ≡ Absent → Steps settings events (Joined 0) [] (record t { phase = New })
@@ -68,6 +70,7 @@ joined_steps settings events t s e = steps_so settings events (Joined 0) [] t (r
   distinct = s.distinct;
   phase_ties = absent_ties t events s e;
   stage_ties = let P : Stage → Type 0 = λ g. StageTies g t.next t.opening [] in subst P (sym (absent_ties t events s e).0) (unspawned_ties t events s (absent_ties t events s e).0);
+  documents = documents_stay t (record t { phase = New }) (heard (Joined 0) ∷ []) s.orderly s.spelt (still_joined t.documents.encoding 0 not_message, tt) refl (λ held x. x);
 }) refl
 
 -- E7: the editor's initialize founds a group
@@ -101,6 +104,9 @@ founded_steps settings events t body id ps s e m i means opens =
       distinct = s.distinct;
       phase_ties = (none.1, means, refl);
       stage_ties = (unspawned_ties t events s g, refl, opens);
+      documents = documents_stay t (record t { phase = Waiting; id = id_bytes body; opening = initialize_for body; stage = Spawning; started = false }) (heard (FromEditor 0 body) ∷ map said (Spawn 0 0 ∷ [])) s.orderly s.spelt
+          (still_from_editor t.documents.encoding body (message_of body) (ap saying_of m) (ap (requests (codes "shutdown")) m), (still_spawn t.documents.encoding 0 0 not_message, tt)) refl
+          (λ held x. early_ties t.stage Spawning t.documents held (ap is_early g) refl x);
     }) (rw (p, m, a, b) refl)
 
 -- the tables stand where the start's program may run, and it is spawning
@@ -129,8 +135,11 @@ started_with settings events t ps s g n x m =
       opened = refl;
       ids = s.ids;
       distinct = s.distinct;
-      phase_ties = spawned_tie t.phase t.stage Initializing t.pending t.id s.initialize s.phase_ties (λ q. let z : Spawning ≡ Unspawned = sym g ∙ q in cc);
+      phase_ties = spawned_tie t.phase t.stage Initializing t.pending t.id s.initialize s.phase_ties (λ q. let z : Spawning ≡ Unspawned = sym g ∙ q in cc) (ap is_early g);
       stage_ties = tt;
+      documents = documents_stay t (record t { stage = Initializing; started = true; next = 2 }) (heard (Started 0) ∷ map said (ToServer 0 t.opening ∷ [])) s.orderly s.spelt
+          (still_started t.documents.encoding 0 not_message, (still_to_server t.documents.encoding t.opening (message_of t.opening) (ap saying_of m), tt)) refl
+          (λ held x. early_ties t.stage Initializing t.documents held (ap is_early g) refl x);
     }) (rw l (ap (λ b. ToServer 0 b ∷ []) (x ∙ ap initialize_for (sym founder))))
 
 pub started_steps : (settings : Settings) (events : List Event) (t : Kept) → Stands t events → t.stage ≡ Spawning
@@ -161,4 +170,5 @@ ending_steps settings events t s g =
       distinct = s.distinct;
       phase_ties = s.phase_ties;
       stage_ties = s.stage_ties;
+      documents = documents_stay t (record t { started = true }) (heard (Started 0) ∷ []) s.orderly s.spelt (still_started t.documents.encoding 0 not_message, tt) refl (λ held x. x);
     }) (rw l refl)

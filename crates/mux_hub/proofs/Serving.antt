@@ -1,4 +1,4 @@
--- The rows of an editor that was answered: its `initialized`, and its requests.
+-- The rows of an editor that was answered: its requests.
 use Rattle.std.proofs.Common.{◌≡◌, ℕ, ◌+◌, ◌-◌, ◌^◌, min, List, [], ◌∷◌, ◌++◌, map, length, refl, ap, sym, subst, ◌∙◌, true, false, arith}
 use Rattle.std.specs.Prelude.{Option, Some, codes, nat_lt, bytes_eq, decimal}
 use Rattle.std.specs.List.{AllByRecursion}
@@ -6,107 +6,31 @@ use Rattle.std.proofs.lemmas.List.Sums.{fold-append}
 use Rattle.json_text.specs.Json.{Json}
 use Rattle.mux_history.specs.declared.cause.Cause.TheVariants.{FromEditor}
 use Rattle.mux_history.specs.declared.out.Out.TheVariants.{ToEditor, ToServer}
-use Rattle.rpc_message.specs.Message.{request, notification, error, Id, integer, id_bytes, message_of}
+use Rattle.rpc_message.specs.Message.{request, error, Id, integer, id_bytes, message_of}
 use Rattle.rpc_message.specs.Texts.{error_text, request_failed, with_id_text}
 use Rattle.mux_model.specs.declared.phase.Phase.{Phase}
 use Rattle.mux_model.specs.declared.phase.Phase.TheVariants.{Absent, New, Waiting, Answered, Running, Down, Closed, Gone}
 use Rattle.mux_model.specs.declared.stage.Stage.{Stage}
 use Rattle.mux_model.specs.declared.stage.Stage.TheVariants.{Unspawned, Spawning, Initializing, Ready, Stopping, Ending, Ended}
-use Rattle.mux_model.specs.Event.{Event, took}
+use Rattle.mux_model.specs.Event.{Event, took, heard, said, requests}
 use Rattle.mux_model.specs.Phases.{desk_of, desk_hears}
 use Rattle.mux_model.specs.Requests.{Asker, asking_of, asking_behind, no_asking, is_open, is_own}
 use Rattle.mux_model.specs.Row.{outs}
-use Rattle.mux_model.specs.Rows.{from_editor, request_row, answer_error, start_for, start_in}
+use Rattle.document_model.specs.Sayings.{saying_of}
+use Rattle.mux_model.specs.Documents.{start_for}
+use Rattle.mux_model.specs.Rows.{from_editor, request_row, answer_error}
 use Rattle.mux_model.specs.Settings.{Settings}
-use Rattle.mux_model.specs.Spawns.{start_of, home_of}
 use Rattle.mux_model.specs.Stages.{life_of}
 use Rattle.mux_hub.specs.declared.pending.Pending.{Pending}
-use Rattle.mux_hub.specs.Stands.{Stands, MeansId, PhaseTies, StageTies}
+use Rattle.mux_hub.specs.Stands.{Stands, MeansId, PhaseTies, StageTies, is_early}
 use Rattle.mux_hub.specs.Steps.{Steps}
 use Rattle.mux_hub.specs.Turns.{can_go}
-use Rattle.mux_hub.specs.Tables.{Kept, ids_of, asked_of, asked_for, joined_in, first_in, open_in, id_meant, after_message}
+use Rattle.mux_hub.specs.Tables.{Kept, ids_of, asked_of, asked_for, joined_in, first_in, open_in, id_meant}
 use Rattle.mux_hub.proofs.Classes.{NotOwn, Serves, serves}
-use Rattle.mux_hub.proofs.Entries.{steps_so}
+use Rattle.mux_hub.proofs.Documents.{documents_stay, still_from_editor, still_to_editor, still_to_server}
+use Rattle.mux_hub.proofs.Entries.{started_for, steps_so}
 use Rattle.mux_hub.proofs.Ids.{closes, untouched, distinct_snoc}
 use Rattle.mux_hub.proofs.Numbers.{not_zero}
-
--- the phase behind `initialized`
-note_desk : (p : Phase) (i body : List ℕ) (ps : Option Json) → desk_hears p i body (notification (codes "initialized") ps) ≡ record { phase = after_message p; initialize = i }
-note_desk Absent i body ps = refl
-note_desk New i body ps = refl
-note_desk Waiting i body ps = refl
-note_desk Answered i body ps = refl
-note_desk Running i body ps = refl
-note_desk Down i body ps = refl
-note_desk Closed i body ps = refl
-note_desk Gone i body ps = refl
-
-note_joined : (p : Phase) → joined_in p ≡ joined_in (after_message p)
-note_joined Absent = refl
-note_joined New = refl
-note_joined Waiting = refl
-note_joined Answered = refl
-note_joined Running = refl
-note_joined Down = refl
-note_joined Closed = refl
-note_joined Gone = refl
-
-note_open : (p : Phase) (ps : List Pending) (i : List ℕ) → open_in p ps i ≡ open_in (after_message p) ps i
-note_open Absent ps i = refl
-note_open New ps i = refl
-note_open Waiting ps i = refl
-note_open Answered ps i = refl
-note_open Running ps i = refl
-note_open Down ps i = refl
-note_open Closed ps i = refl
-note_open Gone ps i = refl
-
-note_ties : (p : Phase) (g : Stage) (ps : List Pending) (i b : List ℕ) → PhaseTies p g ps i b → PhaseTies (after_message p) g ps i b
-note_ties Absent g ps i b t = t
-note_ties New g ps i b t = t
-note_ties Waiting g ps i b t = t
-note_ties Answered g ps i b t = tt
-note_ties Running g ps i b t = tt
-note_ties Down g ps i b t = tt
-note_ties Closed g ps i b t = tt
-note_ties Gone g ps i b t = tt
-
-note_outs : (settings : Settings) (events evs : List Event) (body : List ℕ) (ps : Option Json) (p : Phase) → [] ≡ outs (from_editor settings events 0 body (notification (codes "initialized") ps) p) evs
-note_outs settings events evs body ps Absent = refl
-note_outs settings events evs body ps New = refl
-note_outs settings events evs body ps Waiting = refl
-note_outs settings events evs body ps Answered = refl
-note_outs settings events evs body ps Running = refl
-note_outs settings events evs body ps Down = refl
-note_outs settings events evs body ps Closed = refl
-note_outs settings events evs body ps Gone = refl
-
--- E15, and E8 for `initialized`
-pub noted_steps : (settings : Settings) (events : List Event) (t : Kept) (body : List ℕ) (ps : Option Json) → Stands t events
-    → message_of body ≡ notification (codes "initialized") ps → Steps settings events (FromEditor 0 body) [] (record t { phase = after_message t.phase })
-noted_steps settings events t body ps s m =
-    let d : (desk_of 0 events).phase ≡ t.phase = ap (λ d. d.phase) s.desk in
-    steps_so settings events (FromEditor 0 body) [] t (record t { phase = after_message t.phase }) s.initialize s (record {
-      desk = rw m (note_desk t.phase s.initialize body ps);
-      other_desks = λ n h. rw (not_zero n h) refl;
-      editors = note_joined t.phase;
-      sent = λ n h. h;
-      life = refl;
-      other_lives = λ n h. refl;
-      starts = refl;
-      groups = refl;
-      start = refl;
-      group = refl;
-      home = λ h q. q;
-      founder = λ f q. q;
-      next = λ a q r. q;
-      pending = λ a q r. r;
-      opened = rw m (note_open t.phase t.pending t.id);
-      ids = s.ids;
-      distinct = s.distinct;
-      phase_ties = note_ties t.phase t.stage t.pending t.id s.initialize s.phase_ties;
-      stage_ties = s.stage_ties;
-    }) (rw (d, m) (note_outs settings events _ body ps t.phase))
 
 -- an editor that was answered and isn't down
 abbrev pub IsServed : Phase → Type 0
@@ -123,6 +47,16 @@ ask_desk Waiting i body id method ps h s = absurd h
 ask_desk Down i body id method ps h s = absurd h
 ask_desk Closed i body id method ps h s = absurd h
 ask_desk Gone i body id method ps h s = absurd h
+
+served_late : (p : Phase) (g : Stage) (ps : List Pending) (i b : List ℕ) → IsServed p → PhaseTies p g ps i b → is_early g ≡ false
+served_late Answered g ps i b h t = t
+served_late Running g ps i b h t = t
+served_late Absent g ps i b h t = absurd h
+served_late New g ps i b h t = absurd h
+served_late Waiting g ps i b h t = absurd h
+served_late Down g ps i b h t = absurd h
+served_late Closed g ps i b h t = absurd h
+served_late Gone g ps i b h t = absurd h
 
 ask_joined : (p : Phase) → IsServed p → joined_in p ≡ 1
 ask_joined Answered h = refl
@@ -154,16 +88,6 @@ ask_row settings events evs body id method ps Waiting h = absurd h
 ask_row settings events evs body id method ps Down h = absurd h
 ask_row settings events evs body id method ps Closed h = absurd h
 ask_row settings events evs body id method ps Gone h = absurd h
-
--- the start of the editor's group is start 0, once it was spawned
-started_for : (g : Stage) (events : List Event) → (home_of 0 events).group ≡ first_in g → start_of 0 events ≡ first_in g → start_for 0 events ≡ first_in g
-started_for Unspawned events h k = ap (λ o. start_in o events) h
-started_for Spawning events h k = ap (λ o. start_in o events) h ∙ k
-started_for Initializing events h k = ap (λ o. start_in o events) h ∙ k
-started_for Ready events h k = ap (λ o. start_in o events) h ∙ k
-started_for Stopping events h k = ap (λ o. start_in o events) h ∙ k
-started_for Ending events h k = ap (λ o. start_in o events) h ∙ k
-started_for Ended events h k = ap (λ o. start_in o events) h ∙ k
 
 refusing : (settings : Settings) (events evs : List Event) (body : List ℕ) (g : Stage) (n : ℕ) → start_for 0 events ≡ first_in g → (life_of 0 events).stage ≡ g → (asking_of 0 events).next ≡ n
     → can_go settings.limits.requests g n ≡ false → outs (request_row settings events 0 body) evs ≡ outs (answer_error 0 body request_failed) evs
@@ -214,8 +138,10 @@ refused_steps settings events t body text method id ps tree s p m n o x w c =
       opened = rw (m, w, opens) (closes id (ids_of t.pending) o);
       ids = s.ids;
       distinct = s.distinct;
-      phase_ties = tt;
+      phase_ties = served_late t.phase t.stage t.pending t.id s.initialize p s.phase_ties;
       stage_ties = s.stage_ties;
+      documents = documents_stay t (record t { phase = Running; sent = min (t.sent + length text) (2 ^ 64 - 1) }) (heard (FromEditor 0 body) ∷ map said (ToEditor 0 text ∷ [])) s.orderly s.spelt
+          (still_from_editor t.documents.encoding body (message_of body) (ap saying_of m) (ap (requests (codes "shutdown")) m ∙ sv.stays), (still_to_editor t.documents.encoding 0 text (message_of text), tt)) refl (λ held x. x);
     }) (rw (d, m) (ap (λ b. ToEditor 0 b ∷ []) x ∙ sym row))
 
 abbrev asker_record : ℕ → Id → List ℕ → Asker
@@ -269,6 +195,8 @@ forwarded_steps settings events t body text method bytes id ps s p m n o b i mea
       opened = rw (m, opens) (ap (λ j. ids_of t.pending ++ j ∷ []) i ∙ sym (map-append (λ p. id_meant p.id) t.pending (record { number = t.next; id = bytes } ∷ [])));
       ids = snoc_all t.pending _ s.ids means;
       distinct = distinct_snoc t.pending _ s.distinct (subst (λ j. is_open j (ids_of t.pending) ≡ false) i o);
-      phase_ties = tt;
+      phase_ties = ap is_early g;
       stage_ties = let P : Stage → Type 0 = λ g. StageTies g (t.next + 1) t.opening s.initialize in subst P (sym g) tt;
+      documents = documents_stay t (record t { phase = Running; next = t.next + 1; pending = t.pending ++ record { number = t.next; id = bytes } ∷ [] }) (heard (FromEditor 0 body) ∷ map said (ToServer 0 text ∷ [])) s.orderly s.spelt
+          (still_from_editor t.documents.encoding body (message_of body) (ap saying_of m) (ap (requests (codes "shutdown")) m ∙ stays), (still_to_server t.documents.encoding text (message_of text) (ap saying_of w), tt)) refl (λ held x. x);
     }) (rw (d, m) (ap (λ b. ToServer 0 b ∷ []) x ∙ sym row))

@@ -1,16 +1,17 @@
 -- What the hub does over its tables is what the routing table says of the history.
-use Rattle.std.proofs.Common.{◌≡◌, ℕ, suc, zero, ◌^◌, ◌<◌, List, [], ◌∷◌, refl, ap, sym, subst, ◌∙◌, Bool, true, false, arith}
-use Rattle.std.specs.Prelude.{Option, Some, None, option_map, IsTrue, codes, nat_eq, nat_lt, ◌&&◌, not, bytes_eq, decimal, slice_get}
+use Rattle.std.proofs.Common.{◌≡◌, ℕ, suc, zero, ◌^◌, ◌<◌, List, [], ◌∷◌, ◌++◌, refl, ap, sym, subst, ◌∙◌, Bool, true, false, arith}
+use Rattle.std.specs.Prelude.{Option, Some, None, option_map, IsTrue, codes, nat_eq, nat_lt, ◌&&◌, ◌||◌, not, bytes_eq, decimal, slice_get}
 use Rattle.std.proofs.lemmas.Bool.Decides.{nat_tests}
 use Rattle.std.proofs.lemmas.Slice.Eq.{bytes_eq-Decides}
 use Rattle.json_text.specs.Json.{Json}
 use Rattle.lsp_method.specs.Class.{class_of}
 use Rattle.lsp_method.specs.declared.variants.Origin.TheVariants.{Editor}
 use Rattle.mux_model.proofs.Openings.{opening_law}
+use Rattle.mux_history.specs.declared.out.Out.TheVariants.{ToEditor, ToServer}
 use Rattle.mux_history.specs.declared.cause.Cause.{Cause}
 use Rattle.mux_history.specs.declared.cause.Cause.TheVariants.{Joined, FromEditor, EditorGone, Started, StartFailed, FromServer, ServerGone, Drained, Tick}
 use Rattle.rpc_message.specs.Message.{Message, request, notification, result, error, not_json, not_message, Id, integer, text, message_of, id_bytes, result_bytes}
-use Rattle.rpc_message.specs.Texts.{error_text, request_failed, with_id_text, error_tree}
+use Rattle.rpc_message.specs.Texts.{initialized_text, error_text, request_failed, with_id_text, error_tree}
 use Rattle.rpc_message.specs.ValueTexts.{IsIdText}
 use Rattle.rpc_message.proofs.Fixed.{ok_law, error_law, initialized_law, id_as_response}
 use Rattle.rpc_message.proofs.Ids.{request_with_id, result_with_id, error_with_id, request_id_bytes, result_bytes_law}
@@ -20,7 +21,7 @@ use Rattle.mux_model.specs.declared.phase.Phase.TheVariants.{Absent, New, Waitin
 use Rattle.mux_model.specs.declared.stage.Stage.{Stage}
 use Rattle.mux_model.specs.declared.stage.Stage.TheVariants.{Unspawned, Spawning, Initializing, Ready, Stopping, Ending, Ended}
 use Rattle.mux_model.specs.Built.{built_behind, built_from_editor, built_from_server, built_request, built_response, is_other}
-use Rattle.mux_model.specs.Event.{Event, with_cause}
+use Rattle.mux_model.specs.Event.{Event, with_cause, notifies}
 use Rattle.mux_model.specs.Fits.{fits_behind}
 use Rattle.mux_model.specs.Phases.{desk_of, editors_of, is_linked, is_there}
 use Rattle.mux_model.specs.Requests.{Asked, open_of, is_open, asking_of, asked_by, answered_id, has_number}
@@ -28,17 +29,22 @@ use Rattle.mux_model.specs.Rows.{is_waiting}
 use Rattle.mux_model.specs.Settings.{Settings}
 use Rattle.mux_model.specs.Stages.{life_of, may_start, runs, is_ready, is_first_result}
 use Rattle.mux_hub.specs.declared.pending.Pending.{Pending}
-use Rattle.mux_hub.specs.Stands.{Stands, MeansId, PhaseTies}
+use Rattle.mux_hub.specs.Stands.{Stands, MeansId, PhaseTies, is_early}
 use Rattle.mux_hub.specs.Steps.{Steps}
 use Rattle.mux_hub.specs.Tables.{Kept, ids_of, asked_of, asked_for, joined_in, open_in, id_meant}
-use Rattle.mux_hub.specs.Turns.{Turn, turn, from_editor, from_server, resulted, failed, requested, place_of, or_next, answered, pass_if, welcome_text, can_go, ask_if, found, started, ready_if}
-use Rattle.mux_hub.proofs.Answering.{readied_steps, welcomed_steps, unasked_steps, left_steps, passed_steps}
+use Rattle.mux_hub.specs.Turns.{Turn, turn, from_editor, from_server, resulted, failed, requested, place_of, or_next, answered, pass_if, welcome_text, sent_more, document_step, noticed_if, can_go, ask_if, found, started, ready_if}
+use Rattle.document_model.specs.Sayings.{speaks, saying_by, saying_of}
+use Rattle.focus_switch.specs.Rows.{Step}
+use Rattle.mux_model.specs.Documents.{encoding_in, is_served}
+use Rattle.mux_hub.proofs.Answering.{answered_with, at_ready, initializing_ties, ready_fresh, readied_steps, welcomed_steps, unasked_steps, left_steps, passed_steps}
+use Rattle.mux_hub.proofs.DocumentSteps.{document_right}
+use Rattle.mux_hub.proofs.Noticing.{unserved_steps, noticed_steps}
 use Rattle.mux_hub.proofs.Classes.{not_own}
 use Rattle.mux_hub.proofs.Ids.{means_at}
 use Rattle.mux_hub.proofs.Malformed.{rejected_steps, ignored_steps, no_json, no_message, json_row, message_row_none}
 use Rattle.mux_hub.proofs.Meant.{meant, means}
 use Rattle.mux_hub.proofs.Opening.{joined_steps, founded_steps, started_steps, ending_steps}
-use Rattle.mux_hub.proofs.Serving.{noted_steps, refused_steps, forwarded_steps, IsServed}
+use Rattle.mux_hub.proofs.Serving.{refused_steps, forwarded_steps, IsServed}
 
 -- the turn is a step of the routing table
 abbrev pub Right : Settings → List Event → Cause → Turn → Type 0
@@ -157,20 +163,46 @@ requesting settings events t body method id ps Down l s e m b = never b
 requesting settings events t body method id ps Closed l s e m b = never b
 requesting settings events t body method id ps Gone l s e m b = never b
 
-hearing : (settings : Settings) (events : List Event) (t : Kept) (body : List ℕ) (m : Message) → settings.limits.requests < 2 ^ 32 → Stands t events → message_of body ≡ m
-    → built_from_editor t.phase (open_in t.phase t.pending t.id) m ≡ true → Right settings events (FromEditor 0 body) (from_editor settings.limits.requests t body m)
-hearing settings events t body (request id method ps) l s m b = requesting settings events t body method id ps t.phase l s refl m b
-hearing settings events t body (notification method ps) l s m b = noted_steps settings events t body ps s (m ∙ ap (λ w. notification w ps) (sym (same_text (codes "initialized") method b)))
-hearing settings events t body (result id r) l s m b = never b
-hearing settings events t body (error id e) l s m b = never b
-hearing settings events t body not_json l s m b = rejected_steps settings events t body not_json s m no_json (is_there t.phase) refl
-hearing settings events t body not_message l s m b = rejected_steps settings events t body not_message s m no_message (is_there t.phase) refl
+-- an editor that is served belongs to a start that was ready
+served_late : (p : Phase) (g : Stage) (ps : List Pending) (i b : List ℕ) → is_served p ≡ true → PhaseTies p g ps i b → is_early g ≡ false
+served_late Answered g ps i b h t = t
+served_late Running g ps i b h t = t
+served_late Absent g ps i b h t = never h
+served_late New g ps i b h t = never h
+served_late Waiting g ps i b h t = never h
+served_late Down g ps i b h t = never h
+served_late Closed g ps i b h t = never h
+served_late Gone g ps i b h t = never h
 
-editor_right : (settings : Settings) (events : List Event) (t : Kept) (n : ℕ) (body : List ℕ) → Number n → settings.limits.requests < 2 ^ 32 → Stands t events → is_linked (desk_of n events).phase ≡ true
+-- `exit` isn't built
+not_exit : (method : List ℕ) (ps : Option Json) → (notifies (codes "initialized") (notification method ps) || speaks (saying_by method ps)) ≡ true → bytes_eq (codes "exit") method ≡ false
+not_exit method ps h = go (bytes_eq (codes "exit") method) refl
+  where
+    go : (b : Bool) → bytes_eq (codes "exit") method ≡ b → b ≡ false
+    go false e = refl
+    go true e = never (subst (λ w. (notifies (codes "initialized") (notification w ps) || speaks (saying_by w ps)) ≡ true) (sym (same_text (codes "exit") method e)) h)
+
+noticing : (settings : Settings) (events : List Event) (t : Kept) (body method : List ℕ) (ps : Option Json) (b : Bool) → Stands t events → t.documents.versions ≡ settings.limits.versions → settings.limits.versions < 2 ^ 32
+    → message_of body ≡ notification method ps → bytes_eq (codes "exit") method ≡ false → is_served t.phase ≡ b → Right settings events (FromEditor 0 body) (noticed_if b t body (saying_by method ps))
+noticing settings events t body method ps false s agree small m goes_on h = unserved_steps settings events t body method ps s m goes_on h
+noticing settings events t body method ps true s agree small m goes_on h =
+    noticed_steps settings events t body method ps s m goes_on h (document_step body (saying_by method ps) t.documents)
+    (document_right settings events t body s agree small (served_late t.phase t.stage t.pending t.id s.initialize h s.phase_ties) (saying_by method ps) (ap saying_of m))
+
+hearing : (settings : Settings) (events : List Event) (t : Kept) (body : List ℕ) (m : Message) → settings.limits.requests < 2 ^ 32 → settings.limits.versions < 2 ^ 32 → t.documents.versions ≡ settings.limits.versions → Stands t events → message_of body ≡ m
+    → built_from_editor t.phase (open_in t.phase t.pending t.id) m ≡ true → Right settings events (FromEditor 0 body) (from_editor settings.limits.requests t body m)
+hearing settings events t body (request id method ps) l v a s m b = requesting settings events t body method id ps t.phase l s refl m b
+hearing settings events t body (notification method ps) l v a s m b = noticing settings events t body method ps (is_served t.phase) s a v m (not_exit method ps b) refl
+hearing settings events t body (result id r) l v a s m b = never b
+hearing settings events t body (error id e) l v a s m b = never b
+hearing settings events t body not_json l v a s m b = rejected_steps settings events t body not_json s m no_json (is_there t.phase) refl
+hearing settings events t body not_message l v a s m b = rejected_steps settings events t body not_message s m no_message (is_there t.phase) refl
+
+editor_right : (settings : Settings) (events : List Event) (t : Kept) (n : ℕ) (body : List ℕ) → Number n → settings.limits.requests < 2 ^ 32 → settings.limits.versions < 2 ^ 32 → t.documents.versions ≡ settings.limits.versions → Stands t events → is_linked (desk_of n events).phase ≡ true
     → built_from_editor (desk_of n events).phase (open_of n events) (message_of body) ≡ true → Right settings events (FromEditor n body) (turn settings.limits.requests t (FromEditor n body))
-editor_right settings events t _ body (later n h) l s f b = never (sym (ap (λ d. is_linked d.phase) (s.other_desks n h)) ∙ f)
-editor_right settings events t _ body first l s f b =
-    hearing settings events t body (message_of body) l s refl
+editor_right settings events t _ body (later n h) l v a s f b = never (sym (ap (λ d. is_linked d.phase) (s.other_desks n h)) ∙ f)
+editor_right settings events t _ body first l v a s f b =
+    hearing settings events t body (message_of body) l v a s refl
     (sym (ap (λ p. built_from_editor p (open_of 0 events) (message_of body)) (ap (λ d. d.phase) s.desk) ∙ ap (λ o. built_from_editor t.phase o (message_of body)) s.opened) ∙ b)
 
 -- looking for a number by place, and among what the history has
@@ -255,14 +287,29 @@ waiting_is Gone h = never h
 waiting_means : (p : Phase) (g : Stage) (ps : List Pending) (i b : List ℕ) → PhaseTies p g ps i b → p ≡ Waiting → MeansId i
 waiting_means p g ps i b t e = let P : Phase → Type 0 = λ q. PhaseTies q g ps i b in (subst P e t).1
 
+-- nothing is open yet, so that nothing is told of documents
+ready_so : (settings : Settings) (events : List Event) (t : Kept) (body : List ℕ) (r : Json) → Stands t events → t.stage ≡ Initializing → Steps settings events (FromServer 0 body) (ToServer 0 initialized_text ∷ []) (at_ready t r)
+    → Right settings events (FromServer 0 body) (ready_if false t body (encoding_in r))
+ready_so settings events t body r s g h =
+    subst (λ (x : Step). Steps settings events (FromServer 0 body) (ToServer 0 initialized_text ∷ x.outs) (record t { stage = Ready; documents = x.after }))
+    (sym (ready_fresh t.documents (encoding_in r) (initializing_ties t events s g).2)) h
+
+welcome_so : (settings : Settings) (events : List Event) (t : Kept) (body : List ℕ) (r : Json) → Stands t events → t.stage ≡ Initializing
+    → Steps settings events (FromServer 0 body) (ToServer 0 initialized_text ∷ ToEditor 0 (welcome_text t body) ∷ []) (answered_with t r (welcome_text t body))
+    → Right settings events (FromServer 0 body) (ready_if true t body (encoding_in r))
+welcome_so settings events t body r s g h =
+    subst (λ (x : Step). Steps settings events (FromServer 0 body) ((ToServer 0 initialized_text ∷ x.outs) ++ ToEditor 0 (welcome_text t body) ∷ [])
+    (record t { phase = Answered; sent = sent_more t.sent (welcome_text t body); stage = Ready; documents = x.after }))
+    (sym (ready_fresh t.documents (encoding_in r) (initializing_ties t events s g).2)) h
+
 readying : (settings : Settings) (events : List Event) (t : Kept) (body : List ℕ) (r : Json) (b : Bool) → Stands t events → t.stage ≡ Initializing → message_of body ≡ result (Some (integer (codes "1"))) r → is_waiting t.phase ≡ b
-    → Right settings events (FromServer 0 body) (ready_if b t body)
-readying settings events t body r false s g m w = readied_steps settings events t body r _ s g m initialized_law w
+    → Right settings events (FromServer 0 body) (ready_if b t body (encoding_in r))
+readying settings events t body r false s g m w = ready_so settings events t body r s g (readied_steps settings events t body r _ s g m initialized_law w)
 readying settings events t body r true s g m w =
     let p = waiting_is t.phase w in
     let shallow = result_bytes_law body (Some (integer (codes "1"))) r m in
-    welcomed_steps settings events t body (welcome_text t body) r r _ s g m initialized_law p refl
-    (ok_law (Some (id_meant t.id)) r t.id (result_bytes body) (id_as_response _ _ (waiting_means t.phase t.stage t.pending t.id s.initialize s.phase_ties p)) shallow.text shallow.shallow)
+    welcome_so settings events t body r s g (welcomed_steps settings events t body (welcome_text t body) r r _ s g m initialized_law p refl
+    (ok_law (Some (id_meant t.id)) r t.id (result_bytes body) (id_as_response _ _ (waiting_means t.phase t.stage t.pending t.id s.initialize s.phase_ties p)) shallow.text shallow.shallow))
 
 first_is : (body : List ℕ) (m : Message) → message_of body ≡ m → is_first_result m ≡ true → (r : Json) × (message_of body ≡ result (Some (integer (codes "1"))) r)
 first_is body (result (Some (integer n)) r) m f = (r, m ∙ ap (λ n. result (Some (integer n)) r) (same_text n (codes "1") f))
@@ -300,11 +347,15 @@ taken_only Stopping os (notification method ps) b = never b
 taken_only Ending os (notification method ps) b = never b
 taken_only Ended os (notification method ps) b = never b
 
+same_result : (id i : Option Id) (r k : Json) → ◌≡◌ {A = Message} (result id r) (result i k) → k ≡ r
+same_result id i r k e = cc
+
 resulting : (settings : Settings) (events : List Event) (t : Kept) (body : List ℕ) (id : Option Id) (r : Json) (g : Stage) → Stands t events → t.stage ≡ g → message_of body ≡ result id r → built_from_server g (asked_for t.pending) (result id r) ≡ true
-    → Right settings events (FromServer 0 body) (resulted t body id g)
+    → Right settings events (FromServer 0 body) (resulted t body id r g)
 resulting settings events t body id r Initializing s e m b =
     let f = first_is body (result id r) m (and_left _ _ b) in
-    readying settings events t body f.0 (is_waiting t.phase) s e f.1 refl
+    subst (λ k. Right settings events (FromServer 0 body) (ready_if (is_waiting t.phase) t body (encoding_in k))) (same_result id (Some (integer (codes "1"))) r f.0 (sym m ∙ f.1))
+    (readying settings events t body f.0 (is_waiting t.phase) s e f.1 refl)
 resulting settings events t body id r Ready s e m b =
     subst (λ i. Right settings events (FromServer 0 body) (answered t body (place_of i t.pending))) (ap answered_id m)
     (answering settings events t body (place_of (answered_id (message_of body)) t.pending) s e refl (subst (λ n. built_response [] n ≡ true) (sym m) refl))
@@ -343,14 +394,14 @@ server_right settings events t _ body first s f b =
     serving settings events t body (message_of body) (taken_only t.stage (asked_for t.pending) (message_of body) c) s refl c
 
 -- the law: from tables that stand for events, a turn for a cause that fits and is built is a step
-pub turn_right : (settings : Settings) (events : List Event) (t : Kept) (cause : Cause) → settings.limits.requests < 2 ^ 32 → Stands t events → IsTrue (fits_behind events cause) → IsTrue (built_behind events cause)
+pub turn_right : (settings : Settings) (events : List Event) (t : Kept) (cause : Cause) → settings.limits.requests < 2 ^ 32 → settings.limits.versions < 2 ^ 32 → t.documents.versions ≡ settings.limits.versions → Stands t events → IsTrue (fits_behind events cause) → IsTrue (built_behind events cause)
     → Steps settings events cause (turn settings.limits.requests t cause).outs (turn settings.limits.requests t cause).now
-turn_right settings events t (Joined e) l s f b = joined_right settings events t e s b f
-turn_right settings events t (FromEditor e body) l s f b = editor_right settings events t e body (number e) l s f b
-turn_right settings events t (Started n) l s f b = started_right settings events t n (number n) s f
-turn_right settings events t (FromServer n body) l s f b = server_right settings events t n body (number n) s f b
-turn_right settings events t (EditorGone e why) l s f b = never b
-turn_right settings events t (StartFailed n) l s f b = never b
-turn_right settings events t (ServerGone n) l s f b = never b
-turn_right settings events t (Drained e k) l s f b = never b
-turn_right settings events t (Tick n) l s f b = never b
+turn_right settings events t (Joined e) l v a s f b = joined_right settings events t e s b f
+turn_right settings events t (FromEditor e body) l v a s f b = editor_right settings events t e body (number e) l v a s f b
+turn_right settings events t (Started n) l v a s f b = started_right settings events t n (number n) s f
+turn_right settings events t (FromServer n body) l v a s f b = server_right settings events t n body (number n) s f b
+turn_right settings events t (EditorGone e why) l v a s f b = never b
+turn_right settings events t (StartFailed n) l v a s f b = never b
+turn_right settings events t (ServerGone n) l v a s f b = never b
+turn_right settings events t (Drained e k) l v a s f b = never b
+turn_right settings events t (Tick n) l v a s f b = never b

@@ -25,6 +25,7 @@ pub record HubStands {J : Type 0} (told : J → Option (List Entry)) (hub : HubV
   pub legal : Legal hub.settings history
   pub told_by : Tells (told hub.journal) history
   pub tables : hub.spent ≡ false → Stands hub.tables (events_of history)
+  pub versions : hub.spent ≡ false → hub.tables.documents.versions ≡ hub.settings.limits.versions
 
 -- how long the body of a cause is
 abbrev pub body_length : Cause → ℕ

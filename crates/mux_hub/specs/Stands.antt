@@ -1,13 +1,18 @@
 -- When the hub's tables stand for events.
-use Rattle.std.specs.Prelude.{◌≡◌, ℕ, ◌-◌, ◌^◌, ◌<◌, min, List, [], ◌∷◌, map, false, codes, Option}
+use Rattle.std.specs.Prelude.{◌≡◌, ℕ, ◌-◌, ◌^◌, ◌<◌, min, Bool, List, [], ◌∷◌, map, true, false, codes, Option, Some, None}
 use Rattle.std.specs.List.{AllByRecursion}
 use Rattle.json_text.specs.Json.{Json}
 use Rattle.rpc_message.specs.Message.{id_bytes, message_of, request, integer}
 use Rattle.rpc_message.specs.ValueTexts.{IsIdText}
+use Rattle.position_codec.specs.declared.Encoding.{Encoding}
+use Rattle.focus_switch.specs.Documents.{Documents}
+use Rattle.document_model.specs.Follows.{Held, AllSpelt, Orderly, texts_in}
+use Rattle.document_model.specs.Helds.{HeldText}
 use Rattle.mux_model.specs.declared.phase.Phase.{Phase}
-use Rattle.mux_model.specs.declared.phase.Phase.TheVariants.{Absent, New, Waiting}
+use Rattle.mux_model.specs.declared.phase.Phase.TheVariants.{Absent, New, Waiting, Answered, Running}
 use Rattle.mux_model.specs.declared.stage.Stage.{Stage}
-use Rattle.mux_model.specs.declared.stage.Stage.TheVariants.{Unspawned, Spawning}
+use Rattle.mux_model.specs.declared.stage.Stage.TheVariants.{Unspawned, Spawning, Initializing, Ready, Stopping, Ending, Ended}
+use Rattle.mux_model.specs.Documents.{encoding_of, texts_of, held_at}
 use Rattle.mux_model.specs.Event.{Event}
 use Rattle.mux_model.specs.Phases.{desk_of, no_desk, editors_of, backlog_of}
 use Rattle.mux_model.specs.Requests.{open_of, asking_of, is_open}
@@ -21,11 +26,20 @@ use Rattle.mux_hub.specs.Tables.{Kept, asked_for, joined_in, spawned_in, first_i
 abbrev pub MeansId : List ℕ → Type 0
 MeansId bytes = IsIdText (id_meant bytes) bytes
 
+-- its `initialize` wasn't answered yet
+abbrev pub is_early : Stage → Bool
+is_early Unspawned = true
+is_early Spawning = true
+is_early Initializing = true
+is_early _ = false
+
 -- before its initialize was answered, no request of the editor was sent on; before that came, no start was spawned
 abbrev pub PhaseTies : Phase → Stage → List Pending → List ℕ → List ℕ → Type 0
 PhaseTies Absent stage ps id body = (stage ≡ Unspawned) × (ps ≡ [])
 PhaseTies New stage ps id body = (stage ≡ Unspawned) × (ps ≡ [])
 PhaseTies Waiting stage ps id body = (ps ≡ []) × MeansId id × (id ≡ id_bytes body)
+PhaseTies Answered stage ps id body = is_early stage ≡ false
+PhaseTies Running stage ps id body = is_early stage ≡ false
 PhaseTies other stage ps id body = Unit {0}
 
 -- the text is the request initialize, with the number 1
@@ -37,6 +51,22 @@ abbrev pub StageTies : Stage → ℕ → List ℕ → List ℕ → Type 0
 StageTies Unspawned next text body = next ≡ 1
 StageTies Spawning next text body = (next ≡ 1) × (text ≡ initialize_for body) × Opens text
 StageTies other next text body = Unit {0}
+
+-- before the start is ready, nothing is open; then it has each holder's text
+abbrev pub EarlyDocuments : Documents → (List ℕ → Option HeldText) → Type 0
+EarlyDocuments d held = (d.start ≡ None) × (d.encoding ≡ None) × (d.opens ≡ []) × (d.helds ≡ []) × ((u : List ℕ) → held u ≡ None)
+
+abbrev pub ReadyDocuments : Documents → (List ℕ → Option HeldText) → Type 0
+ReadyDocuments d held = (d.start ≡ Some 0) × ((code : Encoding) × (d.encoding ≡ Some code)) × Held d held
+
+abbrev pub DocumentTies : Stage → Documents → (List ℕ → Option HeldText) → Type 0
+DocumentTies Unspawned d held = EarlyDocuments d held
+DocumentTies Spawning d held = EarlyDocuments d held
+DocumentTies Initializing d held = EarlyDocuments d held
+DocumentTies Ready d held = ReadyDocuments d held
+DocumentTies Stopping d held = d.start ≡ None
+DocumentTies Ending d held = d.start ≡ None
+DocumentTies Ended d held = d.start ≡ None
 
 -- no two kept requests have the same id
 abbrev pub Distinct : List Pending → Type 0
@@ -65,3 +95,8 @@ pub record Stands (kept : Kept) (events : List Event) : Type 0 where
   pub phase_ties : PhaseTies kept.phase kept.stage kept.pending kept.id initialize
   pub stage_ties : StageTies kept.stage kept.next kept.opening initialize
   pub opened : open_of 0 events ≡ open_in kept.phase kept.pending kept.id
+  pub encoding : encoding_of 0 events ≡ kept.documents.encoding
+  pub texts : texts_of events ≡ texts_in kept.documents
+  pub orderly : Orderly (texts_in kept.documents)
+  pub spelt : AllSpelt kept.documents.opens
+  pub document_ties : DocumentTies kept.stage kept.documents (λ u. held_at 0 u events)

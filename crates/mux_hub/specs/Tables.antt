@@ -12,6 +12,7 @@ use Rattle.mux_history.specs.declared.cause.Cause.{Cause}
 use Rattle.mux_history.specs.declared.cause.Cause.TheVariants.{Joined, FromEditor, Started, FromServer}
 use Rattle.mux_model.specs.Built.{built_from_editor, built_from_server}
 use Rattle.mux_model.specs.Requests.{Asked}
+use Rattle.focus_switch.specs.Documents.{Documents}
 use Rattle.mux_hub.specs.declared.pending.Pending.{Pending}
 
 -- what the hub keeps: of editor 0, of start 0, and the open requests between them
@@ -24,6 +25,7 @@ pub record Kept : Type 0 where
   pub started : Bool
   pub next : ℕ
   pub pending : List Pending
+  pub documents : Documents
 
 -- the id that these bytes write
 abbrev pub id_in : Option Json → Option Id

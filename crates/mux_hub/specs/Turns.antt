@@ -2,6 +2,14 @@
 use Rattle.std.specs.Prelude.{◌≡◌, ℕ, suc, ◌+◌, ◌-◌, ◌^◌, min, Bool, true, false, ◌&&◌, List, [], ◌∷◌, ◌++◌, length, decimal, bytes_eq, nat_lt, nat_eq, ◌||◌, slice_get}
 use Rattle.std.specs.Prelude.{Option, Some, None, option_map}
 use Rattle.std.specs.List.{remove}
+use Rattle.json_text.specs.Json.{Json}
+use Rattle.json_text.specs.Tree.{tree_of}
+use Rattle.position_codec.specs.declared.Encoding.{Encoding}
+use Rattle.focus_switch.specs.Documents.{Documents}
+use Rattle.focus_switch.specs.Rows.{Step, open_row, change_row, close_row, ready_row}
+use Rattle.focus_switch.specs.Rows as focus
+use Rattle.document_model.specs.Sayings.{Saying, opens, changes, closes, misshapen, nothing, saying_by}
+use Rattle.mux_model.specs.Documents.{is_served, encoding_in}
 use Rattle.mux_history.specs.declared.cause.Cause.{Cause}
 use Rattle.mux_history.specs.declared.cause.Cause.TheVariants.{Joined, FromEditor, Started, FromServer}
 use Rattle.mux_history.specs.declared.out.Out.{Out}
@@ -67,9 +75,28 @@ malformed_if false t text = quiet t
 abbrev pub malformed : Kept → List ℕ → Turn
 malformed t text = malformed_if (is_there t.phase) t text
 
+-- what an editor's notification says of a document, over the documents that are kept
+abbrev pub changed_by : List ℕ → Option Json → Documents → Step
+changed_by body None d = focus.nothing d
+changed_by body (Some tree) d = change_row 0 body tree d
+
+abbrev pub document_step : List ℕ → Saying → Documents → Step
+document_step body (opens u l v text) d = open_row 0 u l v text d
+document_step body (changes u v cs) d = changed_by body (tree_of body) d
+document_step body (closes u) d = close_row 0 u d
+document_step body misshapen d = focus.nothing d
+document_step body nothing d = focus.nothing d
+
+abbrev pub noticed_if : Bool → Kept → List ℕ → Saying → Turn
+noticed_if true t body x = record { outs = (document_step body x t.documents).outs; now = record t { phase = after_message t.phase; documents = (document_step body x t.documents).after } }
+noticed_if false t body x = noted t
+
+abbrev pub noticed : Kept → List ℕ → Saying → Turn
+noticed t body x = noticed_if (is_served t.phase) t body x
+
 abbrev pub from_editor : ℕ → Kept → List ℕ → Message → Turn
 from_editor requests t body (request id method params) = requested requests t body t.phase
-from_editor requests t body (notification method params) = noted t
+from_editor requests t body (notification method params) = noticed t body (saying_by method params)
 from_editor requests t body not_json = malformed t (malformed_text not_json)
 from_editor requests t body not_message = malformed t (malformed_text not_message)
 from_editor requests t body (result id r) = quiet t
@@ -113,22 +140,32 @@ answered t body (Some k) = pass_if (is_there t.phase) t body k
 abbrev pub welcome_text : Kept → List ℕ → List ℕ
 welcome_text t body = ok_text t.id (result_bytes body)
 
-abbrev pub ready_if : Bool → Kept → List ℕ → Turn
-ready_if true t body = record { outs = ToServer 0 initialized_text ∷ ToEditor 0 (welcome_text t body) ∷ []; now = record t { phase = Answered; sent = sent_more t.sent (welcome_text t body); stage = Ready } }
-ready_if false t body = record { outs = ToServer 0 initialized_text ∷ []; now = record t { stage = Ready } }
+-- the start is told that the session begins, and of each document that is open
+abbrev pub readied : Kept → Encoding → Step
+readied t encoding = ready_row 0 encoding t.documents
+
+abbrev pub begun : Kept → Encoding → Turn
+begun t encoding = record { outs = ToServer 0 initialized_text ∷ (readied t encoding).outs; now = record t { stage = Ready; documents = (readied t encoding).after } }
+
+abbrev pub ready_if : Bool → Kept → List ℕ → Encoding → Turn
+ready_if true t body encoding = record {
+  outs = (begun t encoding).outs ++ ToEditor 0 (welcome_text t body) ∷ [];
+  now = record (begun t encoding).now { phase = Answered; sent = sent_more t.sent (welcome_text t body) };
+}
+ready_if false t body encoding = begun t encoding
 
 -- a result, or an error, from the start
-abbrev pub resulted : Kept → List ℕ → Option Id → Stage → Turn
-resulted t body id Initializing = ready_if (is_waiting t.phase) t body
-resulted t body id Ready = answered t body (place_of id t.pending)
-resulted t body id other = quiet t
+abbrev pub resulted : Kept → List ℕ → Option Id → Json → Stage → Turn
+resulted t body id r Initializing = ready_if (is_waiting t.phase) t body (encoding_in r)
+resulted t body id r Ready = answered t body (place_of id t.pending)
+resulted t body id r other = quiet t
 
 abbrev pub failed : Kept → List ℕ → Option Id → Stage → Turn
 failed t body id Ready = answered t body (place_of id t.pending)
 failed t body id other = quiet t
 
 abbrev pub from_server : Kept → List ℕ → Message → Stage → Turn
-from_server t body (result id r) stage = resulted t body id stage
+from_server t body (result id r) stage = resulted t body id r stage
 from_server t body (error id e) stage = failed t body id stage
 from_server t body other stage = quiet t
 
@@ -146,3 +183,7 @@ turn requests t other = quiet t
 -- these outs and these tables are a turn's
 abbrev pub Gives : Turn → List Out → Kept → Type 0
 Gives x outs now = (outs ≡ x.outs) × (now ≡ x.now)
+
+-- these outs are a step's, and the tables have its documents
+abbrev pub DocumentGives : Step → Kept → List Out → Kept → Type 0
+DocumentGives x t outs now = (outs ≡ x.outs) × (now ≡ record t { documents = x.after })

@@ -23,7 +23,7 @@ use lsp_method::Class;
 use mux_history::Cause;
 use mux_members::{
     class_in, has_bare_capabilities, has_token, is_first_result, is_initialize, is_initialized,
-    is_plain_result, reads_versions,
+    is_plain_result, reads_versions, speaks,
 };
 use mux_model::{Phase, Stage};
 use rpc_message::{Envelope, Malformed, Message, same_id};
@@ -96,7 +96,7 @@ fn built_from_editor(
     };
     match message.envelope() {
         Envelope::Request { .. } => Ok(built_request(phase, pending, &message)),
-        Envelope::Notification { .. } => Ok(is_initialized(&message)),
+        Envelope::Notification { .. } => Ok(is_initialized(&message) || speaks(&message)),
         _ => Ok(false),
     }
 }

@@ -11,6 +11,7 @@ ghost use Rattle.mux_hub.specs.Turns.{turn, Gives};
 
 use crate::fault::StepFault;
 use crate::tables::Tables;
+use focus_switch::Shared;
 use json_text::{Body, Memory};
 use mux_history::{Cause, Entry, Journal, Outs};
 use mux_model::{Limits, Phase, Server, Stage};
@@ -20,21 +21,22 @@ use std::marker::Model;
 // A turn over the tables, and its entry in the journal.
 fn commit<J: Journal>(
     alloc: Global,
-    requests: u32,
+    limits: Limits,
     tables: &mut Tables,
     journal: &mut J,
     cause: Cause,
 ) -> Result<Outs, StepFault>
     requires { body_length cause ≤ 268435456 }
-    ensures range { requests < 2 ^ 32 }
-    ensures turn { IfOk result (λ outs. Gives (turn requests tables.old cause) outs tables.new) }
+    ensures range { limits.requests < 2 ^ 32 }
+    ensures versions_range { limits.versions < 2 ^ 32 }
+    ensures turn { IfOk result (λ outs. Gives (turn limits.requests tables.old cause) outs tables.new) }
     ensures told { IfOk result (λ outs. J.told journal.new ≡ append_told (J.told journal.old) (record { cause = cause; outs = outs } ∷ [])) }
     ensures err { OnErr result (J.told journal.new ≡ J.told journal.old) }
     ensures not_spent { IsErrOf result StepFault.Spent → ⊥ }
     ensures journal_only { IsErrOf result StepFault.Journal → Rose (J.faults journal.old) (J.faults journal.new) }
     ensures later { J.faults journal.old ≤ J.faults journal.new }
 {
-    let outs = tables.take(alloc, requests, &cause)?;
+    let outs = tables.take(alloc, limits.requests, &cause)?;
     let answer = outs.copy(alloc)?;
     let entry = Entry { cause, outs };
     journal.append(&entry)?;
@@ -70,7 +72,8 @@ impl<J: Journal> Hub<J> {
         default: u32,
         journal: J,
     ) -> Result<Hub<J>, J>
-        requires { Tells (J.told journal) [] }
+        requires told { Tells (J.told journal) [] }
+        requires versions { 1 ≤ limits.versions }
         ensures settings { IfOk result (λ hub. hub.settings ≡ record { limits = limits; servers = servers.items; default = default }) }
         ensures stands { IfOk result (λ hub. HubStands J.told hub []) }
         ensures fresh { IfOk result (λ hub. hub.spent ≡ false) }
@@ -91,6 +94,7 @@ impl<J: Journal> Hub<J> {
                 started: false,
                 next: 1,
                 pending: Vec::new(alloc),
+                documents: Shared::new(alloc, limits.versions),
             },
             spent: false,
             journal,
@@ -142,7 +146,7 @@ impl<J: Journal> Hub<J> {
         self.spent = true;
         let outs = commit(
             self.alloc,
-            self.limits.requests,
+            self.limits,
             &mut self.tables,
             &mut self.journal,
             cause,

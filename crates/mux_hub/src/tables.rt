@@ -7,6 +7,8 @@ ghost use Rattle.mux_model.specs.Stages.{may_start, runs};
 ghost use Rattle.mux_hub.specs.Tables.{joined_in};
 
 use crate::pending::Pending;
+use doc_text::DocText;
+use focus_switch::Shared;
 use json_text::Body;
 use mux_history::Cause;
 use mux_model::{Phase, Stage};
@@ -43,7 +45,7 @@ fn runs(stage: Stage, started: bool) -> bool
     started && !matches!(stage, Stage::Ended)
 }
 
-#[derive(Debug, Drop)]
+#[derive(Drop)]
 pub struct Tables {
     /// Where the editor stands.
     pub phase: Phase,
@@ -61,6 +63,8 @@ pub struct Tables {
     pub next: u32,
     /// Numbers rising.
     pub pending: Vec<Pending>,
+    /// What the editor has open, and what the start was told of it.
+    pub documents: Shared<DocText>,
 }
 
 impl Model for Tables {
@@ -68,7 +72,7 @@ impl Model for Tables {
 
     ghost Value = { Kept };
 
-    ghost view = { λ t. record { phase = t.phase; id = t.id; opening = t.opening; sent = t.sent; stage = t.stage; started = t.started; next = t.next; pending = t.pending.items } };
+    ghost view = { λ t. record { phase = t.phase; id = t.id; opening = t.opening; sent = t.sent; stage = t.stage; started = t.started; next = t.next; pending = t.pending.items; documents = t.documents } };
 }
 
 impl Tables {

@@ -5,20 +5,24 @@ ghost use Rattle.mux_model.specs.Rows.{is_waiting};
 ghost use Rattle.mux_model.specs.Requests.{answered_id};
 ghost use Rattle.mux_model.specs.Stages.{is_ready};
 ghost use Rattle.json_text.specs.Json.{Json};
-ghost use Rattle.rpc_message.specs.Message.{Id, message_of, id_bytes, request};
+ghost use Rattle.rpc_message.specs.Message.{Id, message_of, id_bytes, notification, request};
+ghost use Rattle.rpc_message.specs.Message.{result as outcome_of};
+ghost use Rattle.document_model.specs.Sayings.{saying_by, saying_of};
+ghost use Rattle.mux_model.specs.Documents.{encoding_in, is_served};
 ghost use Rattle.rpc_message.specs.Codes.{code_of};
 ghost use Rattle.rpc_message.specs.Texts.{error_text, request_failed};
 ghost use Rattle.rpc_message.specs.Parsed.{IsRead};
 ghost use Rattle.mux_hub.specs.Hubs.{body_length};
-ghost use Rattle.mux_hub.specs.Turns.{Turn, turn, joined, noted, found, forward, refuse, requested, malformed, from_editor, from_server, ready_if, started, answered, pass_on, place_of, place_written, place_if, is_no_number, can_go, ask_if, Gives};
+ghost use Rattle.mux_hub.specs.Turns.{Turn, turn, joined, noted, noticed, document_step, DocumentGives, found, forward, refuse, requested, malformed, from_editor, from_server, begun, ready_if, started, answered, pass_on, place_of, place_written, place_if, is_no_number, can_go, ask_if, Gives};
 
 use crate::pending::Pending;
 use crate::tables::Tables;
 use itoa::Buffer;
 use json_text::{Body, Memory};
 use mux_history::{Cause, Out, Outs};
-use mux_members::initialize_request;
+use mux_members::{Notice, encoding, initialize_request, notice_in};
 use mux_model::{Phase, Stage};
+use position_codec::Encoding;
 use rpc_message::{Envelope, ErrorCode, Malformed, Message, error_answer, initialized, ok_reply};
 use std::alloc::Global;
 
@@ -36,6 +40,20 @@ fn is_there(phase: Phase) -> bool
     ensures { result ≡ is_there phase }
 {
     !matches!(phase, Phase::Absent | Phase::Closed | Phase::Gone)
+}
+
+// The editor's `initialize` was answered, and it isn't down.
+fn is_served(phase: Phase) -> bool
+    ensures { result ≡ is_served phase }
+{
+    matches!(phase, Phase::Answered | Phase::Running)
+}
+
+// The editor's `initialize` wasn't answered yet.
+fn is_waiting(phase: Phase) -> bool
+    ensures { result ≡ is_waiting phase }
+{
+    matches!(phase, Phase::Waiting)
 }
 
 // The start is ready, and a number is left.
@@ -107,13 +125,43 @@ impl Tables {
         Ok(outs)
     }
 
-    /// A notification that goes nowhere came from the editor.
+    /// A notification makes an answered editor run.
     fn note(&mut self)
         ensures { self.new ≡ (noted self.old).now }
     {
         if matches!(self.phase, Phase::Answered) {
             self.phase = Phase::Running;
         }
+    }
+
+    /// The editor opens, changes or closes a document (LSP 3.17, Text Document Synchronization).
+    fn document(&mut self, alloc: Global, message: &Message) -> Result<Outs, Memory>
+        ensures { (body : List ℕ) → IsRead message.now body → IfOk result (λ outs. DocumentGives (document_step body (saying_of (message_of body)) self.old.documents) self.old outs self.new) }
+    {
+        match notice_in(alloc, message)? {
+            Notice::Opens {
+                uri,
+                language,
+                version,
+                text,
+            } => self.documents.open(0, uri, language, version, text),
+            Notice::Changes => self.documents.change(0, message),
+            Notice::Closes(uri) => self.documents.close(0, uri.bytes()),
+            Notice::Nothing => Ok(Outs::new(alloc)),
+        }
+    }
+
+    /// A notification came from the editor.
+    fn hear_notification(&mut self, alloc: Global, message: &Message) -> Result<Outs, Memory>
+        ensures { (body method : List ℕ) (params : Option Json) → IsRead message.now body → message_of body ≡ notification method params → IfOk result (λ outs. Gives (noticed self.old body (saying_by method params)) outs self.new) }
+    {
+        if !is_served(self.phase) {
+            self.note();
+            return Ok(Outs::new(alloc));
+        }
+        let outs = self.document(alloc, message)?;
+        self.note();
+        Ok(outs)
     }
 
     /// The request goes to the start under its next number.
@@ -144,13 +192,23 @@ impl Tables {
         one(alloc, Out::ToEditor(0, text))
     }
 
-    /// The start answered `initialize`: it is told so, and so is the editor, if it waits.
-    fn ready(&mut self, alloc: Global, message: &Message) -> Result<Outs, Memory>
-        ensures { (body : List ℕ) → IsRead message.now body → IfOk result (λ outs. Gives (ready_if (is_waiting self.old.phase) self.old body) outs self.new) }
+    /// The start answered `initialize`: it is told that the session begins, and of each document that is open.
+    fn begin(&mut self, alloc: Global, encoding: Encoding) -> Result<Outs, Memory>
+        ensures { IfOk result (λ outs. Gives (begun self.old encoding) outs self.new) }
     {
         let mut outs = one(alloc, Out::ToServer(0, initialized(alloc)?))?;
+        let told = self.documents.ready(0, encoding)?;
+        outs.append(told)?;
         self.stage = Stage::Ready;
-        if !matches!(self.phase, Phase::Waiting) {
+        Ok(outs)
+    }
+
+    /// The start answered `initialize`: it is told so, and so is the editor, if it waits.
+    fn ready(&mut self, alloc: Global, message: &Message) -> Result<Outs, Memory>
+        ensures { (body : List ℕ) (id : Option Id) (r : Json) → IsRead message.now body → message_of body ≡ outcome_of id r → IfOk result (λ outs. Gives (ready_if (is_waiting self.old.phase) self.old body (encoding_in r)) outs self.new) }
+    {
+        let mut outs = self.begin(alloc, encoding(message))?;
+        if !is_waiting(self.phase) {
             return Ok(outs);
         }
         let text = ok_reply(alloc, self.id.bytes(), message.result_bytes())?;
@@ -269,10 +327,7 @@ impl Tables {
         };
         match message.envelope() {
             Envelope::Request { .. } => self.hear_request(alloc, requests, &message),
-            Envelope::Notification { .. } => {
-                self.note();
-                Ok(Outs::new(alloc))
-            }
+            Envelope::Notification { .. } => self.hear_notification(alloc, &message),
             _ => Ok(Outs::new(alloc)),
         }
     }

@@ -56,10 +56,10 @@ named_token cs o = ap is_token (of_bare cs o) ∙ token_bare (named_of cs o)
 pub params_token : (o : Option Json) → has_token (option_map bare o) ≡ has_token o
 params_token o = ap₂ (λ a b. a || b) (named_token (codes "workDoneToken") o) (named_token (codes "partialResultToken") o)
 
-pub token_first : (a b x : Bool) → x ≡ a → x ≡ true → x ≡ (a || b)
-token_first true b x e h = e
-token_first false b x e h = absurd (cc)
+pub either_first : (a b x : Bool) → x ≡ a → x ≡ true → x ≡ (a || b)
+either_first true b x e h = e
+either_first false b x e h = absurd (cc)
 
-pub token_second : (a b x y : Bool) → x ≡ a → x ≡ false → y ≡ b → y ≡ (a || b)
-token_second false b x y e h f = f
-token_second true b x y e h f = absurd (cc)
+pub either_second : (a b x y : Bool) → x ≡ a → x ≡ false → y ≡ b → y ≡ (a || b)
+either_second false b x y e h f = f
+either_second true b x y e h f = absurd (cc)

@@ -1,8 +1,11 @@
 pub mod Bared
 pub mod Encoded
+pub mod Encodings
 pub mod Ids
 pub mod Looks
+pub mod Notices
 pub mod Results
 pub mod Roots
+pub mod Spoken
 pub mod Told
 pub mod Walks

@@ -38,3 +38,10 @@ outcome_id (Request id method params) = None
 outcome_id (Notification method params) = None
 outcome_id (Outcome id value) = Some id
 outcome_id (Failure id failure) = None
+
+-- a notification's params
+abbrev pub notification_params : Envelope → Option ℕ
+notification_params (Request id method params) = None
+notification_params (Notification method params) = params
+notification_params (Outcome id value) = None
+notification_params (Failure id failure) = None

@@ -1,3 +1,4 @@
 pub mod Envelopes
 pub mod Finds
+pub mod Notices
 pub mod Results

@@ -5,6 +5,9 @@ use Rattle.std.specs.List.{list_any}
 use Rattle.json_text.specs.Json.{Json}
 use Rattle.json_text.specs.Named.{named_in}
 use Rattle.rpc_message.specs.Message.{Id, integer, text}
+use Rattle.position_codec.specs.declared.Encoding.{Encoding}
+use Rattle.position_codec.specs.declared.Encoding.TheVariants.{Utf16}
+use Rattle.mux_model.specs.Documents.{encoding_in}
 use Rattle.mux_model.specs.Members.{named_of, has_versions, is_versioned_edit, reads_versions}
 
 -- the integer 1
@@ -26,3 +29,8 @@ any_edit_versioned js = list_any (λ j. has_versions (named_in (codes "edit") j)
 abbrev pub value_reads_versions : Option Json → Bool
 value_reads_versions (Some j) = reads_versions j
 value_reads_versions None = false
+
+-- how positions count, by an initialize result
+abbrev pub value_encoding : Option Json → Encoding
+value_encoding (Some j) = encoding_in j
+value_encoding None = Utf16

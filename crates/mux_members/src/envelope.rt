@@ -1,6 +1,6 @@
 //! The parts of a message, by the numbers of their values.
 ghost use Rattle.std.specs.Prelude.{◌≡◌};
-ghost use Rattle.mux_members.specs.Envelopes.{notification_method, outcome_id, outcome_value, request_method, request_params};
+ghost use Rattle.mux_members.specs.Envelopes.{notification_method, notification_params, outcome_id, outcome_value, request_method, request_params};
 
 use rpc_message::{Envelope, Message};
 
@@ -30,6 +30,16 @@ pub fn notification_method(m: &Message) -> Option<u32>
 {
     match m.envelope() {
         Envelope::Notification { method, .. } => Some(method),
+        _ => None,
+    }
+}
+
+// A notification's params, where it has some.
+pub fn notification_params(m: &Message) -> Option<u32>
+    ensures { result ≡ notification_params m.now.envelope }
+{
+    match m.envelope() {
+        Envelope::Notification { params, .. } => params,
         _ => None,
     }
 }

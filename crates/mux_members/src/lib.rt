@@ -5,14 +5,16 @@ mod envelope;
 mod id;
 mod look;
 mod method;
+mod notice;
 mod opening;
 mod outcome;
 mod params;
 
 pub use id::is_number;
 pub use method::{class_in, is_initialize, is_initialized};
+pub use notice::{Notice, notice_in, speaks};
 pub use opening::initialize_request;
-pub use outcome::{is_first_result, is_plain_result, reads_versions};
+pub use outcome::{encoding, is_first_result, is_plain_result, reads_versions};
 pub use params::{has_bare_capabilities, has_token};
 
 #[cfg(test)]

@@ -6,13 +6,15 @@ ghost use Rattle.rpc_message.specs.Message.{Id, message_of, response_id};
 ghost use Rattle.rpc_message.specs.Message.{result as outcome_of};
 ghost use Rattle.rpc_message.specs.Parsed.{IsRead};
 ghost use Rattle.mux_model.specs.Built.{is_plain_result};
+ghost use Rattle.mux_model.specs.Documents.{encoding_in};
 ghost use Rattle.mux_model.specs.Members.{has_version, has_versions, listed, reads_versions};
 ghost use Rattle.mux_model.specs.Stages.{is_first_result};
-ghost use Rattle.mux_members.specs.Results.{any_edit_versioned, any_versioned, is_one, is_plain_value, value_reads_versions};
+ghost use Rattle.mux_members.specs.Results.{any_edit_versioned, any_versioned, is_one, is_plain_value, value_encoding, value_reads_versions};
 
 use crate::envelope::{outcome_id, outcome_value};
-use crate::look::{bytes, first_item, is_array, is_integer, is_text, member, next_value};
+use crate::look::{bytes, first_item, is_array, is_integer, is_text, member, next_value, spells};
 use json_span::Tape;
+use position_codec::Encoding;
 use rpc_message::Message;
 
 // Whether a response's id is the integer 1.
@@ -111,4 +113,31 @@ pub fn reads_versions(m: &Message) -> bool
     ensures { (bytes : List ℕ) (id : Option Id) (value : Json) → IsRead m.now bytes → message_of bytes ≡ outcome_of id value → result ≡ reads_versions value }
 {
     value_reads_versions(m.tape(), outcome_value(m))
+}
+
+// How positions count, by a result's capabilities.
+fn value_encoding(tape: &Tape, value: Option<u32>) -> Encoding
+    ensures { (o : Option Json) → Found tape.now o value → result ≡ value_encoding o }
+{
+    let name = member(
+        tape,
+        member(tape, value, "capabilities"),
+        "positionEncoding",
+    );
+    if !is_text(tape, name) {
+        Encoding::Utf16
+    } else if spells(tape, name, "utf-8") {
+        Encoding::Utf8
+    } else if spells(tape, name, "utf-32") {
+        Encoding::Utf32
+    } else {
+        Encoding::Utf16
+    }
+}
+
+/// How positions count, as a result of `initialize` says, and else by units of UTF-16 (LSP 3.17, PositionEncodingKind).
+pub fn encoding(m: &Message) -> Encoding
+    ensures { (bytes : List ℕ) (id : Option Id) (value : Json) → IsRead m.now bytes → message_of bytes ≡ outcome_of id value → result ≡ encoding_in value }
+{
+    value_encoding(m.tape(), outcome_value(m))
 }

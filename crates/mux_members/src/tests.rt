@@ -1,8 +1,10 @@
 use crate::{
-    class_in, has_bare_capabilities, has_token, initialize_request, is_first_result, is_initialize,
-    is_initialized, is_number, is_plain_result, reads_versions,
+    Notice, class_in, encoding, has_bare_capabilities, has_token, initialize_request,
+    is_first_result, is_initialize, is_initialized, is_number, is_plain_result, notice_in,
+    reads_versions, speaks,
 };
 use lsp_method::Class;
+use position_codec::Encoding;
 use rpc_message::Message;
 
 #[test]
@@ -82,4 +84,124 @@ fn finds_versions(rt: HostRuntime) {
 #[test]
 fn compares_identifiers(rt: HostRuntime) {
     assert!(rt; is_number(b"12", 12) && !is_number(b"123", 12) && !is_number(b"\"12\"", 12));
+}
+
+#[test]
+fn reads_an_opening(rt: HostRuntime) {
+    let body: &[u8] =
+        b"{\"jsonrpc\":\"2.0\",\"method\":\"textDocument/didOpen\",\"params\":{\"textDocument\":{\"uri\":\"file:///\\u0061.rs\",\"languageId\":\"rust\",\"version\":12,\"text\":\"fn f() {}\\n\\u00e9\"}}}";
+    let Ok(m) = Message::read(rt.alloc(), body) else {
+        panic!(rt; "no text");
+    };
+    assert!(rt; speaks(&m));
+    let Notice::Opens {
+        uri,
+        language,
+        version,
+        text,
+    } = notice_in(rt.alloc(), &m).expect(&rt, "memory")
+    else {
+        panic!(rt; "no opening");
+    };
+    assert_eq!(rt; uri.bytes(), b"file:///a.rs".as_slice());
+    assert_eq!(rt; language.bytes(), b"rust".as_slice());
+    assert_eq!(rt; version.bytes(), b"12".as_slice());
+    assert_eq!(rt; text.bytes(), b"fn f() {}\n\xc3\xa9".as_slice());
+}
+
+#[test]
+fn reads_a_closing(rt: HostRuntime) {
+    let body: &[u8] =
+        b"{\"jsonrpc\":\"2.0\",\"method\":\"textDocument/didClose\",\"params\":{\"textDocument\":{\"uri\":\"file:///a.rs\"}}}";
+    let Ok(m) = Message::read(rt.alloc(), body) else {
+        panic!(rt; "no text");
+    };
+    assert!(rt; speaks(&m));
+    let Notice::Closes(uri) = notice_in(rt.alloc(), &m).expect(&rt, "memory") else {
+        panic!(rt; "no closing");
+    };
+    assert_eq!(rt; uri.bytes(), b"file:///a.rs".as_slice());
+}
+
+#[test]
+fn reads_changes(rt: HostRuntime) {
+    // a body; whether it speaks of a document, and whether it has the parts of a change
+    let bodies: [(&[u8], bool, bool); 6] = [
+        (
+            b"{\"jsonrpc\":\"2.0\",\"method\":\"textDocument/didChange\",\"params\":{\"textDocument\":{\"uri\":\"f\",\"version\":2},\"contentChanges\":[{\"text\":\"\"}]}}",
+            true,
+            true,
+        ),
+        (
+            b"{\"jsonrpc\":\"2.0\",\"method\":\"textDocument/didChange\",\"params\":{\"textDocument\":{\"uri\":\"f\"},\"contentChanges\":[]}}",
+            true,
+            false,
+        ),
+        (
+            b"{\"jsonrpc\":\"2.0\",\"method\":\"textDocument/didChange\",\"params\":{\"textDocument\":{\"uri\":\"f\",\"version\":1.5},\"contentChanges\":[]}}",
+            true,
+            false,
+        ),
+        (
+            b"{\"jsonrpc\":\"2.0\",\"method\":\"textDocument/didOpen\",\"params\":{\"textDocument\":{\"uri\":\"f\",\"languageId\":\"c\",\"text\":\"\"}}}",
+            true,
+            false,
+        ),
+        (
+            b"{\"jsonrpc\":\"2.0\",\"method\":\"textDocument/didClose\",\"params\":null}",
+            true,
+            false,
+        ),
+        (
+            b"{\"jsonrpc\":\"2.0\",\"method\":\"initialized\",\"params\":{}}",
+            false,
+            false,
+        ),
+    ];
+    for (body, spoken, changed) in bodies {
+        assert!(rt; body.len() < 200);
+        let Ok(m) = Message::read(rt.alloc(), body) else {
+            panic!(rt; "no text");
+        };
+        assert_eq!(rt; speaks(&m), spoken, "at {body:?}");
+        let notice = notice_in(rt.alloc(), &m).expect(&rt, "memory");
+        if changed {
+            assert!(rt; matches!(notice, Notice::Changes), "at {body:?}");
+        } else {
+            assert!(rt; matches!(notice, Notice::Nothing), "at {body:?}");
+        }
+    }
+}
+
+#[test]
+fn reads_encodings(rt: HostRuntime) {
+    let bodies: [(&[u8], Encoding); 5] = [
+        (
+            b"{\"jsonrpc\":\"2.0\",\"id\":1,\"result\":{\"capabilities\":{\"positionEncoding\":\"utf-8\"}}}",
+            Encoding::Utf8,
+        ),
+        (
+            b"{\"jsonrpc\":\"2.0\",\"id\":1,\"result\":{\"capabilities\":{\"positionEncoding\":\"utf-16\"}}}",
+            Encoding::Utf16,
+        ),
+        (
+            b"{\"jsonrpc\":\"2.0\",\"id\":1,\"result\":{\"capabilities\":{\"positionEncoding\":\"utf-32\"}}}",
+            Encoding::Utf32,
+        ),
+        (
+            b"{\"jsonrpc\":\"2.0\",\"id\":1,\"result\":{\"capabilities\":{}}}",
+            Encoding::Utf16,
+        ),
+        (
+            b"{\"jsonrpc\":\"2.0\",\"id\":1,\"result\":{\"capabilities\":{\"positionEncoding\":\"utf-7\"}}}",
+            Encoding::Utf16,
+        ),
+    ];
+    for (body, given) in bodies {
+        assert!(rt; body.len() < 200);
+        let Ok(m) = Message::read(rt.alloc(), body) else {
+            panic!(rt; "no text");
+        };
+        assert_eq!(rt; encoding(&m), given, "at {body:?}");
+    }
 }

@@ -1,2 +1,3 @@
+pub mod DocumentFolds
 pub mod Openings
 mod Worked

@@ -1,4 +1,4 @@
--- The plain path, and malformed bodies, computed by the checker: what the routing table gives at each cause.
+-- The plain path, malformed bodies, and a document, computed by the checker: what the routing table gives at each cause.
 use Rattle.std.proofs.Common.{◌≡◌, [], true, refl}
 use Rattle.std.specs.Fmt.{digits}
 use Rattle.json.specs.Print.{escape_byte}
@@ -7,20 +7,28 @@ use Rattle.json_text.specs.Named.{named}
 use Rattle.lsp_method.specs.Class.{own_request, own_notification, goes_nowhere, editor_request, editor_notification, is_refresh, is_focused, server_request, server_notification}
 use Rattle.rpc_message.specs.Message.{message_of, no_name_twice, is_integer, member_bytes}
 use Rattle.rpc_message.specs.Texts.{with_id_text}
-use Rattle.mux_model.specs.Example.{outs_from, taken_from, plain_path, plain_path_outs, malformed_path, malformed_path_outs}
+use Rattle.mux_model.specs.Example.{example_settings, two_versions, outs_from, taken_from, plain_path, plain_path_outs, malformed_path, malformed_path_outs, document_path, document_path_outs}
 
-the_plain_path : outs_from [] plain_path ≡ plain_path_outs
+the_plain_path : outs_from example_settings [] plain_path ≡ plain_path_outs
 unfolding computes message_of named no_name_twice is_integer member_bytes with_id_text escape_byte digits
 the_plain_path = refl
 
-the_plain_path_is_taken : taken_from [] plain_path ≡ true
+the_plain_path_is_taken : taken_from example_settings [] plain_path ≡ true
 unfolding computes message_of named no_name_twice is_integer member_bytes with_id_text escape_byte digits own_request own_notification goes_nowhere editor_request editor_notification is_refresh is_focused server_request server_notification
 the_plain_path_is_taken = refl
 
-malformed_bodies : outs_from [] malformed_path ≡ malformed_path_outs
+malformed_bodies : outs_from example_settings [] malformed_path ≡ malformed_path_outs
 unfolding computes message_of named no_name_twice is_integer
 malformed_bodies = refl
 
-malformed_bodies_are_taken : taken_from [] malformed_path ≡ true
+malformed_bodies_are_taken : taken_from example_settings [] malformed_path ≡ true
 unfolding computes message_of named no_name_twice is_integer
 malformed_bodies_are_taken = refl
+
+a_document : outs_from two_versions [] document_path ≡ document_path_outs
+unfolding computes message_of named no_name_twice is_integer member_bytes with_id_text escape_byte digits
+a_document = refl
+
+a_document_is_taken : taken_from two_versions [] document_path ≡ true
+unfolding computes message_of named no_name_twice is_integer member_bytes with_id_text escape_byte digits
+a_document_is_taken = refl

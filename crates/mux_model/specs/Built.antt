@@ -6,6 +6,7 @@ use Rattle.mux_history.specs.declared.cause.Cause.TheVariants.{Joined, FromEdito
 use Rattle.mux_history.specs.declared.entry.Entry.{Entry}
 use Rattle.json_text.specs.Json.{Json}
 use Rattle.json_text.specs.Named.{named_in}
+use Rattle.document_model.specs.Sayings.{speaks, saying_by}
 use Rattle.lsp_method.specs.Class.{class_of}
 use Rattle.lsp_method.specs.declared.variants.Class.{Class}
 use Rattle.lsp_method.specs.declared.variants.Class.TheVariants.{Other}
@@ -32,10 +33,10 @@ built_request Answered ids id method params = not (is_open id ids) && is_other (
 built_request Running ids id method params = not (is_open id ids) && is_other (class_of method Editor false) && not (has_token params)
 built_request other ids id method params = false
 
--- E2 in every phase, and those
+-- E2 in every phase, those, and the notifications on documents
 abbrev pub built_from_editor : Phase → List Id → Message → Bool
 built_from_editor phase ids (request id method params) = built_request phase ids id method params
-built_from_editor phase ids (notification method params) = notifies (codes "initialized") (notification method params)
+built_from_editor phase ids (notification method params) = notifies (codes "initialized") (notification method params) || speaks (saying_by method params)
 built_from_editor phase ids not_json = true
 built_from_editor phase ids not_message = true
 built_from_editor phase ids (result id r) = false

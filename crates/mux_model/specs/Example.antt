@@ -19,10 +19,18 @@ example_settings = record {
   default = 0;
 }
 
+-- with two versions of a document
+abbrev pub two_versions : Settings
+two_versions = record {
+  limits = record { groups = 8; restarts = 5; idle = 300; grace = 5; backlog = 134217728; requests = 2147483647; versions = 2 };
+  servers = record { name = codes "main"; ceiling = None } ∷ [];
+  default = 0;
+}
+
 -- the outs of each of these causes in turn, behind these events
-abbrev pub outs_from : List Event → List Cause → List (List Out)
-outs_from events [] = []
-outs_from events (cause ∷ causes) = let xs = outs_of example_settings events cause in xs ∷ outs_from (behind (with_cause events cause) xs) causes
+abbrev pub outs_from : Settings → List Event → List Cause → List (List Out)
+outs_from settings events [] = []
+outs_from settings events (cause ∷ causes) = let xs = outs_of settings events cause in xs ∷ outs_from settings (behind (with_cause events cause) xs) causes
 
 -- the plain path: an editor joins and initialises, the server starts and answers, a hover is asked and answered
 abbrev pub plain_path : List Cause
@@ -56,6 +64,32 @@ malformed_path_outs = []
     ∷ []
 
 -- each of these causes fits, and is built, behind the ones before it
-abbrev pub taken_from : List Event → List Cause → Bool
-taken_from events [] = true
-taken_from events (cause ∷ causes) = let xs = outs_of example_settings events cause in fits_behind events cause && (built_behind events cause && taken_from (behind (with_cause events cause) xs) causes)
+abbrev pub taken_from : Settings → List Event → List Cause → Bool
+taken_from settings events [] = true
+taken_from settings events (cause ∷ causes) = let xs = outs_of settings events cause in fits_behind events cause && (built_behind events cause && taken_from settings (behind (with_cause events cause) xs) causes)
+
+-- an editor opens a document, changes it twice, closes it, and closes it again: with two versions, the second change closes it at the server and opens it anew
+abbrev pub document_path : List Cause
+document_path = Joined 0
+    ∷ FromEditor 0 (codes "{\"jsonrpc\":\"2.0\",\"id\":0,\"method\":\"initialize\",\"params\":{\"rootUri\":\"file:///w\",\"capabilities\":{}}}")
+    ∷ Started 0
+    ∷ FromServer 0 (codes "{\"jsonrpc\":\"2.0\",\"id\":1,\"result\":{\"capabilities\":{}}}")
+    ∷ FromEditor 0 (codes "{\"jsonrpc\":\"2.0\",\"method\":\"textDocument/didOpen\",\"params\":{\"textDocument\":{\"uri\":\"file:///u\",\"languageId\":\"x\",\"version\":1,\"text\":\"a\"}}}")
+    ∷ FromEditor 0 (codes "{\"jsonrpc\":\"2.0\",\"method\":\"textDocument/didChange\",\"params\":{\"textDocument\":{\"uri\":\"file:///u\",\"version\":7},\"contentChanges\":[{\"text\":\"b\"}]}}")
+    ∷ FromEditor 0 (codes "{\"jsonrpc\":\"2.0\",\"method\":\"textDocument/didChange\",\"params\":{\"textDocument\":{\"uri\":\"file:///u\",\"version\":8},\"contentChanges\":[{\"text\":\"c\"}]}}")
+    ∷ FromEditor 0 (codes "{\"jsonrpc\":\"2.0\",\"method\":\"textDocument/didClose\",\"params\":{\"textDocument\":{\"uri\":\"file:///u\"}}}")
+    ∷ FromEditor 0 (codes "{\"jsonrpc\":\"2.0\",\"method\":\"textDocument/didClose\",\"params\":{\"textDocument\":{\"uri\":\"file:///u\"}}}")
+    ∷ []
+
+abbrev pub document_path_outs : List (List Out)
+document_path_outs = []
+    ∷ (Spawn 0 0 ∷ [])
+    ∷ (ToServer 0 (codes "{\"jsonrpc\":\"2.0\",\"id\":1,\"method\":\"initialize\",\"params\":{\"processId\":null,\"clientInfo\":{\"name\":\"lspmux\"},\"rootUri\":\"file:///w\",\"capabilities\":{},\"trace\":\"off\"}}") ∷ [])
+    ∷ (ToServer 0 (codes "{\"jsonrpc\":\"2.0\",\"method\":\"initialized\",\"params\":{}}") ∷ ToEditor 0 (codes "{\"jsonrpc\":\"2.0\",\"id\":0,\"result\":{\"capabilities\":{}}}") ∷ [])
+    ∷ (ToServer 0 (codes "{\"jsonrpc\":\"2.0\",\"method\":\"textDocument/didOpen\",\"params\":{\"textDocument\":{\"uri\":\"file:///u\",\"languageId\":\"x\",\"version\":1,\"text\":\"a\"}}}") ∷ [])
+    ∷ (ToServer 0 (codes "{\"jsonrpc\":\"2.0\",\"method\":\"textDocument/didChange\",\"params\":{\"textDocument\":{\"uri\":\"file:///u\",\"version\":2},\"contentChanges\":[{\"text\":\"b\"}]}}") ∷ [])
+    ∷ (ToServer 0 (codes "{\"jsonrpc\":\"2.0\",\"method\":\"textDocument/didClose\",\"params\":{\"textDocument\":{\"uri\":\"file:///u\"}}}")
+    ∷ ToServer 0 (codes "{\"jsonrpc\":\"2.0\",\"method\":\"textDocument/didOpen\",\"params\":{\"textDocument\":{\"uri\":\"file:///u\",\"languageId\":\"x\",\"version\":1,\"text\":\"c\"}}}") ∷ [])
+    ∷ (ToServer 0 (codes "{\"jsonrpc\":\"2.0\",\"method\":\"textDocument/didClose\",\"params\":{\"textDocument\":{\"uri\":\"file:///u\"}}}") ∷ [])
+    ∷ []
+    ∷ []

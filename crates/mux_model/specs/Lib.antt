@@ -1,4 +1,5 @@
 pub mod Built
+pub mod Documents
 pub mod Event
 pub mod Example
 pub mod Fits

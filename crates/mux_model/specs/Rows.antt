@@ -6,7 +6,12 @@ use Rattle.mux_history.specs.declared.cause.Cause.TheVariants.{FromEditor, Start
 use Rattle.mux_history.specs.declared.out.Out.{Out}
 use Rattle.mux_history.specs.declared.out.Out.TheVariants.{ToEditor, ToServer, Spawn}
 use Rattle.mux_history.specs.declared.entry.Entry.{Entry}
-use Rattle.rpc_message.specs.Message.{Message, request, not_json, message_of, id_bytes, result_bytes}
+use Rattle.focus_switch.specs.Documents.{Open, holder_beside}
+use Rattle.document_model.specs.Rows.{sent_open, sent_change, sent_close}
+use Rattle.document_model.specs.Sayings.{Saying, opens, changes, closes, misshapen, saying_by}
+use Rattle.document_model.specs.Sayings as saying
+use Rattle.document_model.specs.Texts.{opened, found, changed}
+use Rattle.rpc_message.specs.Message.{Message, request, notification, not_json, message_of, id_bytes, result_bytes}
 use Rattle.rpc_message.specs.Texts.{ok_text, error_text, initialized_text, initialize_text, with_id_text, Code, parse_error, invalid_request, request_failed}
 use Rattle.mux_model.specs.declared.phase.Phase.{Phase}
 use Rattle.mux_model.specs.declared.phase.Phase.TheVariants.{New, Waiting, Answered, Running}
@@ -16,9 +21,10 @@ use Rattle.mux_model.specs.Event.{Event, events_of, with_cause, requests}
 use Rattle.mux_model.specs.Members.{params_of, root_uri, string_or_null, options_of}
 use Rattle.mux_model.specs.Phases.{desk_of, editors_of, is_there, is_malformed}
 use Rattle.mux_model.specs.Requests.{Asked, asking_of, asked_by, answered_id}
+use Rattle.mux_model.specs.Documents.{start_for, encoding_for, texts_of, held_at}
 use Rattle.mux_model.specs.Row.{Row, nothing, send, choose, look, outs, each, on, ◌⨾◌}
 use Rattle.mux_model.specs.Settings.{Settings}
-use Rattle.mux_model.specs.Spawns.{starts_of, groups_of, start_of, home_of, founding_of, group_of}
+use Rattle.mux_model.specs.Spawns.{starts_of, groups_of, home_of, founding_of, group_of}
 use Rattle.mux_model.specs.Stages.{life_of, is_ready, is_first_result}
 
 abbrev pub answer_error : ℕ → List ℕ → Code → Row
@@ -32,14 +38,6 @@ found_group = look (λ events. send (Spawn (starts_of events) (groups_of events)
 abbrev pub forward : ℕ → List ℕ → Row
 forward s body = look (λ events. send (ToServer s (with_id_text body (decimal (asking_of s events).next))))
 
--- the start of the editor's group
-abbrev pub start_in : Option ℕ → List Event → Option ℕ
-start_in None events = None
-start_in (Some g) events = start_of g events
-
-abbrev pub start_for : ℕ → List Event → Option ℕ
-start_for e events = start_in (home_of e events).group events
-
 -- it is ready, and a number is left
 abbrev pub can_ask : Settings → ℕ → List Event → Bool
 can_ask settings s events = is_ready (life_of s events).stage && nat_lt (asking_of s events).next settings.limits.requests
@@ -48,8 +46,32 @@ abbrev pub request_row : Settings → List Event → ℕ → List ℕ → Row
 request_row settings before e body = on (start_for e before) (answer_error e body request_failed)
     (λ s. choose (can_ask settings s before) (forward s body) (answer_error e body request_failed))
 
+-- E12 to E14: what a ready start is sent where an editor opens, changes or closes a document
+abbrev pub changed_bodies : Settings → List Event → ℕ → ℕ → List ℕ → List ℕ → Option Open → Option Open → List (List ℕ)
+changed_bodies settings before s e body u (Some old) (Some new) = sent_change settings.limits.versions body old new (held_at s u before)
+changed_bodies settings before s e body u (Some old) None = []
+changed_bodies settings before s e body u None new = []
+
+abbrev pub closed_bodies : Settings → List Event → ℕ → ℕ → List ℕ → Option Open → List (List ℕ)
+closed_bodies settings before s e u None = []
+closed_bodies settings before s e u (Some o) = sent_close settings.limits.versions u (holder_beside e u (texts_of before).opens) (held_at s u before)
+
+abbrev pub document_bodies : Settings → List Event → ℕ → ℕ → List ℕ → Saying → List (List ℕ)
+document_bodies settings before s e body (opens u l v t) = sent_open settings.limits.versions (opened e u l v t (texts_of before)) (held_at s u before)
+document_bodies settings before s e body (changes u v cs) = changed_bodies settings before s e body u (found e u (texts_of before)) (changed (encoding_for e before) e u v cs (texts_of before))
+document_bodies settings before s e body (closes u) = closed_bodies settings before s e u (found e u (texts_of before))
+document_bodies settings before s e body misshapen = []
+document_bodies settings before s e body saying.nothing = []
+
+abbrev pub to_start : ℕ → List (List ℕ) → Row
+to_start s bodies = each (λ body. send (ToServer s body)) bodies
+
+abbrev pub document_row : Settings → List Event → ℕ → List ℕ → Saying → Row
+document_row settings before e body x = on (start_for e before) nothing (λ s. choose (is_ready (life_of s before).stage) (to_start s (document_bodies settings before s e body x)) nothing)
+
 abbrev pub served_row : Settings → List Event → ℕ → List ℕ → Message → Row
 served_row settings before e body (request id method params) = request_row settings before e body
+served_row settings before e body (notification method params) = document_row settings before e body (saying_by method params)
 served_row settings before e body other = nothing
 
 abbrev pub message_row : Settings → List Event → ℕ → List ℕ → Message → Phase → Row

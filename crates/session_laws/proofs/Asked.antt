@@ -17,7 +17,7 @@ use Rattle.mux_model.specs.Requests.{Asker, Asked, Asking, asking_of, asking_beh
 use Rattle.mux_model.specs.Rows.{malformed_text}
 use Rattle.mux_model.specs.Settings.{Settings}
 use Rattle.mux_model.specs.Spawns.{starts_of}
-use Rattle.session_laws.proofs.Bricks.{takes, rejects, begins, greets, spawns, forwards, refuses, welcomes, passes, is_early, Lays}
+use Rattle.session_laws.proofs.Bricks.{takes, rejects, begins, greets, spawns, forwards, refuses, welcomes, passes, tells, is_early, Lays}
 use Rattle.session_laws.proofs.Editors.{Editors}
 use Rattle.session_laws.proofs.Folds.{desk_more, opens_more, asking_more}
 use Rattle.session_laws.proofs.Late.{hears_late, told_late}
@@ -165,3 +165,4 @@ asked_law settings events (forwards n e body id method params k) known h = to_se
 asked_law settings events (refuses e body id method params code k) known h = to_editor events e (error_text (id_bytes body) code) h
 asked_law settings events (welcomes e body id r k) known h = to_editor events e (ok_text (id_bytes (desk_of e events).initialize) (result_bytes body)) h
 asked_law settings events (passes n asked body k) known h = to_editor events asked.asker.editor (with_id_text body asked.asker.bytes) h
+asked_law settings events (tells n body k) known h = to_server events n body h (λ i other others says own a asker. absurd (let none : None ≡ Some a = sym k.asker ∙ asker in cc))

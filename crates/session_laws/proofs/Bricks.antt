@@ -1,6 +1,9 @@
 -- What every row of the routing table is made of: the causes, and the outs with what is known where they are sent.
-use Rattle.std.proofs.Common.{◌≡◌, ℕ, Bool, true, false, ◌&&◌, List, [], ◌∷◌, Option, Some, codes, nat_lt, decimal}
+use Rattle.std.proofs.Common.{◌≡◌, ℕ, Bool, true, false, ◌&&◌, List, [], ◌∷◌, Option, Some, None, codes, nat_lt, decimal}
+use Rattle.std.specs.Option.{option_map}
 use Rattle.json_text.specs.Json.{Json}
+use Rattle.document_model.specs.Helds.{HeldText}
+use Rattle.document_model.specs.Sayings.{saying_of, speaks}
 use Rattle.mux_history.specs.declared.cause.Cause.{Cause}
 use Rattle.mux_history.specs.declared.cause.Cause.TheVariants.{FromEditor, Started, FromServer}
 use Rattle.mux_history.specs.declared.out.Out.TheVariants.{ToEditor, ToServer, Spawn}
@@ -11,6 +14,7 @@ use Rattle.mux_model.specs.declared.phase.Phase.TheVariants.{Absent, New, Waitin
 use Rattle.mux_model.specs.declared.stage.Stage.{Stage}
 use Rattle.mux_model.specs.declared.stage.Stage.TheVariants.{Spawning, Initializing, Ready}
 use Rattle.mux_model.specs.Built.{built_behind}
+use Rattle.mux_model.specs.Documents.{held_at}
 use Rattle.mux_model.specs.Event.{Event, behind, with_cause}
 use Rattle.mux_model.specs.Fits.{fits_behind}
 use Rattle.mux_model.specs.Phases.{desk_of, is_there, is_malformed}
@@ -19,7 +23,8 @@ use Rattle.mux_model.specs.Rows.{malformed_text}
 use Rattle.mux_model.specs.Settings.{Settings}
 use Rattle.mux_model.specs.Spawns.{starts_of}
 use Rattle.mux_model.specs.Stages.{life_of, is_first_result}
-use Rattle.session_laws.specs.ServerRules.{is_response}
+use Rattle.session_laws.specs.Ranges.{InRange}
+use Rattle.session_laws.specs.ServerRules.{is_response, AllowsSaying}
 
 -- it got no result to its `initialize` yet
 abbrev pub is_early : Phase → Bool
@@ -62,6 +67,13 @@ pub record IsWelcome (events : List Event) (e : ℕ) (body : List ℕ) (id : Opt
   pub waits : (desk_of e events).phase ≡ Waiting
   pub says : message_of body ≡ result id r
 
+-- s is ready, and no request is at work; where the limits are in range, this body tells it of a document, as it may be told
+pub record IsTelling (settings : Settings) (events : List Event) (s : ℕ) (body : List ℕ) : Type 0 where
+  pub ready : (life_of s events).stage ≡ Ready
+  pub asker : (asking_of s events).asker ≡ None
+  pub spoken : InRange settings → speaks (saying_of (message_of body)) ≡ true
+  pub allowed : InRange settings → AllowsSaying (λ u. option_map (λ (h : HeldText). h.version) (held_at s u events)) (saying_of (message_of body))
+
 -- this body is a response to an open request of s, whose editor is there
 pub record IsPassedOn (events : List Event) (s : ℕ) (asked : Asked) (body : List ℕ) : Type 0 where
   pub there : is_there (desk_of asked.asker.editor events).phase ≡ true
@@ -89,6 +101,8 @@ pub data Brick (settings : Settings) (events : List Event) : Type 0 where
   welcomes : (e : ℕ) (body : List ℕ) (id : Option Id) (r : Json) → IsWelcome events e body id r → Brick settings events
   -- a response goes to the editor that asked
   passes : (s : ℕ) (asked : Asked) (body : List ℕ) → IsPassedOn events s asked body → Brick settings events
+  -- a ready start is told of a document
+  tells : (s : ℕ) (body : List ℕ) → IsTelling settings events s body → Brick settings events
 
 -- the events with the brick behind them
 abbrev pub laid : {settings : Settings} {events : List Event} → Brick settings events → List Event
@@ -101,6 +115,7 @@ laid {events = events} (forwards s e body id method params h) = behind events (T
 laid {events = events} (refuses e body id method params code h) = behind events (ToEditor e (error_text (id_bytes body) code) ∷ [])
 laid {events = events} (welcomes e body id r h) = behind events (ToEditor e (ok_text (id_bytes (desk_of e events).initialize) (result_bytes body)) ∷ [])
 laid {events = events} (passes s asked body h) = behind events (ToEditor asked.asker.editor (with_id_text body asked.asker.bytes) ∷ [])
+laid {events = events} (tells s body h) = behind events (ToServer s body ∷ [])
 
 -- where B holds, each brick keeps I
 abbrev pub Lays : Settings → (List Event → Type 0) → (List Event → Type 0) → Type 0

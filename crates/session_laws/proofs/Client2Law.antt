@@ -18,7 +18,7 @@ use Rattle.session_laws.specs.ClientRules.{IsAnswer, null_errors_of, null_errors
 use Rattle.session_laws.specs.Parts.{editor_part, is_of_editor}
 use Rattle.session_laws.proofs.Asked.{IsKnown}
 use Rattle.session_laws.proofs.Bodies.{welcome_says, refusal_says, malformed_says, IsResponseTo, is_result, is_error, passed_says}
-use Rattle.session_laws.proofs.Bricks.{takes, rejects, begins, greets, spawns, forwards, refuses, welcomes, passes, Lays, Both, lays_both}
+use Rattle.session_laws.proofs.Bricks.{takes, rejects, begins, greets, spawns, forwards, refuses, welcomes, passes, tells, Lays, Both, lays_both}
 use Rattle.session_laws.proofs.Facts.{Facts, facts_law, no_facts}
 use Rattle.session_laws.proofs.Keeps.{every_history}
 use Rattle.session_laws.proofs.Rules.{rule_more, word_more, word_of_part}
@@ -202,6 +202,7 @@ client_law settings events (welcomes e body id r k) known h =
 client_law settings events (passes n asked body k) known h =
     let a : IsKnown events asked.asker = asked_is events n asked body k known.0.1 in
     to_editor events asked.asker.editor (with_id_text body asked.asker.bytes) asked.asker.id (passed_says body asked.asker.bytes asked.asker.id k.says a.text) a.waits h
+client_law settings events (tells n body k) known h = more events (said (ToServer n body)) refl h
 
 pub client_2_law : (settings : Settings) (history : List Entry) → Legal settings history → KeepsClient2 history
 client_2_law settings history legal =

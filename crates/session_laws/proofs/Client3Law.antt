@@ -26,7 +26,7 @@ use Rattle.session_laws.specs.ClientRules.{Opening, opening_hears, opening_told,
 use Rattle.session_laws.specs.Parts.{editor_part, is_of_editor}
 use Rattle.session_laws.proofs.Asked.{IsKnown}
 use Rattle.session_laws.proofs.Bodies.{welcome_says, refusal_says, malformed_says, IsResponseTo, is_result, is_error, passed_says}
-use Rattle.session_laws.proofs.Bricks.{takes, rejects, begins, greets, spawns, forwards, refuses, welcomes, passes, is_early, Lays, Both, lays_both}
+use Rattle.session_laws.proofs.Bricks.{takes, rejects, begins, greets, spawns, forwards, refuses, welcomes, passes, tells, is_early, Lays, Both, lays_both}
 use Rattle.session_laws.proofs.Facts.{Facts, facts_law, no_facts}
 use Rattle.session_laws.proofs.Folds.{desk_more}
 use Rattle.session_laws.proofs.Keeps.{every_history}
@@ -258,6 +258,7 @@ client_law settings events (passes n asked body k) known h j =
     let response : IsResponseTo asked.asker.id (message_of sent) = passed_says body asked.asker.bytes asked.asker.id k.says a.text in
     to_editor events e sent h (may_answer (opening e events) asked.asker.id (message_of sent) response (none_open (desk_of e events).phase (desk_of e events).initialize (opening e events) k.there a.late (h e).link))
     (late_told (desk_of e events).phase (desk_of e events).initialize (opening e events) asked.asker.id (message_of sent) response a.late (h e).link) j
+client_law settings events (tells n body k) known h j = to_server events n body h j
 
 pub client_3_law : (settings : Settings) (history : List Entry) → Legal settings history → KeepsClient3 history
 client_3_law settings history legal e =

@@ -11,7 +11,7 @@ use Rattle.mux_model.specs.Requests.{asking_of}
 use Rattle.mux_model.specs.Rows.{malformed_text}
 use Rattle.mux_model.specs.Settings.{Settings}
 use Rattle.mux_model.specs.Spawns.{starts_of}
-use Rattle.session_laws.proofs.Bricks.{takes, rejects, begins, greets, spawns, forwards, refuses, welcomes, passes, Lays, Anything}
+use Rattle.session_laws.proofs.Bricks.{takes, rejects, begins, greets, spawns, forwards, refuses, welcomes, passes, tells, Lays, Anything}
 use Rattle.session_laws.proofs.Folds.{desk_more, editors_more}
 use Rattle.session_laws.proofs.Rules.{unless}
 use Rattle.session_laws.proofs.Words.{number_same}
@@ -63,3 +63,4 @@ editors_law settings events (forwards n e body id method params k) known h = to_
 editors_law settings events (refuses e body id method params code k) known h = to_editor events e (error_text (id_bytes body) code) h
 editors_law settings events (welcomes e body id r k) known h = to_editor events e (ok_text (id_bytes (desk_of e events).initialize) (result_bytes body)) h
 editors_law settings events (passes n asked body k) known h = to_editor events asked.asker.editor (with_id_text body asked.asker.bytes) h
+editors_law settings events (tells n body k) known h = to_server events n body h

@@ -12,6 +12,7 @@ use Rattle.mux_model.specs.Legal.{Legal, LegalFrom}
 use Rattle.mux_model.specs.Row.{Row, nothing, send, after, choose, look, outs, on}
 use Rattle.mux_model.specs.Rows.{outs_of}
 use Rattle.mux_model.specs.Settings.{Settings}
+use Rattle.session_laws.proofs.Opened.{Spelt, entry_spelt}
 
 -- this row keeps the fact, behind these events
 pub record At (I : List Event → Type 0) (events : List Event) (row : Row) : Type 0 where
@@ -44,23 +45,23 @@ module _ {I : List Event → Type 0} where
   at_on {o = None} f g = f refl
   at_on {o = Some a} f g = g a refl
 
--- the outs of every cause keep the fact
+-- the outs of every cause keep the fact, where what editors have open is UTF-8
 abbrev pub EntryKeeps : Settings → (List Event → Type 0) → Type 0
-EntryKeeps settings I = (before : List Event) (cause : Cause) → fits_behind before cause ≡ true → built_behind before cause ≡ true → I before → I (behind (with_cause before cause) (outs_of settings before cause))
+EntryKeeps settings I = (before : List Event) (cause : Cause) → Spelt before → fits_behind before cause ≡ true → built_behind before cause ≡ true → I before → I (behind (with_cause before cause) (outs_of settings before cause))
 
 pub events_more : (history : List Entry) (entry : Entry) → events_of (history ++ entry ∷ []) ≡ with_entry (events_of history) entry
 events_more history entry = fold-append with_entry [] history (entry ∷ [])
 
 module _ (settings : Settings) (I : List Event → Type 0) (keeps : EntryKeeps settings I) where
-  one_entry : (before : List Entry) (entry : Entry) → IsTrue (fits_behind (events_of before) entry.cause) → IsTrue (built_behind (events_of before) entry.cause)
+  one_entry : (before : List Entry) (entry : Entry) → Spelt (events_of before) → IsTrue (fits_behind (events_of before) entry.cause) → IsTrue (built_behind (events_of before) entry.cause)
       → entry.outs ≡ outs_of settings (events_of before) entry.cause → I (events_of before) → I (events_of (before ++ entry ∷ []))
-  one_entry before entry fits built outs h = subst I (sym (events_more before entry)) (subst (λ z. I (behind (with_cause (events_of before) entry.cause) z)) (sym outs)
-      (keeps (events_of before) entry.cause fits built h))
+  one_entry before entry spelt fits built outs h = subst I (sym (events_more before entry)) (subst (λ z. I (behind (with_cause (events_of before) entry.cause) z)) (sym outs)
+      (keeps (events_of before) entry.cause spelt fits built h))
 
-  from_here : (before rest : List Entry) → LegalFrom settings before rest → I (events_of before) → I (events_of (before ++ rest))
-  from_here before [] legal h = subst (λ z. I (events_of z)) (sym (append-nil before)) h
-  from_here before (entry ∷ rest) legal h = subst (λ z. I (events_of z)) (append_assoc before (entry ∷ []) rest)
-      (from_here (before ++ entry ∷ []) rest legal.3 (one_entry before entry legal.0 legal.1 legal.2 h))
+  from_here : (before rest : List Entry) → LegalFrom settings before rest → Spelt (events_of before) → I (events_of before) → I (events_of (before ++ rest))
+  from_here before [] legal spelt h = subst (λ z. I (events_of z)) (sym (append-nil before)) h
+  from_here before (entry ∷ rest) legal spelt h = subst (λ z. I (events_of z)) (append_assoc before (entry ∷ []) rest)
+      (from_here (before ++ entry ∷ []) rest legal.3 (subst Spelt (sym (events_more before entry)) (entry_spelt (events_of before) entry spelt)) (one_entry before entry spelt legal.0 legal.1 legal.2 h))
 
   pub every_history : I [] → (history : List Entry) → Legal settings history → I (events_of history)
-  every_history start history legal = from_here [] history legal start
+  every_history start history legal = from_here [] history legal tt start

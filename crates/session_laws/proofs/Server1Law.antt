@@ -3,14 +3,15 @@ use Rattle.std.proofs.Common.{◌≡◌, ℕ, Bool, true, false, not, ◌&&◌, 
 use Rattle.mux_history.specs.declared.cause.Cause.TheVariants.{Started}
 use Rattle.mux_history.specs.declared.entry.Entry.{Entry}
 use Rattle.mux_history.specs.declared.out.Out.TheVariants.{ToEditor, ToServer, Spawn, CloseEditor, EndServer}
-use Rattle.rpc_message.specs.Message.{Message, not_message}
+use Rattle.rpc_message.specs.Message.{Message, not_message, message_of}
 use Rattle.mux_model.specs.declared.stage.Stage.{Stage}
 use Rattle.mux_model.specs.declared.stage.Stage.TheVariants.{Unspawned, Spawning, Initializing, Ready, Stopping, Ending, Ended}
 use Rattle.mux_model.specs.Event.{Event, took, did, requests}
 use Rattle.mux_model.specs.Legal.{Legal}
 use Rattle.mux_model.specs.Settings.{Settings}
 use Rattle.mux_model.specs.Stages.{stage_started, stage_hears, stage_told, is_first_result}
-use Rattle.session_laws.specs.ServerRules.{Program, program_behind, ServerRule1, KeepsServer1}
+use Rattle.session_laws.specs.Parts.{server_part}
+use Rattle.session_laws.specs.ServerRules.{Program, program_behind, program_of, ServerRule1, KeepsServer1}
 use Rattle.session_laws.proofs.Bricks.{is_spawning}
 use Rattle.session_laws.proofs.ServerLaw.{Moves, server_history, is_to_server}
 
@@ -82,6 +83,7 @@ moves settings = record {
   begun = λ p n body m params says h. (ap not h, (refl, h));
   greeted = λ p n body other m k r params says told h. (is_up p h, h);
   forwarded = λ p n body m next method params room says known h. (is_up p h, forwards p m h);
+  told = λ s events n body k h. (is_up (program_of (server_part s events)) h, forwards (program_of (server_part s events)) (message_of body) h);
 }
 
 pub server_1_law : (settings : Settings) (history : List Entry) → Legal settings history → KeepsServer1 history

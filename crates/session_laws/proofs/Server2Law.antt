@@ -1,18 +1,21 @@
 -- The handshake with a start.
-use Rattle.std.proofs.Common.{◌≡◌, ℕ, ◌<◌, ◌^◌, Bool, true, false, ◌&&◌, List, codes, decimal, nat_lt, IsTrue, if◌then◌else◌, Option, Some, refl, sym, ap, ap₂, subst, arith, ltb-true}
+use Rattle.std.proofs.Common.{◌≡◌, ℕ, ◌<◌, ◌^◌, Bool, true, false, not, ◌&&◌, List, codes, decimal, nat_lt, IsTrue, if◌then◌else◌, Option, Some, refl, sym, ◌∙◌, ap, ap₂, subst, arith, ltb-true}
 use Rattle.json_text.specs.Json.{Json}
 use Rattle.mux_history.specs.declared.cause.Cause.TheVariants.{Started, FromServer}
 use Rattle.mux_history.specs.declared.entry.Entry.{Entry}
 use Rattle.mux_history.specs.declared.out.Out.TheVariants.{ToEditor, ToServer, Spawn, CloseEditor, EndServer}
-use Rattle.rpc_message.specs.Message.{Message, request, notification, result, not_message, integer}
+use Rattle.rpc_message.specs.Message.{Message, request, notification, result, not_message, integer, message_of}
 use Rattle.mux_model.specs.declared.stage.Stage.{Stage}
 use Rattle.mux_model.specs.declared.stage.Stage.TheVariants.{Unspawned, Spawning, Initializing, Ready, Stopping, Ending, Ended}
 use Rattle.mux_model.specs.Event.{Event, took, did, requests}
 use Rattle.mux_model.specs.Legal.{Legal}
 use Rattle.mux_model.specs.Settings.{Settings}
 use Rattle.mux_model.specs.Stages.{stage_started, stage_hears, stage_told, is_first_result}
+use Rattle.document_model.specs.Sayings.{saying_of, speaks}
+use Rattle.document_model.proofs.Written.{Spoken, spoken}
+use Rattle.session_laws.specs.Parts.{server_part}
 use Rattle.session_laws.specs.Ranges.{InRange}
-use Rattle.session_laws.specs.ServerRules.{Handshake, silent, asked, answered, open_to_all, handshake_behind, allows, ServerRule2, KeepsServer2}
+use Rattle.session_laws.specs.ServerRules.{Handshake, silent, asked, answered, open_to_all, handshake_behind, handshake_of, allows, ServerRule2, KeepsServer2}
 use Rattle.session_laws.proofs.Bricks.{is_spawning, is_initializing}
 use Rattle.session_laws.proofs.ServerLaw.{Moves, server_history, is_to_server}
 
@@ -83,7 +86,11 @@ module _ (settings : Settings) (range : InRange settings) where
   forwards : (w : Handshake) (n : ℕ) (body : List ℕ) (m : Message) (next : ℕ) (method : List ℕ) (params : Option Json) → nat_lt next settings.limits.requests ≡ true
       → (next < 2 ^ 64 → m ≡ request (integer (decimal next)) method params) → w ≡ open_to_all → Allows w m × Link (stage_told Ready m) (handshake_behind w (did (ToServer n body) m))
   forwards w n body m next method params room says h = let below : next < settings.limits.requests = ltb-true next settings.limits.requests room in
-      (ap₂ allows h (says (omega arith)), still_open (requests (codes "shutdown") m) (handshake_behind w (did (ToServer n body) m)) (ap (λ z. handshake_behind z (did (ToServer n body) m)) h))
+      (ap₂ allows h (says (let wide : settings.limits.requests < 2 ^ 32 = range.requests in omega (arith, below, wide))), still_open (requests (codes "shutdown") m) (handshake_behind w (did (ToServer n body) m)) (ap (λ z. handshake_behind z (did (ToServer n body) m)) h))
+
+  tells : (w : Handshake) (n : ℕ) (body : List ℕ) (m : Message) → speaks (saying_of m) ≡ true → w ≡ open_to_all → Allows w m × Link (stage_told Ready m) (handshake_behind w (did (ToServer n body) m))
+  tells w n body m says h = let s : Spoken m = spoken m says in
+      (ap₂ allows h s.is ∙ ap not s.other, still_open (requests (codes "shutdown") m) (handshake_behind w (did (ToServer n body) m)) (ap (λ z. handshake_behind z (did (ToServer n body) m)) h))
 
   moves : Moves handshake_behind silent ServerRule2 Allows Link Nothing settings
   moves = record {
@@ -98,6 +105,7 @@ module _ (settings : Settings) (range : InRange settings) where
     begun = begins;
     greeted = greets;
     forwarded = λ w n body m next method params room says known h. forwards w n body m next method params room says h;
+    told = λ s events n body k h. tells (handshake_of (server_part s events)) n body (message_of body) (k.spoken range) h;
   }
 
 pub server_2_law : (settings : Settings) → InRange settings → (history : List Entry) → Legal settings history → KeepsServer2 history

@@ -5,7 +5,7 @@ use Rattle.json_text.specs.Json.{Json}
 use Rattle.mux_history.specs.declared.cause.Cause.TheVariants.{Joined, FromEditor, EditorGone, Started, StartFailed, FromServer, ServerGone, Drained, Tick}
 use Rattle.mux_history.specs.declared.entry.Entry.{Entry}
 use Rattle.mux_history.specs.declared.out.Out.TheVariants.{ToEditor, ToServer, Spawn, CloseEditor, EndServer}
-use Rattle.rpc_message.specs.Message.{Message, request, notification, result, error, not_json, not_message, integer}
+use Rattle.rpc_message.specs.Message.{Message, request, notification, result, error, not_json, not_message, integer, message_of}
 use Rattle.mux_model.specs.declared.stage.Stage.{Stage}
 use Rattle.mux_model.specs.declared.stage.Stage.TheVariants.{Unspawned, Spawning, Initializing, Ready, Stopping, Ending, Ended}
 use Rattle.mux_model.specs.Event.{Event, took, did, requests}
@@ -13,9 +13,11 @@ use Rattle.mux_model.specs.Legal.{Legal}
 use Rattle.mux_model.specs.Requests.{Asking, asking_behind, asking_sends, no_asking}
 use Rattle.mux_model.specs.Settings.{Settings}
 use Rattle.mux_model.specs.Stages.{stage_started, stage_hears, is_first_result}
-use Rattle.session_laws.specs.Parts.{is_of_server}
+use Rattle.session_laws.specs.Parts.{is_of_server, server_part}
+use Rattle.document_model.specs.Sayings.{saying_of, speaks}
+use Rattle.document_model.proofs.Written.{Spoken, spoken}
 use Rattle.session_laws.specs.Ranges.{InRange}
-use Rattle.session_laws.specs.ServerRules.{requests_behind, HasNumber, ServerRule3, KeepsServer3}
+use Rattle.session_laws.specs.ServerRules.{requests_behind, requests_of, HasNumber, ServerRule3, KeepsServer3}
 use Rattle.session_laws.proofs.Bricks.{is_spawning}
 use Rattle.session_laws.proofs.Rules.{word_first}
 use Rattle.session_laws.proofs.ServerLaw.{Moves, server_history, is_to_server}
@@ -115,7 +117,10 @@ module _ (settings : Settings) (range : InRange settings) where
   numbered : (n : ℕ) (m : Message) (next : ℕ) (method : List ℕ) (params : Option Json) → nat_lt next settings.limits.requests ≡ true → (next < 2 ^ 64 → m ≡ request (integer (decimal next)) method params)
       → next ≡ n + 1 → Allows n m
   numbered n m next method params room says known = let below : next < settings.limits.requests = ltb-true next settings.limits.requests room in
-      subst (λ z. HasNumber (n + 1) z) (sym (says (omega arith))) (ap (λ z. integer (decimal z)) known)
+      subst (λ z. HasNumber (n + 1) z) (sym (says (let wide : settings.limits.requests < 2 ^ 32 = range.requests in omega (arith, below, wide)))) (ap (λ z. integer (decimal z)) known)
+
+  unnumbered : (n : ℕ) (m : Message) → speaks (saying_of m) ≡ true → Allows n m
+  unnumbered n m says = let s : Spoken m = spoken m says in subst (λ z. HasNumber (n + 1) z) (sym s.is) tt
 
   moves : Moves requests_behind 0 ServerRule3 Allows Link Knows settings
   moves = record {
@@ -130,6 +135,10 @@ module _ (settings : Settings) (range : InRange settings) where
     begun = λ w n body m params says h. (begins w m params says h, tt);
     greeted = λ w n body other m k r params says told h. (subst (λ z. HasNumber (w + 1) z) (sym told) tt, tt);
     forwarded = λ w n body m next method params room says known h. (numbered w m next method params room says known, none_due_then (requests (codes "shutdown") m) (requests_behind w (did (ToServer n body) m)));
+    told = λ s events n body k h. (
+      unnumbered (requests_of (server_part s events)) (message_of body) (k.spoken range),
+      none_due_then (requests (codes "shutdown") (message_of body)) (requests_behind (requests_of (server_part s events)) (did (ToServer n body) (message_of body))),
+    );
   }
 
 pub server_3_law : (settings : Settings) → InRange settings → (history : List Entry) → Legal settings history → KeepsServer3 history

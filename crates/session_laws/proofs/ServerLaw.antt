@@ -22,7 +22,7 @@ use Rattle.mux_model.specs.Spawns.{starts_of}
 use Rattle.mux_model.specs.Stages.{Life, life_of, life_behind, stage_started, stage_hears, stage_told, is_first_result}
 use Rattle.session_laws.specs.Always.{Always}
 use Rattle.session_laws.specs.Parts.{server_part, is_of_server}
-use Rattle.session_laws.proofs.Bricks.{takes, rejects, begins, greets, spawns, forwards, refuses, welcomes, passes, is_spawning, is_initializing, Lays, Both, lays_both}
+use Rattle.session_laws.proofs.Bricks.{takes, rejects, begins, greets, spawns, forwards, refuses, welcomes, passes, tells, is_spawning, is_initializing, IsTelling, Lays, Both, lays_both}
 use Rattle.session_laws.proofs.Folds.{life_more}
 use Rattle.session_laws.proofs.Keeps.{every_history}
 use Rattle.session_laws.proofs.Rules.{rule_more, word_more}
@@ -52,6 +52,8 @@ module _ {W : Type 0} (step : W → Event → W) (start : W) (Rule : List Event 
     pub forwarded : (w : W) (n : ℕ) (body : List ℕ) (m : Message) (next : ℕ) (method : List ℕ) (params : Option Json) → nat_lt next settings.limits.requests ≡ true
         → (next < 2 ^ 64 → m ≡ request (integer (decimal next)) method params) → Knows next w → Link Ready w
         → Allows w m × Link (stage_told Ready m) (step w (did (ToServer n body) m))
+    pub told : (s : ℕ) (events : List Event) (n : ℕ) (body : List ℕ) → IsTelling settings events s body → Link Ready (fold step start (server_part s events))
+        → Allows (fold step start (server_part s events)) (message_of body) × Link (stage_told Ready (message_of body)) (step (fold step start (server_part s events)) (did (ToServer n body) (message_of body)))
 
   pub record Here (s : ℕ) (events : List Event) : Type 0 where
     pub always : Always Rule (server_part s events)
@@ -159,6 +161,15 @@ module _ {W : Type 0} (step : W → Event → W) (start : W) (Rule : List Event 
     server_law events (refuses e body id method params code k) known h s = one_more s events (said (ToEditor e (error_text (id_bytes body) code))) (h s) (λ e. absurd (cc)) (h s).link
     server_law events (welcomes e body id r k) known h s = one_more s events (said (ToEditor e (ok_text (id_bytes (desk_of e events).initialize) (result_bytes body)))) (h s) (λ e. absurd (cc)) (h s).link
     server_law events (passes n asked body k) known h s = one_more s events (said (ToEditor asked.asker.editor (with_id_text body asked.asker.bytes))) (h s) (λ e. absurd (cc)) (h s).link
+    server_law events (tells n body k) known h s =
+        let w : W = word s events in
+        let at : nat_eq n s ≡ true → (life_of s events).stage ≡ Ready = λ same. subst (λ i. (life_of i events).stage ≡ Ready) (number_same n s same) k.ready in
+        let told : nat_eq n s ≡ true → Allows w (message_of body) × Link (stage_told Ready (message_of body)) (step w (did (ToServer n body) (message_of body)))
+        = λ same. moves.told s events n body (subst (λ i. IsTelling settings events i body) (number_same n s same) k) (subst (λ z. Link z w) (at same) (h s).link) in
+        one_more s events (did (ToServer n body) (message_of body)) (h s) (λ same. moves.reads (server_part s events) n body (message_of body) (told same).0)
+        (pick (nat_eq n s) (record { stage = stage_told (life_of s events).stage (message_of body); started = (life_of s events).started }) (life_of s events)
+        (step w (did (ToServer n body) (message_of body))) w
+        (λ same. subst (λ z. Link (stage_told z (message_of body)) (step w (did (ToServer n body) (message_of body)))) (sym (at same)) (told same).1) (h s).link)
 
     pub server_history : Link Unspawned start → (history : List Entry) → Legal settings history → (s : ℕ) → Always Rule (server_part s (events_of history))
     server_history link history legal s =

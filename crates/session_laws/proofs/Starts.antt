@@ -12,7 +12,7 @@ use Rattle.mux_model.specs.Rows.{malformed_text}
 use Rattle.mux_model.specs.Settings.{Settings}
 use Rattle.mux_model.specs.Spawns.{starts_of, starts_behind}
 use Rattle.mux_model.specs.Stages.{Life, life_of, life_behind, no_life, may_start, runs}
-use Rattle.session_laws.proofs.Bricks.{takes, rejects, begins, greets, spawns, forwards, refuses, welcomes, passes, Lays, Anything}
+use Rattle.session_laws.proofs.Bricks.{takes, rejects, begins, greets, spawns, forwards, refuses, welcomes, passes, tells, Lays, Anything}
 use Rattle.session_laws.proofs.Folds.{life_more, starts_more}
 use Rattle.session_laws.proofs.Rules.{unless}
 use Rattle.session_laws.proofs.Words.{number_same}
@@ -69,3 +69,4 @@ starts_law settings events (forwards n e body id method params k) known h = sent
 starts_law settings events (refuses e body id method params code k) known h = more events (said (ToEditor e (error_text (id_bytes body) code))) h refl (λ s none. refl)
 starts_law settings events (welcomes e body id r k) known h = more events (said (ToEditor e (ok_text (id_bytes (desk_of e events).initialize) (result_bytes body)))) h refl (λ s none. refl)
 starts_law settings events (passes n asked body k) known h = more events (said (ToEditor asked.asker.editor (with_id_text body asked.asker.bytes))) h refl (λ s none. refl)
+starts_law settings events (tells n body k) known h = sent events n body h

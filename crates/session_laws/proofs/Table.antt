@@ -27,9 +27,11 @@ use Rattle.mux_model.specs.Stages.{Life, life_of, is_ready, is_first_result}
 use Rattle.mux_model.proofs.Openings.{any_opening_law}
 use Rattle.session_laws.specs.ServerRules.{is_response}
 use Rattle.session_laws.proofs.Bricks.{Brick, takes, rejects, begins, greets, spawns, forwards, refuses, welcomes, passes, laid, is_early, is_spawning, is_initializing, moves_on, IsForward, IsRefusal}
+use Rattle.session_laws.proofs.DocumentRow.{ready_is, document_keeps}
 use Rattle.session_laws.proofs.Folds.{desk_more, life_more, opens_more, asking_more}
 use Rattle.session_laws.proofs.Keeps.{At, at_nothing, at_send, at_choose, at_look, at_on, behind_both, behind_nothing, EntryKeeps}
 use Rattle.session_laws.proofs.Late.{hears_late}
+use Rattle.session_laws.proofs.Opened.{Spelt}
 use Rattle.session_laws.proofs.Words.{same_number, other_number, open_last}
 
 -- Behind a request of e
@@ -60,18 +62,9 @@ module _ (before : List Event) (e : ℕ) (body : List ℕ) where
           asker = asker_taken s;
           is_open = open_taken;
           served = late_taken late;
-          ready = ap (λ (l : Life). l.stage) (life_more s before (heard (FromEditor e body))) ∙ ready (life_of s before).stage k.0;
+          ready = ap (λ (l : Life). l.stage) (life_more s before (heard (FromEditor e body))) ∙ ready_is (life_of s before).stage k.0;
           room = ap (λ (a : Asking). nat_lt a.next settings.limits.requests) (asking_more s before (heard (FromEditor e body))) ∙ k.1;
         }
-      where
-        ready : (stage : Stage) → is_ready stage ≡ true → stage ≡ Ready
-        ready Ready h = refl
-        ready Unspawned h = absurd (cc)
-        ready Spawning h = absurd (cc)
-        ready Initializing h = absurd (cc)
-        ready Stopping h = absurd (cc)
-        ready Ending h = absurd (cc)
-        ready Ended h = absurd (cc)
 
 -- a result with the number 1
 record FirstResult (m : Message) : Type 0 where
@@ -146,27 +139,27 @@ module _ (settings : Settings) {I : List Event → Type 0} (lay : (events : List
       fails : At I (with_cause before (FromEditor e body)) (answer_error e body request_failed)
       fails = at_send (λ h. lay (with_cause before (FromEditor e body)) (refuses e body id method params request_failed (refusal before e body id method params says late)) h)
 
-  served_keeps : (before : List Event) (e : ℕ) (body : List ℕ) (m : Message) → message_of body ≡ m → is_early (desk_of e before).phase ≡ false → At I (with_cause before (FromEditor e body)) (served_row settings before e body m)
-  served_keeps before e body (request id method params) says late = request_keeps before e body id method params says late
-  served_keeps before e body (notification method params) says late = at_nothing
-  served_keeps before e body (result id r) says late = at_nothing
-  served_keeps before e body (error id x) says late = at_nothing
-  served_keeps before e body not_json says late = at_nothing
-  served_keeps before e body not_message says late = at_nothing
+  served_keeps : (before : List Event) → Spelt before → (e : ℕ) (body : List ℕ) (m : Message) → message_of body ≡ m → is_early (desk_of e before).phase ≡ false → At I (with_cause before (FromEditor e body)) (served_row settings before e body m)
+  served_keeps before spelt e body (request id method params) says late = request_keeps before e body id method params says late
+  served_keeps before spelt e body (notification method params) says late = document_keeps settings lay before e body method params spelt says
+  served_keeps before spelt e body (result id r) says late = at_nothing
+  served_keeps before spelt e body (error id x) says late = at_nothing
+  served_keeps before spelt e body not_json says late = at_nothing
+  served_keeps before spelt e body not_message says late = at_nothing
 
-  message_keeps : (before : List Event) (e : ℕ) (body : List ℕ) (phase : Phase) → (desk_of e before).phase ≡ phase → At I (with_cause before (FromEditor e body)) (message_row settings before e body (message_of body) phase)
-  message_keeps before e body New at = at_choose (λ yes. founds (with_cause before (FromEditor e body))) (λ no. at_nothing)
-  message_keeps before e body Answered at = served_keeps before e body (message_of body) refl (ap is_early at)
-  message_keeps before e body Running at = served_keeps before e body (message_of body) refl (ap is_early at)
-  message_keeps before e body Absent at = at_nothing
-  message_keeps before e body Waiting at = at_nothing
-  message_keeps before e body Down at = at_nothing
-  message_keeps before e body Closed at = at_nothing
-  message_keeps before e body Gone at = at_nothing
+  message_keeps : (before : List Event) → Spelt before → (e : ℕ) (body : List ℕ) (phase : Phase) → (desk_of e before).phase ≡ phase → At I (with_cause before (FromEditor e body)) (message_row settings before e body (message_of body) phase)
+  message_keeps before spelt e body New at = at_choose (λ yes. founds (with_cause before (FromEditor e body))) (λ no. at_nothing)
+  message_keeps before spelt e body Answered at = served_keeps before spelt e body (message_of body) refl (ap is_early at)
+  message_keeps before spelt e body Running at = served_keeps before spelt e body (message_of body) refl (ap is_early at)
+  message_keeps before spelt e body Absent at = at_nothing
+  message_keeps before spelt e body Waiting at = at_nothing
+  message_keeps before spelt e body Down at = at_nothing
+  message_keeps before spelt e body Closed at = at_nothing
+  message_keeps before spelt e body Gone at = at_nothing
 
-  editor_keeps : (before : List Event) (e : ℕ) (body : List ℕ) → fits_behind before (FromEditor e body) ≡ true → built_behind before (FromEditor e body) ≡ true → I before
+  editor_keeps : (before : List Event) → Spelt before → (e : ℕ) (body : List ℕ) → fits_behind before (FromEditor e body) ≡ true → built_behind before (FromEditor e body) ≡ true → I before
       → I (behind (with_cause before (FromEditor e body)) (outs (from_editor settings before e body (message_of body) (desk_of e before).phase) (with_cause before (FromEditor e body))))
-  editor_keeps before e body fits built h = go (is_malformed (message_of body)) refl
+  editor_keeps before spelt e body fits built h = go (is_malformed (message_of body)) refl
     where
       answered : (b : Bool) → is_malformed (message_of body) ≡ true → I (behind (with_cause before (FromEditor e body)) (outs (choose b (send (ToEditor e (malformed_text (message_of body)))) nothing) (with_cause before (FromEditor e body))))
       answered true malformed = lay before (rejects e body fits built malformed) h
@@ -175,7 +168,7 @@ module _ (settings : Settings) {I : List Event → Type 0} (lay : (events : List
       go : (b : Bool) → is_malformed (message_of body) ≡ b
           → I (behind (with_cause before (FromEditor e body)) (outs (choose b (malformed_row e (message_of body) (desk_of e before).phase) (message_row settings before e body (message_of body) (desk_of e before).phase)) (with_cause before (FromEditor e body))))
       go true malformed = answered (is_there (desk_of e before).phase) malformed
-      go false whole = behind_cause before (FromEditor e body) (message_row settings before e body (message_of body) (desk_of e before).phase) fits built refl (message_keeps before e body (desk_of e before).phase refl) h
+      go false whole = behind_cause before (FromEditor e body) (message_row settings before e body (message_of body) (desk_of e before).phase) fits built refl (message_keeps before spelt e body (desk_of e before).phase refl) h
 
   response_keeps : (s : ℕ) (before : List Event) (body : List ℕ) → At I (with_cause before (FromServer s body)) (response_row s before body (message_of body))
   response_keeps s before body = at_on (λ none. at_nothing) (λ asked found. at_choose (λ there. at_send (λ h. lay (with_cause before (FromServer s body)) (passes s asked body (record {
@@ -248,7 +241,7 @@ module _ (settings : Settings) {I : List Event → Type 0} (lay : (events : List
 
   -- every entry keeps what its bricks keep
   pub table_keeps : EntryKeeps settings I
-  table_keeps before (FromEditor e body) fits built h = editor_keeps before e body fits built h
-  table_keeps before (FromServer s body) fits built h = server_keeps before s body (life_of s before).stage fits built refl h
-  table_keeps before (Started s) fits built h = start_keeps before s (life_of s before).stage fits built refl h
-  table_keeps before cause fits built h = behind_cause before cause nothing fits built refl at_nothing h
+  table_keeps before (FromEditor e body) spelt fits built h = editor_keeps before spelt e body fits built h
+  table_keeps before (FromServer s body) spelt fits built h = server_keeps before s body (life_of s before).stage fits built refl h
+  table_keeps before (Started s) spelt fits built h = start_keeps before s (life_of s before).stage fits built refl h
+  table_keeps before cause spelt fits built h = behind_cause before cause nothing fits built refl at_nothing h

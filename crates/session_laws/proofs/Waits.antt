@@ -16,7 +16,7 @@ use Rattle.mux_model.specs.Settings.{Settings}
 use Rattle.mux_model.specs.Spawns.{starts_of}
 use Rattle.session_laws.proofs.Asked.{IsKnown, IsAsked, AllAsked, hears_open}
 use Rattle.session_laws.proofs.Bodies.{welcome_says, malformed_says}
-use Rattle.session_laws.proofs.Bricks.{takes, rejects, begins, greets, spawns, forwards, refuses, welcomes, passes, is_early, Lays, Both, IsPassedOn}
+use Rattle.session_laws.proofs.Bricks.{takes, rejects, begins, greets, spawns, forwards, refuses, welcomes, passes, tells, is_early, Lays, Both, IsPassedOn}
 use Rattle.session_laws.proofs.Editors.{Editors}
 use Rattle.session_laws.proofs.Folds.{desk_more, opens_more}
 use Rattle.session_laws.proofs.Late.{error_told}
@@ -164,3 +164,4 @@ waits_law settings events (welcomes e body id r k) known h = to_editor events e 
     ap is_a_result (welcome_says (desk_of e events).initialize body w.id (codes "initialize") w.params id r w.asks k.says))
 waits_law settings events (passes n asked body k) known h = to_editor events asked.asker.editor (with_id_text body asked.asker.bytes) h
     (λ at. absurd (let a : IsKnown events asked.asker = asked_is events n asked body k known.1 in late_not (desk_of asked.asker.editor events).phase a.late at))
+waits_law settings events (tells n body k) known h = to_server events n body h

@@ -3,5 +3,6 @@ use Rattle.std.specs.Prelude.{◌<◌, ◌^◌}
 use Rattle.mux_model.specs.Settings.{Settings}
 
 -- the limits are numbers of 32 bits
-abbrev pub InRange : Settings → Type 0
-InRange settings = settings.limits.requests < 2 ^ 32
+pub record InRange (settings : Settings) : Type 0 where
+  pub requests : settings.limits.requests < 2 ^ 32
+  pub versions : settings.limits.versions < 2 ^ 32

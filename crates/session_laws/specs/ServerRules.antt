@@ -1,5 +1,9 @@
 -- What a start of a server may expect of its one client. Each rule speaks of a body to it, behind the events of its part before that body.
-use Rattle.std.specs.Prelude.{◌≡◌, ℕ, ◌+◌, Bool, true, false, not, ◌&&◌, List, fold, codes, decimal, IsTrue, if◌then◌else◌}
+use Rattle.std.specs.Prelude.{◌≡◌, ℕ, ◌+◌, Bool, true, false, not, ◌&&◌, List, fold, bytes_eq, codes, decimal, is_some, IsTrue, if◌then◌else◌}
+use Rattle.std.specs.Prelude.{Option, Some, None}
+use Rattle.std.specs.Option.{option_map}
+use Rattle.document_model.specs.Helds.{number_of}
+use Rattle.document_model.specs.Sayings.{Saying, opens, changes, closes, misshapen, nothing, saying_of}
 use Rattle.mux_history.specs.declared.cause.Cause.TheVariants.{Started, FromServer, ServerGone}
 use Rattle.mux_history.specs.declared.entry.Entry.{Entry}
 use Rattle.mux_history.specs.declared.out.Out.TheVariants.{ToServer, EndServer}
@@ -82,6 +86,41 @@ abbrev pub ServerRule3 : List Event → Event → Type 0
 ServerRule3 before (did (ToServer s body) m) = HasNumber (requests_of before + 1) m
 ServerRule3 before other = Unit {0}
 
+-- Rule 4 (LSP 3.17, Text Document Synchronization): didOpen names a document that isn't held, with version 1; didChange a held one,
+-- with the held version plus 1; didClose a held one; and each of these notifications has its shape.
+
+-- the version that a start has of u, behind one more body to it
+abbrev pub version_told : List ℕ → Option ℕ → Saying → Option ℕ
+version_told u held (opens w l v t) = if bytes_eq u w then Some (number_of v) else held
+version_told u held (changes w v cs) = if bytes_eq u w then option_map (λ old. number_of v) held else held
+version_told u held (closes w) = if bytes_eq u w then None else held
+version_told u held misshapen = held
+version_told u held nothing = held
+
+abbrev pub version_behind : List ℕ → Option ℕ → Event → Option ℕ
+version_behind u held (did (ToServer s body) m) = version_told u held (saying_of m)
+version_behind u held other = held
+
+abbrev pub version_of : List ℕ → List Event → Option ℕ
+version_of u part = fold (version_behind u) None part
+
+-- the digits of the version behind the held one
+abbrev pub IsNext : Option ℕ → List ℕ → Type 0
+IsNext None v = ⊥
+IsNext (Some n) v = v ≡ decimal (n + 1)
+
+-- what may be said where these versions are held
+abbrev pub AllowsSaying : (List ℕ → Option ℕ) → Saying → Type 0
+AllowsSaying held (opens u l v t) = (held u ≡ None) × (v ≡ codes "1")
+AllowsSaying held (changes u v cs) = IsNext (held u) v
+AllowsSaying held (closes u) = is_some (held u) ≡ true
+AllowsSaying held misshapen = ⊥
+AllowsSaying held nothing = Unit {0}
+
+abbrev pub ServerRule4 : List Event → Event → Type 0
+ServerRule4 before (did (ToServer s body) m) = AllowsSaying (λ u. version_of u before) (saying_of m)
+ServerRule4 before other = Unit {0}
+
 -- the parts of all starts keep the rule
 abbrev pub KeepsServer : (List Event → Event → Type 0) → List Entry → Type 0
 KeepsServer Rule history = (s : ℕ) → Always Rule (server_part s (events_of history))
@@ -94,3 +133,6 @@ KeepsServer2 history = KeepsServer ServerRule2 history
 
 abbrev pub KeepsServer3 : List Entry → Type 0
 KeepsServer3 history = KeepsServer ServerRule3 history
+
+abbrev pub KeepsServer4 : List Entry → Type 0
+KeepsServer4 history = KeepsServer ServerRule4 history

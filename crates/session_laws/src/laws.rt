@@ -5,7 +5,7 @@ ghost use Rattle.mux_model.specs.Legal.{Legal};
 ghost use Rattle.mux_model.specs.Settings.{Settings};
 ghost use Rattle.session_laws.specs.ClientRules.{KeepsClient2, KeepsClient3};
 ghost use Rattle.session_laws.specs.Ranges.{InRange};
-ghost use Rattle.session_laws.specs.ServerRules.{KeepsServer1, KeepsServer2, KeepsServer3};
+ghost use Rattle.session_laws.specs.ServerRules.{KeepsServer1, KeepsServer2, KeepsServer3, KeepsServer4};
 
 /// A law: each response to an editor has the id of an open request of it, which it closes, or answers a body that was
 /// no message with a null id (JSON-RPC 2.0, section 5; LSP 3.17, Response Message).
@@ -34,4 +34,10 @@ pub fn server_2()
 /// A law: the n-th request to a server has the id n (JSON-RPC 2.0, section 4).
 pub fn server_3()
     ensures { (settings : Settings) → InRange settings → (history : List Entry) → Legal settings history → KeepsServer3 history }
+{}
+
+/// A law: a server is told that a document opens, under version 1, where it doesn't have it, and that one changes, under
+/// its version plus 1, or closes, where it has it (LSP 3.17, Text Document Synchronization).
+pub fn server_4()
+    ensures { (settings : Settings) → InRange settings → (history : List Entry) → Legal settings history → KeepsServer4 history }
 {}

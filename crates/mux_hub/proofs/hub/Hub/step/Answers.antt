@@ -11,7 +11,7 @@ returns-clause-outs g c = λ history h.
     let f = c.requires.fits history h s in
     let b = c.requires.is_built history h s in
     subst (λ (v : HubView g.row.J.Denot). HubStands g.J.Journal.told v history → c.in_ok-outs.outs ≡ emits v.settings history c.args.cause) c.self.view_is
-    (λ k. (stepped g.J.Journal.told _ c.args.cause _ _ _ history k c.if-self.false c.commit.ensures.range f b c.in_ok-outs.ensures.turn c.in_ok-outs.ensures.told).outs) h
+    (λ k. (stepped g.J.Journal.told _ c.args.cause _ _ _ history k c.if-self.false c.commit.ensures.range c.commit.ensures.versions_range f b c.in_ok-outs.ensures.turn c.in_ok-outs.ensures.told).outs) h
 
 pub returns-clause-stands : goal.returns-clause-stands
 returns-clause-stands g c = λ history h.
@@ -25,4 +25,4 @@ returns-clause-stands g c = λ history h.
       journal = c.commit.new.journal;
     } in
     subst (λ (v : HubView g.row.J.Denot). HubStands g.J.Journal.told v history → HubStands g.J.Journal.told after (history ++ entry_of v.settings history c.args.cause ∷ [])) c.self.view_is
-    (λ k. (stepped g.J.Journal.told _ c.args.cause _ _ _ history k c.if-self.false c.commit.ensures.range f b c.in_ok-outs.ensures.turn c.in_ok-outs.ensures.told).stands) h
+    (λ k. (stepped g.J.Journal.told _ c.args.cause _ _ _ history k c.if-self.false c.commit.ensures.range c.commit.ensures.versions_range f b c.in_ok-outs.ensures.turn c.in_ok-outs.ensures.told).stands) h

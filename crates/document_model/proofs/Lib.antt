@@ -1,0 +1,12 @@
+pub mod Bares
+pub mod Changing
+pub mod Following
+pub mod Holders
+pub mod Orders
+pub mod ScalarTrees
+pub mod Sends
+pub mod Spelt
+pub mod Spoken
+pub mod Tellings
+pub mod Versioned
+pub mod Written

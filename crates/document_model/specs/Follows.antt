@@ -1,0 +1,50 @@
+-- When the documents that are kept follow what editors have and what the start was told.
+use Rattle.std.specs.Prelude.{◌≡◌, ℕ, ◌<◌, false, List, [], ◌∷◌, fold, IsUtf8}
+use Rattle.std.specs.Prelude.{Option, Some, None}
+use Rattle.std.specs.List.{AllByRecursion}
+use Rattle.mux_history.specs.declared.out.Out.{Out}
+use Rattle.mux_history.specs.declared.out.Out.TheVariants.{ToServer}
+use Rattle.rpc_message.specs.Message.{message_of}
+use Rattle.position_codec.specs.declared.Encoding.{Encoding}
+use Rattle.focus_switch.specs.Documents.{Open, Documents, is_open_at, holder, held_of}
+use Rattle.document_model.specs.Helds.{HeldText, told}
+use Rattle.document_model.specs.Sayings.{saying_of}
+use Rattle.document_model.specs.Texts.{Texts}
+
+-- the version that is kept, the holder, and what the start has
+abbrev pub Matches : Option ℕ → Option Open → Option HeldText → Type 0
+Matches (Some v) (Some o) (Some h) = (h.version ≡ v) × (h.text ≡ o.text)
+Matches None None None = Unit {0}
+Matches _ _ _ = ⊥
+
+-- an editor has a document open once, and each turn is one
+abbrev pub Once : List Open → Type 0
+Once [] = Unit {0}
+Once (o ∷ os) = AllByRecursion (λ (p : Open). is_open_at o.editor o.uri p ≡ false) os × Once os
+
+-- URI, language and text are UTF-8
+abbrev pub IsSpelt : Open → Type 0
+IsSpelt o = IsUtf8 o.uri × IsUtf8 o.language × IsUtf8 o.text
+
+abbrev pub AllSpelt : List Open → Type 0
+AllSpelt os = AllByRecursion IsSpelt os
+
+pub record Orderly (x : Texts) : Type 0 where
+  pub once : Once x.opens
+  pub turns : AllByRecursion (λ (o : Open). o.touched < x.turn) x.opens
+
+-- what the editors have open, by the documents that are kept
+abbrev pub texts_in : Documents → Texts
+texts_in s = record { turn = s.turn; opens = s.opens }
+
+-- what a ready start has of each document is the holder's text, under the version that is kept
+abbrev pub Held : Documents → (List ℕ → Option HeldText) → Type 0
+Held s held = (u : List ℕ) → Matches (held_of u s.helds).version (holder u s.opens) (held u)
+
+-- what the start has behind these outs
+abbrev pub told_out : Option Encoding → List ℕ → Option HeldText → Out → Option HeldText
+told_out encoding u h (ToServer s body) = told encoding u h (saying_of (message_of body))
+told_out encoding u h other = h
+
+abbrev pub told_outs : Option Encoding → List ℕ → Option HeldText → List Out → Option HeldText
+told_outs encoding u h outs = fold (told_out encoding u) h outs

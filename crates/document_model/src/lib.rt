@@ -1,0 +1,2 @@
+//! What messages say of documents, what an editor has of them, and what a start of a server was told.
+#![tactic(auto)]
