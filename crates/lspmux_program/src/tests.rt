@@ -82,6 +82,145 @@ const MALFORMED: [(&str, &str); 4] = [
     ),
 ];
 
+// An editor opens a document, changes it, opens it again and closes it; what lacks a part, and what comes before the answer, goes nowhere.
+const DOCUMENTS: [(&str, &str); 20] = [
+    ("join 0\n", ""),
+    (
+        "ed 0 {\"jsonrpc\":\"2.0\",\"method\":\"textDocument/didOpen\",\"params\":{\"textDocument\":{\"uri\":\"file:///u\",\"languageId\":\"x\",\"version\":1,\"text\":\"a\"}}}\n",
+        "",
+    ),
+    (
+        "ed 0 {\"jsonrpc\":\"2.0\",\"id\":0,\"method\":\"initialize\",\"params\":{\"rootUri\":\"file:///w\",\"capabilities\":{}}}\n",
+        ">spawn 0 0\n",
+    ),
+    (
+        "up 0\n",
+        ">sv 0 {\"jsonrpc\":\"2.0\",\"id\":1,\"method\":\"initialize\",\"params\":{\"processId\":null,\"clientInfo\":{\"name\":\"lspmux\"},\"rootUri\":\"file:///w\",\"capabilities\":{},\"trace\":\"off\"}}\n",
+    ),
+    (
+        "sv 0 {\"jsonrpc\":\"2.0\",\"id\":1,\"result\":{\"capabilities\":{}}}\n",
+        ">sv 0 {\"jsonrpc\":\"2.0\",\"method\":\"initialized\",\"params\":{}}\n>ed 0 {\"jsonrpc\":\"2.0\",\"id\":0,\"result\":{\"capabilities\":{}}}\n",
+    ),
+    (
+        "ed 0 {\"jsonrpc\":\"2.0\",\"method\":\"textDocument/didOpen\",\"params\":{\"textDocument\":{\"uri\":\"file:///u\",\"languageId\":\"x\",\"version\":4,\"text\":\"a😀b\\r\\nc\\rd\"}}}\n",
+        ">sv 0 {\"jsonrpc\":\"2.0\",\"method\":\"textDocument/didOpen\",\"params\":{\"textDocument\":{\"uri\":\"file:///u\",\"languageId\":\"x\",\"version\":1,\"text\":\"a😀b\\r\\nc\\rd\"}}}\n",
+    ),
+    (
+        "ed 0 {\"jsonrpc\":\"2.0\", \"method\":\"textDocument/didChange\", \"params\":{\"contentChanges\":[{\"range\":{\"start\":{\"line\":0,\"character\":2},\"end\":{\"line\":0,\"character\":3}},\"text\":\"z\"}], \"textDocument\":{\"version\":5 ,\"uri\":\"file:///u\"}}}\n",
+        ">sv 0 {\"jsonrpc\":\"2.0\", \"method\":\"textDocument/didChange\", \"params\":{\"contentChanges\":[{\"range\":{\"start\":{\"line\":0,\"character\":2},\"end\":{\"line\":0,\"character\":3}},\"text\":\"z\"}], \"textDocument\":{\"version\":2 ,\"uri\":\"file:///u\"}}}\n",
+    ),
+    (
+        "ed 0 {\"jsonrpc\":\"2.0\",\"method\":\"textDocument/didChange\",\"params\":{\"textDocument\":{\"uri\":\"file:///u\",\"version\":6},\"contentChanges\":[{\"text\":\"azb\\r\\nc\\rd\"}]}}\n",
+        "",
+    ),
+    (
+        "ed 0 {\"jsonrpc\":\"2.0\", \"method\":\"textDocument/didChange\", \"params\":{\"contentChanges\":[{\"range\":{\"start\":{\"line\":0,\"character\":4},\"end\":{\"line\":0,\"character\":0}},\"text\":\"!\"}], \"textDocument\":{\"version\":7 ,\"uri\":\"file:///u\"}}}\n",
+        ">sv 0 {\"jsonrpc\":\"2.0\", \"method\":\"textDocument/didChange\", \"params\":{\"contentChanges\":[{\"range\":{\"start\":{\"line\":0,\"character\":4},\"end\":{\"line\":0,\"character\":0}},\"text\":\"!\"}], \"textDocument\":{\"version\":3 ,\"uri\":\"file:///u\"}}}\n",
+    ),
+    (
+        "ed 0 {\"jsonrpc\":\"2.0\",\"method\":\"textDocument/didChange\",\"params\":{\"textDocument\":{\"uri\":\"file:///u\",\"version\":8},\"contentChanges\":[{\"text\":\"azb!\\r\\nc\\rd\"}]}}\n",
+        "",
+    ),
+    (
+        "ed 0 {\"jsonrpc\":\"2.0\",\"method\":\"textDocument/didChange\",\"params\":{\"textDocument\":{\"uri\":\"file:///u\",\"version\":9},\"contentChanges\":7}}\n",
+        "",
+    ),
+    (
+        "ed 0 {\"jsonrpc\":\"2.0\",\"method\":\"textDocument/didChange\",\"params\":{\"textDocument\":{\"uri\":\"file:///u\",\"version\":1.5},\"contentChanges\":[{\"text\":\"e\"}]}}\n",
+        "",
+    ),
+    (
+        "ed 0 {\"jsonrpc\":\"2.0\",\"method\":\"textDocument/didChange\",\"params\":{\"textDocument\":{\"uri\":\"file:///v\",\"version\":1},\"contentChanges\":[{\"text\":\"e\"}]}}\n",
+        "",
+    ),
+    (
+        "ed 0 {\"jsonrpc\":\"2.0\",\"method\":\"textDocument/didOpen\",\"params\":{\"textDocument\":{\"uri\":\"file:///v\",\"languageId\":\"x\",\"text\":\"e\"}}}\n",
+        "",
+    ),
+    (
+        "ed 0 {\"jsonrpc\":\"2.0\",\"method\":\"textDocument/didClose\",\"params\":{\"textDocument\":{\"uri\":\"file:///v\"}}}\n",
+        "",
+    ),
+    (
+        "ed 0 {\"jsonrpc\":\"2.0\",\"method\":\"textDocument/didOpen\",\"params\":{\"textDocument\":{\"uri\":\"file:\\/\\/\\/u\",\"languageId\":\"y\",\"version\":10,\"text\":\"e\"}}}\n",
+        ">sv 0 {\"jsonrpc\":\"2.0\",\"method\":\"textDocument/didChange\",\"params\":{\"textDocument\":{\"uri\":\"file:///u\",\"version\":4},\"contentChanges\":[{\"text\":\"e\"}]}}\n",
+    ),
+    (
+        "ed 0 {\"jsonrpc\":\"2.0\",\"id\":1,\"method\":\"textDocument/hover\",\"params\":{}}\n",
+        ">sv 0 {\"jsonrpc\":\"2.0\",\"id\":2,\"method\":\"textDocument/hover\",\"params\":{}}\n",
+    ),
+    (
+        "ed 0 {\"jsonrpc\":\"2.0\",\"method\":\"textDocument/didClose\",\"params\":{\"textDocument\":{\"uri\":\"file:///u\"}}}\n",
+        ">sv 0 {\"jsonrpc\":\"2.0\",\"method\":\"textDocument/didClose\",\"params\":{\"textDocument\":{\"uri\":\"file:///u\"}}}\n",
+    ),
+    (
+        "ed 0 {\"jsonrpc\":\"2.0\",\"method\":\"textDocument/didClose\",\"params\":{\"textDocument\":{\"uri\":\"file:///u\"}}}\n",
+        "",
+    ),
+    (
+        "ed 0 {\"jsonrpc\":\"2.0\",\"method\":\"textDocument/didChange\",\"params\":{\"textDocument\":{\"uri\":\"file:///u\",\"version\":11},\"contentChanges\":[{\"text\":\"f\"}]}}\n",
+        "",
+    ),
+];
+
+// Positions in the encoding that the server gave.
+const BY_BYTES: [(&str, &str); 7] = [
+    ("join 0\n", ""),
+    (
+        "ed 0 {\"jsonrpc\":\"2.0\",\"id\":0,\"method\":\"initialize\",\"params\":{\"rootUri\":\"file:///w\",\"capabilities\":{}}}\n",
+        ">spawn 0 0\n",
+    ),
+    (
+        "up 0\n",
+        ">sv 0 {\"jsonrpc\":\"2.0\",\"id\":1,\"method\":\"initialize\",\"params\":{\"processId\":null,\"clientInfo\":{\"name\":\"lspmux\"},\"rootUri\":\"file:///w\",\"capabilities\":{},\"trace\":\"off\"}}\n",
+    ),
+    (
+        "sv 0 {\"jsonrpc\":\"2.0\",\"id\":1,\"result\":{\"capabilities\":{\"positionEncoding\":\"utf-8\"}}}\n",
+        ">sv 0 {\"jsonrpc\":\"2.0\",\"method\":\"initialized\",\"params\":{}}\n>ed 0 {\"jsonrpc\":\"2.0\",\"id\":0,\"result\":{\"capabilities\":{\"positionEncoding\":\"utf-8\"}}}\n",
+    ),
+    (
+        "ed 0 {\"jsonrpc\":\"2.0\",\"method\":\"textDocument/didOpen\",\"params\":{\"textDocument\":{\"uri\":\"file:///u\",\"languageId\":\"x\",\"version\":1,\"text\":\"a😀b\"}}}\n",
+        ">sv 0 {\"jsonrpc\":\"2.0\",\"method\":\"textDocument/didOpen\",\"params\":{\"textDocument\":{\"uri\":\"file:///u\",\"languageId\":\"x\",\"version\":1,\"text\":\"a😀b\"}}}\n",
+    ),
+    (
+        "ed 0 {\"jsonrpc\":\"2.0\", \"method\":\"textDocument/didChange\", \"params\":{\"contentChanges\":[{\"range\":{\"start\":{\"line\":0,\"character\":1},\"end\":{\"line\":0,\"character\":5}},\"text\":\"\"}], \"textDocument\":{\"version\":2 ,\"uri\":\"file:///u\"}}}\n",
+        ">sv 0 {\"jsonrpc\":\"2.0\", \"method\":\"textDocument/didChange\", \"params\":{\"contentChanges\":[{\"range\":{\"start\":{\"line\":0,\"character\":1},\"end\":{\"line\":0,\"character\":5}},\"text\":\"\"}], \"textDocument\":{\"version\":2 ,\"uri\":\"file:///u\"}}}\n",
+    ),
+    (
+        "ed 0 {\"jsonrpc\":\"2.0\",\"method\":\"textDocument/didChange\",\"params\":{\"textDocument\":{\"uri\":\"file:///u\",\"version\":3},\"contentChanges\":[{\"text\":\"ab\"}]}}\n",
+        "",
+    ),
+];
+
+// The same, by characters.
+const BY_CHARACTERS: [(&str, &str); 7] = [
+    ("join 0\n", ""),
+    (
+        "ed 0 {\"jsonrpc\":\"2.0\",\"id\":0,\"method\":\"initialize\",\"params\":{\"rootUri\":\"file:///w\",\"capabilities\":{}}}\n",
+        ">spawn 0 0\n",
+    ),
+    (
+        "up 0\n",
+        ">sv 0 {\"jsonrpc\":\"2.0\",\"id\":1,\"method\":\"initialize\",\"params\":{\"processId\":null,\"clientInfo\":{\"name\":\"lspmux\"},\"rootUri\":\"file:///w\",\"capabilities\":{},\"trace\":\"off\"}}\n",
+    ),
+    (
+        "sv 0 {\"jsonrpc\":\"2.0\",\"id\":1,\"result\":{\"capabilities\":{\"positionEncoding\":\"utf-32\"}}}\n",
+        ">sv 0 {\"jsonrpc\":\"2.0\",\"method\":\"initialized\",\"params\":{}}\n>ed 0 {\"jsonrpc\":\"2.0\",\"id\":0,\"result\":{\"capabilities\":{\"positionEncoding\":\"utf-32\"}}}\n",
+    ),
+    (
+        "ed 0 {\"jsonrpc\":\"2.0\",\"method\":\"textDocument/didOpen\",\"params\":{\"textDocument\":{\"uri\":\"file:///u\",\"languageId\":\"x\",\"version\":1,\"text\":\"a😀b\"}}}\n",
+        ">sv 0 {\"jsonrpc\":\"2.0\",\"method\":\"textDocument/didOpen\",\"params\":{\"textDocument\":{\"uri\":\"file:///u\",\"languageId\":\"x\",\"version\":1,\"text\":\"a😀b\"}}}\n",
+    ),
+    (
+        "ed 0 {\"jsonrpc\":\"2.0\", \"method\":\"textDocument/didChange\", \"params\":{\"contentChanges\":[{\"range\":{\"start\":{\"line\":0,\"character\":1},\"end\":{\"line\":0,\"character\":2}},\"text\":\"\"}], \"textDocument\":{\"version\":2 ,\"uri\":\"file:///u\"}}}\n",
+        ">sv 0 {\"jsonrpc\":\"2.0\", \"method\":\"textDocument/didChange\", \"params\":{\"contentChanges\":[{\"range\":{\"start\":{\"line\":0,\"character\":1},\"end\":{\"line\":0,\"character\":2}},\"text\":\"\"}], \"textDocument\":{\"version\":2 ,\"uri\":\"file:///u\"}}}\n",
+    ),
+    (
+        "ed 0 {\"jsonrpc\":\"2.0\",\"method\":\"textDocument/didChange\",\"params\":{\"textDocument\":{\"uri\":\"file:///u\",\"version\":3},\"contentChanges\":[{\"text\":\"ab\"}]}}\n",
+        "",
+    ),
+];
+
 type InMemory = Outside<MemJournal, MemSource, MemSink>;
 
 // The input in memory, where the appends, reads and writes with these numbers fail.
@@ -178,7 +317,14 @@ fn refuses_the_first_line_that_it_cannot_take(rt: HostRuntime) -> Result<(), Fai
 fn drives_a_session(rt: HostRuntime) -> Result<(), Fail> {
     let alloc = rt.alloc();
     let words = drive_word(alloc)?;
-    for session in [SESSION.as_slice(), &SPELLED, &MALFORMED] {
+    for session in [
+        SESSION.as_slice(),
+        &SPELLED,
+        &MALFORMED,
+        &DOCUMENTS,
+        &BY_BYTES,
+        &BY_CHARACTERS,
+    ] {
         let (lines, outs) = texts(alloc, session, session.len())?;
         for input in [
             lines.as_str(),

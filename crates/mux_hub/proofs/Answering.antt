@@ -69,8 +69,12 @@ readied_documents t body r ps events s g m w =
       texts = λ before p e. refl;
       orderly = s.orderly;
       spelt = s.spelt;
-      ties = λ held x. (refl, (encoding_in r, refl), λ v. nothing_held t.documents v _ known.2
-          (ap (λ y. told (encoding_behind 0 t.documents.encoding (heard (FromServer 0 body))) v (held v) y) (ap saying_of w) ∙ (subst (λ z. DocumentTies z t.documents held) g x).4 v));
+      ties = λ held x. (
+        refl,
+        (encoding_in r, refl),
+        λ v. nothing_held t.documents v _ known.2
+            (ap (λ y. told (encoding_behind 0 t.documents.encoding (heard (FromServer 0 body))) v (held v) y) (ap saying_of w) ∙ (subst (λ z. DocumentTies z t.documents held) g x).4 v),
+      );
     }
 
 -- the start is ready, and told so

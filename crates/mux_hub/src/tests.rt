@@ -35,7 +35,14 @@ fn from_server(alloc: Global, text: &str) -> Result<Cause, AllocError>
     Ok(Cause::FromServer(0, body(alloc, text)?))
 }
 
-fn a_hub(alloc: Global, requests: u32, fails: Vec<u64>) -> Result<Hub<MemJournal>, MemJournal> {
+fn a_hub(
+    alloc: Global,
+    requests: u32,
+    versions: u32,
+    fails: Vec<u64>,
+) -> Result<Hub<MemJournal>, MemJournal>
+    requires { 1 ≤ versions }
+{
     let limits = Limits {
         groups: 8,
         restarts: 5,
@@ -43,7 +50,7 @@ fn a_hub(alloc: Global, requests: u32, fails: Vec<u64>) -> Result<Hub<MemJournal
         grace: 5,
         backlog: 134217728,
         requests,
-        versions: 2147483647,
+        versions,
     };
     Hub::new(
         alloc,
@@ -103,7 +110,7 @@ fn open_session(
 #[test]
 fn a_request_without_a_number_left_is_refused(rt: HostRuntime) -> Result<(), Fail> {
     let alloc = rt.alloc();
-    let Ok(mut hub) = a_hub(alloc, 3, Vec::new(alloc)) else {
+    let Ok(mut hub) = a_hub(alloc, 3, 2147483647, Vec::new(alloc)) else {
         return Err(Fail::from("no hub"));
     };
     open_session(&rt, alloc, &mut hub)?;
@@ -138,10 +145,58 @@ fn a_request_without_a_number_left_is_refused(rt: HostRuntime) -> Result<(), Fai
     Ok(())
 }
 
+// The outs of one more body of the editor.
+fn hear(
+    rt: &impl Abort,
+    alloc: Global,
+    hub: &mut Hub<MemJournal>,
+    text: &str,
+) -> Result<Outs, StepFault>
+    requires { length text.now ≤ 1000 }
+{
+    let Ok(cause) = from_editor(alloc, text) else {
+        return Err(StepFault::Memory);
+    };
+    step(rt, hub, cause)
+}
+
+const OPENED: &str =
+    "{\"jsonrpc\":\"2.0\",\"method\":\"textDocument/didOpen\",\"params\":{\"textDocument\":{\"uri\":\"file:///u\",\"languageId\":\"x\",\"version\":1,\"text\":\"a\"}}}";
+
+const CHANGED: &str =
+    "{\"jsonrpc\":\"2.0\",\"method\":\"textDocument/didChange\",\"params\":{\"textDocument\":{\"uri\":\"file:///u\",\"version\":2},\"contentChanges\":[{\"text\":\"b\"}]}}";
+
+const CHANGED_AGAIN: &str =
+    "{\"jsonrpc\":\"2.0\",\"method\":\"textDocument/didChange\",\"params\":{\"textDocument\":{\"uri\":\"file:///u\",\"version\":3},\"contentChanges\":[{\"text\":\"c\"}]}}";
+
+const CLOSED: &str =
+    "{\"jsonrpc\":\"2.0\",\"method\":\"textDocument/didClose\",\"params\":{\"textDocument\":{\"uri\":\"file:///u\"}}}";
+
+const OPENED_ANEW: &str =
+    "{\"jsonrpc\":\"2.0\",\"method\":\"textDocument/didOpen\",\"params\":{\"textDocument\":{\"uri\":\"file:///u\",\"languageId\":\"x\",\"version\":1,\"text\":\"c\"}}}";
+
+#[test]
+fn a_document_without_a_version_left_is_closed_and_opened(rt: HostRuntime) -> Result<(), Fail> {
+    let alloc = rt.alloc();
+    let Ok(mut hub) = a_hub(alloc, 2147483647, 2, Vec::new(alloc)) else {
+        return Err(Fail::from("no hub"));
+    };
+    open_session(&rt, alloc, &mut hub)?;
+    let outs = hear(&rt, alloc, &mut hub, OPENED)?;
+    assert!(rt; is_to_server(outs.get(0), OPENED));
+    let outs = hear(&rt, alloc, &mut hub, CHANGED)?;
+    assert!(rt; is_to_server(outs.get(0), CHANGED));
+    let outs = hear(&rt, alloc, &mut hub, CHANGED_AGAIN)?;
+    assert_eq!(rt; outs.len(), 2);
+    assert!(rt; is_to_server(outs.get(0), CLOSED));
+    assert!(rt; is_to_server(outs.get(1), OPENED_ANEW));
+    Ok(())
+}
+
 #[test]
 fn answers_come_in_any_order_and_once(rt: HostRuntime) -> Result<(), Fail> {
     let alloc = rt.alloc();
-    let Ok(mut hub) = a_hub(alloc, 2147483647, Vec::new(alloc)) else {
+    let Ok(mut hub) = a_hub(alloc, 2147483647, 2147483647, Vec::new(alloc)) else {
         return Err(Fail::from("no hub"));
     };
     open_session(&rt, alloc, &mut hub)?;
@@ -204,7 +259,7 @@ fn answers_come_in_any_order_and_once(rt: HostRuntime) -> Result<(), Fail> {
 #[test]
 fn malformed_bodies_of_an_editor_are_answered(rt: HostRuntime) -> Result<(), Fail> {
     let alloc = rt.alloc();
-    let Ok(mut hub) = a_hub(alloc, 2147483647, Vec::new(alloc)) else {
+    let Ok(mut hub) = a_hub(alloc, 2147483647, 2147483647, Vec::new(alloc)) else {
         return Err(Fail::from("no hub"));
     };
     open_session(&rt, alloc, &mut hub)?;
@@ -237,7 +292,7 @@ fn malformed_bodies_of_an_editor_are_answered(rt: HostRuntime) -> Result<(), Fai
 #[test]
 fn what_is_not_built_is_told(rt: HostRuntime) -> Result<(), Fail> {
     let alloc = rt.alloc();
-    let Ok(mut hub) = a_hub(alloc, 2147483647, Vec::new(alloc)) else {
+    let Ok(mut hub) = a_hub(alloc, 2147483647, 2147483647, Vec::new(alloc)) else {
         return Err(Fail::from("no hub"));
     };
     open_session(&rt, alloc, &mut hub)?;
@@ -270,7 +325,7 @@ fn what_is_not_built_is_told(rt: HostRuntime) -> Result<(), Fail> {
 #[test]
 fn a_hub_whose_journal_failed_is_spent(rt: HostRuntime) -> Result<(), Fail> {
     let alloc = rt.alloc();
-    let Ok(mut hub) = a_hub(alloc, 2147483647, vec![in alloc; 0]?) else {
+    let Ok(mut hub) = a_hub(alloc, 2147483647, 2147483647, vec![in alloc; 0]?) else {
         return Err(Fail::from("no hub"));
     };
     assert!(rt;
