@@ -1,0 +1,63 @@
+-- Editors by their numbers (LSP 3.17, Lifecycle Messages): the first that joined is number 0, the next is number 1.
+use Rattle.std.specs.Prelude.{◌≡◌, ℕ, Bool, true, false, ◌&&◌, nat_eq, List, length, slice_index_or, slice_set}
+use Rattle.std.specs.Prelude.{Option, Some, None}
+use Rattle.std.specs.List.{All, filter, range_with_len}
+use Rattle.mux_model.specs.declared.phase.Phase.{Phase}
+use Rattle.mux_model.specs.declared.phase.Phase.TheVariants.{Absent, New, Waiting, Answered, Running, Down}
+use Rattle.mux_model.specs.Phases.{is_there}
+use Rattle.editor_session.specs.declared.session.Session.{Session}
+use Rattle.editor_session.specs.declared.session.Wanted.{Wanted}
+use Rattle.editor_session.specs.declared.session.Wanted.TheVariants as wanted
+
+-- an editor as it joins
+abbrev pub joined : Session
+joined = record { phase = New; group = None; id = None; asks = 0; backlog = 0 }
+
+-- the editor of a number
+abbrev pub session_of : List Session → ℕ → Session
+session_of sessions e = slice_index_or sessions e joined
+
+-- the editors, with this one in place of the one of that number
+abbrev pub with_session : List Session → ℕ → Session → List Session
+with_session sessions e session = slice_set sessions e session
+
+-- the numbers, rising, of the editors that meet a test
+abbrev pub numbers_of : (Session → Bool) → List Session → List ℕ
+numbers_of test sessions = filter (λ e. test (session_of sessions e)) (range_with_len 0 (length sessions))
+
+-- it was placed in this group
+abbrev pub is_in : ℕ → Option ℕ → Bool
+is_in group None = false
+is_in group (Some placed) = nat_eq placed group
+
+-- it runs
+abbrev pub runs : Phase → Bool
+runs Running = true
+runs _ = false
+
+-- its `initialize` came, and its link isn't to be ended
+abbrev pub is_begun : Phase → Bool
+is_begun Waiting = true
+is_begun Answered = true
+is_begun Running = true
+is_begun Down = true
+is_begun _ = false
+
+-- it joined
+abbrev pub is_joined : Phase → Bool
+is_joined Absent = false
+is_joined _ = true
+
+abbrev pub AllJoined : List Session → Type 0
+AllJoined sessions = All (λ s. is_joined s.phase ≡ true) sessions
+
+abbrev pub is_running : ℕ → Session → Bool
+is_running group session = runs session.phase && is_in group session.group
+
+abbrev pub is_of : ℕ → Session → Bool
+is_of group session = is_begun session.phase && is_in group session.group
+
+abbrev pub is_wanted : Wanted → Session → Bool
+is_wanted (wanted.Running group) session = is_running group session
+is_wanted (wanted.OfGroup group) session = is_of group session
+is_wanted wanted.There session = is_there session.phase

@@ -1,0 +1,90 @@
+// One editor.
+ghost use Rattle.std.specs.Prelude.{◌≡◌};
+ghost use Rattle.mux_model.specs.Phases.{is_there};
+ghost use Rattle.editor_session.specs.Sessions.{is_in, is_of, is_running, is_wanted, joined};
+
+use json_text::Body;
+use mux_model::Phase;
+
+/// What is kept of one editor.
+#[derive(Debug, Drop)]
+pub struct Session {
+    /// Where it stands.
+    pub phase: Phase,
+    /// The number of its group, once it was placed in one.
+    pub group: Option<u64>,
+    /// The bytes of the id of its `initialize`, once it was placed.
+    pub id: Option<Body>,
+    /// The number of the last request that it was asked; 0 before the first.
+    pub asks: u128,
+    /// The bytes of bodies sent to it that weren't drained yet.
+    pub backlog: u128,
+}
+
+/// Which editors are looked for.
+#[derive(Clone, Copy)]
+pub enum Wanted {
+    /// Those of this group that run.
+    Running(u64),
+    /// Those of this group whose `initialize` came and whose link isn't to be ended.
+    OfGroup(u64),
+    /// Those whose link isn't to be ended.
+    There,
+}
+
+impl Session {
+    // The editor as it joins.
+    pub fn new() -> Session
+        ensures { result ≡ joined }
+    {
+        Session {
+            phase: Phase::New,
+            group: None,
+            id: None,
+            asks: 0,
+            backlog: 0,
+        }
+    }
+
+    // Whether it was placed in this group.
+    fn is_in(&self, group: u64) -> bool
+        ensures { result ≡ is_in group self.now.group }
+    {
+        self.group == Some(group)
+    }
+
+    // Whether it is of this group and runs.
+    fn is_running(&self, group: u64) -> bool
+        ensures { result ≡ is_running group self.now }
+    {
+        matches!(self.phase, Phase::Running) && self.is_in(group)
+    }
+
+    // Whether it is of this group, from its `initialize` until its link is to be ended.
+    fn is_of(&self, group: u64) -> bool
+        ensures { result ≡ is_of group self.now }
+    {
+        matches!(
+            self.phase,
+            Phase::Waiting | Phase::Answered | Phase::Running | Phase::Down
+        ) && self.is_in(group)
+    }
+
+    // Whether its link stands and isn't to be ended.
+    fn is_there(&self) -> bool
+        ensures { result ≡ is_there self.now.phase }
+    {
+        !matches!(self.phase, Phase::Absent | Phase::Closed | Phase::Gone)
+    }
+
+    // Whether it is one of those that are looked for.
+    pub fn is_wanted(&self, wanted: Wanted) -> bool
+        ensures { result ≡ is_wanted wanted self.now }
+    {
+        match wanted {
+            Wanted::Running(group) => self.is_running(group),
+            Wanted::OfGroup(group) => self.is_of(group),
+            Wanted::There => self.is_there(),
+        }
+    }
+}

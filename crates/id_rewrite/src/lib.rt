@@ -1,0 +1,12 @@
+//! The open requests of the editors at one start of a server: each has the start's number in place of its editor's id
+//! (JSON-RPC 2.0, section 4).
+#![tactic(auto)]
+
+mod pending;
+mod table;
+
+pub use pending::{Numbered, NumbersUsed, Pending};
+pub use table::IdTable;
+
+#[cfg(test)]
+mod tests;

@@ -1,0 +1,28 @@
+// What is kept of an open request.
+use json_text::Body;
+
+/// A request that was sent on and isn't answered.
+///
+/// `id` is the text of the id that the editor gave it (JSON-RPC 2.0, section 4: a string or a number). `work` and
+/// `partial` are the texts of its tokens for progress, where it has them (LSP 3.17, Work Done Progress and Partial
+/// Result Progress).
+#[derive(Debug, Drop)]
+pub struct Pending {
+    pub editor: u64,
+    pub id: Body,
+    pub work: Option<Body>,
+    pub partial: Option<Body>,
+    /// Whether the editor cancelled it (LSP 3.17, Cancellation Support).
+    pub cancelled: bool,
+}
+
+/// An open request, and the number that is its id at the server.
+#[derive(Debug, Drop)]
+pub struct Numbered {
+    pub number: u32,
+    pub pending: Pending,
+}
+
+/// Each number below the limit was given.
+#[derive(Clone, Copy, Debug, PartialEq, Eq)]
+pub struct NumbersUsed;

@@ -1,0 +1,9 @@
+//! The stages of a start of a server.
+#![tactic(auto)]
+
+mod life;
+
+pub use life::Life;
+
+#[cfg(test)]
+mod tests;
