@@ -1,0 +1,13 @@
+pub mod BelowLaws
+pub mod Induction
+pub mod Letters
+pub mod MemberBelow
+pub mod Meets
+pub mod Names
+pub mod Pairs
+pub mod Pieces
+pub mod Reading
+pub mod SameLaws
+pub mod Shows
+pub mod Spots
+pub mod Walks

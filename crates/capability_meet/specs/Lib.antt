@@ -1,0 +1,7 @@
+pub mod Answers
+pub mod Kinds
+pub mod Meet
+pub mod Order
+pub mod Parts
+pub mod Shown
+pub mod Values

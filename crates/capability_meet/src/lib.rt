@@ -1,0 +1,23 @@
+//! The order of capabilities and what two of them have in common (LSP 3.17, ClientCapabilities and ServerCapabilities of the
+//! Initialize Request).
+#![tactic(auto)]
+
+mod fault;
+mod kinds;
+mod laws;
+mod meeting;
+mod order;
+mod parts;
+mod showing;
+mod spot;
+#[cfg(test)]
+mod tests;
+mod twins;
+mod values;
+mod written;
+
+pub use fault::CapFault;
+pub use laws::{below_members, below_reflexive, below_transitive};
+pub use meeting::{declared, meet};
+pub use order::below;
+pub use showing::shown;

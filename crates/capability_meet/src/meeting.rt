@@ -1,0 +1,90 @@
+//! What two capabilities have in common.
+ghost use Rattle.std.specs.Prelude.{◌≡◌, ◌≤◌, ◌<◌, length, IfOk, MatchOption};
+ghost use Rattle.json_text.specs.Json.{Json};
+ghost use Rattle.json_nodes.specs.At.{At};
+ghost use Rattle.capability_meet.specs.Answers.{Answers};
+ghost use Rattle.capability_meet.specs.declared.spot.Spot.TheVariants as spot;
+ghost use Rattle.capability_meet.specs.Meet.{meet_of, whole_text};
+ghost use Rattle.capability_meet.specs.Values.{doc_of};
+
+use crate::fault::{CapFault, read};
+use crate::parts::write;
+use crate::spot::Spot;
+use crate::twins::meets;
+use crate::values::{Values, values_of};
+use crate::written::write_met;
+use json_text::{Body, Memory};
+use std::alloc::Global;
+
+/// What two capabilities have in common (LSP 3.17, Initialize Request), written with no white space between tokens, in the
+/// order of the first and with its bytes.
+///
+/// Objects keep the members whose common part isn't least; of several pairs of a name the last counts, and it stands at its
+/// own place. Arrays keep the first's items that say the same as some item of the second. Values that say the same stay.
+/// All else is least, and a least whole is `{}`.
+pub fn meet(alloc: Global, a: &[u8], b: &[u8]) -> Result<Body, CapFault>
+    requires first { length a.now ≤ 268435456 }
+    requires second { length b.now ≤ 268435456 }
+    ensures { Answers result (meet_of spot.Elsewhere a.now b.now) }
+{
+    meet_at(alloc, a, b, Spot::Elsewhere)
+}
+
+/// The client capabilities that are declared to a server (LSP 3.17, ClientCapabilities): what they have in common with a
+/// ceiling, or with themselves, without the members `notebookDocument` and `offsetEncoding`.
+///
+/// An object `window.showDocument` without `support` gets `"support":false` at its end, and an object
+/// `general.staleRequestSupport` without `cancel` gets `"cancel":false`, since the standard wants the two.
+pub fn declared(
+    alloc: Global,
+    capabilities: &[u8],
+    ceiling: Option<&[u8]>,
+) -> Result<Body, CapFault>
+    requires capabilities { length capabilities.now ≤ 268435456 }
+    requires ceiling { MatchOption ceiling (Unit {0}) (λ c. length c.now ≤ 268435456) }
+    ensures { MatchOption ceiling.entry (Answers result (meet_of spot.Top capabilities.now capabilities.now)) (λ c. Answers result (meet_of spot.Top capabilities.now c.now)) }
+{
+    match ceiling {
+        Some(ceiling) => meet_at(alloc, capabilities, ceiling, Spot::Top),
+        None => meet_at(alloc, capabilities, capabilities, Spot::Top),
+    }
+}
+
+fn meet_at(alloc: Global, a: &[u8], b: &[u8], spot: Spot) -> Result<Body, CapFault>
+    requires first { length a.now ≤ 268435456 }
+    requires second { length b.now ≤ 268435456 }
+    ensures { Answers result (meet_of spot a.now b.now) }
+{
+    let left = read(alloc, a)?;
+    let right = read(alloc, b)?;
+    let text = write_whole(
+        alloc,
+        values_of(&left),
+        left.root(),
+        values_of(&right),
+        right.root(),
+        spot,
+    )?;
+    Ok(Body::new(text))
+}
+
+fn write_whole(
+    alloc: Global,
+    left: Values,
+    node: u32,
+    right: Values,
+    other: u32,
+    spot: Spot,
+) -> Result<Vec<u8>, Memory>
+    requires node { node < length left.nodes.now }
+    requires other { other < length right.nodes.now }
+    ensures { (t u : Json) → At (doc_of left.entry) node t → At (doc_of right.entry) other u → IfOk result (λ out. out.items ≡ whole_text (doc_of left.entry).bytes spot t u) }
+{
+    let mut out = Vec::new(alloc);
+    if meets(left, node, right, other) {
+        write_met(&mut out, left, node, right, other, spot)?;
+    } else {
+        write(&mut out, b"{}")?;
+    }
+    Ok(out)
+}

@@ -1,0 +1,136 @@
+// The order of capabilities.
+ghost use Rattle.std.specs.Prelude.{◌≡◌, ◌+◌, ◌<◌, ◌||◌, ℕ, List, length, MatchOption, Some};
+ghost use Rattle.std.specs.List.{slice_get};
+ghost use Rattle.json_text.specs.declared.span.Span.{Span};
+ghost use Rattle.json_text.specs.Json.{Items, Json, Members, array, object};
+ghost use Rattle.json_text.specs.Named.{named};
+ghost use Rattle.json_nodes.specs.At.{At, ChildAt, FoundChild};
+ghost use Rattle.json_nodes.specs.Same.{drop_members, has_name, if_some};
+ghost use Rattle.json_nodes.specs.Texts.{names};
+ghost use Rattle.capability_meet.specs.Order.{below, is_among, is_least, items_below, members_below};
+ghost use Rattle.capability_meet.specs.Values.{doc_of};
+
+use crate::kinds::{Pair, pair_of};
+use crate::values::{Values, values_of};
+use json_nodes::{first_in, kind_in, last_spelled, name_in, next_in, same_in};
+use json_span::Tape;
+use json_text::Kind;
+
+/// Whether a value of one text is below a value of another in the order of capabilities (LSP 3.17, Initialize Request).
+///
+/// Absent, null and false are the least values. True is below true. An object is below an object if each of its members is
+/// below the other's member of that name, where the last member of a name counts. An array is below an array if each of its
+/// items says the same as some item of the other. Any other value is below a value that says the same.
+pub fn below(a: &Tape, x: u32, b: &Tape, y: u32) -> bool
+    requires node { x < length a.now.nodes }
+    requires other { y < length b.now.nodes }
+    ensures { (t u : Json) → At a.now x t → At b.now y u → result ≡ below t u }
+{
+    values_below(values_of(a), x, values_of(b), y)
+}
+
+#[cycle(below)]
+fn values_below(left: Values, node: u32, right: Values, other: u32) -> bool
+    requires node { node < length left.nodes.now }
+    requires other { other < length right.nodes.now }
+    ensures { (t u : Json) → At (doc_of left.entry) node t → At (doc_of right.entry) other u → result ≡ below t u }
+{
+    match pair_of(kind_in(left.nodes, node), kind_in(right.nodes, other)) {
+        Pair::Least => true,
+        Pair::Arrays => items_below(left, node, right, other),
+        Pair::Objects => members_below(left, node, right, other),
+        Pair::Others => same_in(
+            left.bytes,
+            left.nodes,
+            node,
+            right.bytes,
+            right.nodes,
+            other,
+        ),
+    }
+}
+
+// Whether each item of an array says the same as some item of another.
+fn items_below(left: Values, node: u32, right: Values, other: u32) -> bool
+    requires node { node < length left.nodes.now }
+    requires other { other < length right.nodes.now }
+    ensures { (s r : Span) (js ks : Items) → At (doc_of left.entry) node (array s js) → At (doc_of right.entry) other (array r ks) → result ≡ items_below js ks }
+{
+    let mut next = first_in(left.nodes, node);
+    while let Some(item) = next {
+        if !is_among(left, item, right, other) {
+            return false;
+        }
+        next = next_in(left.nodes, item);
+    }
+    true
+}
+
+// Whether a value says the same as some item of an array.
+pub fn is_among(left: Values, node: u32, right: Values, other: u32) -> bool
+    requires node { node < length left.nodes.now }
+    requires other { other < length right.nodes.now }
+    ensures { (t : Json) (r : Span) (ks : Items) → At (doc_of left.entry) node t → At (doc_of right.entry) other (array r ks) → result ≡ is_among t ks }
+{
+    let mut next = first_in(right.nodes, other);
+    while let Some(item) = next {
+        if same_in(left.bytes, left.nodes, node, right.bytes, right.nodes, item) {
+            return true;
+        }
+        next = next_in(right.nodes, item);
+    }
+    false
+}
+
+// Whether each member of an object, unless a later one has its name, is below the last one of its name in another.
+#[cycle(below)]
+fn members_below(left: Values, node: u32, right: Values, other: u32) -> bool
+    requires node { node < length left.nodes.now }
+    requires other { other < length right.nodes.now }
+    ensures { (s r : Span) (ms ns : Members) → At (doc_of left.entry) node (object s ms) → At (doc_of right.entry) other (object r ns) → result ≡ members_below ms ns }
+{
+    let mut next = first_in(left.nodes, node);
+    while let Some(member) = next {
+        let following = next_in(left.nodes, member);
+        if !member_below(left, member, following, right, other) {
+            return false;
+        }
+        next = following;
+    }
+    true
+}
+
+// The same for one member, and the one that follows it.
+#[cycle(below)]
+fn member_below(
+    left: Values,
+    member: u32,
+    following: Option<u32>,
+    right: Values,
+    other: u32,
+) -> bool
+    requires member { member < length left.nodes.now }
+    requires following { MatchOption following (Unit {0}) (λ m. m < length left.nodes.now) }
+    requires other { other < length right.nodes.now }
+    ensures { (k n : ℕ) (s r : Span) (u : Json) (ms ns : Members) (cs : List ℕ) → ChildAt (doc_of left.entry) k (object s ms) n member u → slice_get (names (object s ms)) n ≡ Some cs → FoundChild (doc_of left.entry) k (object s ms) (n + 1) following → At (doc_of right.entry) other (object r ns) → result ≡ (has_name cs (drop_members (n + 1) ms) || (is_least u || if_some (named cs ns) (λ v. below u v))) }
+{
+    let name = name_in(left.bytes, left.nodes, member);
+    if last_spelled(name, left.bytes, left.nodes, following).is_some() {
+        return true;
+    }
+    if is_least(left, member) {
+        return true;
+    }
+    match last_spelled(name, right.bytes, right.nodes, first_in(right.nodes, other)) {
+        Some(twin) => values_below(left, member, right, twin),
+        None => false,
+    }
+}
+
+// Whether a value is null or false.
+fn is_least(values: Values, node: u32) -> bool
+    requires { node < length values.nodes.now }
+    ensures { (t : Json) → At (doc_of values.entry) node t → result ≡ is_least t }
+{
+    matches!(kind_in(values.nodes, node), Kind::Null | Kind::False)
+}

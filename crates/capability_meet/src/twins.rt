@@ -1,0 +1,95 @@
+// What the values of one text have in common with those of another.
+ghost use Rattle.std.specs.Prelude.{◌≡◌, ◌<◌, ◌+◌, ℕ, List, length, MatchOption, Some};
+ghost use Rattle.std.specs.List.{slice_get};
+ghost use Rattle.std.specs.Str.{chars};
+ghost use Rattle.json_text.specs.declared.span.Span.{Span};
+ghost use Rattle.json_text.specs.Json.{Json, Members, object};
+ghost use Rattle.json_text.specs.Named.{named_in};
+ghost use Rattle.json_nodes.specs.At.{At, ChildAt, Found, FoundChild};
+ghost use Rattle.json_nodes.specs.Same.{drop_members, if_some};
+ghost use Rattle.json_nodes.specs.Texts.{member_names};
+ghost use Rattle.capability_meet.specs.Meet.{if_meets, meets, twin};
+ghost use Rattle.capability_meet.specs.Values.{doc_of};
+
+use crate::kinds::{Pair, pair_of};
+use crate::spot::{Spot, is_left_out};
+use crate::values::Values;
+use json_nodes::{first_in, kind_in, last_spelled, member_in, name_in, same_in};
+
+// Whether two values have more in common than the least value.
+pub fn meets(left: Values, node: u32, right: Values, other: u32) -> bool
+    requires node { node < length left.nodes.now }
+    requires other { other < length right.nodes.now }
+    ensures { (t u : Json) → At (doc_of left.entry) node t → At (doc_of right.entry) other u → result ≡ meets t u }
+{
+    match pair_of(kind_in(left.nodes, node), kind_in(right.nodes, other)) {
+        Pair::Least => false,
+        Pair::Arrays => true,
+        Pair::Objects => true,
+        Pair::Others => same_in(
+            left.bytes,
+            left.nodes,
+            node,
+            right.bytes,
+            right.nodes,
+            other,
+        ),
+    }
+}
+
+// What a member is met with.
+pub fn twin_of(
+    left: Values,
+    node: u32,
+    following: Option<u32>,
+    right: Values,
+    other: u32,
+    spot: Spot,
+) -> Option<u32>
+    requires node { node < length left.nodes.now }
+    requires following { MatchOption following (Unit {0}) (λ m. m < length left.nodes.now) }
+    requires other { other < length right.nodes.now }
+    ensures twin { (k n : ℕ) (s r : Span) (ms ns : Members) (cs : List ℕ) (u : Json) → ChildAt (doc_of left.entry) k (object s ms) n node u → slice_get (member_names ms) n ≡ Some cs → FoundChild (doc_of left.entry) k (object s ms) (n + 1) following → At (doc_of right.entry) other (object r ns) → Found (doc_of right.entry) (twin spot cs u (drop_members (n + 1) ms) ns) result }
+    ensures inside { MatchOption result (Unit {0}) (λ m. m < length right.entry.nodes.now) }
+{
+    let name = name_in(left.bytes, left.nodes, node);
+    if last_spelled(name, left.bytes, left.nodes, following).is_some() {
+        return None;
+    }
+    if is_left_out(spot, name) {
+        return None;
+    }
+    match last_spelled(name, right.bytes, right.nodes, first_in(right.nodes, other)) {
+        Some(twin) => if_meets(left, node, right, twin),
+        None => None,
+    }
+}
+
+// A value of the other, where the two have something in common.
+pub fn if_meets(left: Values, node: u32, right: Values, other: u32) -> Option<u32>
+    requires node { node < length left.nodes.now }
+    requires other { other < length right.nodes.now }
+    ensures twin { (t u : Json) → At (doc_of left.entry) node t → At (doc_of right.entry) other u → Found (doc_of right.entry) (if_meets t (Some u)) result }
+    ensures inside { MatchOption result (Unit {0}) (λ m. m < length right.entry.nodes.now) }
+{
+    if meets(left, node, right, other) {
+        Some(other)
+    } else {
+        None
+    }
+}
+
+// Whether two objects have something in common under this name.
+pub fn named_meets(left: Values, node: u32, right: Values, other: u32, name: &str) -> bool
+    requires node { node < length left.nodes.now }
+    requires other { other < length right.nodes.now }
+    ensures { (t u : Json) → At (doc_of left.entry) node t → At (doc_of right.entry) other u → result ≡ if_some (named_in (chars name.now) t) (λ j. if_some (named_in (chars name.now) u) (λ k. meets j k)) }
+{
+    let Some(mine) = member_in(left.bytes, left.nodes, node, name) else {
+        return false
+    };
+    match member_in(right.bytes, right.nodes, other, name) {
+        Some(twin) => meets(left, mine, right, twin),
+        None => false,
+    }
+}

@@ -1,0 +1,247 @@
+// What two values have in common, written.
+ghost use Rattle.std.specs.Prelude.{◌≡◌, ◌<◌, ◌+◌, ◌++◌, ◌∷◌, [], ℕ, List, length, true, false, IfOk, OnOk, MatchOption, Some, if◌then◌else◌};
+ghost use Rattle.std.specs.List.{slice_get};
+ghost use Rattle.std.specs.Str.{chars};
+ghost use Rattle.json_text.specs.declared.span.Span.{Span};
+ghost use Rattle.json_text.specs.Json.{Items, Json, Members, array, item, member, object};
+ghost use Rattle.json_nodes.specs.At.{At, ChildAt, FoundChild};
+ghost use Rattle.json_nodes.specs.Same.{drop_members};
+ghost use Rattle.json_nodes.specs.Texts.{between, member_names};
+ghost use Rattle.capability_meet.specs.declared.spot.Spot.TheVariants as spot;
+ghost use Rattle.capability_meet.specs.Meet.{items_met, lacking, meet_text, meets, named_meets, pairs_met};
+ghost use Rattle.capability_meet.specs.Parts.{listed};
+ghost use Rattle.capability_meet.specs.Values.{doc_of};
+
+use crate::kinds::{Pair, pair_of};
+use crate::order::is_among;
+use crate::parts::{name_place, own_part, part, write, write_comma};
+use crate::spot::{Spot, spot_of};
+use crate::twins::{named_meets, twin_of};
+use crate::values::Values;
+use json_nodes::{first_in, kind_in, name_in, next_in};
+use json_text::Memory;
+
+// Writes what two values have in common that have more in common than the least value.
+#[cycle(met)]
+pub fn write_met(
+    out: &mut Vec<u8>,
+    left: Values,
+    node: u32,
+    right: Values,
+    other: u32,
+    spot: Spot,
+) -> Result<(), Memory>
+    requires node { node < length left.nodes.now }
+    requires other { other < length right.nodes.now }
+    ensures { (t u : Json) → At (doc_of left.entry) node t → At (doc_of right.entry) other u → meets t u ≡ true → OnOk result (out.new.items ≡ out.old.items ++ meet_text (doc_of left.entry).bytes spot t u) }
+{
+    match pair_of(kind_in(left.nodes, node), kind_in(right.nodes, other)) {
+        Pair::Least => Ok(()),
+        Pair::Arrays => write_array(out, left, node, right, other),
+        Pair::Objects => write_object(out, left, node, right, other, spot),
+        Pair::Others => write(out, own_part(left, node)),
+    }
+}
+
+fn write_array(
+    out: &mut Vec<u8>,
+    left: Values,
+    node: u32,
+    right: Values,
+    other: u32,
+) -> Result<(), Memory>
+    requires node { node < length left.nodes.now }
+    requires other { other < length right.nodes.now }
+    ensures { (s r : Span) (js ks : Items) → At (doc_of left.entry) node (array s js) → At (doc_of right.entry) other (array r ks) → OnOk result (out.new.items ≡ out.old.items ++ meet_text (doc_of left.entry).bytes spot.Elsewhere (array s js) (array r ks)) }
+{
+    write(out, b"[")?;
+    write_items(out, left, node, right, other)?;
+    write(out, b"]")
+}
+
+// Writes the items of an array that say the same as some item of another.
+fn write_items(
+    out: &mut Vec<u8>,
+    left: Values,
+    node: u32,
+    right: Values,
+    other: u32,
+) -> Result<(), Memory>
+    requires node { node < length left.nodes.now }
+    requires other { other < length right.nodes.now }
+    ensures { (s r : Span) (js ks : Items) → At (doc_of left.entry) node (array s js) → At (doc_of right.entry) other (array r ks) → OnOk result (out.new.items ≡ out.old.items ++ listed false (items_met (doc_of left.entry).bytes js ks)) }
+{
+    let mut started = false;
+    let mut next = first_in(left.nodes, node);
+    while let Some(item) = next {
+        started = write_item(out, started, left, item, right, other)?;
+        next = next_in(left.nodes, item);
+    }
+    Ok(())
+}
+
+// Writes one item, if it says the same as some item of the other; the answer says whether one is written by now.
+fn write_item(
+    out: &mut Vec<u8>,
+    started: bool,
+    left: Values,
+    node: u32,
+    right: Values,
+    other: u32,
+) -> Result<bool, Memory>
+    requires node { node < length left.nodes.now }
+    requires other { other < length right.nodes.now }
+    ensures { (r : Span) (u : Json) (rest ks : Items) → At (doc_of left.entry) node u → At (doc_of right.entry) other (array r ks) → IfOk result (λ now. out.new.items ++ listed now (items_met (doc_of left.entry).bytes rest ks) ≡ out.old.items ++ listed started (items_met (doc_of left.entry).bytes (item u rest) ks)) }
+{
+    if !is_among(left, node, right, other) {
+        return Ok(started);
+    }
+    write_comma(out, started)?;
+    write(out, own_part(left, node))?;
+    Ok(true)
+}
+
+#[cycle(met)]
+fn write_object(
+    out: &mut Vec<u8>,
+    left: Values,
+    node: u32,
+    right: Values,
+    other: u32,
+    spot: Spot,
+) -> Result<(), Memory>
+    requires node { node < length left.nodes.now }
+    requires other { other < length right.nodes.now }
+    ensures { (s r : Span) (ms ns : Members) → At (doc_of left.entry) node (object s ms) → At (doc_of right.entry) other (object r ns) → OnOk result (out.new.items ≡ out.old.items ++ meet_text (doc_of left.entry).bytes spot (object s ms) (object r ns)) }
+{
+    write(out, b"{")?;
+    let started = write_pairs(out, left, node, right, other, spot)?;
+    write_lacking(out, started, left, node, right, other, spot)?;
+    write(out, b"}")
+}
+
+// Writes the pairs of what two objects have in common; the answer says whether there are such.
+#[cycle(met)]
+fn write_pairs(
+    out: &mut Vec<u8>,
+    left: Values,
+    node: u32,
+    right: Values,
+    other: u32,
+    spot: Spot,
+) -> Result<bool, Memory>
+    requires node { node < length left.nodes.now }
+    requires other { other < length right.nodes.now }
+    ensures { (s r : Span) (ms ns : Members) (more : List (List ℕ)) → At (doc_of left.entry) node (object s ms) → At (doc_of right.entry) other (object r ns) → IfOk result (λ now. out.new.items ++ listed now more ≡ out.old.items ++ listed false (pairs_met (doc_of left.entry).bytes spot ms ns ++ more)) }
+{
+    let mut started = false;
+    let mut next = first_in(left.nodes, node);
+    while let Some(pair) = next {
+        let following = next_in(left.nodes, pair);
+        started = write_pair(out, started, left, pair, following, right, other, spot)?;
+        next = following;
+    }
+    Ok(started)
+}
+
+// Writes one pair, if the two have it in common; the answer says whether one is written by now.
+#[cycle(met)]
+fn write_pair(
+    out: &mut Vec<u8>,
+    started: bool,
+    left: Values,
+    node: u32,
+    following: Option<u32>,
+    right: Values,
+    other: u32,
+    spot: Spot,
+) -> Result<bool, Memory>
+    requires node { node < length left.nodes.now }
+    requires following { MatchOption following (Unit {0}) (λ m. m < length left.nodes.now) }
+    requires other { other < length right.nodes.now }
+    ensures { (k n : ℕ) (s p r : Span) (ms rest ns : Members) (cs : List ℕ) (u : Json) (more : List (List ℕ)) → ChildAt (doc_of left.entry) k (object s ms) n node u → slice_get (member_names ms) n ≡ Some cs → drop_members n ms ≡ member p cs u rest → rest ≡ drop_members (n + 1) ms → FoundChild (doc_of left.entry) k (object s ms) (n + 1) following → At (doc_of right.entry) other (object r ns) → IfOk result (λ now. out.new.items ++ listed now (pairs_met (doc_of left.entry).bytes spot rest ns ++ more) ≡ out.old.items ++ listed started (pairs_met (doc_of left.entry).bytes spot (member p cs u rest) ns ++ more)) }
+{
+    let Some(twin) = twin_of(left, node, following, right, other, spot) else {
+        return Ok(started)
+    };
+    write_comma(out, started)?;
+    write_name(out, left, node)?;
+    let inner = spot_of(spot, name_in(left.bytes, left.nodes, node));
+    write_met(out, left, node, right, twin, inner)?;
+    Ok(true)
+}
+
+// Writes the name of a member, with its quotation marks, and a colon.
+fn write_name(out: &mut Vec<u8>, values: Values, node: u32) -> Result<(), Memory>
+    requires { node < length values.nodes.now }
+    ensures { (k n : ℕ) (s p : Span) (ms rest : Members) (cs : List ℕ) (u : Json) → ChildAt (doc_of values.entry) k (object s ms) n node u → drop_members n ms ≡ member p cs u rest → OnOk result (out.new.items ≡ (out.old.items ++ between p.from p.to (doc_of values.entry).bytes) ++ 58 ∷ []) }
+{
+    let place = name_place(values, node);
+    write(out, part(values.bytes, place.from, place.to))?;
+    write(out, b":")
+}
+
+// Writes what has to be there and isn't.
+fn write_lacking(
+    out: &mut Vec<u8>,
+    started: bool,
+    left: Values,
+    node: u32,
+    right: Values,
+    other: u32,
+    spot: Spot,
+) -> Result<(), Memory>
+    requires node { node < length left.nodes.now }
+    requires other { other < length right.nodes.now }
+    ensures { (s r : Span) (ms ns : Members) → At (doc_of left.entry) node (object s ms) → At (doc_of right.entry) other (object r ns) → OnOk result (out.new.items ≡ out.old.items ++ listed started (lacking spot ms ns)) }
+{
+    match spot {
+        Spot::ShowDocument => {
+            write_required(
+                out,
+                started,
+                left,
+                node,
+                right,
+                other,
+                "support",
+                b"\"support\":false",
+            )
+        },
+        Spot::StaleRequestSupport => {
+            write_required(
+                out,
+                started,
+                left,
+                node,
+                right,
+                other,
+                "cancel",
+                b"\"cancel\":false",
+            )
+        },
+        _ => Ok(()),
+    }
+}
+
+// Writes a pair, where two objects have nothing in common under this name.
+fn write_required(
+    out: &mut Vec<u8>,
+    started: bool,
+    left: Values,
+    node: u32,
+    right: Values,
+    other: u32,
+    name: &str,
+    pair: &[u8],
+) -> Result<(), Memory>
+    requires node { node < length left.nodes.now }
+    requires other { other < length right.nodes.now }
+    ensures { (s r : Span) (ms ns : Members) → At (doc_of left.entry) node (object s ms) → At (doc_of right.entry) other (object r ns) → OnOk result (out.new.items ≡ out.old.items ++ listed started (if named_meets (chars name.now) ms ns then [] else (pair.now ∷ []))) }
+{
+    if named_meets(left, node, right, other, name) {
+        return Ok(());
+    }
+    write_comma(out, started)?;
+    write(out, pair)
+}
