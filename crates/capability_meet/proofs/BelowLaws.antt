@@ -26,11 +26,11 @@ and_right false b h = cc
 pub and_true : (a b : Bool) → a ≡ true → b ≡ true → (a && b) ≡ true
 and_true a b h g = rw (h, g) refl
 
-or_right : (a b : Bool) → (a || b) ≡ true → a ≡ false → b ≡ true
+pub or_right : (a b : Bool) → (a || b) ≡ true → a ≡ false → b ≡ true
 or_right true b h e = cc
 or_right false b h e = h
 
-or_true : (a b : Bool) → b ≡ true → (a || b) ≡ true
+pub or_true : (a b : Bool) → b ≡ true → (a || b) ≡ true
 or_true true b e = refl
 or_true false b e = e
 
@@ -158,7 +158,7 @@ below_self j = every Self self_steps j
 
 -- transitive
 
-least_below : (j : Json) (o : Option Json) → is_least j ≡ true → below_given (Some j) o ≡ true
+pub least_below : (j : Json) (o : Option Json) → is_least j ≡ true → below_given (Some j) o ≡ true
 least_below j o e = sym (given_is j o) ∙ ap (λ v. v || if_some o (λ k. below j k)) e
 
 -- what is below a least value is least

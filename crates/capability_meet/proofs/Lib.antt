@@ -2,12 +2,15 @@ pub mod BelowLaws
 pub mod Induction
 pub mod Letters
 pub mod MemberBelow
+pub mod MeetLaws
+pub mod MeetSays
 pub mod Meets
 pub mod Names
 pub mod Pairs
 pub mod Pieces
 pub mod Reading
 pub mod SameLaws
+pub mod SameTurned
 pub mod Shows
 pub mod Spots
 pub mod Walks

@@ -1,9 +1,13 @@
-// Laws of the order.
-ghost use Rattle.std.specs.Prelude.{◌≡◌, ◌↔◌, ℕ, List, true};
+// Laws of the order and of what two values have in common.
+ghost use Rattle.std.specs.Prelude.{◌≡◌, ◌↔◌, ℕ, List, Some, false, true};
 ghost use Rattle.json_text.specs.declared.span.Span.{Span};
 ghost use Rattle.json_text.specs.Json.{Json, Members, object};
 ghost use Rattle.json_text.specs.Named.{named};
-ghost use Rattle.capability_meet.specs.Order.{below, below_given};
+ghost use Rattle.json_text.specs.Tree.{tree_of};
+ghost use Rattle.capability_meet.specs.declared.spot.Spot.TheVariants as spot;
+ghost use Rattle.capability_meet.specs.Meet.{meet_of, meets};
+ghost use Rattle.capability_meet.specs.MeetTree.{SaysTree, meet_tree};
+ghost use Rattle.capability_meet.specs.Order.{below, below_given, is_least};
 
 /// A law: each value is below itself.
 pub fn below_reflexive()
@@ -19,4 +23,20 @@ pub fn below_transitive()
 /// either may have none.
 pub fn below_members()
     ensures { (s r : Span) (ms ns : Members) → (below (object s ms) (object r ns) ≡ true) ↔ ((name : List ℕ) → below_given (named name ms) (named name ns) ≡ true) }
+{}
+
+/// A law: where two values have something in common, it is below each of them, so it offers no more than either.
+pub fn meet_is_below()
+    ensures { (j k : Json) → meets j k ≡ true → (below (meet_tree j k) j ≡ true) × (below (meet_tree j k) k ≡ true) }
+{}
+
+/// A law: what is below two values, and isn't least, is below what they have in common, and they have something. With
+/// `meet_is_below`, it is their greatest lower bound: all that both offer is in it.
+pub fn meet_is_greatest()
+    ensures { (x j k : Json) → below x j ≡ true → below x k ≡ true → is_least x ≡ false → (meets j k ≡ true) × (below x (meet_tree j k) ≡ true) }
+{}
+
+/// A law: where the values of two texts have something in common, the text that `meet` is of them says just that.
+pub fn meet_says()
+    ensures { (a b : List ℕ) (j k : Json) → tree_of a ≡ Some j → tree_of b ≡ Some k → meets j k ≡ true → (text : List ℕ) × (meet_of spot.Elsewhere a b ≡ Some text) × SaysTree text (meet_tree j k) }
 {}

@@ -17,7 +17,9 @@ mod values;
 mod written;
 
 pub use fault::CapFault;
-pub use laws::{below_members, below_reflexive, below_transitive};
+pub use laws::{
+    below_members, below_reflexive, below_transitive, meet_is_below, meet_is_greatest, meet_says,
+};
 pub use meeting::{declared, meet};
 pub use order::below;
 pub use showing::shown;
