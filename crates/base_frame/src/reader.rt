@@ -6,7 +6,7 @@ ghost use Rattle.base_frame.specs.Answer.{Gives, NotFrame, IsBadFrame};
 
 use crate::block::BadWhy;
 use crate::front::{Found, front_of};
-use json_text::{Body, Memory};
+use message_body::{Body, Memory};
 use std::alloc::Global;
 use std::collections::VecDeque;
 use std::marker::Model;

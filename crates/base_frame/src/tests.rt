@@ -1,5 +1,5 @@
 use super::*;
-use json_text::Memory;
+use message_body::Memory;
 use std::alloc::Global;
 use std::test::Fail;
 

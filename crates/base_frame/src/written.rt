@@ -2,7 +2,7 @@
 ghost use Rattle.std.specs.Prelude.{◌≡◌, ◌++◌, length, codes, decimal, IfOk};
 
 use itoa::Buffer;
-use json_text::{Body, Memory};
+use message_body::{Body, Memory};
 use std::alloc::Global;
 
 /// The frame with this content: `Content-Length`, the empty line and the content (LSP 3.17, Base Protocol).

@@ -3,7 +3,7 @@ ghost use Rattle.std.specs.Prelude.{◌≤◌, length};
 ghost use Rattle.capability_meet.specs.Answers.{Reads};
 
 use json_span::{JsonFault, Tape};
-use json_text::Memory;
+use message_body::Memory;
 use std::alloc::Global;
 
 /// Why an answer over capabilities fails.

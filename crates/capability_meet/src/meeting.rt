@@ -13,7 +13,7 @@ use crate::spot::Spot;
 use crate::twins::meets;
 use crate::values::{Values, values_of};
 use crate::written::write_met;
-use json_text::{Body, Memory};
+use message_body::{Body, Memory};
 use std::alloc::Global;
 
 /// What two capabilities have in common (LSP 3.17, Initialize Request), written with no white space between tokens, in the

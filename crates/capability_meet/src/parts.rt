@@ -10,7 +10,8 @@ ghost use Rattle.capability_meet.specs.Values.{doc_of};
 
 use crate::values::Values;
 use json_nodes::span_in;
-use json_text::{Change, Memory, Span};
+use json_text::{Change, Span};
+use message_body::Memory;
 
 // The bytes from one place to another, as far as there are such.
 pub fn part(bytes: &[u8], from: usize, to: usize) -> &[u8]

@@ -19,7 +19,8 @@ use crate::fault::{CapFault, read};
 use crate::parts::{name_place, write, write_comma, write_window};
 use crate::values::{Values, values_of};
 use json_nodes::{first_in, member_in, name_in, next_in, span_in};
-use json_text::{Body, Change, Memory};
+use json_text::Change;
+use message_body::{Body, Memory};
 use json_token::spells_text;
 use std::alloc::Global;
 

@@ -19,7 +19,7 @@ use crate::spot::{Spot, spot_of};
 use crate::twins::{named_meets, twin_of};
 use crate::values::Values;
 use json_nodes::{first_in, kind_in, name_in, next_in};
-use json_text::Memory;
+use message_body::Memory;
 
 // Writes what two values have in common that have more in common than the least value.
 #[cycle(met)]

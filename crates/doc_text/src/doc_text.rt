@@ -8,7 +8,7 @@ use crate::fault::ChangeFault;
 use crate::read;
 use crate::text::Text;
 use json_span::Tape;
-use json_text::{Body, Memory};
+use message_body::{Body, Memory};
 use position_codec::{Encoding, offset_of};
 use std::alloc::Global;
 use std::marker::Model;

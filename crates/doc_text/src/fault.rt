@@ -1,7 +1,7 @@
 ghost use Rattle.std.specs.Prelude.{◌≡◌};
 ghost use Rattle.doc_text.specs.declared.fault.ChangeFault.TheVariants as fault;
 
-use json_text::Memory;
+use message_body::Memory;
 use std::alloc::{AllocError, AllocFailed};
 
 /// Why changes were not made.

@@ -1,6 +1,6 @@
 use crate::{ChangeFault, DocText, Text};
 use json_span::Tape;
-use json_text::{Body, Memory};
+use message_body::{Body, Memory};
 use position_codec::Encoding;
 use std::alloc::Global;
 

@@ -5,7 +5,7 @@ ghost use Rattle.doc_text.specs.Changes.{text_behind};
 
 use crate::fault::ChangeFault;
 use json_span::Tape;
-use json_text::{Body, Memory};
+use message_body::{Body, Memory};
 use position_codec::Encoding;
 use std::alloc::Global;
 

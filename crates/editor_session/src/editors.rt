@@ -5,7 +5,7 @@ ghost use Rattle.mux_model.specs.Phases.{is_there};
 ghost use Rattle.editor_session.specs.Sessions.{is_joined, is_of, is_running, is_wanted, joined, numbers_of, session_of, with_session};
 
 use crate::session::{Session, Wanted};
-use json_text::{Body, Memory};
+use message_body::{Body, Memory};
 use mux_model::Phase;
 use std::alloc::Global;
 use std::marker::Model;

@@ -3,7 +3,7 @@ ghost use Rattle.std.specs.Prelude.{◌≡◌};
 ghost use Rattle.mux_model.specs.Phases.{is_there};
 ghost use Rattle.editor_session.specs.Sessions.{is_in, is_of, is_running, is_wanted, joined};
 
-use json_text::Body;
+use message_body::Body;
 use mux_model::Phase;
 
 /// What is kept of one editor.

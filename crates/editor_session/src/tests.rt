@@ -1,5 +1,5 @@
 use crate::Editors;
-use json_text::Body;
+use message_body::Body;
 use mux_model::Phase;
 use std::test::Fail;
 

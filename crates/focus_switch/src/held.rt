@@ -3,7 +3,7 @@ ghost use Rattle.std.specs.Prelude.{◌≡◌, [], OnOk};
 ghost use Rattle.focus_switch.specs.Documents.{held_of, put_held};
 
 use indexmap::IndexMap;
-use json_text::Memory;
+use message_body::Memory;
 use std::alloc::Global;
 use std::marker::Model;
 

@@ -6,7 +6,7 @@ ghost use Rattle.focus_switch.specs.Rows.{touched_at, uris_of};
 ghost use Rattle.focus_switch.specs.Shown.{all_bytes, all_shown, shown};
 
 use doc_text::Text;
-use json_text::{Body, Memory};
+use message_body::{Body, Memory};
 use std::alloc::Global;
 use std::marker::Model;
 

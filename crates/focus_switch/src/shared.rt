@@ -16,7 +16,7 @@ use crate::telling::{Telling, opens, switch};
 use crate::texts::close_text;
 use doc_text::{ChangeFault, Text};
 use json_span::Tape;
-use json_text::{Body, Memory};
+use message_body::{Body, Memory};
 use mux_history::Outs;
 use position_codec::Encoding;
 use rpc_message::Message;

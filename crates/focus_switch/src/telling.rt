@@ -9,7 +9,7 @@ use crate::held::Held;
 use crate::opens::Opening;
 use crate::texts::{close_text, full_text, open_text};
 use doc_text::Text;
-use json_text::{Body, Memory};
+use message_body::{Body, Memory};
 use mux_history::{Out, Outs};
 use std::alloc::Global;
 

@@ -2,7 +2,7 @@ ghost use Rattle.std.specs.Prelude.{IfOk, IsUtf8};
 
 use crate::{Agreement, Shared};
 use doc_text::DocText;
-use json_text::{Body, Memory};
+use message_body::{Body, Memory};
 use mux_history::{Out, Outs};
 use position_codec::Encoding;
 use rpc_message::Message;

@@ -4,7 +4,7 @@ ghost use Rattle.json.specs.Print.{quoted};
 ghost use Rattle.focus_switch.specs.Texts.{close_text, full_text, open_text};
 
 use json_span::quote;
-use json_text::{Body, Memory};
+use message_body::{Body, Memory};
 use std::alloc::Global;
 
 // Behind what is written, these bytes and a text as a JSON string.

@@ -1,5 +1,5 @@
 // What is kept of an open request.
-use json_text::Body;
+use message_body::Body;
 
 /// A request that was sent on and isn't answered.
 ///

@@ -6,7 +6,7 @@ ghost use Rattle.rpc_message.specs.ValueTexts.{IsIdText};
 ghost use Rattle.id_rewrite.specs.Tables.{AreIds, IsInOrder, has_number, is_of, last_editor, number_of, numbers_of, pending_of, with_cancelled, without};
 
 use crate::pending::{Numbered, NumbersUsed, Pending};
-use json_text::Memory;
+use message_body::Memory;
 use rpc_message::same_id;
 use std::alloc::Global;
 use std::marker::Model;

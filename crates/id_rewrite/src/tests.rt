@@ -1,5 +1,5 @@
 use super::*;
-use json_text::Body;
+use message_body::Body;
 use std::alloc::Global;
 use std::test::Fail;
 

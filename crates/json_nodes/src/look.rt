@@ -9,7 +9,8 @@ ghost use Rattle.std.specs.List.{slice_get};
 
 use crate::node::Node;
 use crate::steps::{first_number, next_number};
-use json_text::{Body, Kind, Memory, Span};
+use json_text::{Kind, Span};
+use message_body::{Body, Memory};
 use json_token::decode;
 use std::alloc::Global;
 

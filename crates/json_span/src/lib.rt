@@ -13,6 +13,7 @@ mod tests;
 mod word;
 
 pub use fault::JsonFault;
-pub use json_text::{Body, Change, Kind, Memory, Span, splice};
+pub use json_text::{Change, Kind, Span, splice};
+pub use message_body::{Body, Memory};
 pub use string::quote;
 pub use tape::{Tape, same};

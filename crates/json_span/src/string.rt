@@ -4,7 +4,7 @@ ghost use Rattle.std.specs.Str.{chars};
 ghost use Rattle.json.specs.Print.{quoted};
 ghost use Rattle.json_text.specs.Json.{string, value};
 
-use json_text::{Body, Memory};
+use message_body::{Body, Memory};
 use serde_json::Value;
 use std::alloc::Global;
 

@@ -17,7 +17,8 @@ ghost use Rattle.json_span.specs.Views.{Reads};
 use crate::fault::JsonFault;
 use crate::state::Reader;
 use json_nodes::{Node, first_in, kind_in, member_in, next_in, same_in, span_in, text_in};
-use json_text::{Body, Kind, Memory, Span};
+use json_text::{Kind, Span};
+use message_body::{Body, Memory};
 use std::alloc::Global;
 use std::marker::Model;
 

@@ -3,7 +3,7 @@ ghost use Rattle.std.specs.Prelude.{◌≡◌, IfOk};
 ghost use Rattle.json_text.specs.Changes.{edits_of};
 ghost use Rattle.json_text.specs.Replace.{replace, Rise};
 
-use crate::body::{Body, Memory};
+use message_body::{Body, Memory};
 use crate::span::Span;
 use std::alloc::Global;
 

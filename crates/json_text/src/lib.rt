@@ -1,7 +1,6 @@
-//! What a JSON text is (RFC 8259), and the plain types that every layer above shares: a body, a span, want of memory.
+//! What a JSON text is (RFC 8259), and the plain types of the layers that read one: kinds of values, places, changes.
 #![tactic(auto)]
 
-mod body;
 mod change;
 mod kind;
 mod span;
@@ -9,7 +8,6 @@ mod span;
 mod tests;
 mod tree;
 
-pub use body::{Body, Memory};
 pub use change::{Change, splice};
 pub use kind::{Kind, Word};
 pub use span::Span;

@@ -1,4 +1,5 @@
-use crate::{Body, Change, Span, splice};
+use crate::{Change, Span, splice};
+use message_body::Body;
 
 #[test]
 fn makes_changes(rt: HostRuntime) {

@@ -4,7 +4,7 @@ ghost use Rattle.std.specs.Io.KnownBytes.{prepend_known};
 ghost use Rattle.outside_io.specs.Faults.{HasCause};
 ghost use Rattle.lspmux_program.specs.Buffers.{BufferView, Taken, Moved, FirstPasses, unused, known_lines, begun_lines, onto_known, line_feed};
 
-use json_text::Memory;
+use message_body::Memory;
 use outside_io::{ReadFault, Source};
 use std::alloc::Global;
 use std::marker::Model;

@@ -5,7 +5,7 @@ ghost use Rattle.lspmux_program.specs.Buffers.{BrokeOff, Came, FirstPasses, know
 ghost use Rattle.lspmux_program.specs.Lines.{Line};
 
 use crate::buffer::{Buffer, Piece, filled, take_piece};
-use json_text::Memory;
+use message_body::Memory;
 use outside_io::{ReadFault, Source};
 use std::alloc::Global;
 

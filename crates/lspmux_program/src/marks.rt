@@ -3,7 +3,7 @@ ghost use Rattle.std.specs.Prelude.{◌≡◌, ◌++◌, IfOk, OnOk};
 ghost use Rattle.std.specs.List.{list_any};
 ghost use Rattle.lspmux_program.specs.Marks.{body_of_text, is_break, is_special, mark_of, marked, text_of_body};
 
-use json_text::{Body, Memory};
+use message_body::{Body, Memory};
 use std::alloc::Global;
 
 // What a byte behind a `^` stands for.

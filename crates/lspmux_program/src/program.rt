@@ -9,7 +9,7 @@ ghost use Rattle.lspmux_program.specs.Runs.{built_in, drive_of};
 use crate::drive::drive;
 use crate::report::{report, write_fault};
 use crate::stop::Stop;
-use json_text::{Body, Memory};
+use message_body::{Body, Memory};
 use mux_history::Journal;
 use mux_hub::{Hub, Limits, Server};
 use outside_io::{Sink, Source};

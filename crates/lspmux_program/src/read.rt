@@ -9,7 +9,7 @@ ghost use Rattle.lspmux_program.specs.Causes.{why_of};
 
 use crate::marks::body_of_text;
 use crate::word::{Word, why_of, word_of};
-use json_text::Memory;
+use message_body::Memory;
 use mux_history::Cause;
 use std::alloc::Global;
 

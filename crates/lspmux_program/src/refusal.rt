@@ -7,7 +7,7 @@ ghost use Rattle.mux_model.specs.Fits.{fits};
 ghost use Rattle.lspmux_program.specs.Runs.{content, judged, reading_bytes};
 
 use crate::read::cause_of;
-use json_text::Memory;
+use message_body::Memory;
 use mux_history::{Cause, Journal};
 use mux_hub::Hub;
 use std::alloc::Global;

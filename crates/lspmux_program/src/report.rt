@@ -8,7 +8,7 @@ ghost use Rattle.lspmux_program.specs.Reports.{Wrote, Reported};
 
 use crate::refusal::Refusal;
 use crate::stop::Stop;
-use json_text::Memory;
+use message_body::Memory;
 use outside_io::{Sink, write_whole};
 use std::alloc::Global;
 

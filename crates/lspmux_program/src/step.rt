@@ -13,7 +13,7 @@ ghost use Rattle.lspmux_program.specs.declared.refusal.Refusal.{Refusal};
 use crate::read::cause_of;
 use crate::refusal::{Refusal, refusal_of};
 use crate::write::out_lines;
-use json_text::Memory;
+use message_body::Memory;
 use mux_history::{Cause, Journal};
 use mux_hub::{Hub, StepFault};
 use outside_io::{Cut, Sink, write_whole};

@@ -5,7 +5,7 @@ ghost use Rattle.lspmux_program.specs.Stops.{stop_at, fault_at};
 use crate::line::LineStop;
 use crate::refusal::Refusal;
 use crate::step::LineFault;
-use json_text::Memory;
+use message_body::Memory;
 
 /// Why a run stops before the end of its input.
 #[derive(Clone, Copy, Debug, PartialEq, Eq)]

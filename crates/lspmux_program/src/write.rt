@@ -3,7 +3,7 @@ ghost use Rattle.std.specs.Prelude.{◌≡◌, ◌++◌, IfOk, OnOk, string_byte
 ghost use Rattle.lspmux_program.specs.Outs.{head_of, out_line, out_lines};
 
 use crate::marks::write_body;
-use json_text::Memory;
+use message_body::Memory;
 use mux_history::{Out, Outs};
 use std::alloc::Global;
 

@@ -1,7 +1,7 @@
 // What the multiplexer is told.
 ghost use Rattle.std.specs.Prelude.{◌≡◌, IfOk};
 
-use json_text::{Body, Memory};
+use message_body::{Body, Memory};
 use std::alloc::Global;
 
 /// Why an editor's link ended.

@@ -3,7 +3,7 @@ ghost use Rattle.std.specs.Prelude.{◌≡◌, IfOk};
 
 use crate::cause::Cause;
 use crate::outs::Outs;
-use json_text::Memory;
+use message_body::Memory;
 use std::alloc::Global;
 
 /// A cause and its outs. The list of the entries is the history.

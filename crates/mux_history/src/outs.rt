@@ -2,7 +2,7 @@
 ghost use Rattle.std.specs.Prelude.{◌≡◌, [], ◌∷◌, ◌++◌, length, take, IfOk, OnOk, OnErr, option_copied, slice_get, nat_eq};
 
 use crate::out::Out;
-use json_text::Memory;
+use message_body::Memory;
 use std::alloc::Global;
 use std::marker::Model;
 

@@ -18,7 +18,7 @@ ghost use Rattle.mux_hub.specs.Tables.{asked_for, ids_of, open_in, built_in, pha
 use crate::pending::Pending;
 use crate::tables::Tables;
 use crate::turns::place_by_id;
-use json_text::{Body, Memory};
+use message_body::{Body, Memory};
 use lsp_method::Class;
 use mux_history::Cause;
 use mux_members::{

@@ -1,5 +1,5 @@
 // Why a step gave no outs.
-use json_text::Memory;
+use message_body::Memory;
 use mux_history::JournalFault;
 
 /// A step that gave no outs. The hub is spent from then on.

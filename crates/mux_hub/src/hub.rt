@@ -12,7 +12,7 @@ ghost use Rattle.mux_hub.specs.Turns.{turn, Gives};
 use crate::fault::StepFault;
 use crate::tables::Tables;
 use focus_switch::Shared;
-use json_text::{Body, Memory};
+use message_body::{Body, Memory};
 use mux_history::{Cause, Entry, Journal, Outs};
 use mux_model::{Limits, Phase, Server, Stage};
 use std::alloc::Global;

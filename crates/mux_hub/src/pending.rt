@@ -1,4 +1,4 @@
-use json_text::Body;
+use message_body::Body;
 
 /// A request that was sent to the start for the editor and isn't answered: its number there, and the bytes of the id
 /// that the editor gave it.

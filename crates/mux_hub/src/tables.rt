@@ -9,7 +9,7 @@ ghost use Rattle.mux_hub.specs.Tables.{joined_in};
 use crate::pending::Pending;
 use doc_text::DocText;
 use focus_switch::Shared;
-use json_text::Body;
+use message_body::Body;
 use mux_history::Cause;
 use mux_model::{Phase, Stage};
 use std::marker::Model;

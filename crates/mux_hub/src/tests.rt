@@ -2,7 +2,7 @@ ghost use Rattle.std.specs.Prelude.{◌≡◌, ◌≤◌, [], length, IfOk};
 ghost use Rattle.mux_hub.specs.Hubs.{HubStands, Tells, body_length};
 
 use super::*;
-use json_text::{Body, Memory};
+use message_body::{Body, Memory};
 use mux_history::{Cause, MemJournal, Out, Outs};
 use std::alloc::{AllocError, Global};
 use std::process::Abort;

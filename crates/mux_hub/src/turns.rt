@@ -18,7 +18,7 @@ ghost use Rattle.mux_hub.specs.Turns.{Turn, turn, joined, noted, noticed, docume
 use crate::pending::Pending;
 use crate::tables::Tables;
 use itoa::Buffer;
-use json_text::{Body, Memory};
+use message_body::{Body, Memory};
 use mux_history::{Cause, Out, Outs};
 use mux_members::{Notice, encoding, initialize_request, notice_in};
 use mux_model::{Phase, Stage};

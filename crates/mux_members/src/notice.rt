@@ -12,7 +12,7 @@ ghost use Rattle.mux_members.specs.Notices.{AreTexts, IsTextIf, Says, is_of_docu
 use crate::envelope::{notification_method, notification_params};
 use crate::look::{bytes, is_integer, is_text, member, spells, within};
 use json_span::Tape;
-use json_text::{Body, Memory};
+use message_body::{Body, Memory};
 use rpc_message::Message;
 use std::alloc::Global;
 

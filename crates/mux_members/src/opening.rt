@@ -11,7 +11,7 @@ ghost use Rattle.mux_members.specs.Finds.{FoundText, is_ascii};
 
 use crate::look::{first_item, is_text, member, next_value, within};
 use json_span::{Tape, quote};
-use json_text::{Body, Memory};
+use message_body::{Body, Memory};
 use rpc_message::{Message, initialize};
 use std::alloc::Global;
 

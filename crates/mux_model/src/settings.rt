@@ -1,4 +1,4 @@
-use json_text::Body;
+use message_body::Body;
 
 /// What the multiplexer allows.
 #[derive(Clone, Copy, Debug)]

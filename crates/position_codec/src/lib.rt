@@ -6,7 +6,7 @@ ghost use Rattle.std.specs.Str.{chars};
 ghost use Rattle.position_codec.specs.Position.{units, lines, offset_at, starts};
 ghost use Rattle.position_codec.specs.Walk.{past, ends_line, starts_between};
 
-use json_text::Memory;
+use message_body::Memory;
 use std::alloc::Global;
 
 /// How the characters of a line are counted: LSP 3.17, `PositionEncodingKind`.

@@ -8,7 +8,8 @@ ghost use Rattle.rpc_message.specs.Message.{are_params, answered, id_of, is_erro
 use crate::id::is_integer;
 use crate::names::names_once;
 use json_nodes::{Node, bytes_in, kind_in, member_in, string_in};
-use json_text::{Kind, Memory};
+use json_text::Kind;
+use message_body::Memory;
 use json_token::spells_text;
 use std::alloc::Global;
 

@@ -14,7 +14,8 @@ use crate::parts::{member_bytes, member_span, with_id};
 use crate::sort::{Malformed, Sort};
 use json_nodes::{Node, text_in};
 use json_span::{JsonFault, Tape};
-use json_text::{Body, Change, Memory, Span, splice};
+use json_text::{Change, Span, splice};
+use message_body::{Body, Memory};
 use std::alloc::Global;
 use std::marker::Model;
 

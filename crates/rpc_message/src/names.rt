@@ -8,7 +8,7 @@ ghost use Rattle.rpc_message.specs.Message.{no_name_twice};
 ghost use Rattle.rpc_message.specs.Names.{has_name};
 
 use json_nodes::{Node, first_in, last_spelled, name_in, next_in};
-use json_text::Memory;
+use message_body::Memory;
 use json_token::decode;
 use std::alloc::Global;
 use std::collections::BTreeSet;

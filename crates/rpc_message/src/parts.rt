@@ -11,7 +11,8 @@ ghost use Rattle.rpc_message.specs.Message.{member_bytes, place_in};
 ghost use Rattle.rpc_message.specs.Texts.{with_id_text};
 
 use json_nodes::{Node, member_in, span_in};
-use json_text::{Body, Memory, Span};
+use json_text::Span;
+use message_body::{Body, Memory};
 use std::alloc::Global;
 
 // The bytes from one place to another, where there are such places.

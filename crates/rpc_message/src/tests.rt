@@ -2,7 +2,8 @@ use crate::{
     ErrorCode, Malformed, Message, Sort, error_answer, error_reply, initialize, initialized,
     notification, ok_reply, request, same_id,
 };
-use json_text::{Body, Change, Memory};
+use json_text::Change;
+use message_body::{Body, Memory};
 use std::alloc::{AllocError, Global};
 
 // What a short body is.
