@@ -1,37 +1,32 @@
 -- Each response to an editor has the id of an open request of it.
-use Rattle.std.proofs.Common.{◌≡◌, ℕ, ◌+◌, ◌<◌, ◌≤◌, Bool, true, false, cond, List, [], ◌∷◌, ◌++◌, nat_eq, codes, decimal, if◌then◌else◌, None, refl, sym, ◌∙◌, ap, subst, arith}
+use Rattle.std.proofs.Common.{◌≡◌, ℕ, ◌+◌, ◌<◌, ◌≤◌, Bool, true, false, cond, List, [], ◌∷◌, ◌++◌, nat_eq, if◌then◌else◌, None, refl, sym, ◌∙◌, ap, subst, arith}
 use Rattle.mux_history.specs.declared.cause.Cause.TheVariants.{Joined, FromEditor, EditorGone, Started, StartFailed, FromServer, ServerGone, Drained, Tick}
-use Rattle.mux_history.specs.declared.entry.Entry.{Entry}
 use Rattle.mux_history.specs.declared.out.Out.TheVariants.{ToEditor, ToServer, Spawn, CloseEditor, EndServer}
 use Rattle.json_text.specs.Json.{Json}
-use Rattle.rpc_message.specs.Message.{Message, error, Id, not_message, message_of, id_bytes, result_bytes}
-use Rattle.rpc_message.specs.Texts.{ok_text, error_text, initialized_text, with_id_text, error_tree}
-use Rattle.mux_model.specs.Event.{Event, took, did, heard, said, events_of}
-use Rattle.mux_model.specs.Legal.{Legal}
-use Rattle.mux_model.specs.Phases.{desk_of, is_malformed}
-use Rattle.mux_model.specs.Requests.{asking_of, answered_id, open_of, open_behind, is_open, asks, without}
-use Rattle.mux_model.specs.Rows.{malformed_code, malformed_text}
-use Rattle.mux_model.specs.Settings.{Settings}
-use Rattle.mux_model.specs.Spawns.{starts_of}
+use Rattle.rpc_message.specs.Message.{Message, error, Id, message_of}
+use Rattle.mux_model.specs.Event.{Event, took, did, said, heard, with_cause}
+use Rattle.mux_model.specs.Phases.{is_malformed}
+use Rattle.mux_model.specs.Requests.{answered_id, open_of, open_behind, is_open, asks, without}
 use Rattle.session_laws.specs.Always.{Always}
 use Rattle.session_laws.specs.ClientRules.{IsAnswer, null_errors_of, null_errors_behind, malformed_of, malformed_behind, ClientRule2, KeepsClient2}
 use Rattle.session_laws.specs.Parts.{editor_part, is_of_editor}
-use Rattle.session_laws.proofs.Asked.{IsKnown}
-use Rattle.session_laws.proofs.Bodies.{welcome_says, refusal_says, malformed_says, IsResponseTo, is_result, is_error, passed_says}
-use Rattle.session_laws.proofs.Bricks.{takes, rejects, begins, greets, spawns, forwards, refuses, welcomes, passes, tells, Lays, Both, lays_both}
-use Rattle.session_laws.proofs.Facts.{Facts, facts_law, no_facts}
-use Rattle.session_laws.proofs.Keeps.{every_history}
+use Rattle.session_laws.proofs.Bodies.{IsResponseTo, is_result, is_error}
 use Rattle.session_laws.proofs.Rules.{rule_more, word_more, word_of_part}
-use Rattle.session_laws.proofs.Table.{table_keeps}
-use Rattle.session_laws.proofs.Waits.{Waits, waits_at, asked_is}
 use Rattle.session_laws.proofs.Words.{number_same}
+use Rattle.mux_history.specs.declared.cause.Cause.{Cause}
+use Rattle.mux_history.specs.declared.entry.Entry.{Entry}
+use Rattle.mux_model.specs.Legal.{Legal}
+use Rattle.mux_model.specs.Settings.{Settings}
+use Rattle.mux_model.specs.Spawns.{starts_of}
+use Rattle.session_laws.proofs.FactLaws.{fact_laws, no_facts}
+use Rattle.session_laws.proofs.Known.{Law, Told, nulls, begun, responds, law_holds}
 
 -- the rule holds, and no more errors under a null id went to e than malformed bodies came from it
-record Here (e : ℕ) (events : List Event) : Type 0 where
-  always : Always (ClientRule2 e) (editor_part e events)
-  counted : null_errors_of (editor_part e events) ≤ malformed_of (editor_part e events)
+pub record Here (e : ℕ) (events : List Event) : Type 0 where
+  pub always : Always (ClientRule2 e) (editor_part e events)
+  pub counted : null_errors_of (editor_part e events) ≤ malformed_of (editor_part e events)
 
-abbrev Everywhere : List Event → Type 0
+abbrev pub Everywhere : List Event → Type 0
 Everywhere events = (e : ℕ) → Here e events
 
 -- what is open by the part is open
@@ -59,7 +54,7 @@ abbrev is_to_editor : Event → Bool
 is_to_editor (did (ToEditor e body) m) = true
 is_to_editor other = false
 
-free : (e : ℕ) (part : List Event) (event : Event) → is_to_editor event ≡ false → ClientRule2 e part event
+pub free : (e : ℕ) (part : List Event) (event : Event) → is_to_editor event ≡ false → ClientRule2 e part event
 free e part (took cause m) h = tt
 free e part (did (ToEditor n body) m) h = absurd (cc)
 free e part (did (ToServer s body) m) h = tt
@@ -123,7 +118,7 @@ module _ (e : ℕ) (events : List Event) (event : Event) where
     counted = let nulls = nulls_still kept in let later = malformed_later in let before = h.counted in omega (arith, nulls, later, before);
   }
 
-more : (events : List Event) (event : Event) → is_to_editor event ≡ false → Everywhere events → Everywhere (events ++ event ∷ [])
+pub more : (events : List Event) (event : Event) → is_to_editor event ≡ false → Everywhere events → Everywhere (events ++ event ∷ [])
 more events event other h e = more_of e events event (λ same. free e (editor_part e events) event other) (nulls_kept (null_errors_of (editor_part e events)) event other) (h e)
 
 -- a response to an open request
@@ -136,7 +131,7 @@ not_null : (n k : ℕ) (body : List ℕ) (id : Id) (m : Message) → IsResponseT
 not_null n k body id m (is_result r e) = ap (λ x. null_errors_behind n (did (ToEditor k body) x)) e
 not_null n k body id m (is_error x e) = ap (λ x. null_errors_behind n (did (ToEditor k body) x)) e
 
-to_editor : (events : List Event) (n : ℕ) (body : List ℕ) (id : Id) → IsResponseTo id (message_of body) → is_open id (open_of n events) ≡ true → Everywhere events → Everywhere (events ++ said (ToEditor n body) ∷ [])
+pub to_editor : (events : List Event) (n : ℕ) (body : List ℕ) (id : Id) → IsResponseTo id (message_of body) → is_open id (open_of n events) ≡ true → Everywhere events → Everywhere (events ++ said (ToEditor n body) ∷ [])
 to_editor events n body id response waits h e = more_of e events (said (ToEditor n body))
     (λ same. answers (open_of e (editor_part e events)) (null_errors_of (editor_part e events)) (malformed_of (editor_part e events)) id (message_of body) response
     (ap (is_open id) (open_by_part e events ∙ ap (λ k. open_of k events) (sym (number_same n e same))) ∙ waits))
@@ -144,7 +139,7 @@ to_editor events n body id response waits h e = more_of e events (said (ToEditor
 
 -- a malformed body, and the error under a null id that answers it
 module _ (events : List Event) (n : ℕ) (body text : List ℕ) (x : Json) (malformed : is_malformed (message_of body) ≡ true) (says : message_of text ≡ error None x) where
-  abbrev heard_it : List Event
+  abbrev pub heard_it : List Event
   heard_it = events ++ took (FromEditor n body) (message_of body) ∷ []
 
   one_malformed : (e : ℕ) → nat_eq n e ≡ true → malformed_of (editor_part e heard_it) ≡ malformed_of (editor_part e events) + 1
@@ -161,7 +156,7 @@ module _ (events : List Event) (n : ℕ) (body text : List ℕ) (x : Json) (malf
   one_null : (e k : ℕ) → null_errors_behind k (said (ToEditor n text)) ≡ k + 1
   one_null e k = ap (λ m. null_errors_behind k (did (ToEditor n text) m)) says
 
-  refused : Everywhere events → Everywhere (heard_it ++ said (ToEditor n text) ∷ [])
+  pub refused : Everywhere events → Everywhere (heard_it ++ said (ToEditor n text) ∷ [])
   refused h e = record {
     always = rule_more (ClientRule2 e) (is_of_editor e) heard_it (said (ToEditor n text)) taken.always
         (λ same. subst (IsAnswer (open_of e (editor_part e heard_it)) (null_errors_of (editor_part e heard_it)) (malformed_of (editor_part e heard_it))) (sym says) (fewer e (h e) same));
@@ -186,26 +181,24 @@ module _ (events : List Event) (n : ℕ) (body text : List ℕ) (x : Json) (malf
           let later = malformed_later e heard_it (said (ToEditor n text)) in
           omega (arith, count, before, later)
 
-client_law : (settings : Settings) → Lays settings Facts Everywhere
-client_law settings events (takes (Joined n) fits built still) known h = more events (heard (Joined n)) refl h
-client_law settings events (takes cause fits built still) known h = more events (heard cause) refl h
-client_law settings events (rejects n body fits built malformed) known h = refused events n body (malformed_text (message_of body)) (error_tree (malformed_code (message_of body))) malformed (malformed_says (message_of body)) h
-client_law settings events (begins n body params fits stage says) known h = more (events ++ took (Started n) not_message ∷ []) (said (ToServer n body)) refl (more events (took (Started n) not_message) refl h)
-client_law settings events (greets n body r fits built stage says) known h = more (events ++ took (FromServer n body) (message_of body) ∷ []) (said (ToServer n initialized_text)) refl
-    (more events (took (FromServer n body) (message_of body)) refl h)
-client_law settings events (spawns g) known h = more events (did (Spawn (starts_of events) g) not_message) refl h
-client_law settings events (forwards n e body id method params k) known h = more events (said (ToServer n (with_id_text body (decimal (asking_of n events).next)))) refl h
-client_law settings events (refuses e body id method params code k) known h = to_editor events e (error_text (id_bytes body) code) id (is_error (error_tree code) (refusal_says body id method params code k.says)) k.is_open h
-client_law settings events (welcomes e body id r k) known h =
-    let w : Waits (desk_of e events).initialize (open_of e events) = waits_at events e k.waits known.1 in
-    to_editor events e (ok_text (id_bytes (desk_of e events).initialize) (result_bytes body)) w.id (is_result r (welcome_says (desk_of e events).initialize body w.id (codes "initialize") w.params id r w.asks k.says)) w.waits h
-client_law settings events (passes n asked body k) known h =
-    let a : IsKnown events asked.asker = asked_is events n asked body k known.0.1 in
-    to_editor events asked.asker.editor (with_id_text body asked.asker.bytes) asked.asker.id (passed_says body asked.asker.bytes asked.asker.id k.says a.text) a.waits h
-client_law settings events (tells n body k) known h = more events (said (ToServer n body)) refl h
+took_it : (before : List Event) (cause : Cause) → Everywhere before → Everywhere (with_cause before cause)
+took_it before (Joined e) h = more before (heard (Joined e)) refl h
+took_it before cause h = more before (heard cause) refl h
+
+module _ (before : List Event) (cause : Cause) (events : List Event) (e : ℕ) (body : List ℕ) where
+  told_it : Told before cause events e body → Everywhere before → Everywhere events → Everywhere (events ++ said (ToEditor e body) ∷ [])
+  told_it (nulls asked x there from place malformed says) h i = subst (λ z. Everywhere (z ++ said (ToEditor e body) ∷ [])) (sym (place ∙ ap (with_cause before) from)) (refused before e asked body x malformed says h)
+  told_it (begun id params r at asked_so waiting says) h i = to_editor events e body id (is_result r says) waiting i
+  told_it (responds id there response waiting late) h i = to_editor events e body id response waiting i
+
+law : (settings : Settings) → Law settings Everywhere
+law settings = record {
+  took = λ before cause fits built known h. took_it before cause h;
+  to_editor = λ before cause events e body told known here h i. told_it before cause events e body told h i;
+  to_server = λ before cause events s body why known here h i. more events (said (ToServer s body)) refl i;
+  close = λ before cause events e there known here h i. more events (said (CloseEditor e)) refl i;
+  spawn = λ events g here i. more events (said (Spawn (starts_of events) g)) refl i;
+}
 
 pub client_2_law : (settings : Settings) (history : List Entry) → Legal settings history → KeepsClient2 history
-client_2_law settings history legal =
-    let all : Both Facts Everywhere (events_of history) = every_history settings (Both Facts Everywhere)
-    (table_keeps settings (λ events brick. lays_both settings Facts Everywhere (facts_law settings) (client_law settings) events brick tt)) (no_facts, (λ e. record { always = tt; counted = omega arith })) history legal in
-    λ e. (all.1 e).always
+client_2_law settings history legal e = (law_holds settings (fact_laws settings) Everywhere (law settings) (λ n. record { always = tt; counted = omega arith }) no_facts history legal e).always

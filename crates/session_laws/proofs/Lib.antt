@@ -1,25 +1,29 @@
-mod Client2Law
-mod Client3Law
-mod Server1Law
-mod Server2Law
-mod Server3Law
-mod Server4Law
 pub mod Asked
 pub mod Bodies
-pub mod Bricks
+pub mod Client2Law
+pub mod Client3Law
 pub mod DocumentRow
 pub mod Editors
-pub mod Facts
+pub mod FactLaws
 pub mod Folds
 pub mod Keeps
+pub mod Known
 pub mod Late
 pub mod Lists
 pub mod Opened
+pub mod PartLaws
+pub mod Reasons
+pub mod RestLaws
+pub mod Rising
 pub mod Rules
-pub mod ServerLaw
+pub mod Server1Law
+pub mod Server2Law
+pub mod Server3Law
+pub mod Server4Law
 pub mod Sessions
 pub mod Starts
 pub mod Table
 pub mod Tellings
 pub mod Waits
+pub mod Why
 pub mod Words

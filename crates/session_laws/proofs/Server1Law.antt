@@ -1,25 +1,31 @@
 -- Bodies go to a start's program while it runs.
-use Rattle.std.proofs.Common.{◌≡◌, ℕ, Bool, true, false, not, ◌&&◌, List, codes, IsTrue, if◌then◌else◌, refl, ap, ap₂}
-use Rattle.mux_history.specs.declared.cause.Cause.TheVariants.{Started}
-use Rattle.mux_history.specs.declared.entry.Entry.{Entry}
+use Rattle.std.proofs.Common.{◌≡◌, ℕ, Bool, true, false, not, ◌&&◌, List, codes, if◌then◌else◌, refl, ap₂, cond, [], ◌∷◌, ◌++◌, nat_eq, sym, ◌∙◌, ap, subst, subst₂, arith}
+use Rattle.mux_history.specs.declared.cause.Cause.TheVariants.{Started, StartFailed, FromServer, ServerGone}
 use Rattle.mux_history.specs.declared.out.Out.TheVariants.{ToEditor, ToServer, Spawn, CloseEditor, EndServer}
 use Rattle.rpc_message.specs.Message.{Message, not_message, message_of}
 use Rattle.mux_model.specs.declared.stage.Stage.{Stage}
 use Rattle.mux_model.specs.declared.stage.Stage.TheVariants.{Unspawned, Spawning, Initializing, Ready, Stopping, Ending, Ended}
-use Rattle.mux_model.specs.Event.{Event, took, did, requests}
+use Rattle.mux_model.specs.Event.{Event, took, did, requests, heard, said, with_cause}
+use Rattle.mux_model.specs.Stages.{stage_started, stage_hears, stage_told, is_first_result, Life, life_of, life_behind}
+use Rattle.session_laws.specs.ServerRules.{Program, program_behind, ServerRule1, program_of, KeepsServer1}
+use Rattle.session_laws.proofs.Why.{WhyToServer, begins, greets, forwarded, tells}
+use Rattle.session_laws.proofs.PartLaws.{is_to_server, ServerRule, server_history}
+use Rattle.mux_history.specs.declared.cause.Cause.{Cause}
+use Rattle.mux_history.specs.declared.entry.Entry.{Entry}
 use Rattle.mux_model.specs.Legal.{Legal}
 use Rattle.mux_model.specs.Settings.{Settings}
-use Rattle.mux_model.specs.Stages.{stage_started, stage_hears, stage_told, is_first_result}
-use Rattle.session_laws.specs.Parts.{server_part}
-use Rattle.session_laws.specs.ServerRules.{Program, program_behind, program_of, ServerRule1, KeepsServer1}
-use Rattle.session_laws.proofs.Bricks.{is_spawning}
-use Rattle.session_laws.proofs.ServerLaw.{Moves, server_history, is_to_server}
+use Rattle.mux_model.specs.Spawns.{starts_of}
+use Rattle.session_laws.specs.Parts.{server_part, is_of_server}
+use Rattle.session_laws.proofs.Folds.{life_more}
+use Rattle.session_laws.proofs.Known.{Law}
+use Rattle.session_laws.proofs.Rules.{word_more}
+use Rattle.session_laws.proofs.Words.{pick, pick_life, same_number, number_same}
 
 -- it runs and isn't over
-abbrev IsUp : Program → Type 0
+abbrev pub IsUp : Program → Type 0
 IsUp p = (p.started ≡ true) × (p.over ≡ false)
 
-abbrev Link : Stage → Program → Type 0
+abbrev pub Link : Stage → Program → Type 0
 Link Unspawned p = p.over ≡ false
 Link Spawning p = p.over ≡ false
 Link Initializing p = IsUp p
@@ -28,13 +34,7 @@ Link Stopping p = IsUp p
 Link Ending p = Unit {0}
 Link Ended p = Unit {0}
 
-abbrev Allows : Program → Message → Type 0
-Allows p m = IsTrue (p.started && not p.over)
-
-abbrev Nothing : ℕ → Program → Type 0
-Nothing n p = Unit {0}
-
-free : (part : List Event) (event : Event) → is_to_server event ≡ false → ServerRule1 part event
+pub free : (part : List Event) (event : Event) → is_to_server event ≡ false → ServerRule1 part event
 free part (took cause m) h = tt
 free part (did (ToServer s body) m) h = absurd (cc)
 free part (did (ToEditor e body) m) h = tt
@@ -42,11 +42,11 @@ free part (did (Spawn s g) m) h = tt
 free part (did (CloseEditor e) m) h = tt
 free part (did (EndServer s) m) h = tt
 
-two_stages : (b : Bool) (x y : Stage) (p : Program) → Link x p → Link y p → Link (if b then x else y) p
+pub two_stages : (b : Bool) (x y : Stage) (p : Program) → Link x p → Link y p → Link (if b then x else y) p
 two_stages true x y p h g = h
 two_stages false x y p h g = g
 
-hears : (stage : Stage) (p : Program) (m : Message) → Link stage p → Link (stage_hears stage m) p
+pub hears : (stage : Stage) (p : Program) (m : Message) → Link stage p → Link (stage_hears stage m) p
 hears Unspawned p m h = h
 hears Spawning p m h = h
 hears Initializing p m h = two_stages (is_first_result m) Ready Initializing p h h
@@ -55,36 +55,71 @@ hears Stopping p m h = h
 hears Ending p m h = tt
 hears Ended p m h = tt
 
-starts : (stage : Stage) (p : Program) (n : ℕ) → is_spawning stage ≡ false → Link stage p → Link (stage_started stage) (program_behind p (took (Started n) not_message))
-starts Unspawned p n other h = h
-starts Spawning p n other h = absurd (cc)
-starts Initializing p n other h = (refl, h.1)
-starts Ready p n other h = (refl, h.1)
-starts Stopping p n other h = (refl, h.1)
-starts Ending p n other h = tt
-starts Ended p n other h = tt
-
-is_up : (p : Program) → IsUp p → (p.started && not p.over) ≡ true
+pub is_up : (p : Program) → IsUp p → (p.started && not p.over) ≡ true
 is_up p h = ap₂ (λ a b. a && not b) h.0 h.1
 
-forwards : (p : Program) (m : Message) → IsUp p → Link (stage_told Ready m) p
-forwards p m h = two_stages (requests (codes "shutdown") m) Stopping Ready p h h
+-- the program runs in the stages that say so
+abbrev Running : List Event → Type 0
+Running events = (s : ℕ) → Link (life_of s events).stage (program_of (server_part s events))
 
-moves : (settings : Settings) → Moves program_behind (record { started = false; over = false }) ServerRule1 Allows Link Nothing settings
-moves settings = record {
-  reads = λ part n body m h. h;
+more : (events : List Event) (event : Event) → ((s : ℕ) → Link (life_behind s (life_of s events) event).stage (cond (is_of_server s event) (program_behind (program_of (server_part s events)) event) (program_of (server_part s events)))) → Running (events ++ event ∷ [])
+more events event f s = subst₂ (λ (l : Life) w. Link l.stage w) (sym (life_more s events event)) (sym (word_more program_behind (record { started = false; over = false }) (is_of_server s) events event)) (f s)
+
+starts : (stage : Stage) (p : Program) (n : ℕ) → Link stage p → Link (stage_started stage) (program_behind p (took (Started n) not_message))
+starts Unspawned p n h = h
+starts Spawning p n h = (refl, h)
+starts Initializing p n h = (refl, h.1)
+starts Ready p n h = (refl, h.1)
+starts Stopping p n h = (refl, h.1)
+starts Ending p n h = tt
+starts Ended p n h = tt
+
+told : (stage : Stage) (p : Program) (m : Message) → Link stage p → Link (stage_told stage m) p
+told Ready p m h = two_stages (requests (codes "shutdown") m) Stopping Ready p h h
+told Unspawned p m h = h
+told Spawning p m h = h
+told Initializing p m h = h
+told Stopping p m h = h
+told Ending p m h = h
+told Ended p m h = h
+
+running_took : (before : List Event) (cause : Cause) → Running before → Running (with_cause before cause)
+running_took events (Started n) h = more events (took (Started n) not_message) (λ s. pick Link (nat_eq n s) (record { stage = stage_started (life_of s events).stage; started = true }) (life_of s events) _ (program_of (server_part s events))
+    (λ same. starts (life_of s events).stage (program_of (server_part s events)) n (h s)) (h s))
+running_took events (StartFailed n) h = more events (took (StartFailed n) not_message) (λ s. pick Link (nat_eq n s) (record { stage = Ended; started = (life_of s events).started }) (life_of s events) _ (program_of (server_part s events)) (λ same. tt) (h s))
+running_took events (ServerGone n) h = more events (took (ServerGone n) not_message) (λ s. pick Link (nat_eq n s) (record { stage = Ended; started = (life_of s events).started }) (life_of s events) _ (program_of (server_part s events)) (λ same. tt) (h s))
+running_took events (FromServer n body) h = more events (took (FromServer n body) (message_of body)) (λ s. pick Link (nat_eq n s) (record { stage = stage_hears (life_of s events).stage (message_of body); started = (life_of s events).started }) (life_of s events) _ (program_of (server_part s events))
+    (λ same. hears (life_of s events).stage (program_of (server_part s events)) (message_of body) (h s)) (h s))
+running_took events cause h = more events (heard cause) h
+
+law : (settings : Settings) → Law settings Running
+law settings = record {
+  took = λ before cause fits built known h. running_took before cause h;
+  to_editor = λ before cause events e body told known here h i. more events (said (ToEditor e body)) i;
+  to_server = λ before cause events n body why known here h i. more events (said (ToServer n body))
+      (λ s. pick Link (nat_eq n s) (record { stage = stage_told (life_of s events).stage (message_of body); started = (life_of s events).started }) (life_of s events) _ (program_of (server_part s events))
+      (λ same. told (life_of s events).stage (program_of (server_part s events)) (message_of body) (i s)) (i s));
+  close = λ before cause events e there known here h i. more events (said (CloseEditor e)) i;
+  spawn = λ events g here i. more events (said (Spawn (starts_of events) g)) (λ s. pick_life Link (nat_eq (starts_of events) s) (record { stage = Spawning; started = false }) (life_of s events) (program_of (server_part s events))
+      (λ same. subst (λ z. Link z (program_of (server_part s events))) (ap (λ (l : Life). l.stage) (here.starts s (omega (arith, number_same (starts_of events) s same)))) (i s)) (i s));
+}
+
+-- a body finds the program running
+module _ (settings : Settings) (before : List Event) (cause : Cause) (events : List Event) (s : ℕ) (body : List ℕ) where
+  up : WhyToServer settings before cause events s body → Running before → Running events → IsUp (program_of (server_part s events))
+  up (begins params at from place says) h i = subst (λ z. Link z (program_of (server_part s events)))
+      (ap (λ z. (life_of s z).stage) (place ∙ ap (with_cause before) from) ∙ ap (λ (l : Life). l.stage) (life_more s before (heard (Started s)))
+      ∙ ap (λ b. (if b then record { stage = stage_started (life_of s before).stage; started = true } else life_of s before).stage) (same_number s) ∙ ap stage_started at) (i s)
+  up (greets params answer at now from first part says) h i = subst (λ z. Link z (program_of (server_part s events))) now (i s)
+  up (forwarded a still k) h i = subst (λ z. Link z (program_of (server_part s events))) k.ready (i s)
+  up (tells still k) h i = subst (λ z. Link z (program_of (server_part s events))) k.ready (i s)
+
+rule : (settings : Settings) → ServerRule settings Running ServerRule1
+rule settings = record {
+  law = law settings;
   free = free;
-  knows = λ s events. tt;
-  starts = starts;
-  fails = λ stage p n h. tt;
-  hears = λ stage p n body m other h. hears stage p m h;
-  goes = λ stage p n h. tt;
-  spawned = λ p h. h;
-  begun = λ p n body m params says h. (ap not h, (refl, h));
-  greeted = λ p n body other m k r params says told h. (is_up p h, h);
-  forwarded = λ p n body m next method params room says known h. (is_up p h, forwards p m h);
-  told = λ s events n body k h. (is_up (program_of (server_part s events)) h, forwards (program_of (server_part s events)) (message_of body) h);
+  sent = λ before cause events s body why known here h i. is_up (program_of (server_part s events)) (up settings before cause events s body why h i);
 }
 
 pub server_1_law : (settings : Settings) (history : List Entry) → Legal settings history → KeepsServer1 history
-server_1_law settings history legal s = server_history program_behind (record { started = false; over = false }) ServerRule1 Allows Link Nothing settings (moves settings) refl history legal s
+server_1_law settings history legal = server_history settings Running ServerRule1 (rule settings) (λ s. refl) history legal

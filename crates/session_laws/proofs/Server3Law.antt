@@ -1,26 +1,26 @@
 -- The requests to a start are numbered from 1.
-use Rattle.std.proofs.Common.{◌≡◌, ℕ, ◌+◌, ◌<◌, ◌^◌, Bool, true, false, cond, List, [], ◌∷◌, filter, fold, nat_eq, nat_lt, codes, decimal, if◌then◌else◌, Option, refl, sym, ◌∙◌, ap, subst, arith, ltb-true}
+use Rattle.std.proofs.Common.{◌≡◌, ℕ, ◌+◌, Bool, true, false, cond, List, [], ◌∷◌, filter, fold, nat_eq, codes, decimal, if◌then◌else◌, refl, sym, ◌∙◌, ap, ◌<◌, ◌^◌, subst, arith, ltb-true}
 use Rattle.std.specs.Fmt.{digits}
-use Rattle.json_text.specs.Json.{Json}
 use Rattle.mux_history.specs.declared.cause.Cause.TheVariants.{Joined, FromEditor, EditorGone, Started, StartFailed, FromServer, ServerGone, Drained, Tick}
-use Rattle.mux_history.specs.declared.entry.Entry.{Entry}
 use Rattle.mux_history.specs.declared.out.Out.TheVariants.{ToEditor, ToServer, Spawn, CloseEditor, EndServer}
 use Rattle.rpc_message.specs.Message.{Message, request, notification, result, error, not_json, not_message, integer, message_of}
 use Rattle.mux_model.specs.declared.stage.Stage.{Stage}
-use Rattle.mux_model.specs.declared.stage.Stage.TheVariants.{Unspawned, Spawning, Initializing, Ready, Stopping, Ending, Ended}
-use Rattle.mux_model.specs.Event.{Event, took, did, requests}
-use Rattle.mux_model.specs.Legal.{Legal}
-use Rattle.mux_model.specs.Requests.{Asking, asking_behind, asking_sends, no_asking}
-use Rattle.mux_model.specs.Settings.{Settings}
-use Rattle.mux_model.specs.Stages.{stage_started, stage_hears, is_first_result}
-use Rattle.session_laws.specs.Parts.{is_of_server, server_part}
-use Rattle.document_model.specs.Sayings.{saying_of, speaks}
-use Rattle.document_model.proofs.Written.{Spoken, spoken}
-use Rattle.session_laws.specs.Ranges.{InRange}
-use Rattle.session_laws.specs.ServerRules.{requests_behind, requests_of, HasNumber, ServerRule3, KeepsServer3}
-use Rattle.session_laws.proofs.Bricks.{is_spawning}
+use Rattle.mux_model.specs.declared.stage.Stage.TheVariants.{Unspawned, Spawning}
+use Rattle.mux_model.specs.Event.{Event, took, did, heard, with_cause}
+use Rattle.mux_model.specs.Requests.{Asking, asking_behind, asking_sends, asking_of, no_asking}
+use Rattle.session_laws.specs.Parts.{is_of_server}
+use Rattle.session_laws.specs.ServerRules.{requests_behind, HasNumber, ServerRule3, KeepsServer3}
 use Rattle.session_laws.proofs.Rules.{word_first}
-use Rattle.session_laws.proofs.ServerLaw.{Moves, server_history, is_to_server}
+use Rattle.session_laws.proofs.PartLaws.{is_to_server, No, no_law, ServerRule, server_history}
+use Rattle.mux_history.specs.declared.cause.Cause.{Cause}
+use Rattle.mux_history.specs.declared.entry.Entry.{Entry}
+use Rattle.document_model.proofs.Written.{Spoken, spoken}
+use Rattle.mux_model.specs.Legal.{Legal}
+use Rattle.mux_model.specs.Settings.{Settings}
+use Rattle.session_laws.specs.Ranges.{InRange}
+use Rattle.session_laws.proofs.Folds.{asking_more}
+use Rattle.session_laws.proofs.Known.{Facts, is_unbegun}
+use Rattle.session_laws.proofs.Why.{WhyToServer, begins, greets, forwarded, tells}
 
 -- before its program runs it was sent no request
 abbrev Link : Stage → ℕ → Type 0
@@ -31,10 +31,7 @@ Link other n = Unit {0}
 abbrev Allows : ℕ → Message → Type 0
 Allows n m = HasNumber (n + 1) m
 
-abbrev Knows : ℕ → ℕ → Type 0
-Knows next n = next ≡ n + 1
-
-free : (part : List Event) (event : Event) → is_to_server event ≡ false → ServerRule3 part event
+pub free : (part : List Event) (event : Event) → is_to_server event ≡ false → ServerRule3 part event
 free part (took cause m) h = tt
 free part (did (ToServer s body) m) h = absurd (cc)
 free part (did (ToEditor e body) m) h = tt
@@ -73,73 +70,33 @@ one_known s a n (did (Spawn k g) m) h = h
 one_known s a n (did (CloseEditor e) m) h = h
 one_known s a n (did (EndServer k) m) h = h ∙ ap (λ z. z + 1) (either (nat_eq k s) n)
 
-known : (s : ℕ) (a : Asking) (n : ℕ) (events : List Event) → a.next ≡ n + 1 → (fold (asking_behind s) a events).next ≡ fold requests_behind n (filter (is_of_server s) events) + 1
+pub known : (s : ℕ) (a : Asking) (n : ℕ) (events : List Event) → a.next ≡ n + 1 → (fold (asking_behind s) a events).next ≡ fold requests_behind n (filter (is_of_server s) events) + 1
 known s a n [] h = h
 known s a n (event ∷ events) h = known s (asking_behind s a event) (cond (is_of_server s event) (requests_behind n event) n) events (one_known s a n event h)
     ∙ ap (λ z. z + 1) (sym (word_first requests_behind n (is_of_server s) event events))
 
--- Each step
-
-none_due : (b : Bool) (n : ℕ) → Link (if b then Ready else Initializing) n
-none_due true n = tt
-none_due false n = tt
-
-none_due_then : (b : Bool) (n : ℕ) → Link (if b then Stopping else Ready) n
-none_due_then true n = tt
-none_due_then false n = tt
-
-hears : (stage : Stage) (n : ℕ) (m : Message) → Link stage n → Link (stage_hears stage m) n
-hears Unspawned n m h = h
-hears Spawning n m h = h
-hears Initializing n m h = none_due (is_first_result m) n
-hears Ready n m h = tt
-hears Stopping n m h = tt
-hears Ending n m h = tt
-hears Ended n m h = tt
-
-starts : (stage : Stage) (n : ℕ) → is_spawning stage ≡ false → Link stage n → Link (stage_started stage) n
-starts Unspawned n other h = h
-starts Spawning n other h = absurd (cc)
-starts Initializing n other h = tt
-starts Ready n other h = tt
-starts Stopping n other h = tt
-starts Ending n other h = tt
-starts Ended n other h = tt
-
-the_first : integer (codes "1") ≡ integer (decimal (0 + 1))
+pub the_first : integer (codes "1") ≡ integer (decimal (0 + 1))
 unfolding digits
 the_first = refl
 
-begins : (n : ℕ) (m : Message) (params : Option Json) → m ≡ request (integer (codes "1")) (codes "initialize") params → n ≡ 0 → Allows n m
-begins n m params says h = subst (λ z. HasNumber (n + 1) z) (sym says) (the_first ∙ ap (λ z. integer (decimal (z + 1))) (sym h))
+module _ (settings : Settings) (range : InRange settings) (before : List Event) (cause : Cause) (events : List Event) (s : ℕ) (body : List ℕ) where
+  -- a request has the next number
+  numbered : WhyToServer settings before cause events s body → Facts before → HasNumber (asking_of s events).next (message_of body)
+  numbered (begins params at from place says) h =
+      let next : (asking_of s events).next ≡ 1 = ap (λ z. (asking_of s z).next) (place ∙ ap (with_cause before) from) ∙ ap (λ (a : Asking). a.next) (asking_more s before (heard (Started s))) ∙ h.unbegun s (ap is_unbegun at) in
+      subst (λ m. HasNumber (asking_of s events).next m) (sym says) (the_first ∙ ap (λ n. integer (decimal n)) (sym next))
+  numbered (greets params answer at now from first part says) h = subst (λ m. HasNumber (asking_of s events).next m) (sym says) tt
+  numbered (forwarded a still k) h = let below : (asking_of s events).next < settings.limits.requests = ltb-true (asking_of s events).next settings.limits.requests k.room in
+      let wide : settings.limits.requests < 2 ^ 32 = range.requests in
+      subst (λ m. HasNumber (asking_of s events).next m) (sym (k.says (omega (arith, below, wide)))) refl
+  numbered (tells still k) h = let m : Spoken (message_of body) = spoken (message_of body) (k.spoken range) in subst (λ z. HasNumber (asking_of s events).next z) (sym m.is) tt
 
-module _ (settings : Settings) (range : InRange settings) where
-  numbered : (n : ℕ) (m : Message) (next : ℕ) (method : List ℕ) (params : Option Json) → nat_lt next settings.limits.requests ≡ true → (next < 2 ^ 64 → m ≡ request (integer (decimal next)) method params)
-      → next ≡ n + 1 → Allows n m
-  numbered n m next method params room says known = let below : next < settings.limits.requests = ltb-true next settings.limits.requests room in
-      subst (λ z. HasNumber (n + 1) z) (sym (says (let wide : settings.limits.requests < 2 ^ 32 = range.requests in omega (arith, below, wide)))) (ap (λ z. integer (decimal z)) known)
-
-  unnumbered : (n : ℕ) (m : Message) → speaks (saying_of m) ≡ true → Allows n m
-  unnumbered n m says = let s : Spoken m = spoken m says in subst (λ z. HasNumber (n + 1) z) (sym s.is) tt
-
-  moves : Moves requests_behind 0 ServerRule3 Allows Link Knows settings
-  moves = record {
-    reads = λ part n body m h. h;
-    free = free;
-    knows = λ s events. known s no_asking 0 events refl;
-    starts = λ stage w n other h. starts stage w other h;
-    fails = λ stage w n h. tt;
-    hears = λ stage w n body m other h. hears stage w m h;
-    goes = λ stage w n h. tt;
-    spawned = λ w h. h;
-    begun = λ w n body m params says h. (begins w m params says h, tt);
-    greeted = λ w n body other m k r params says told h. (subst (λ z. HasNumber (w + 1) z) (sym told) tt, tt);
-    forwarded = λ w n body m next method params room says known h. (numbered w m next method params room says known, none_due_then (requests (codes "shutdown") m) (requests_behind w (did (ToServer n body) m)));
-    told = λ s events n body k h. (
-      unnumbered (requests_of (server_part s events)) (message_of body) (k.spoken range),
-      none_due_then (requests (codes "shutdown") (message_of body)) (requests_behind (requests_of (server_part s events)) (did (ToServer n body) (message_of body))),
-    );
-  }
+rule : (settings : Settings) → InRange settings → ServerRule settings No ServerRule3
+rule settings range = record {
+  law = no_law settings;
+  free = free;
+  sent = λ before cause events s body why h here own i. subst (λ n. HasNumber n (message_of body)) (known s no_asking 0 events refl) (numbered settings range before cause events s body why h);
+}
 
 pub server_3_law : (settings : Settings) → InRange settings → (history : List Entry) → Legal settings history → KeepsServer3 history
-server_3_law settings range history legal s = server_history requests_behind 0 ServerRule3 Allows Link Knows settings (moves settings range) refl history legal s
+server_3_law settings range history legal = server_history settings No ServerRule3 (rule settings range) tt history legal

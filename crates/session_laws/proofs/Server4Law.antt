@@ -1,41 +1,43 @@
 -- A start is told of documents as it may be.
-use Rattle.std.proofs.Common.{◌≡◌, ℕ, ◌<◌, ◌^◌, Bool, true, false, cond, List, [], ◌∷◌, filter, fold, nat_eq, nat_lt, bytes_eq, is_some, decimal, if◌then◌else◌, Option, Some, None, refl, sym, ◌∙◌, ap, subst, arith, ltb-true}
+use Rattle.std.proofs.Common.{◌≡◌, ℕ, Bool, true, false, cond, List, [], ◌∷◌, filter, fold, nat_eq, bytes_eq, is_some, if◌then◌else◌, Option, Some, None, refl, sym, ◌∙◌, ap, subst, ◌<◌, ◌^◌, arith, ltb-true}
 use Rattle.std.specs.Option.{option_map}
 use Rattle.json_text.specs.Json.{Json}
 use Rattle.position_codec.specs.declared.Encoding.{Encoding}
 use Rattle.document_model.specs.Helds.{HeldText, number_of, changed_held, told}
 use Rattle.document_model.specs.Sayings.{Saying, opens, changes, closes, misshapen, nothing, saying_of}
 use Rattle.mux_history.specs.declared.cause.Cause.TheVariants.{Joined, FromEditor, EditorGone, Started, StartFailed, FromServer, ServerGone, Drained, Tick}
-use Rattle.mux_history.specs.declared.entry.Entry.{Entry}
 use Rattle.mux_history.specs.declared.out.Out.TheVariants.{ToEditor, ToServer, Spawn, CloseEditor, EndServer}
-use Rattle.rpc_message.specs.Message.{Message, request, integer, message_of}
-use Rattle.mux_model.specs.declared.stage.Stage.{Stage}
 use Rattle.mux_model.specs.Documents.{Sent, held_behind, sent_behind}
 use Rattle.mux_model.specs.Event.{Event, took, did}
-use Rattle.mux_model.specs.Legal.{Legal}
-use Rattle.mux_model.specs.Settings.{Settings}
 use Rattle.session_laws.specs.Parts.{server_part, is_of_server}
-use Rattle.session_laws.specs.Ranges.{InRange}
-use Rattle.session_laws.specs.ServerRules.{version_told, version_behind, version_of, IsNext, AllowsSaying, ServerRule4, KeepsServer4}
+use Rattle.session_laws.specs.ServerRules.{version_told, version_behind, IsNext, AllowsSaying, ServerRule4, version_of, KeepsServer4}
 use Rattle.session_laws.proofs.Rules.{word_first}
-use Rattle.session_laws.proofs.ServerLaw.{Moves, server_history, is_to_server}
+use Rattle.session_laws.proofs.PartLaws.{is_to_server, No, no_law, ServerRule, server_history}
 use Rattle.session_laws.proofs.Tellings.{versions_at}
+use Rattle.mux_history.specs.declared.cause.Cause.{Cause}
+use Rattle.mux_history.specs.declared.entry.Entry.{Entry}
+use Rattle.rpc_message.specs.Message.{message_of}
+use Rattle.mux_model.specs.Legal.{Legal}
+use Rattle.mux_model.specs.Requests.{asking_of}
+use Rattle.mux_model.specs.Settings.{Settings}
+use Rattle.session_laws.specs.Ranges.{InRange}
+use Rattle.session_laws.proofs.Why.{WhyToServer, begins, greets, forwarded, tells}
 
 -- the version of each document
-abbrev Versions : Type 0
+abbrev pub Versions : Type 0
 Versions = List ℕ → Option ℕ
 
-abbrev step : Versions → Event → Versions
+abbrev pub step : Versions → Event → Versions
 step w event = λ u. version_behind u (w u) event
 
-abbrev none_held : Versions
+abbrev pub none_held : Versions
 none_held = λ u. None
 
-word_at : (w : Versions) (part : List Event) (u : List ℕ) → fold step w part u ≡ fold (version_behind u) (w u) part
+pub word_at : (w : Versions) (part : List Event) (u : List ℕ) → fold step w part u ≡ fold (version_behind u) (w u) part
 word_at w [] u = refl
 word_at w (event ∷ part) u = word_at (step w event) part u
 
-allows_same : (f g : Versions) → ((u : List ℕ) → f u ≡ g u) → (x : Saying) → AllowsSaying f x → AllowsSaying g x
+pub allows_same : (f g : Versions) → ((u : List ℕ) → f u ≡ g u) → (x : Saying) → AllowsSaying f x → AllowsSaying g x
 allows_same f g e (opens u l v t) h = (sym (e u) ∙ h.0, h.1)
 allows_same f g e (changes u v cs) h = subst (λ o. IsNext o v) (e u) h
 allows_same f g e (closes u) h = ap is_some (sym (e u)) ∙ h
@@ -101,21 +103,12 @@ all_held s u x (event ∷ events) = all_held s u (sent_behind s u x event) event
     ∙ ap (λ w. fold (version_behind u) w (filter (is_of_server s) events)) (one_held s u x.encoding x.held event)
     ∙ sym (word_first (version_behind u) (version_in x.held) (is_of_server s) event events)
 
-held_by_part : (s : ℕ) (events : List Event) (u : List ℕ) → versions_at s events u ≡ fold step none_held (server_part s events) u
+pub held_by_part : (s : ℕ) (events : List Event) (u : List ℕ) → versions_at s events u ≡ fold step none_held (server_part s events) u
 held_by_part s events u = all_held s u (record { encoding = None; held = None }) events ∙ sym (word_at none_held (server_part s events) u)
 
 -- Each step
 
-abbrev Link : Stage → Versions → Type 0
-Link stage w = Unit {0}
-
-abbrev Allows : Versions → Message → Type 0
-Allows w m = AllowsSaying w (saying_of m)
-
-abbrev Nothing : ℕ → Versions → Type 0
-Nothing n w = Unit {0}
-
-free : (part : List Event) (event : Event) → is_to_server event ≡ false → ServerRule4 part event
+pub free : (part : List Event) (event : Event) → is_to_server event ≡ false → ServerRule4 part event
 free part (took cause m) h = tt
 free part (did (ToServer s body) m) h = absurd (cc)
 free part (did (ToEditor e body) m) h = tt
@@ -123,27 +116,22 @@ free part (did (Spawn s g) m) h = tt
 free part (did (CloseEditor e) m) h = tt
 free part (did (EndServer s) m) h = tt
 
-module _ (settings : Settings) (range : InRange settings) where
-  forwards : (w : Versions) (m : Message) (next : ℕ) (method : List ℕ) (params : Option Json) → nat_lt next settings.limits.requests ≡ true → (next < 2 ^ 64 → m ≡ request (integer (decimal next)) method params) → Allows w m
-  forwards w m next method params room says = let below : next < settings.limits.requests = ltb-true next settings.limits.requests room in
+module _ (settings : Settings) (range : InRange settings) (before : List Event) (cause : Cause) (events : List Event) (s : ℕ) (body : List ℕ) where
+  allowed : WhyToServer settings before cause events s body → AllowsSaying (versions_at s events) (saying_of (message_of body))
+  allowed (begins params at from place says) = subst (λ m. AllowsSaying (versions_at s events) (saying_of m)) (sym says) tt
+  allowed (greets params answer at now from first part says) = subst (λ m. AllowsSaying (versions_at s events) (saying_of m)) (sym says) tt
+  allowed (forwarded a still k) = let below : (asking_of s events).next < settings.limits.requests = ltb-true (asking_of s events).next settings.limits.requests k.room in
       let wide : settings.limits.requests < 2 ^ 32 = range.requests in
-      subst (Allows w) (sym (says (omega (arith, below, wide)))) tt
+      subst (λ m. AllowsSaying (versions_at s events) (saying_of m)) (sym (k.says (omega (arith, below, wide)))) tt
+  allowed (tells still k) = k.allowed range
 
-  moves : Moves step none_held ServerRule4 Allows Link Nothing settings
-  moves = record {
-    reads = λ part n body m h. allows_same (fold step none_held part) (λ u. version_of u part) (λ u. word_at none_held part u) (saying_of m) h;
-    free = free;
-    knows = λ s events. tt;
-    starts = λ stage w n other h. tt;
-    fails = λ stage w n h. tt;
-    hears = λ stage w n body m other h. tt;
-    goes = λ stage w n h. tt;
-    spawned = λ w h. tt;
-    begun = λ w n body m params says h. (subst (Allows w) (sym says) tt, tt);
-    greeted = λ w n body other m k r params says told h. (subst (Allows w) (sym told) tt, tt);
-    forwarded = λ w n body m next method params room says known h. (forwards w m next method params room says, tt);
-    told = λ s events n body k h. (allows_same (versions_at s events) (fold step none_held (server_part s events)) (held_by_part s events) (saying_of (message_of body)) (k.allowed range), tt);
-  }
+rule : (settings : Settings) → InRange settings → ServerRule settings No ServerRule4
+rule settings range = record {
+  law = no_law settings;
+  free = free;
+  sent = λ before cause events s body why h here own i. allows_same (fold step none_held (server_part s events)) (λ u. version_of u (server_part s events)) (λ u. word_at none_held (server_part s events) u) (saying_of (message_of body))
+      (allows_same (versions_at s events) (fold step none_held (server_part s events)) (held_by_part s events) (saying_of (message_of body)) (allowed settings range before cause events s body why));
+}
 
 pub server_4_law : (settings : Settings) → InRange settings → (history : List Entry) → Legal settings history → KeepsServer4 history
-server_4_law settings range history legal s = server_history step none_held ServerRule4 Allows Link Nothing settings (moves settings range) tt history legal s
+server_4_law settings range history legal = server_history settings No ServerRule4 (rule settings range) tt history legal

@@ -1,23 +1,17 @@
 -- The initialize of an editor that waits is an open request of it.
-use Rattle.std.proofs.Common.{◌≡◌, ℕ, Bool, true, false, List, [], ◌∷◌, ◌++◌, nat_eq, codes, decimal, if◌then◌else◌, Option, None, refl, sym, ◌∙◌, ap, subst, subst₂}
+use Rattle.std.proofs.Common.{◌≡◌, ℕ, Bool, true, false, List, [], ◌∷◌, ◌++◌, nat_eq, codes, if◌then◌else◌, Option, None, refl, sym, ◌∙◌, ap, subst, subst₂}
 use Rattle.std.proofs.lemmas.Slice.Eq.{bytes_eq-Decides}
 use Rattle.json_text.specs.Json.{Json}
-use Rattle.mux_history.specs.declared.cause.Cause.TheVariants.{Joined, FromEditor, EditorGone, Started, FromServer}
-use Rattle.mux_history.specs.declared.out.Out.TheVariants.{ToEditor, ToServer, Spawn}
-use Rattle.rpc_message.specs.Message.{Message, request, notification, result, error, not_json, not_message, Id, message_of, id_bytes, result_bytes}
-use Rattle.rpc_message.specs.Texts.{ok_text, error_text, error_tree, initialized_text, with_id_text}
+use Rattle.mux_history.specs.declared.cause.Cause.TheVariants.{FromEditor}
+use Rattle.mux_history.specs.declared.out.Out.TheVariants.{ToEditor, ToServer}
+use Rattle.rpc_message.specs.Message.{Message, request, notification, result, error, not_json, not_message, Id, message_of}
 use Rattle.mux_model.specs.declared.phase.Phase.{Phase}
 use Rattle.mux_model.specs.declared.phase.Phase.TheVariants.{Absent, New, Waiting, Answered, Running, Down, Closed, Gone}
-use Rattle.mux_model.specs.Event.{Event, took, did, heard, said, requests}
+use Rattle.mux_model.specs.Event.{Event, took, did, said, requests}
 use Rattle.mux_model.specs.Phases.{Desk, desk_of, desk_behind, desk_hears, phase_told, makes_running}
 use Rattle.mux_model.specs.Requests.{Asked, asking_of, has_number, answered_id, open_of, open_behind, is_open, asks, without}
-use Rattle.mux_model.specs.Rows.{malformed_code, malformed_text}
-use Rattle.mux_model.specs.Settings.{Settings}
-use Rattle.mux_model.specs.Spawns.{starts_of}
-use Rattle.session_laws.proofs.Asked.{IsKnown, IsAsked, AllAsked, hears_open}
-use Rattle.session_laws.proofs.Bodies.{welcome_says, malformed_says}
-use Rattle.session_laws.proofs.Bricks.{takes, rejects, begins, greets, spawns, forwards, refuses, welcomes, passes, tells, is_early, Lays, Both, IsPassedOn}
-use Rattle.session_laws.proofs.Editors.{Editors}
+use Rattle.session_laws.proofs.Asked.{IsAsked, AllAsked, hears_open}
+use Rattle.session_laws.proofs.Why.{is_early, IsPassedOn}
 use Rattle.session_laws.proofs.Folds.{desk_more, opens_more}
 use Rattle.session_laws.proofs.Late.{error_told}
 use Rattle.session_laws.proofs.Lists.{found_is}
@@ -48,14 +42,14 @@ waits_at events e at h = subst (λ z. WaitsIf z (desk_of e events).initialize (o
 pub asked_is : (events : List Event) (s : ℕ) (asked : Asked) (body : List ℕ) → IsPassedOn events s asked body → AllAsked events → IsAsked events asked
 asked_is events s asked body k h = found_is (IsAsked events) (has_number (answered_id (message_of body))) asked (asking_of s events).open_requests (h s) k.found
 
-more : (events : List Event) (event : Event) → ((e : ℕ) → WaitsAt (desk_behind e (desk_of e events) event) (open_behind e (open_of e events) event)) → AllWaiting (events ++ event ∷ [])
+pub more : (events : List Event) (event : Event) → ((e : ℕ) → WaitsAt (desk_behind e (desk_of e events) event) (open_behind e (open_of e events) event)) → AllWaiting (events ++ event ∷ [])
 more events event f e = subst₂ WaitsAt (sym (desk_more e events event)) (sym (opens_more e events event)) (f e)
 
 pick : (b : Bool) (x y : Desk) (ids others : List Id) → (b ≡ true → WaitsAt x ids) → WaitsAt y others → WaitsAt (if b then x else y) (if b then ids else others)
 pick true x y ids others f g = f refl
 pick false x y ids others f g = g
 
-pick_desk : (b : Bool) (x y : Desk) (ids : List Id) → (b ≡ true → WaitsAt x ids) → WaitsAt y ids → WaitsAt (if b then x else y) ids
+pub pick_desk : (b : Bool) (x y : Desk) (ids : List Id) → (b ≡ true → WaitsAt x ids) → WaitsAt y ids → WaitsAt (if b then x else y) ids
 pick_desk true x y ids f g = f refl
 pick_desk false x y ids f g = g
 
@@ -96,7 +90,7 @@ hears_waits Gone initialize body ids m e h = tt
 
 -- A body to the editor
 
-abbrev is_a_result : Message → Bool
+abbrev pub is_a_result : Message → Bool
 is_a_result (result id r) = true
 is_a_result other = false
 
@@ -118,7 +112,7 @@ told_waits Down m initialize ids f = tt
 told_waits Closed m initialize ids f = tt
 told_waits Gone m initialize ids f = tt
 
-to_editor : (events : List Event) (n : ℕ) (body : List ℕ) → AllWaiting events → ((desk_of n events).phase ≡ Waiting → is_a_result (message_of body) ≡ true) → AllWaiting (events ++ said (ToEditor n body) ∷ [])
+pub to_editor : (events : List Event) (n : ℕ) (body : List ℕ) → AllWaiting events → ((desk_of n events).phase ≡ Waiting → is_a_result (message_of body) ≡ true) → AllWaiting (events ++ said (ToEditor n body) ∷ [])
 to_editor events n body h f = more events (said (ToEditor n body)) (λ e. pick (nat_eq n e)
     (record { phase = phase_told (desk_of e events).phase (message_of body); initialize = (desk_of e events).initialize }) (desk_of e events) (without (answered_id (message_of body)) (open_of e events)) (open_of e events)
     (λ same. told_waits (desk_of e events).phase (message_of body) (desk_of e events).initialize (without (answered_id (message_of body)) (open_of e events))
@@ -130,38 +124,18 @@ null_waits : (b : Bool) (desk : Desk) (ids : List Id) (x : Json) → WaitsAt des
 null_waits true desk ids x h = subst (λ p. WaitsIf p desk.initialize ids) (sym (error_told desk.phase None x)) h
 null_waits false desk ids x h = h
 
-null_to_editor : (events : List Event) (n : ℕ) (body : List ℕ) (x : Json) → message_of body ≡ error None x → AllWaiting events → AllWaiting (events ++ said (ToEditor n body) ∷ [])
+pub null_to_editor : (events : List Event) (n : ℕ) (body : List ℕ) (x : Json) → message_of body ≡ error None x → AllWaiting events → AllWaiting (events ++ said (ToEditor n body) ∷ [])
 null_to_editor events n body x says h = more events (said (ToEditor n body)) (λ e.
     subst (λ m. WaitsAt (desk_behind e (desk_of e events) (did (ToEditor n body) m)) (open_behind e (open_of e events) (did (ToEditor n body) m))) (sym says)
     (null_waits (nat_eq n e) (desk_of e events) (open_of e events) x (h e)))
 
-from_editor : (events : List Event) (n : ℕ) (body : List ℕ) → AllWaiting events → AllWaiting (events ++ took (FromEditor n body) (message_of body) ∷ [])
+pub from_editor : (events : List Event) (n : ℕ) (body : List ℕ) → AllWaiting events → AllWaiting (events ++ took (FromEditor n body) (message_of body) ∷ [])
 from_editor events n body h = more events (took (FromEditor n body) (message_of body)) (λ e. pick (nat_eq n e)
     (desk_hears (desk_of e events).phase (desk_of e events).initialize body (message_of body)) (desk_of e events) (asks (message_of body) (open_of e events)) (open_of e events)
     (λ same. hears_waits (desk_of e events).phase (desk_of e events).initialize body (open_of e events) (message_of body) refl (h e)) (h e))
 
-to_server : (events : List Event) (n : ℕ) (body : List ℕ) → AllWaiting events → AllWaiting (events ++ said (ToServer n body) ∷ [])
+pub to_server : (events : List Event) (n : ℕ) (body : List ℕ) → AllWaiting events → AllWaiting (events ++ said (ToServer n body) ∷ [])
 to_server events n body h = more events (said (ToServer n body)) h
 
-late_not : (phase : Phase) → is_early phase ≡ false → phase ≡ Waiting → ⊥
+pub late_not : (phase : Phase) → is_early phase ≡ false → phase ≡ Waiting → ⊥
 late_not phase h at = let e : is_early phase ≡ true = ap is_early at in cc
-
-pub waits_law : (settings : Settings) → Lays settings (Both Editors AllAsked) AllWaiting
-waits_law settings events (takes (Joined n) fits built still) known h = more events (took (Joined n) not_message) (λ e. pick_desk (nat_eq n e) (record { phase = New; initialize = [] }) (desk_of e events) (open_of e events) (λ same. tt) (h e))
-waits_law settings events (takes (FromEditor n body) fits built still) known h = from_editor events n body h
-waits_law settings events (takes (EditorGone n why) fits built still) known h = more events (took (EditorGone n why) not_message)
-    (λ e. pick_desk (nat_eq n e) (record { phase = Gone; initialize = (desk_of e events).initialize }) (desk_of e events) (open_of e events) (λ same. tt) (h e))
-waits_law settings events (takes cause fits built still) known h = more events (heard cause) h
-waits_law settings events (rejects n body fits built malformed) known h = null_to_editor (events ++ took (FromEditor n body) (message_of body) ∷ []) n (malformed_text (message_of body))
-    (error_tree (malformed_code (message_of body))) (malformed_says (message_of body)) (from_editor events n body h)
-waits_law settings events (begins n body params fits stage says) known h = to_server (events ++ took (Started n) not_message ∷ []) n body (more events (took (Started n) not_message) h)
-waits_law settings events (greets n body r fits built stage says) known h = to_server (events ++ took (FromServer n body) (message_of body) ∷ []) n initialized_text (more events (took (FromServer n body) (message_of body)) h)
-waits_law settings events (spawns g) known h = more events (did (Spawn (starts_of events) g) not_message) h
-waits_law settings events (forwards n e body id method params k) known h = to_server events n (with_id_text body (decimal (asking_of n events).next)) h
-waits_law settings events (refuses e body id method params code k) known h = to_editor events e (error_text (id_bytes body) code) h (λ at. absurd (late_not (desk_of e events).phase k.served at))
-waits_law settings events (welcomes e body id r k) known h = to_editor events e (ok_text (id_bytes (desk_of e events).initialize) (result_bytes body)) h
-    (λ at. let w : Waits (desk_of e events).initialize (open_of e events) = waits_at events e at h in
-    ap is_a_result (welcome_says (desk_of e events).initialize body w.id (codes "initialize") w.params id r w.asks k.says))
-waits_law settings events (passes n asked body k) known h = to_editor events asked.asker.editor (with_id_text body asked.asker.bytes) h
-    (λ at. absurd (let a : IsKnown events asked.asker = asked_is events n asked body k known.1 in late_not (desk_of asked.asker.editor events).phase a.late at))
-waits_law settings events (tells n body k) known h = to_server events n body h
