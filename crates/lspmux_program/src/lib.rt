@@ -14,7 +14,10 @@ mod stop;
 mod word;
 mod write;
 
+pub use drive::drive;
 pub use program::{Outside, lspmux};
+pub use refusal::Refusal;
+pub use stop::Stop;
 
 #[cfg(test)]
 mod tests;

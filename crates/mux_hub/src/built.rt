@@ -18,8 +18,8 @@ ghost use Rattle.mux_hub.specs.Tables.{asked_for, ids_of, open_in, built_in, pha
 use crate::pending::Pending;
 use crate::tables::Tables;
 use crate::turns::place_by_id;
-use message_body::{Body, Memory};
 use lsp_method::Class;
+use message_body::{Body, Memory};
 use mux_history::Cause;
 use mux_members::{
     class_in, has_bare_capabilities, has_token, is_first_result, is_initialize, is_initialized,

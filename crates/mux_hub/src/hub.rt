@@ -37,10 +37,9 @@ fn commit<J: Journal>(
     ensures later { J.faults journal.old ≤ J.faults journal.new }
 {
     let outs = tables.take(alloc, limits.requests, &cause)?;
-    let answer = outs.copy(alloc)?;
     let entry = Entry { cause, outs };
     journal.append(&entry)?;
-    Ok(answer)
+    Ok(entry.outs)
 }
 
 /// The core of the multiplexer. It stands for the history of its steps, and its journal has the entries.

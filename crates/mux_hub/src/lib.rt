@@ -11,6 +11,3 @@ mod turns;
 pub use fault::StepFault;
 pub use hub::Hub;
 pub use mux_model::{Limits, Server};
-
-#[cfg(test)]
-mod tests;

@@ -1,0 +1,7 @@
+//! Worked sessions of the routing table, each the lines of an input and the lines that they bring, under limits of its own.
+#![tactic(auto)]
+
+#[cfg(test)]
+mod play;
+#[cfg(test)]
+mod tests;

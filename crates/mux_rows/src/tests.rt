@@ -1,0 +1,175 @@
+use crate::play::{limits, play};
+use lspmux_program::{Refusal, Stop};
+use mux_history::{Cause, Journal, MemJournal};
+use mux_hub::{Hub, StepFault};
+use std::test::Fail;
+
+const MOST: u32 = 2_147_483_647;
+
+// An editor that runs, on a start that is ready; the next number is 2.
+const OPENING: [(&str, &str); 5] = [
+    ("join 0\n", ""),
+    (
+        "ed 0 {\"jsonrpc\":\"2.0\",\"id\":0,\"method\":\"initialize\",\"params\":{\"rootUri\":\"file:///w\",\"capabilities\":{}}}\n",
+        ">spawn 0 0\n",
+    ),
+    (
+        "up 0\n",
+        ">sv 0 {\"jsonrpc\":\"2.0\",\"id\":1,\"method\":\"initialize\",\"params\":{\"processId\":null,\"clientInfo\":{\"name\":\"lspmux\"},\"rootUri\":\"file:///w\",\"capabilities\":{},\"trace\":\"off\"}}\n",
+    ),
+    (
+        "sv 0 {\"jsonrpc\":\"2.0\",\"id\":1,\"result\":{\"capabilities\":{}}}\n",
+        ">sv 0 {\"jsonrpc\":\"2.0\",\"method\":\"initialized\",\"params\":{}}\n>ed 0 {\"jsonrpc\":\"2.0\",\"id\":0,\"result\":{\"capabilities\":{}}}\n",
+    ),
+    (
+        "ed 0 {\"jsonrpc\":\"2.0\",\"method\":\"initialized\",\"params\":{}}\n",
+        "",
+    ),
+];
+
+// A request for which the limit of numbers leaves none (limit 3).
+const NO_NUMBER_LEFT: [(&str, &str); 2] = [
+    (
+        "ed 0 {\"jsonrpc\":\"2.0\",\"id\":1,\"method\":\"textDocument/hover\",\"params\":{}}\n",
+        ">sv 0 {\"jsonrpc\":\"2.0\",\"id\":2,\"method\":\"textDocument/hover\",\"params\":{}}\n",
+    ),
+    (
+        "ed 0 {\"jsonrpc\":\"2.0\",\"id\":2,\"method\":\"textDocument/hover\",\"params\":{}}\n",
+        ">ed 0 {\"jsonrpc\":\"2.0\",\"id\":2,\"error\":{\"code\":-32803,\"message\":\"Request failed\"}}\n",
+    ),
+];
+
+// A document at its greatest version is closed and opened anew (limit 2).
+const NO_VERSION_LEFT: [(&str, &str); 3] = [
+    (
+        "ed 0 {\"jsonrpc\":\"2.0\",\"method\":\"textDocument/didOpen\",\"params\":{\"textDocument\":{\"uri\":\"file:///u\",\"languageId\":\"x\",\"version\":1,\"text\":\"a\"}}}\n",
+        ">sv 0 {\"jsonrpc\":\"2.0\",\"method\":\"textDocument/didOpen\",\"params\":{\"textDocument\":{\"uri\":\"file:///u\",\"languageId\":\"x\",\"version\":1,\"text\":\"a\"}}}\n",
+    ),
+    (
+        "ed 0 {\"jsonrpc\":\"2.0\",\"method\":\"textDocument/didChange\",\"params\":{\"textDocument\":{\"uri\":\"file:///u\",\"version\":2},\"contentChanges\":[{\"text\":\"b\"}]}}\n",
+        ">sv 0 {\"jsonrpc\":\"2.0\",\"method\":\"textDocument/didChange\",\"params\":{\"textDocument\":{\"uri\":\"file:///u\",\"version\":2},\"contentChanges\":[{\"text\":\"b\"}]}}\n",
+    ),
+    (
+        "ed 0 {\"jsonrpc\":\"2.0\",\"method\":\"textDocument/didChange\",\"params\":{\"textDocument\":{\"uri\":\"file:///u\",\"version\":3},\"contentChanges\":[{\"text\":\"c\"}]}}\n",
+        ">sv 0 {\"jsonrpc\":\"2.0\",\"method\":\"textDocument/didClose\",\"params\":{\"textDocument\":{\"uri\":\"file:///u\"}}}\n>sv 0 {\"jsonrpc\":\"2.0\",\"method\":\"textDocument/didOpen\",\"params\":{\"textDocument\":{\"uri\":\"file:///u\",\"languageId\":\"x\",\"version\":1,\"text\":\"c\"}}}\n",
+    ),
+];
+
+// Answers come in any order, and each once.
+const ANSWERS: [(&str, &str); 6] = [
+    (
+        "ed 0 {\"jsonrpc\":\"2.0\",\"id\":\"a\",\"method\":\"x\"}\n",
+        ">sv 0 {\"jsonrpc\":\"2.0\",\"id\":2,\"method\":\"x\"}\n",
+    ),
+    (
+        "ed 0 {\"jsonrpc\":\"2.0\",\"id\":7,\"method\":\"x\"}\n",
+        ">sv 0 {\"jsonrpc\":\"2.0\",\"id\":3,\"method\":\"x\"}\n",
+    ),
+    (
+        "sv 0 {\"jsonrpc\":\"2.0\", \"id\":3, \"result\":[ 1.50 ]}\n",
+        ">ed 0 {\"jsonrpc\":\"2.0\", \"id\":7, \"result\":[ 1.50 ]}\n",
+    ),
+    ("sv 0 {\"jsonrpc\":\"2.0\",\"id\":3,\"result\":null}\n", ""),
+    (
+        "sv 0 {\"jsonrpc\":\"2.0\",\"id\":2,\"error\":{\"code\":-32800,\"message\":\"c\"}}\n",
+        ">ed 0 {\"jsonrpc\":\"2.0\",\"id\":\"a\",\"error\":{\"code\":-32800,\"message\":\"c\"}}\n",
+    ),
+    (
+        "sv 0 {\"jsonrpc\":\"2.0\",\"id\":null,\"error\":{\"code\":-32700,\"message\":\"c\"}}\n",
+        "",
+    ),
+];
+
+// Bodies that are no JSON text, and bodies that are no message.
+const MALFORMED: [(&str, &str); 12] = [
+    (
+        "ed 0 {\n",
+        ">ed 0 {\"jsonrpc\":\"2.0\",\"id\":null,\"error\":{\"code\":-32700,\"message\":\"Parse error\"}}\n",
+    ),
+    ("sv 0 {\n", ""),
+    (
+        "ed 0 \n",
+        ">ed 0 {\"jsonrpc\":\"2.0\",\"id\":null,\"error\":{\"code\":-32700,\"message\":\"Parse error\"}}\n",
+    ),
+    ("sv 0 \n", ""),
+    (
+        "ed 0 [1,]\n",
+        ">ed 0 {\"jsonrpc\":\"2.0\",\"id\":null,\"error\":{\"code\":-32700,\"message\":\"Parse error\"}}\n",
+    ),
+    ("sv 0 [1,]\n", ""),
+    (
+        "ed 0 []\n",
+        ">ed 0 {\"jsonrpc\":\"2.0\",\"id\":null,\"error\":{\"code\":-32600,\"message\":\"Invalid Request\"}}\n",
+    ),
+    ("sv 0 []\n", ""),
+    (
+        "ed 0 {\"jsonrpc\":\"2.0\"}\n",
+        ">ed 0 {\"jsonrpc\":\"2.0\",\"id\":null,\"error\":{\"code\":-32600,\"message\":\"Invalid Request\"}}\n",
+    ),
+    ("sv 0 {\"jsonrpc\":\"2.0\"}\n", ""),
+    (
+        "ed 0 {\"jsonrpc\":\"2.0\",\"id\":1.0,\"method\":\"x\"}\n",
+        ">ed 0 {\"jsonrpc\":\"2.0\",\"id\":null,\"error\":{\"code\":-32600,\"message\":\"Invalid Request\"}}\n",
+    ),
+    (
+        "sv 0 {\"jsonrpc\":\"2.0\",\"id\":1.0,\"method\":\"x\"}\n",
+        "",
+    ),
+];
+
+// Lines that fit, and that no row takes yet.
+const UNBUILT: [&str; 6] = [
+    "ed 0 {\"jsonrpc\":\"2.0\",\"id\":1,\"result\":null}\n",
+    "ed 0 {\"jsonrpc\":\"2.0\",\"id\":1,\"method\":\"shutdown\"}\n",
+    "ed 0 {\"jsonrpc\":\"2.0\",\"id\":1,\"method\":\"x\",\"params\":{\"workDoneToken\":1}}\n",
+    "sv 0 {\"jsonrpc\":\"2.0\",\"method\":\"x\"}\n",
+    "tick 1\n",
+    "join 1\n",
+];
+
+#[test]
+fn sessions_bring_their_lines(rt: HostRuntime) -> Result<(), Fail> {
+    let alloc = rt.alloc();
+    for (requests, versions, rows) in [
+        (3, MOST, NO_NUMBER_LEFT.as_slice()),
+        (MOST, 2, &NO_VERSION_LEFT),
+        (MOST, MOST, &ANSWERS),
+        (MOST, MOST, &MALFORMED),
+    ] {
+        play(
+            &rt,
+            alloc,
+            limits(requests, versions),
+            &OPENING,
+            rows,
+            Ok(()),
+        )?;
+    }
+    Ok(())
+}
+
+#[test]
+fn a_line_that_no_row_takes_is_refused(rt: HostRuntime) -> Result<(), Fail> {
+    let alloc = rt.alloc();
+    for line in UNBUILT {
+        let end = Err(Stop::Refused(6, Refusal::Unbuilt));
+        play(&rt, alloc, limits(MOST, MOST), &OPENING, &[(line, "")], end)?;
+    }
+    Ok(())
+}
+
+#[test]
+fn a_hub_whose_journal_failed_is_spent(rt: HostRuntime) -> Result<(), Fail> {
+    let alloc = rt.alloc();
+    let journal = MemJournal::new(alloc, vec![in alloc; 0]?);
+    let Ok(mut hub) = Hub::new(alloc, limits(MOST, MOST), Vec::new(alloc), 0, journal) else {
+        return Err(Fail::from("no hub"));
+    };
+    let cause = Cause::Joined(0);
+    assert!(rt; hub.fits(&cause));
+    let built = hub.built(&cause)?;
+    assert!(rt; built);
+    assert!(rt; matches!(hub.step(cause), Err(StepFault::Journal)));
+    assert!(rt; hub.close().entries().is_empty());
+    Ok(())
+}
