@@ -2,7 +2,7 @@
 #![tactic(auto)]
 
 mod buffer;
-mod drive;
+mod driving;
 mod line;
 mod marks;
 mod program;
@@ -14,7 +14,7 @@ mod stop;
 mod word;
 mod write;
 
-pub use drive::drive;
+pub use driving::drive;
 pub use program::{Outside, lspmux};
 pub use refusal::Refusal;
 pub use stop::Stop;
