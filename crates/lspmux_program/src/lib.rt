@@ -1,8 +1,8 @@
 //! The program: its words, and the command `drive`, which reads cause lines, steps one hub and writes out lines.
 #![tactic(auto)]
 
+mod all_lines;
 mod buffer;
-mod driving;
 mod line;
 mod marks;
 mod program;
@@ -14,7 +14,7 @@ mod stop;
 mod word;
 mod write;
 
-pub use driving::drive;
+pub use all_lines::drive;
 pub use program::{Outside, lspmux};
 pub use refusal::Refusal;
 pub use stop::Stop;

@@ -6,7 +6,7 @@ ghost use Rattle.lspmux_program.specs.Lines.{lines_of};
 ghost use Rattle.lspmux_program.specs.Program.{drive_words, JournalTells, JournalRose, Ran, Drove, IsStatus, Undisturbed};
 ghost use Rattle.lspmux_program.specs.Runs.{built_in, drive_of};
 
-use crate::driving::drive;
+use crate::all_lines::drive;
 use crate::report::{report, write_fault};
 use crate::stop::Stop;
 use message_body::{Body, Memory};

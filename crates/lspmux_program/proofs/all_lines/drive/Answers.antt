@@ -4,7 +4,7 @@ use Rattle.std.specs.Prelude.{Err}
 use Rattle.lspmux_program.specs.declared.line.LineStop.{LineStop}
 use Rattle.lspmux_program.specs.declared.step.LineFault.{LineFault}
 use Rattle.lspmux_program.proofs.Driving.{begins, goes_on, ends, ends_behind, stops, faults, never_begins}
-use Rattle.lspmux_program.proofs.driving.drive.Goals as goal
+use Rattle.lspmux_program.proofs.all_lines.drive.Goals as goal
 
 pub returns-in_err-buffer-clause-driven : goal.returns-in_err-buffer-clause-driven
 returns-in_err-buffer-clause-driven g c =

@@ -1,6 +1,6 @@
 use Rattle.std.proofs.Common.{◌≡◌, ◌-◌, ◌^◌, ◌≤◌, false}
 use Rattle.lspmux_program.specs.Stops.{Driving}
-use Rattle.lspmux_program.proofs.driving.drive.Given as goal
+use Rattle.lspmux_program.proofs.all_lines.drive.Given as goal
 
 abbrev pub invariant-lines : goal.invariant-lines
 invariant-lines g l = record {
