@@ -8,6 +8,7 @@ mod journal;
 mod memory_journal;
 mod out;
 mod outs;
+mod steps;
 
 pub use cause::{Cause, Why};
 pub use drop_journal::DropJournal;
@@ -16,6 +17,7 @@ pub use journal::{Journal, JournalFault};
 pub use memory_journal::MemJournal;
 pub use out::Out;
 pub use outs::Outs;
+pub use steps::{StepFault, Steps};
 
 #[cfg(test)]
 mod tests;
