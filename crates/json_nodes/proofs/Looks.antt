@@ -124,6 +124,16 @@ next_case doc k n m t u c (Some v) e =
 pub next_law : (doc : Doc) (k n m : ℕ) (t u : Json) → ChildAt doc k t n m u → FoundChild doc k t (n + 1) (next_number doc.nodes m)
 next_law doc k n m t u c = rw (add-one n) (next_case doc k n m t u c (slice_get (children t) (suc n)) refl)
 
+-- nothing follows the text's own value
+pub next_root : (ns : List Node) (j : Json) → ns ≡ nodes_of 0 0 unnamed j → next_number ns 0 ≡ None
+unfolding whole_here
+next_root ns j e = go (whole_here ns j e).placed refl
+  where
+    go : (p : Placed ns (whole_here ns j e).level 0 j) → p.tail ≡ [] → next_number ns 0 ≡ None
+    go p none = let h : slice_get ns 0 ≡ Some (head_node 0 0 p.name j) = head_at ns 0 0 j p in
+        let g : slice_get ns (0 + size j) ≡ None = behind_at ns 0 0 j p ∙ ap (λ xs. slice_get xs 0) none in
+        rw (h, g) refl
+
 -- the numbers are those of later nodes
 
 abbrev pub Later : List Node → ℕ → Option ℕ → Type 0

@@ -1,16 +1,17 @@
 -- The bytes in the span of a value, of a string and of a name.
-use Rattle.std.proofs.Common.{◌≡◌, ℕ, zero, suc, ◌+◌, ◌-◌, ◌≤◌, List, [], ◌∷◌, ◌++◌, length, get_or, sym, ◌∙◌, ap, subst, arith, append_assoc, length-append}
+use Rattle.std.proofs.Common.{◌≡◌, ℕ, zero, suc, ◌+◌, ◌-◌, ◌≤◌, List, [], ◌∷◌, ◌++◌, length, get_or, sym, ◌∙◌, ap, subst, arith, append_assoc, length-append, ap₂, refl}
 use Rattle.std.specs.Prelude.{Some}
 use Rattle.std.specs.List.{slice_get}
 use Rattle.std.proofs.lemmas.Option.{get_or_from_slice_get}
 use Rattle.json_text.specs.declared.span.Span.{Span}
+use Rattle.json_text.specs.String.{SpellsCharacters}
 use Rattle.json_text.specs.Json.{Json, word, number, string, array, object, Members, no_members, member, ◌then◌, byte, spans, spells, space, quoted, value, IsText, span_of}
 use Rattle.json_nodes.specs.declared.node.Node.{Node}
 use Rattle.json_nodes.specs.declared.node.Place.{Place}
 use Rattle.json_nodes.specs.At.{At, ChildAt}
 use Rattle.json_nodes.specs.Doc.{Doc}
 use Rattle.json_nodes.specs.Nodes.{size, place_of, head_node}
-use Rattle.json_nodes.specs.Texts.{IsSpelledAt, IsStringAt, between, names, member_names}
+use Rattle.json_nodes.specs.Texts.{name_spans, member_name_spans, IsSpelledAt, IsStringAt, between, names, member_names}
 use Rattle.json_nodes.proofs.Looks.{Here, here_at, head_at, node_span, span_law}
 use Rattle.json_nodes.proofs.Parts.{Part, all_part, part_in, child_part, value_span, between_is, Entry, entries, entry, entry_of, entry_part, entry_name, in_first, in_second}
 use Rattle.json_nodes.proofs.Places.{PlacedChild, placed_named}
@@ -75,9 +76,15 @@ entry_names no_members n e h = cc
 entry_names (member s cs j ms) zero e h = let d : Entry = record { place = s; characters = cs; content = j } in let same : d ≡ e = cc in ap (λ (x : Entry). Some x.characters) same
 entry_names (member s cs j ms) (suc n) e h = entry_names ms n e h
 
+entry_spans : (ms : Members) (n : ℕ) (e : Entry) → slice_get (entries ms) n ≡ Some e → slice_get (member_name_spans ms) n ≡ Some e.place
+entry_spans no_members n e h = cc
+entry_spans (member s cs j ms) zero e h = let d : Entry = record { place = s; characters = cs; content = j } in let same : d ≡ e = cc in ap (λ (x : Entry). Some x.place) same
+entry_spans (member s cs j ms) (suc n) e h = entry_spans ms n e h
+
 -- node m names child n, whose name is cs
-pub record NameAt (doc : Doc) (m : ℕ) (d : Node) (cs : List ℕ) : Type 0 where
+pub record NameAt (doc : Doc) (m n : ℕ) (t : Json) (d : Node) (cs : List ℕ) : Type 0 where
   pub place : Span
+  pub here : slice_get (name_spans t) n ≡ Some place
   pub named : (get_or doc.nodes m d).name ≡ place_of place
   pub text : IsStringAt doc.bytes place cs
 
@@ -86,7 +93,7 @@ name_place ns l k n m t u d place c h =
     let same : c.placed.name ≡ place = (let e : slice_get (child_places (named_children t)) n ≡ Some c.placed.name = c.named in cc) in
     ap (λ (x : Node). x.name) (get_or_from_slice_get ns m (head_node (l + 1) m c.placed.name u) d (head_at ns (l + 1) m u c.placed)) ∙ same
 
-pub name_text : (doc : Doc) (k n m : ℕ) (t u : Json) (cs : List ℕ) (d : Node) → ChildAt doc k t n m u → slice_get (names t) n ≡ Some cs → NameAt doc m d cs
+pub name_text : (doc : Doc) (k n m : ℕ) (t u : Json) (cs : List ℕ) (d : Node) → ChildAt doc k t n m u → slice_get (names t) n ≡ Some cs → NameAt doc m n t d cs
 name_text doc k n m (word s w) u cs d c h = cc
 name_text doc k n m (number s ds) u cs d c h = cc
 name_text doc k n m (string s ds) u cs d c h = cc
@@ -100,6 +107,7 @@ name_text doc k n m (object s ms) u cs d c h =
     let same : e.0.characters ≡ cs = (let f : slice_get (member_names ms) n ≡ Some e.0.characters = entry_names ms n e.0 e.1 in cc) in
     record {
       place = e.0.place;
+      here = entry_spans ms n e.0 e.1;
       named = name_place doc.nodes x.level k n m (object s ms) u d (place_of e.0.place) (placed_named doc.nodes x.level k n (object s ms) u m x.placed c.child c.place) (entry_places ms n e.0 e.1);
       text = rw (← same) (string_part doc.bytes e.0.place e.0.characters q);
     }
@@ -113,16 +121,56 @@ abbrev place_span : Place → Span
 place_span p = record { from = p.from; to = p.to }
 
 pub name_inside : (doc : Doc) (k n m : ℕ) (t u : Json) (cs : List ℕ) (d : Node) → ChildAt doc k t n m u → slice_get (names t) n ≡ Some cs → IsStringAt doc.bytes (place_span (get_or doc.nodes m d).name) cs
-name_inside doc k n m t u cs d c h = let a : NameAt doc m d cs = name_text doc k n m t u cs d c h in
+name_inside doc k n m t u cs d c h = let a : NameAt doc m n t d cs = name_text doc k n m t u cs d c h in
     let same : place_span (get_or doc.nodes m d).name ≡ a.place = ap place_span a.named in
     subst (λ (p : Span). IsStringAt doc.bytes p cs) (sym same) a.text
 
-pub value_inside : (doc : Doc) (k : ℕ) (t : Json) (d : Node) (bs : List ℕ) → At doc k t → ((get_or doc.nodes k d).from ≤ (get_or doc.nodes k d).to → (get_or doc.nodes k d).to ≤ length doc.bytes → bs ≡ between (get_or doc.nodes k d).from (get_or doc.nodes k d).to doc.bytes) → value t (span_of t).from bs
-value_inside doc k t d bs a part =
+-- a value's bytes stand between its places
+pub value_between : (doc : Doc) (k : ℕ) (t : Json) (d : Node) (bs : List ℕ) → At doc k t → ((get_or doc.nodes k d).from ≤ (get_or doc.nodes k d).to → (get_or doc.nodes k d).to ≤ length doc.bytes → bs ≡ between (get_or doc.nodes k d).from (get_or doc.nodes k d).to doc.bytes)
+    → bs ≡ between (span_of t).from (span_of t).to doc.bytes
+value_between doc k t d bs a part =
     let s : IsSpelledAt doc.bytes t = span_text doc k t a in
     let e : node_span (get_or doc.nodes k d) ≡ span_of t = span_law doc k t d a in
     let from : (get_or doc.nodes k d).from ≡ (span_of t).from = ap (λ (p : Span). p.from) e in
     let to : (get_or doc.nodes k d).to ≡ (span_of t).to = ap (λ (p : Span). p.to) e in
     let rises : (get_or doc.nodes k d).from ≤ (get_or doc.nodes k d).to = omega (arith, s.rises) in
     let fits : (get_or doc.nodes k d).to ≤ length doc.bytes = omega (arith, s.fits) in
-    rw (part rises fits, from, to) s.text
+    part rises fits ∙ ap₂ (λ i j. between i j doc.bytes) from to
+
+pub value_inside : (doc : Doc) (k : ℕ) (t : Json) (bs : List ℕ) → At doc k t → bs ≡ between (span_of t).from (span_of t).to doc.bytes → value t (span_of t).from bs
+value_inside doc k t bs a e = subst (λ xs. value t (span_of t).from xs) (sym e) (span_text doc k t a).text
+
+-- the characters of a string are spelled between its quotation marks
+pub quotes_between : (bytes : List ℕ) (p : Span) (cs bs : List ℕ) → IsStringAt bytes p cs → (p.from + 2 ≤ p.to → p.to ≤ length bytes → bs ≡ between (p.from + 1) (p.to - 1) bytes) → bs ≡ between (p.from + 1) (p.to - 1) bytes
+quotes_between bytes p cs bs s part = part s.rises s.fits
+
+pub quotes_spelled : (bytes : List ℕ) (p : Span) (cs bs : List ℕ) → IsStringAt bytes p cs → (p.from + 2 ≤ p.to → p.to ≤ length bytes → bs ≡ between (p.from + 1) (p.to - 1) bytes) → SpellsCharacters cs bs
+quotes_spelled bytes p cs bs s part = subst (λ xs. SpellsCharacters cs xs) (sym (part s.rises s.fits)) s.text
+
+module _ (doc : Doc) (d : Node) (bs : List ℕ) where
+  pub string_between : (k : ℕ) (s : Span) (cs : List ℕ) → At doc k (string s cs)
+      → ((node_span (get_or doc.nodes k d)).from + 2 ≤ (node_span (get_or doc.nodes k d)).to → (node_span (get_or doc.nodes k d)).to ≤ length doc.bytes → bs ≡ between ((node_span (get_or doc.nodes k d)).from + 1) ((node_span (get_or doc.nodes k d)).to - 1) doc.bytes)
+      → bs ≡ between (s.from + 1) (s.to - 1) doc.bytes
+  string_between k s cs a part = quotes_between doc.bytes (node_span (get_or doc.nodes k d)) cs bs (string_inside doc k s cs d a) part ∙ ap (λ (p : Span). between (p.from + 1) (p.to - 1) doc.bytes) (span_law doc k (string s cs) d a)
+
+  -- where a member's name stands
+  name_spans_named : (t : Json) (n : ℕ) (s : Span) → slice_get (name_spans t) n ≡ Some s → (cs : List ℕ) × (slice_get (names t) n ≡ Some cs)
+  name_spans_named (object r ms) n s h = go ms n h
+    where
+      go : (ms : Members) (n : ℕ) → slice_get (member_name_spans ms) n ≡ Some s → (cs : List ℕ) × (slice_get (member_names ms) n ≡ Some cs)
+      go no_members n h = cc
+      go (member p cs j ms) zero h = (cs, refl)
+      go (member p cs j ms) (suc n) h = go ms n h
+  name_spans_named (word r w) n s h = cc
+  name_spans_named (number r ds) n s h = cc
+  name_spans_named (string r cs) n s h = cc
+  name_spans_named (array r js) n s h = cc
+
+  pub name_between : (k n m : ℕ) (t u : Json) (s : Span) → ChildAt doc k t n m u → slice_get (name_spans t) n ≡ Some s
+      → ((place_span (get_or doc.nodes m d).name).from + 2 ≤ (place_span (get_or doc.nodes m d).name).to → (place_span (get_or doc.nodes m d).name).to ≤ length doc.bytes → bs ≡ between ((place_span (get_or doc.nodes m d).name).from + 1) ((place_span (get_or doc.nodes m d).name).to - 1) doc.bytes)
+      → bs ≡ between (s.from + 1) (s.to - 1) doc.bytes
+  name_between k n m t u s c h part =
+      let named : (cs : List ℕ) × (slice_get (names t) n ≡ Some cs) = name_spans_named t n s h in
+      let a : NameAt doc m n t d named.0 = name_text doc k n m t u named.0 d c named.1 in
+      let same : a.place ≡ s = (let e : Some a.place ≡ Some s = sym a.here ∙ h in cc) in
+      quotes_between doc.bytes (place_span (get_or doc.nodes m d).name) named.0 bs (name_inside doc k n m t u named.0 d c named.1) part ∙ ap (λ (p : Span). between (p.from + 1) (p.to - 1) doc.bytes) (ap place_span a.named ∙ same)

@@ -31,3 +31,15 @@ names (word s w) = []
 names (number s ds) = []
 names (string s cs) = []
 names (array s js) = []
+
+-- where the names of an object's members stand, with their quotation marks, in order
+abbrev pub member_name_spans : Members → List Span
+member_name_spans no_members = []
+member_name_spans (member s cs j ms) = s ∷ member_name_spans ms
+
+abbrev pub name_spans : Json → List Span
+name_spans (object s ms) = member_name_spans ms
+name_spans (word s w) = []
+name_spans (number s ds) = []
+name_spans (string s cs) = []
+name_spans (array s js) = []

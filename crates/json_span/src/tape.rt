@@ -1,5 +1,5 @@
 //! A JSON text with its values.
-ghost use Rattle.std.specs.Prelude.{◌≡◌, ◌↔◌, ◌+◌, ◌<◌, ℕ, ◌≤◌, List, length, encode_utf8_all, IsTrue, IfOk, MatchOption, MatchResult, Err};
+ghost use Rattle.std.specs.Prelude.{◌≡◌, ◌↔◌, ◌+◌, ◌<◌, ℕ, ◌≤◌, List, length, encode_utf8_all, IsTrue, IfOk, MatchOption, MatchResult, Err, None};
 ghost use Rattle.std.specs.Str.{chars};
 ghost use Rattle.json_text.specs.declared.span.Span.{Span};
 ghost use Rattle.json_text.specs.Json.{Json, string, IsText, depth, span_of};
@@ -126,10 +126,12 @@ impl<'a> Tape<'a> {
         first_in(self.nodes.as_slice(), node)
     }
 
-    /// The item that follows this one in its array, or the value of the member that follows this one's in its object.
+    /// The item that follows this one in its array, or the value of the member that follows this one's in its object. Nothing
+    /// follows the text's own value.
     pub fn next(&self, node: u32) -> Option<u32>
         requires { node < length self.now.nodes }
         ensures next { (k n : ℕ) (t u : Json) → ChildAt self.now k t n node u → FoundChild self.now k t (n + 1) result }
+        ensures root { (t : Json) → Holds self.now t → node ≡ 0 → result ≡ None }
         ensures inside { MatchOption result (Unit {0}) (λ next. (node < next) × (next < length self.now.nodes)) }
     {
         next_in(self.nodes.as_slice(), node)

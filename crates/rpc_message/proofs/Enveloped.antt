@@ -1,5 +1,6 @@
 -- What the values of an envelope make, put together.
 use Rattle.std.proofs.Common.{◌≡◌, ℕ, Bool, true, false, ◌&&◌, not, List, Option, Some, None, is_some, option_map, codes, if◌then◌else◌, refl, sym, ◌∙◌, ap, ap₂, subst}
+use Rattle.std.specs.Prelude.{IfSome}
 use Rattle.std.specs.Str.{chars}
 use Rattle.json_text.specs.declared.span.Span.{Span}
 use Rattle.json_text.specs.declared.kind.Kind.{Kind}
@@ -12,7 +13,7 @@ use Rattle.json_nodes.specs.Doc.{Doc}
 use Rattle.json_nodes.specs.Nodes.{kind_of}
 use Rattle.json_nodes.proofs.Sames.{ByMembers, object_of}
 use Rattle.rpc_message.specs.declared.envelope.Envelope.{Envelope}
-use Rattle.rpc_message.specs.Envelopes.{TellsIf, IsRequest, IsNotification, by_names, is_enveloped, not_null}
+use Rattle.rpc_message.specs.Envelopes.{AreMembers, IsMadeOf, TellsIf, IsRequest, IsNotification, by_names, is_enveloped, not_null}
 use Rattle.rpc_message.specs.Message.{Id, Message, not_message, request_if, notification_if, called, are_params, given, id_of, is_null, is_string_value, is_two, no_name_twice, message_in}
 use Rattle.rpc_message.proofs.Bodies.{method_names}
 
@@ -173,5 +174,25 @@ module _ (doc : Doc) (j : Json) (e : Option Envelope) (b : Bool) (test : b ≡ i
     where
       go : (o : Option Json) → Found doc o None → TellsIf doc e (by_names o (named_in (codes "id") j) (named_in (codes "params") j) (named_in (codes "error") j) (named_in (codes "result") j))
       go None a = tell (named_in (codes "id") j) (named_in (codes "error") j) (named_in (codes "result") j)
+          (subst (λ z. Found doc (named_in z j) id) id_chars h) (subst (λ z. Found doc (named_in z j) failure) error_chars k) (subst (λ z. Found doc (named_in z j) value) result_chars l)
+      go (Some m) a = absurd a
+
+-- the values of an envelope are the members of these names
+module _ (doc : Doc) (j : Json) (e : Option Envelope) where
+  pub made_called : (method : ℕ) (found id params : Option ℕ) → Found doc (named_in (chars (codes "method")) j) found → found ≡ Some method → Found doc (named_in (chars (codes "id")) j) id → Found doc (named_in (chars (codes "params")) j) params
+      → ((m : Json) (i p f v : Option Json) → At doc method m → Found doc i id → Found doc p params → IfSome e (λ x. IsMadeOf doc (Some m) i p f v x)) → IfSome e (λ x. AreMembers doc j x)
+  made_called method found id params g is h k made = go (named_in (codes "method") j) (subst (λ o. Found doc (named_in (codes "method") j) o) is (subst (λ z. Found doc (named_in z j) found) method_chars g))
+    where
+      go : (o : Option Json) → Found doc o (Some method) → IfSome e (λ x. IsMadeOf doc o (named_in (codes "id") j) (named_in (codes "params") j) (named_in (codes "error") j) (named_in (codes "result") j) x)
+      go (Some m) a = made m (named_in (codes "id") j) (named_in (codes "params") j) (named_in (codes "error") j) (named_in (codes "result") j) a
+          (subst (λ z. Found doc (named_in z j) id) id_chars h) (subst (λ z. Found doc (named_in z j) params) params_chars k)
+      go None a = absurd a
+
+  pub made_answered : (found id failure value : Option ℕ) → Found doc (named_in (chars (codes "method")) j) found → found ≡ None → Found doc (named_in (chars (codes "id")) j) id → Found doc (named_in (chars (codes "error")) j) failure → Found doc (named_in (chars (codes "result")) j) value
+      → ((i p f v : Option Json) → Found doc i id → Found doc f failure → Found doc v value → IfSome e (λ x. IsMadeOf doc None i p f v x)) → IfSome e (λ x. AreMembers doc j x)
+  made_answered found id failure value g is h k l made = go (named_in (codes "method") j) (subst (λ o. Found doc (named_in (codes "method") j) o) is (subst (λ z. Found doc (named_in z j) found) method_chars g))
+    where
+      go : (o : Option Json) → Found doc o None → IfSome e (λ x. IsMadeOf doc o (named_in (codes "id") j) (named_in (codes "params") j) (named_in (codes "error") j) (named_in (codes "result") j) x)
+      go None a = made (named_in (codes "id") j) (named_in (codes "params") j) (named_in (codes "error") j) (named_in (codes "result") j)
           (subst (λ z. Found doc (named_in z j) id) id_chars h) (subst (λ z. Found doc (named_in z j) failure) error_chars k) (subst (λ z. Found doc (named_in z j) value) result_chars l)
       go (Some m) a = absurd a

@@ -1,5 +1,5 @@
 -- A body that is no JSON text is no message; one that is has its tree's.
-use Rattle.std.proofs.Common.{Bool, true, false, ◌&&◌, not, is_some, if◌then◌else◌, MatchOption, ◌≡◌, ℕ, ◌<◌, codes, encode_utf8_all, ◌⊎◌, inl, inr, List, length, Option, Some, None, refl, sym, ◌∙◌, ap, ap₂, subst, ◌≤◌}
+use Rattle.std.proofs.Common.{IfSome, Bool, true, false, ◌&&◌, not, is_some, if◌then◌else◌, MatchOption, ◌≡◌, ℕ, ◌<◌, codes, encode_utf8_all, ◌⊎◌, inl, inr, List, length, Option, Some, None, refl, sym, ◌∙◌, ap, ap₂, subst, ◌≤◌}
 use Rattle.json_text.specs.Faults.{IsSyntaxFault, IsDepthFault}
 use Rattle.std.specs.Str.{chars}
 use Rattle.json_text.specs.declared.span.Span.{Span}
@@ -15,9 +15,9 @@ use Rattle.rpc_message.specs.declared.envelope.Envelope.{Envelope}
 use Rattle.rpc_message.specs.declared.envelope.Envelope.TheVariants.{Request, Notification, Outcome, Failure}
 use Rattle.json_text.specs.Named.{named}
 use Rattle.rpc_message.proofs.Bodies.{method_names}
-use Rattle.rpc_message.specs.Envelopes.{by_names, Tells, TellsIf, IsRequest, IsNotification, IsOutcome, IsFailure}
+use Rattle.rpc_message.specs.Envelopes.{AreMembers, by_names, Tells, TellsIf, IsRequest, IsNotification, IsOutcome, IsFailure}
 use Rattle.rpc_message.specs.Message.{Id, Message, result, error_if, request_if, notification_if, response_with, response_id, id_of, is_null, is_error, is_two, are_params, given, result_tree, no_name_twice, by_method, member_bytes, message_in, message_of, not_json, not_message}
-use Rattle.rpc_message.specs.Parsed.{Parsed, IsRead, FoundBare, method_of, error_of}
+use Rattle.rpc_message.specs.Parsed.{Parsed, IsRead, FoundBare, method_of, error_of, params_in, result_in, error_in}
 
 no_message : (bytes : List ℕ) → tree_of bytes ≡ None → message_of bytes ≡ not_json
 unfolding message_of
@@ -96,9 +96,62 @@ unfolding message_of
 told_read doc d e bytes j is same h tell =
     subst (λ o. TellsIf doc e (message_in o)) (sym (held_tree doc j h) ∙ ap tree_of same) (subst (λ z. TellsIf z e (message_in (Some j))) is (tell j (subst (λ z. At z 0 j) (sym is) (root_at doc j h))))
 
-pub read_is : (doc : Doc) (e : Envelope) (name : Option (List ℕ)) (bytes : List ℕ) (j : Json) → doc.bytes ≡ bytes → Holds doc j → Tells doc e (message_of bytes) → name ≡ method_of (message_of bytes)
+-- the numbers that an envelope has
+abbrev pub params_at : Envelope → Option ℕ
+params_at (Request id n ps) = ps
+params_at (Notification n ps) = ps
+params_at (Outcome id v) = None
+params_at (Failure id n) = None
+
+abbrev pub result_at : Envelope → Option ℕ
+result_at (Outcome id v) = v
+result_at (Request id n ps) = None
+result_at (Notification n ps) = None
+result_at (Failure id n) = None
+
+abbrev pub error_at : Envelope → Option ℕ
+error_at (Failure id n) = Some n
+error_at (Request id n ps) = None
+error_at (Notification n ps) = None
+error_at (Outcome id v) = None
+
+pub read_is : (doc : Doc) (e : Envelope) (name : Option (List ℕ)) (bytes : List ℕ) (j : Json) → doc.bytes ≡ bytes → Holds doc j → Tells doc e (message_of bytes) → AreMembers doc j e → name ≡ method_of (message_of bytes)
     → IsRead (record { doc = doc; envelope = e; method = name }) bytes
-read_is doc e name bytes j same h t n = record { bytes_are = same; tree = j; holds = h; tells = t; named = n }
+read_is doc e name bytes j same h t a n = record { bytes_are = same; tree = j; holds = h; tells = t; members = a; named = n }
+
+-- what is said of the values of each tree that stands for a text's value is said of its own
+pub members_read : (doc d : Doc) (o : Option Envelope) (e : Envelope) (j : Json) → d ≡ doc → Holds doc j → ((j : Json) → At d 0 j → IfSome o (λ x. AreMembers d j x)) → o ≡ Some e → AreMembers doc j e
+members_read doc d o e j is h made some = subst (λ z. IfSome z (λ x. AreMembers doc j x)) some (subst (λ z. IfSome o (λ x. AreMembers z j x)) is (made j (subst (λ z. At z 0 j) (sym is) (root_at doc j h))))
+
+-- the values that say what a message is are its members
+pub params_stand : (doc : Doc) (e : Envelope) (m : Message) (j : Json) → Tells doc e m → AreMembers doc j e → Found doc (params_in m j) (params_at e)
+params_stand doc (Request id n ps) m j t a = subst (λ z. Found doc (params_in z j) ps) (sym t.is) a.1.1
+params_stand doc (Notification n ps) m j t a = subst (λ z. Found doc (params_in z j) ps) (sym t.is) a.1
+params_stand doc (Outcome id v) m j t a = subst (λ z. Found doc (params_in z j) None) (sym t.is) tt
+params_stand doc (Failure id n) m j t a = subst (λ z. Found doc (params_in z j) None) (sym t.is) tt
+
+pub result_stands : (doc : Doc) (e : Envelope) (m : Message) (j : Json) → Tells doc e m → AreMembers doc j e → Found doc (result_in m j) (result_at e)
+result_stands doc (Outcome id v) m j t a = subst (λ z. Found doc (result_in z j) v) (sym t.is) a.1
+result_stands doc (Request id n ps) m j t a = subst (λ z. Found doc (result_in z j) None) (sym t.is) tt
+result_stands doc (Notification n ps) m j t a = subst (λ z. Found doc (result_in z j) None) (sym t.is) tt
+result_stands doc (Failure id n) m j t a = subst (λ z. Found doc (result_in z j) None) (sym t.is) tt
+
+pub error_stands : (doc : Doc) (e : Envelope) (m : Message) (j : Json) → Tells doc e m → AreMembers doc j e → Found doc (error_in m j) (error_at e)
+error_stands doc (Failure id n) m j t a = subst (λ z. Found doc (error_in z j) (Some n)) (sym t.is) a.1
+error_stands doc (Request id n ps) m j t a = subst (λ z. Found doc (error_in z j) None) (sym t.is) tt
+error_stands doc (Notification n ps) m j t a = subst (λ z. Found doc (error_in z j) None) (sym t.is) tt
+error_stands doc (Outcome id v) m j t a = subst (λ z. Found doc (error_in z j) None) (sym t.is) tt
+
+-- the same of a body that was read, where its envelope is this one
+module _ (k : Parsed) (e : Envelope) (same : e ≡ k.envelope) (bytes : List ℕ) (r : IsRead k bytes) where
+  pub params_member : (answer : Option ℕ) → params_at e ≡ answer → Found k.doc (params_in (message_of bytes) r.tree) answer
+  params_member answer is = subst (λ o. Found k.doc (params_in (message_of bytes) r.tree) o) (ap params_at (sym same) ∙ is) (params_stand k.doc k.envelope (message_of bytes) r.tree r.tells r.members)
+
+  pub result_member : (answer : Option ℕ) → result_at e ≡ answer → Found k.doc (result_in (message_of bytes) r.tree) answer
+  result_member answer is = subst (λ o. Found k.doc (result_in (message_of bytes) r.tree) o) (ap result_at (sym same) ∙ is) (result_stands k.doc k.envelope (message_of bytes) r.tree r.tells r.members)
+
+  pub error_member : (answer : Option ℕ) → error_at e ≡ answer → Found k.doc (error_in (message_of bytes) r.tree) answer
+  error_member answer is = subst (λ o. Found k.doc (error_in (message_of bytes) r.tree) o) (ap error_at (sym same) ∙ is) (error_stands k.doc k.envelope (message_of bytes) r.tree r.tells r.members)
 
 pub same_doc : (doc : Doc) (bs : List ℕ) (ns : List Node) → bs ≡ doc.bytes → ns ≡ doc.nodes → ◌≡◌ {A = Doc} (record { bytes = bs; nodes = ns }) doc
 same_doc doc bs ns e f = ap₂ (λ b n. record { bytes = b; nodes = n }) e f

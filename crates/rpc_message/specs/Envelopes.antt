@@ -5,7 +5,7 @@ use Rattle.std.specs.Option.{option_map}
 use Rattle.json_text.specs.declared.span.Span.{Span}
 use Rattle.json_text.specs.Bare.{bare}
 use Rattle.json_text.specs.Json.{Json, word, number, string, array, object}
-use Rattle.json_text.specs.Named.{named}
+use Rattle.json_text.specs.Named.{named, named_in}
 use Rattle.json_nodes.specs.At.{At, Found}
 use Rattle.json_nodes.specs.Doc.{Doc}
 use Rattle.rpc_message.specs.declared.envelope.Envelope.{Envelope}
@@ -63,6 +63,17 @@ pub record IsFailure (doc : Doc) (at failure_at : ℕ) (message : Message) : Typ
   pub failure : Json
   pub failure_stands : At doc failure_at failure
   pub is : message ≡ error id (bare failure)
+
+-- the envelope's values are these: a method, an id, params that aren't null, an error that isn't null, a result
+abbrev pub IsMadeOf : Doc → Option Json → Option Json → Option Json → Option Json → Option Json → Envelope → Type 0
+IsMadeOf doc method id params failure value (Request i m p) = Found doc id (Some i) × (Found doc method (Some m) × Found doc (not_null params) p)
+IsMadeOf doc method id params failure value (Notification m p) = Found doc method (Some m) × Found doc (not_null params) p
+IsMadeOf doc method id params failure value (Outcome i v) = Found doc id (Some i) × Found doc value v
+IsMadeOf doc method id params failure value (Failure i e) = Found doc id (Some i) × Found doc (not_null failure) (Some e)
+
+-- they are the members of these names of the text's value
+abbrev pub AreMembers : Doc → Json → Envelope → Type 0
+AreMembers doc j envelope = IsMadeOf doc (named_in (codes "method") j) (named_in (codes "id") j) (named_in (codes "params") j) (named_in (codes "error") j) (named_in (codes "result") j) envelope
 
 -- the envelope tells of this message
 abbrev pub Tells : Doc → Envelope → Message → Type 0

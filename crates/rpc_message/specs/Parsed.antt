@@ -1,13 +1,14 @@
 -- A body that was read: its text with its nodes, its envelope, and its method's name.
-use Rattle.std.specs.Prelude.{◌≡◌, ℕ, List, encode_utf8_all}
+use Rattle.std.specs.Prelude.{◌≡◌, ℕ, List, codes, encode_utf8_all}
 use Rattle.std.specs.Prelude.{Option, Some, None}
 use Rattle.std.specs.Option.{option_map}
 use Rattle.json_text.specs.Bare.{bare}
 use Rattle.json_text.specs.Json.{Json}
+use Rattle.json_text.specs.Named.{named_in}
 use Rattle.json_nodes.specs.At.{Found}
 use Rattle.json_nodes.specs.Doc.{Doc, Holds}
 use Rattle.rpc_message.specs.declared.envelope.Envelope.{Envelope}
-use Rattle.rpc_message.specs.Envelopes.{Tells}
+use Rattle.rpc_message.specs.Envelopes.{Tells, AreMembers, not_null}
 use Rattle.rpc_message.specs.Message.{Message, request, notification, result, error, not_json, not_message, message_of, result_tree}
 
 pub record Parsed : Type 0 where
@@ -42,12 +43,38 @@ error_of (error id failure) = Some failure
 error_of not_json = None
 error_of not_message = None
 
--- these bytes are the body, and the envelope tells of its message
+-- the members of a body's object that are its params, its result and its error; params that are null count as absent, and a result that is null is there
+abbrev pub params_in : Message → Json → Option Json
+params_in (request id method params) j = not_null (named_in (codes "params") j)
+params_in (notification method params) j = not_null (named_in (codes "params") j)
+params_in (result id value) j = None
+params_in (error id failure) j = None
+params_in not_json j = None
+params_in not_message j = None
+
+abbrev pub result_in : Message → Json → Option Json
+result_in (result id value) j = named_in (codes "result") j
+result_in (request id method params) j = None
+result_in (notification method params) j = None
+result_in (error id failure) j = None
+result_in not_json j = None
+result_in not_message j = None
+
+abbrev pub error_in : Message → Json → Option Json
+error_in (error id failure) j = not_null (named_in (codes "error") j)
+error_in (request id method params) j = None
+error_in (notification method params) j = None
+error_in (result id value) j = None
+error_in not_json j = None
+error_in not_message j = None
+
+-- these bytes are the body, the envelope tells of its message, and its values are the body's members
 pub record IsRead (parsed : Parsed) (bytes : List ℕ) : Type 0 where
   pub bytes_are : parsed.doc.bytes ≡ bytes
   pub tree : Json
   pub holds : Holds parsed.doc tree
   pub tells : Tells parsed.doc parsed.envelope (message_of bytes)
+  pub members : AreMembers parsed.doc tree parsed.envelope
   pub named : parsed.method ≡ method_of (message_of bytes)
 
 -- the answer is the number of a value that says this, or there is neither

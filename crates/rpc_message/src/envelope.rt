@@ -1,16 +1,16 @@
 //! What a body is, by the members of its object (JSON-RPC 2.0, sections 4 and 5; LSP 3.17, Base Protocol).
-ghost use Rattle.std.specs.Prelude.{◌≡◌, ◌<◌, ℕ, List, length, true, is_some, IfOk, MatchOption, Option, Some};
+ghost use Rattle.std.specs.Prelude.{◌≡◌, ◌<◌, ℕ, List, length, true, is_some, IfOk, IfSome, MatchOption, Option, None, Some};
 ghost use Rattle.json_text.specs.Json.{Json};
 ghost use Rattle.json_nodes.specs.At.{At, Found};
-ghost use Rattle.rpc_message.specs.Envelopes.{TellsIf, by_names, is_enveloped, not_null};
+ghost use Rattle.rpc_message.specs.Envelopes.{AreMembers, IsMadeOf, TellsIf, by_names, is_enveloped, not_null};
 ghost use Rattle.rpc_message.specs.Message.{are_params, answered, id_of, is_error, is_integer, is_integer_value, is_string_value, is_two, message_in, response_id};
 
 use crate::id::is_integer;
 use crate::names::names_once;
 use json_nodes::{Node, bytes_in, kind_in, member_in, string_in};
 use json_text::Kind;
-use message_body::Memory;
 use json_token::spells_text;
+use message_body::Memory;
 use std::alloc::Global;
 
 /// What a message is: which of its values are its id, its method, its params, its result and its error, by their numbers. Params
@@ -158,7 +158,8 @@ fn called(
     requires method { method < length nodes.now }
     requires id { MatchOption id (Unit {0}) (λ n. n < length nodes.now) }
     requires params { MatchOption params (Unit {0}) (λ n. n < length nodes.now) }
-    ensures { (m : Json) (i p f v : Option Json) → At (record { bytes = bytes.now; nodes = nodes.now }) method m → Found (record { bytes = bytes.now; nodes = nodes.now }) i id → Found (record { bytes = bytes.now; nodes = nodes.now }) p params → TellsIf (record { bytes = bytes.now; nodes = nodes.now }) result (by_names (Some m) i p f v) }
+    ensures members { (m : Json) (i p f v : Option Json) → At (record { bytes = bytes.now; nodes = nodes.now }) method m → Found (record { bytes = bytes.now; nodes = nodes.now }) i id → Found (record { bytes = bytes.now; nodes = nodes.now }) p params → IfSome result (λ e. IsMadeOf (record { bytes = bytes.now; nodes = nodes.now }) (Some m) i p f v e) }
+    ensures tells { (m : Json) (i p f v : Option Json) → At (record { bytes = bytes.now; nodes = nodes.now }) method m → Found (record { bytes = bytes.now; nodes = nodes.now }) i id → Found (record { bytes = bytes.now; nodes = nodes.now }) p params → TellsIf (record { bytes = bytes.now; nodes = nodes.now }) result (by_names (Some m) i p f v) }
 {
     if !is_string_value(nodes, Some(method)) || !are_params(nodes, params) {
         return None;
@@ -182,7 +183,8 @@ fn answered(
     requires id { MatchOption id (Unit {0}) (λ n. n < length nodes.now) }
     requires failure { MatchOption failure (Unit {0}) (λ n. n < length nodes.now) }
     requires value { MatchOption value (Unit {0}) (λ n. n < length nodes.now) }
-    ensures { (i f v : Option Json) → Found (record { bytes = bytes.now; nodes = nodes.now }) i id → Found (record { bytes = bytes.now; nodes = nodes.now }) f failure → Found (record { bytes = bytes.now; nodes = nodes.now }) v value → TellsIf (record { bytes = bytes.now; nodes = nodes.now }) result (answered i f v) }
+    ensures members { (i p f v : Option Json) → Found (record { bytes = bytes.now; nodes = nodes.now }) i id → Found (record { bytes = bytes.now; nodes = nodes.now }) f failure → Found (record { bytes = bytes.now; nodes = nodes.now }) v value → IfSome result (λ e. IsMadeOf (record { bytes = bytes.now; nodes = nodes.now }) None i p f v e) }
+    ensures tells { (i f v : Option Json) → Found (record { bytes = bytes.now; nodes = nodes.now }) i id → Found (record { bytes = bytes.now; nodes = nodes.now }) f failure → Found (record { bytes = bytes.now; nodes = nodes.now }) v value → TellsIf (record { bytes = bytes.now; nodes = nodes.now }) result (answered i f v) }
 {
     let id = id?;
     if !is_response_id(bytes, nodes, id) {
@@ -200,7 +202,8 @@ fn answered(
 // What a body is that is enveloped so.
 fn by_members(bytes: &[u8], nodes: &[Node]) -> Option<Envelope>
     requires { 0 < length nodes.now }
-    ensures { (j : Json) → At (record { bytes = bytes.now; nodes = nodes.now }) 0 j → is_enveloped j ≡ true → TellsIf (record { bytes = bytes.now; nodes = nodes.now }) result (message_in (Some j)) }
+    ensures members { (j : Json) → At (record { bytes = bytes.now; nodes = nodes.now }) 0 j → IfSome result (λ e. AreMembers (record { bytes = bytes.now; nodes = nodes.now }) j e) }
+    ensures tells { (j : Json) → At (record { bytes = bytes.now; nodes = nodes.now }) 0 j → is_enveloped j ≡ true → TellsIf (record { bytes = bytes.now; nodes = nodes.now }) result (message_in (Some j)) }
 {
     let id = member_in(bytes, nodes, 0, "id");
     match member_in(bytes, nodes, 0, "method") {
@@ -224,7 +227,8 @@ fn by_members(bytes: &[u8], nodes: &[Node]) -> Option<Envelope>
 /// What a body is, by the nodes of its values; none where it is no message.
 pub fn envelope_in(alloc: Global, bytes: &[u8], nodes: &[Node]) -> Result<Option<Envelope>, Memory>
     requires { 0 < length nodes.now }
-    ensures { (j : Json) → At (record { bytes = bytes.now; nodes = nodes.now }) 0 j → IfOk result (λ envelope. TellsIf (record { bytes = bytes.now; nodes = nodes.now }) envelope (message_in (Some j))) }
+    ensures members { (j : Json) → At (record { bytes = bytes.now; nodes = nodes.now }) 0 j → IfOk result (λ envelope. IfSome envelope (λ e. AreMembers (record { bytes = bytes.now; nodes = nodes.now }) j e)) }
+    ensures tells { (j : Json) → At (record { bytes = bytes.now; nodes = nodes.now }) 0 j → IfOk result (λ envelope. TellsIf (record { bytes = bytes.now; nodes = nodes.now }) envelope (message_in (Some j))) }
 {
     if is_enveloped(alloc, bytes, nodes)? {
         Ok(by_members(bytes, nodes))

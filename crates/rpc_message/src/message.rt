@@ -3,9 +3,10 @@ ghost use Rattle.std.specs.Prelude.{◌≡◌, ◌≤◌, ◌<◌, ℕ, List, le
 ghost use Rattle.json_text.specs.Changes.{edits_of};
 ghost use Rattle.json_text.specs.Replace.{replace, Rise};
 ghost use Rattle.json_text.specs.Tree.{tree_of};
+ghost use Rattle.json_nodes.specs.At.{Found};
 ghost use Rattle.rpc_message.specs.Envelopes.{Tells};
 ghost use Rattle.rpc_message.specs.Message.{Message as Meaning, id_bytes, message_of, place_in, result_bytes};
-ghost use Rattle.rpc_message.specs.Parsed.{FoundBare, FoundResultOf, IsRead, error_of, method_of, params_of};
+ghost use Rattle.rpc_message.specs.Parsed.{FoundBare, FoundResultOf, IsRead, error_in, error_of, method_of, params_in, params_of, result_in};
 ghost use Rattle.rpc_message.specs.Sorts.{Refuses, sort_of};
 ghost use Rattle.rpc_message.specs.Texts.{with_id_text};
 
@@ -141,8 +142,9 @@ impl<'a> Message<'a> {
         }
     }
 
-    /// The number of its params; none where it has none, or they are null.
+    /// The number of its params, which is that of its object's member `params`; none where it has none, or they are null.
     pub fn params(&self) -> Option<u32>
+        ensures member { (bytes : List ℕ) (read : IsRead self.now bytes) → Found self.now.doc (params_in (message_of bytes) read.tree) result }
         ensures value { (bytes : List ℕ) → IsRead self.now bytes → FoundBare self.now.doc (params_of (message_of bytes)) result }
         ensures inside { MatchOption result (Unit {0}) (λ node. node < length self.now.doc.nodes) }
     {
@@ -152,8 +154,10 @@ impl<'a> Message<'a> {
         }
     }
 
-    /// The number of its result; none where it has none, which reads as null, and where it is no response with a result.
+    /// The number of its result, which is that of its object's member `result`; none where it has no such member, which reads
+    /// as null, and where it is no response with a result. A result that is null has a number.
     pub fn result(&self) -> Option<u32>
+        ensures member { (bytes : List ℕ) (read : IsRead self.now bytes) → Found self.now.doc (result_in (message_of bytes) read.tree) result }
         ensures value { (bytes : List ℕ) → IsRead self.now bytes → FoundResultOf self.now.doc (message_of bytes) result }
         ensures inside { MatchOption result (Unit {0}) (λ node. node < length self.now.doc.nodes) }
     {
@@ -170,8 +174,9 @@ impl<'a> Message<'a> {
         member_bytes(self.tape.bytes(), self.tape.nodes(), "result")
     }
 
-    /// The number of its error; none where it is no response with an error.
+    /// The number of its error, which is that of its object's member `error`; none where it is no response with an error.
     pub fn error(&self) -> Option<u32>
+        ensures member { (bytes : List ℕ) (read : IsRead self.now bytes) → Found self.now.doc (error_in (message_of bytes) read.tree) result }
         ensures value { (bytes : List ℕ) → IsRead self.now bytes → FoundBare self.now.doc (error_of (message_of bytes)) result }
         ensures inside { MatchOption result (Unit {0}) (λ node. node < length self.now.doc.nodes) }
     {

@@ -8,8 +8,8 @@ ghost use Rattle.rpc_message.specs.Message.{no_name_twice};
 ghost use Rattle.rpc_message.specs.Names.{has_name};
 
 use json_nodes::{Node, first_in, last_spelled, name_in, next_in};
-use message_body::Memory;
 use json_token::decode;
+use message_body::Memory;
 use std::alloc::Global;
 use std::collections::BTreeSet;
 

@@ -16,17 +16,17 @@ use Rattle.capability_meet.proofs.order.+below.Goals as goal
 pub member_below-returns-then-is_some : goal.member_below-returns-then-is_some
 member_below-returns-then-is_some z c = λ k n s r u ms ns cs m g f a.
     member_later (doc_of c.args.left) (named cs (drop_members (n + 1) ms)) c.last_spelled.result (is_least u || if_some (named cs ns) (λ v. below u v))
-    (c.last_spelled.ensures.named k (n + 1) s ms cs (c.name_in-name.ensures k n (object s ms) u cs m g) f) (sym c.is_some.ensures ∙ c.if-is_some.true)
+    (c.last_spelled.ensures.named k (n + 1) s ms cs (c.name_in-name.ensures.spelled k n (object s ms) u cs m g) f) (sym c.is_some.ensures ∙ c.if-is_some.true)
 
 pub member_below-returns-then-is_least : goal.member_below-returns-then-is_least
 member_below-returns-then-is_least z c = λ k n s r u ms ns cs m g f a.
     member_least u c.is_least.result (if_some (named cs ns) (λ v. below u v)) (c.is_least.ensures u (child_at m)) c.if-is_least.true
     ∙ member_first (doc_of c.args.left) (named cs (drop_members (n + 1) ms)) c.last_spelled.result (is_least u || if_some (named cs ns) (λ v. below u v))
-    (c.last_spelled.ensures.named k (n + 1) s ms cs (c.name_in-name.ensures k n (object s ms) u cs m g) f) (sym c.is_some.ensures ∙ c.if-is_some.false)
+    (c.last_spelled.ensures.named k (n + 1) s ms cs (c.name_in-name.ensures.spelled k n (object s ms) u cs m g) f) (sym c.is_some.ensures ∙ c.if-is_some.false)
 
 pub member_below-returns-in-Some : goal.member_below-returns-in-Some
 member_below-returns-in-Some z c = λ k n s r u ms ns cs m g f a.
-    let spelled = c.name_in-name.ensures k n (object s ms) u cs m g in
+    let spelled = c.name_in-name.ensures.spelled k n (object s ms) u cs m g in
     member_twin (doc_of c.args.right) (named cs ns) c.in-Some.twin u c.last_spelled-2.result c.values_below.result
     (c.last_spelled-2.ensures.named c.args.other 0 r ns cs spelled (c.first_in.ensures.first c.args.right.bytes.now (object r ns) a)) c.in-Some.is (λ v b. c.values_below.ensures u v (child_at m) b)
     ∙ member_more u c.is_least.result (if_some (named cs ns) (λ v. below u v)) (c.is_least.ensures u (child_at m)) c.if-is_least.false
@@ -35,7 +35,7 @@ member_below-returns-in-Some z c = λ k n s r u ms ns cs m g f a.
 
 pub member_below-returns-in-None : goal.member_below-returns-in-None
 member_below-returns-in-None z c = λ k n s r u ms ns cs m g f a.
-    let spelled = c.name_in-name.ensures k n (object s ms) u cs m g in
+    let spelled = c.name_in-name.ensures.spelled k n (object s ms) u cs m g in
     member_missing (doc_of c.args.right) (named cs ns) u c.last_spelled-2.result
     (c.last_spelled-2.ensures.named c.args.other 0 r ns cs spelled (c.first_in.ensures.first c.args.right.bytes.now (object r ns) a)) c.in-None.is
     ∙ member_more u c.is_least.result (if_some (named cs ns) (λ v. below u v)) (c.is_least.ensures u (child_at m)) c.if-is_least.false

@@ -50,7 +50,7 @@ write_pair-returns z c = λ k n s p r ms rest ns cs u more m g h e f a.
     pair_put c.args.out.now.items c.write_comma.new.out.items c.write_name.new.out.items c.write_met.new.out.items (between p.from p.to c.args.left.bytes.now) (meet_text c.args.left.bytes.now c.spot_of-inner.result u v.0)
     (λ v. between p.from p.to c.args.left.bytes.now ++ (58 ∷ meet_text c.args.left.bytes.now (spot_of c.args.spot cs) u v)) (pairs_met c.args.left.bytes.now c.args.spot rest ns) more c.args.started (twin c.args.spot cs u rest ns) v.0 v.1
     c.in_ok-write_comma.ensures (c.in_ok-write_name.ensures k n s p ms rest cs u m h) (c.in_ok-write_met.ensures u v.0 (child_at m) v.2 (twin_meets c.args.spot cs u v.0 rest ns v.1))
-    (ap (λ x. between p.from p.to c.args.left.bytes.now ++ (58 ∷ meet_text c.args.left.bytes.now x u v.0)) (sym (c.spot_of-inner.ensures cs (c.name_in.ensures k n (object s ms) u cs m g))))
+    (ap (λ x. between p.from p.to c.args.left.bytes.now ++ (58 ∷ meet_text c.args.left.bytes.now x u v.0)) (sym (c.spot_of-inner.ensures cs (c.name_in.ensures.spelled k n (object s ms) u cs m g))))
 
 pub write_pairs-loop-next-preserved : goal.write_pairs-loop-next-preserved
 write_pairs-loop-next-preserved z c =

@@ -8,4 +8,4 @@ pub returns-in-Number : goal.returns-in-Number
 returns-in-Number c = λ o f.
     let doc : Doc = record { bytes = c.bytes.result.now; nodes = c.nodes.result.now } in
     integer_found c.args.tape.now doc o c.in-Some.node c.kind.result c.bytes_in.result.now c.whole.result c.in-Number.is
-    (same_doc c.args.tape.now c.bytes.result.now c.nodes.result.now c.bytes.ensures c.nodes.ensures) c.kind.ensures c.bytes_in.ensures c.whole.ensures (subst (λ z. Found c.args.tape.now o z) c.in-Some.is f)
+    (same_doc c.args.tape.now c.bytes.result.now c.nodes.result.now c.bytes.ensures c.nodes.ensures) c.kind.ensures c.bytes_in.ensures.spelled c.whole.ensures (subst (λ z. Found c.args.tape.now o z) c.in-Some.is f)

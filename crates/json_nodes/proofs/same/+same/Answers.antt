@@ -41,13 +41,13 @@ same_items-returns t c =
 pub same_member-returns-then-is_some : goal.same_member-returns-then-is_some
 same_member-returns-then-is_some t c =
     let d : Doc = record { bytes = c.args.left.bytes.now; nodes = c.args.left.nodes.now } in
-    λ k n s r u ms ns cs m g f a. member_later d (named cs (drop_members (n + 1) ms)) (named cs ns) u c.last_spelled.result (c.last_spelled.ensures.named k (n + 1) s ms cs (c.name_in-name.ensures k n (object s ms) u cs m g) f) (sym c.is_some.ensures ∙ c.if-is_some.true)
+    λ k n s r u ms ns cs m g f a. member_later d (named cs (drop_members (n + 1) ms)) (named cs ns) u c.last_spelled.result (c.last_spelled.ensures.named k (n + 1) s ms cs (c.name_in-name.ensures.spelled k n (object s ms) u cs m g) f) (sym c.is_some.ensures ∙ c.if-is_some.true)
 
 pub same_member-returns-in-Some : goal.same_member-returns-in-Some
 same_member-returns-in-Some t c = λ k n s r u ms ns cs m g f a.
     let d : Doc = record { bytes = c.args.left.bytes.now; nodes = c.args.left.nodes.now } in
     let e : Doc = record { bytes = c.args.right.bytes.now; nodes = c.args.right.nodes.now } in
-    let spelled = c.name_in-name.ensures k n (object s ms) u cs m g in
+    let spelled = c.name_in-name.ensures.spelled k n (object s ms) u cs m g in
     member_last d e (named cs (drop_members (n + 1) ms)) (named cs ns) c.args.member c.in-Some.twin u c.last_spelled.result c.last_spelled-2.result c.same_values.result
     (c.last_spelled.ensures.named k (n + 1) s ms cs spelled f) (sym c.is_some.ensures ∙ c.if-is_some.false) (child_at m)
     (c.last_spelled-2.ensures.named c.args.other 0 r ns cs spelled (c.first_in.ensures.first c.args.right.bytes.now (object r ns) a)) c.in-Some.is c.same_values.ensures
@@ -56,7 +56,7 @@ pub same_member-returns-in-None : goal.same_member-returns-in-None
 same_member-returns-in-None t c = λ k n s r u ms ns cs m g f a.
     let d : Doc = record { bytes = c.args.left.bytes.now; nodes = c.args.left.nodes.now } in
     let e : Doc = record { bytes = c.args.right.bytes.now; nodes = c.args.right.nodes.now } in
-    let spelled = c.name_in-name.ensures k n (object s ms) u cs m g in
+    let spelled = c.name_in-name.ensures.spelled k n (object s ms) u cs m g in
     member_missing d e (named cs (drop_members (n + 1) ms)) (named cs ns) u c.last_spelled.result c.last_spelled-2.result
     (c.last_spelled.ensures.named k (n + 1) s ms cs spelled f) (sym c.is_some.ensures ∙ c.if-is_some.false)
     (c.last_spelled-2.ensures.named c.args.other 0 r ns cs spelled (c.first_in.ensures.first c.args.right.bytes.now (object r ns) a)) c.in-None.is
@@ -98,8 +98,8 @@ same_values-returns-in-Number z c = λ t u a b.
     let first : kind_of t ≡ kind.Number = sym (c.kind_in-kind.ensures c.args.left.bytes.now t a) ∙ c.in-Number.is in
     let second : kind_of u ≡ kind.Number = second_kind c.kind_in-kind.result c.kind_in.result u (c.kind_in.ensures c.args.right.bytes.now u b) (sym c.same_kind.ensures ∙ c.if-not-same_kind.false) kind.Number c.in-Number.is in
     c.eq.ensures ∙ same_numbers t u c.bytes_in.result.now c.bytes_in-in-Number.result.now first second
-    (λ s ds p. (c.bytes_in.ensures (number s ds) (subst (λ (v : Json). At d c.args.node v) p a)).0.0)
-    (λ s ds p. (c.bytes_in-in-Number.ensures (number s ds) (subst (λ (v : Json). At e c.args.other v) p b)).0.0)
+    (λ s ds p. (c.bytes_in.ensures.spelled (number s ds) (subst (λ (v : Json). At d c.args.node v) p a)).0.0)
+    (λ s ds p. (c.bytes_in-in-Number.ensures.spelled (number s ds) (subst (λ (v : Json). At e c.args.other v) p b)).0.0)
 
 pub same_values-returns-in-Text : goal.same_values-returns-in-Text
 same_values-returns-in-Text z c = λ t u a b.
@@ -108,7 +108,7 @@ same_values-returns-in-Text z c = λ t u a b.
     let first : kind_of t ≡ kind.Text = sym (c.kind_in-kind.ensures c.args.left.bytes.now t a) ∙ c.in-Text.is in
     let second : kind_of u ≡ kind.Text = second_kind c.kind_in-kind.result c.kind_in.result u (c.kind_in.ensures c.args.right.bytes.now u b) (sym c.same_kind.ensures ∙ c.if-not-same_kind.false) kind.Text c.in-Text.is in
     same_strings t u c.same_characters.result first second
-    (λ s r cs ds p q. decided c.same_characters.result cs ds (c.same_characters.ensures cs ds (c.string_in.ensures s cs (subst (λ (v : Json). At d c.args.node v) p a)) (c.string_in-in-Text.ensures r ds (subst (λ (v : Json). At e c.args.other v) q b))))
+    (λ s r cs ds p q. decided c.same_characters.result cs ds (c.same_characters.ensures cs ds (c.string_in.ensures.spelled s cs (subst (λ (v : Json). At d c.args.node v) p a)) (c.string_in-in-Text.ensures.spelled r ds (subst (λ (v : Json). At e c.args.other v) q b))))
 
 pub same_values-returns-in-Array : goal.same_values-returns-in-Array
 same_values-returns-in-Array z c = λ t u a b.

@@ -12,7 +12,7 @@ returns-then-is_none c =
     let d : Doc = record { bytes = c.args.left.bytes.now; nodes = c.args.left.nodes.now } in
     let e : Doc = record { bytes = c.args.right.bytes.now; nodes = c.args.right.nodes.now } in
     walk_fails d e c.args.node c.args.other names_within within_first c.in-Some.member c.loop-next.next (is_some c.last_spelled.result) names_by c.loop-next.invariant c.in-Some.is
-    (λ s r ms ns a n u cs m g. found_some e (named cs ns) c.last_spelled.result (c.last_spelled.ensures.named c.args.other 0 r ns cs (c.name_in-name.ensures c.args.node n (object s ms) u cs m g) (c.first_in.ensures.first c.args.right.bytes.now (object r ns) a)))
+    (λ s r ms ns a n u cs m g. found_some e (named cs ns) c.last_spelled.result (c.last_spelled.ensures.named c.args.other 0 r ns cs (c.name_in-name.ensures.spelled c.args.node n (object s ms) u cs m g) (c.first_in.ensures.first c.args.right.bytes.now (object r ns) a)))
     (c.is_none.ensures ∙ ap not c.if-is_none.true)
 
 pub loop-next-preserved : goal.loop-next-preserved
@@ -20,7 +20,7 @@ loop-next-preserved c =
     let d : Doc = record { bytes = c.args.left.bytes.now; nodes = c.args.left.nodes.now } in
     let e : Doc = record { bytes = c.args.right.bytes.now; nodes = c.args.right.nodes.now } in
     walk_on d e c.args.node c.args.other names_within within_first c.in-Some.member c.loop-next.next c.next_in-next.result (is_some c.last_spelled.result) names_by c.loop-next.invariant c.in-Some.is
-    (λ s r ms ns a n u cs m g. found_some e (named cs ns) c.last_spelled.result (c.last_spelled.ensures.named c.args.other 0 r ns cs (c.name_in-name.ensures c.args.node n (object s ms) u cs m g) (c.first_in.ensures.first c.args.right.bytes.now (object r ns) a)))
+    (λ s r ms ns a n u cs m g. found_some e (named cs ns) c.last_spelled.result (c.last_spelled.ensures.named c.args.other 0 r ns cs (c.name_in-name.ensures.spelled c.args.node n (object s ms) u cs m g) (c.first_in.ensures.first c.args.right.bytes.now (object r ns) a)))
     (c.is_none.ensures ∙ ap not c.if-is_none.false)
     (λ k n t u a. c.next_in-next.ensures.next c.args.left.bytes.now k n t u a) c.next_in-next.ensures.inside
 

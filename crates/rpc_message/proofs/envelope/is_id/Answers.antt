@@ -3,7 +3,7 @@ use Rattle.rpc_message.proofs.KindTests.{number_id, text_id, no_id}
 use Rattle.rpc_message.proofs.envelope.is_id.Goals as goal
 
 pub returns-in-Number : goal.returns-in-Number
-returns-in-Number c = λ t a. number_id t c.kind_in.result c.is_integer.result (span_of t).from c.bytes_in.result.now c.in-Number.is (c.kind_in.ensures c.args.bytes.now t a) (c.bytes_in.ensures t a) c.is_integer.ensures
+returns-in-Number c = λ t a. number_id t c.kind_in.result c.is_integer.result (span_of t).from c.bytes_in.result.now c.in-Number.is (c.kind_in.ensures c.args.bytes.now t a) (c.bytes_in.ensures.spelled t a) c.is_integer.ensures
 
 pub returns-in-Text : goal.returns-in-Text
 returns-in-Text c = λ t a. text_id t c.kind_in.result c.in-Text.is (c.kind_in.ensures c.args.bytes.now t a)

@@ -13,7 +13,7 @@ returns-then-is_some c = λ s ms a.
     let d : Doc = record { bytes = c.args.bytes.now; nodes = c.args.nodes.now } in
     walk_fails d d c.args.node c.args.node (λ xs ns. no_name_twice xs) once_first c.in-Some.member c.loop-next.next (not (is_some c.last_spelled.result)) once_by c.loop-next.invariant c.in-Some.is
     (λ s r ms ns b n u cs m g. ap not (found_some d (named cs (drop_members (n + 1) ms)) c.last_spelled.result
-    (c.last_spelled.ensures.named c.args.node (n + 1) s ms cs (c.name_in.ensures c.args.node n (object s ms) u cs m g) (c.next_in-following.ensures.next c.args.bytes.now c.args.node n (object s ms) u m))))
+    (c.last_spelled.ensures.named c.args.node (n + 1) s ms cs (c.name_in.ensures.spelled c.args.node n (object s ms) u cs m g) (c.next_in-following.ensures.next c.args.bytes.now c.args.node n (object s ms) u m))))
     (ap not (sym c.is_some.ensures ∙ c.if-is_some.true)) s s ms ms a a
 
 pub loop-next-preserved : goal.loop-next-preserved
@@ -21,7 +21,7 @@ loop-next-preserved c =
     let d : Doc = record { bytes = c.args.bytes.now; nodes = c.args.nodes.now } in
     walk_on d d c.args.node c.args.node (λ xs ns. no_name_twice xs) once_first c.in-Some.member c.loop-next.next c.next_in-following.result (not (is_some c.last_spelled.result)) once_by c.loop-next.invariant c.in-Some.is
     (λ s r ms ns b n u cs m g. ap not (found_some d (named cs (drop_members (n + 1) ms)) c.last_spelled.result
-    (c.last_spelled.ensures.named c.args.node (n + 1) s ms cs (c.name_in.ensures c.args.node n (object s ms) u cs m g) (c.next_in-following.ensures.next c.args.bytes.now c.args.node n (object s ms) u m))))
+    (c.last_spelled.ensures.named c.args.node (n + 1) s ms cs (c.name_in.ensures.spelled c.args.node n (object s ms) u cs m g) (c.next_in-following.ensures.next c.args.bytes.now c.args.node n (object s ms) u m))))
     (ap not (sym c.is_some.ensures ∙ c.if-is_some.false))
     (λ k n t u a. c.next_in-following.ensures.next c.args.bytes.now k n t u a) c.next_in-following.ensures.inside
 

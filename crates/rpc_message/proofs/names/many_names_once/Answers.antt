@@ -12,13 +12,13 @@ loop-next-init c =
 pub returns-then-not-branch : goal.returns-then-not-branch
 returns-then-not-branch c =
     let d : Doc = record { bytes = c.args.bytes.now; nodes = c.args.nodes.now } in
-    met_fails d c.args.node c.in-Some.member (λ cs. has_name c.loop-next.names cs) c.name_in.result.now c.in_ok-add_name.field-0 (λ k n t u cs a h. c.name_in.ensures k n t u cs a h)
+    met_fails d c.args.node c.in-Some.member (λ cs. has_name c.loop-next.names cs) c.name_in.result.now c.in_ok-add_name.field-0 (λ k n t u cs a h. c.name_in.ensures.spelled k n t u cs a h)
     (λ cs s. c.in_ok-add_name.ensures.new cs s) c.loop-next.next c.loop-next.invariant c.in-Some.is c.if-not-branch.true
 
 pub loop-next-preserved : goal.loop-next-preserved
 loop-next-preserved c =
     let d : Doc = record { bytes = c.args.bytes.now; nodes = c.args.nodes.now } in
-    met_more d c.args.node c.in-Some.member (λ cs. has_name c.loop-next.names cs) c.name_in.result.now c.in_ok-add_name.field-0 (λ k n t u cs a h. c.name_in.ensures k n t u cs a h)
+    met_more d c.args.node c.in-Some.member (λ cs. has_name c.loop-next.names cs) c.name_in.result.now c.in_ok-add_name.field-0 (λ k n t u cs a h. c.name_in.ensures.spelled k n t u cs a h)
     (λ cs s. c.in_ok-add_name.ensures.new cs s) (λ cs. has_name c.add_name.new.names cs) (λ cs s ds. c.in_ok-add_name.ensures.names cs s ds)
     c.loop-next.next c.next_in-next.result c.loop-next.invariant c.in-Some.is (λ k n t u a. c.next_in-next.ensures.next c.args.bytes.now k n t u a) c.next_in-next.ensures.inside c.if-not-branch.false
 
