@@ -20,8 +20,8 @@ use crate::parts::{name_place, write, write_comma, write_window};
 use crate::values::{Values, values_of};
 use json_nodes::{first_in, member_in, name_in, next_in, span_in};
 use json_text::Change;
-use message_body::{Body, Memory};
 use json_token::spells_text;
+use message_body::{Body, Memory};
 use std::alloc::Global;
 
 /// An initialize result (LSP 3.17, InitializeResult) as editors are shown it: without the members

@@ -17,8 +17,8 @@ ghost use Rattle.focus_switch.specs.Noted.{FirstMember, FoundChange, made};
 use json_nodes::{bytes_in, name_in};
 use json_span::Tape;
 use json_text::Kind;
-use message_body::{Body, Memory};
 use json_token::spells_text;
+use message_body::{Body, Memory};
 use rpc_message::is_integer;
 use std::alloc::Global;
 

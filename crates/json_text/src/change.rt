@@ -3,8 +3,8 @@ ghost use Rattle.std.specs.Prelude.{◌≡◌, IfOk};
 ghost use Rattle.json_text.specs.Changes.{edits_of};
 ghost use Rattle.json_text.specs.Replace.{replace, Rise};
 
-use message_body::{Body, Memory};
 use crate::span::Span;
+use message_body::{Body, Memory};
 use std::alloc::Global;
 
 /// A place in a list of bytes, and the bytes that come there.

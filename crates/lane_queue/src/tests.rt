@@ -10,7 +10,9 @@ fn items_come_once_and_in_order(rt: HostRuntime) -> Result<(), Fail> {
     assert!(rt; inn.push(&rt, Posted::Up).is_ok());
     assert!(rt; inn.push(&rt, Posted::Body(body)).is_ok());
     assert!(rt; matches!(hub.next(&rt), Some(Posted::Up)));
-    assert!(rt; matches!(hub.next(&rt), Some(Posted::Body(body)) if body.bytes() == b"b".as_slice()));
+    assert!(rt;
+        matches!(hub.next(&rt), Some(Posted::Body(body)) if body.bytes() == b"b".as_slice())
+    );
     assert!(rt; hub.next(&rt).is_none());
     assert!(rt; hub.push(&rt, Order::Close).is_ok());
     assert!(rt; matches!(out.take(&rt), Some(Order::Close)));
