@@ -151,3 +151,10 @@ welcomed_given t body code given outs more now view words sent g same seen waits
       pushed ∙ ap₂ (λ xs y. xs ++ ToEditor 0 y ∷ []) (g.0 ∙ ap (λ c. (begun t c).outs) same) x,
       ap₂ (λ (k : Kept) n. record k { phase = Answered; sent = n }) v (counted ∙ ap₂ (λ (k : Kept) y. sent_more k.sent y) v x),
     )
+
+-- nobody waits: the session began, and that is all
+pub unwelcomed_given : (t : Kept) (body : List ℕ) (code given : Encoding) (outs : List Out) (now view : Kept) (b : Bool) → Gives (begun t given) outs now → given ≡ code → view ≡ now → b ≡ is_waiting view.phase → b ≡ false → Gives (ready_if (is_waiting t.phase) t body code) outs now
+unwelcomed_given t body code given outs now view b g same seen told other =
+    let v : view ≡ (begun t code).now = seen ∙ g.1 ∙ ap (λ c. (begun t c).now) same in
+    let w : is_waiting t.phase ≡ false = ap (λ (k : Kept). is_waiting k.phase) (sym v) ∙ (sym told ∙ other) in
+    subst (λ a. Gives (ready_if a t body code) outs now) (sym w) (g.0 ∙ ap (λ c. (begun t c).outs) same, g.1 ∙ ap (λ c. (begun t c).now) same)
