@@ -4,7 +4,7 @@ ghost use Rattle.mux_model.specs.Phases.{is_there};
 ghost use Rattle.editor_session.specs.Sessions.{is_in, is_of, is_running, is_wanted, joined};
 
 use message_body::Body;
-use mux_model::Phase;
+use event_model::Phase;
 
 /// What is kept of one editor.
 #[derive(Debug, Drop)]

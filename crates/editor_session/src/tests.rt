@@ -1,6 +1,6 @@
 use crate::Editors;
 use message_body::Body;
-use mux_model::Phase;
+use event_model::Phase;
 use std::test::Fail;
 
 #[test]

@@ -5,7 +5,7 @@ use Rattle.std.specs.Io.KnownBytes.{prepend_known}
 use Rattle.std.proofs.lemmas.List.{append-nil, length-append, length-take-le}
 use Rattle.std.proofs.lemmas.List.Quantifiers.{position-Some}
 use Rattle.mux_history.specs.declared.entry.Entry.{Entry}
-use Rattle.mux_model.specs.Settings.{Settings}
+use Rattle.event_model.specs.Settings.{Settings}
 use Rattle.lspmux_program.specs.Buffers.{BufferView, unused, line_feed, Taken, Moved, Came, BrokeOff}
 use Rattle.lspmux_program.specs.Lines.{Line, ended_from, ended_lines, before_first, NoFeed}
 use Rattle.lspmux_program.specs.Runs.{drive_from, IsRunOfRead}

@@ -10,7 +10,7 @@ use Rattle.mux_history.specs.declared.cause.Cause.{Cause}
 use Rattle.mux_history.specs.declared.entry.Entry.{Entry}
 use Rattle.mux_hub.specs.Hubs.{HubView, HubStands}
 use Rattle.mux_model.specs.Rows.{emits, entry_of}
-use Rattle.mux_model.specs.Settings.{Settings}
+use Rattle.event_model.specs.Settings.{Settings}
 use Rattle.lspmux_program.specs.declared.line.LineStop.{LineStop}
 use Rattle.lspmux_program.specs.declared.line.LineStop.TheVariants as line_stop
 use Rattle.lspmux_program.specs.declared.refusal.Refusal.{Refusal}

@@ -8,7 +8,7 @@ use Rattle.mux_hub.specs.Hubs.{body_length}
 use Rattle.mux_model.specs.Built.{built}
 use Rattle.mux_model.specs.Fits.{fits}
 use Rattle.mux_model.specs.Rows.{entry_of}
-use Rattle.mux_model.specs.Settings.{Settings}
+use Rattle.event_model.specs.Settings.{Settings}
 use Rattle.lspmux_program.specs.declared.refusal.Refusal.{Refusal}
 use Rattle.lspmux_program.specs.declared.refusal.Refusal.TheVariants.{Form, Absent, Unbuilt}
 use Rattle.lspmux_program.specs.Causes.{cause_of}

@@ -4,7 +4,7 @@ use Rattle.std.specs.Prelude.{Option, Some, None, Result}
 use Rattle.std.specs.Io.KnownBytes.{append_known, prepend_known}
 use Rattle.mux_history.specs.declared.entry.Entry.{Entry}
 use Rattle.mux_hub.specs.Hubs.{HubView, HubStands}
-use Rattle.mux_model.specs.Settings.{Settings}
+use Rattle.event_model.specs.Settings.{Settings}
 use Rattle.lspmux_program.specs.declared.line.LineStop.{LineStop}
 use Rattle.lspmux_program.specs.declared.line.LineStop.TheVariants as line_stop
 use Rattle.lspmux_program.specs.declared.refusal.Refusal.TheVariants.{Form}

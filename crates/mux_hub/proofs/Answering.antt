@@ -7,16 +7,16 @@ use Rattle.mux_history.specs.declared.cause.Cause.TheVariants.{FromServer}
 use Rattle.mux_history.specs.declared.out.Out.TheVariants.{ToEditor, ToServer}
 use Rattle.rpc_message.specs.Message.{Message, notification, result, error, Id, integer, id_bytes, result_bytes, message_of}
 use Rattle.rpc_message.specs.Texts.{ok_text, initialized_text, with_id_text}
-use Rattle.mux_model.specs.declared.phase.Phase.{Phase}
-use Rattle.mux_model.specs.declared.phase.Phase.TheVariants.{Absent, New, Waiting, Answered, Running, Down, Closed, Gone}
-use Rattle.mux_model.specs.declared.stage.Stage.{Stage}
-use Rattle.mux_model.specs.declared.stage.Stage.TheVariants.{Unspawned, Initializing, Ready}
-use Rattle.mux_model.specs.Event.{Event, heard, said, with_cause, behind, same_id}
+use Rattle.event_model.specs.declared.phase.Phase.{Phase}
+use Rattle.event_model.specs.declared.phase.Phase.TheVariants.{Absent, New, Waiting, Answered, Running, Down, Closed, Gone}
+use Rattle.event_model.specs.declared.stage.Stage.{Stage}
+use Rattle.event_model.specs.declared.stage.Stage.TheVariants.{Unspawned, Initializing, Ready}
+use Rattle.event_model.specs.Event.{Event, heard, said, with_cause, behind, same_id}
 use Rattle.mux_model.specs.Phases.{Desk, desk_of, phase_told, editors_of, is_there}
 use Rattle.mux_model.specs.Requests.{asking_of, asked_by, answered_id, answers}
-use Rattle.mux_model.specs.Row.{outs, each}
+use Rattle.event_model.specs.Row.{outs, each}
 use Rattle.mux_model.specs.Rows.{outs_of, welcome, waiting_for, is_waiting}
-use Rattle.mux_model.specs.Settings.{Settings}
+use Rattle.event_model.specs.Settings.{Settings}
 use Rattle.mux_model.specs.Spawns.{home_of, group_of}
 use Rattle.mux_model.specs.Stages.{life_of, is_first_result}
 use Rattle.mux_hub.specs.declared.pending.Pending.{Pending}

@@ -10,9 +10,9 @@ use Rattle.json_text.specs.Json.{Json}
 use Rattle.mux_model.specs.Members.{reads_versions}
 use Rattle.mux_hub.specs.Turns.{place_of}
 use Rattle.rpc_message.specs.Message.{Message, request, notification, result, error, not_json, not_message, Id, message_of}
-use Rattle.mux_model.specs.declared.phase.Phase.TheVariants.{Absent}
+use Rattle.event_model.specs.declared.phase.Phase.TheVariants.{Absent}
 use Rattle.mux_model.specs.Built.{is_passed_plainly, built_behind, built_from_editor, built_from_server}
-use Rattle.mux_model.specs.Event.{Event, same_id}
+use Rattle.event_model.specs.Event.{Event, same_id}
 use Rattle.mux_model.specs.Phases.{desk_of}
 use Rattle.mux_model.specs.Requests.{open_of, is_open, asking_of, asked_by}
 use Rattle.mux_model.specs.Stages.{life_of}

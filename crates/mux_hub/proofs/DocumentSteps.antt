@@ -19,13 +19,13 @@ use Rattle.document_model.proofs.Sends.{Stays}
 use Rattle.document_model.proofs.Spelt.{IsSaidSpelt, said_spelt, texts_spelt, document_spelt, opens_spelt, closes_spelt, latest_spelt}
 use Rattle.document_model.proofs.Spoken.{AllSpeak, sent_open_speaks, sent_change_speaks, sent_close_speaks}
 use Rattle.rpc_message.specs.Message.{message_in, message_of}
-use Rattle.mux_model.specs.declared.stage.Stage.{Stage}
-use Rattle.mux_model.specs.declared.stage.Stage.TheVariants.{Unspawned, Spawning, Initializing, Ready, Stopping, Ending, Ended}
+use Rattle.event_model.specs.declared.stage.Stage.{Stage}
+use Rattle.event_model.specs.declared.stage.Stage.TheVariants.{Unspawned, Spawning, Initializing, Ready, Stopping, Ending, Ended}
 use Rattle.mux_model.specs.Documents.{start_for, held_at}
-use Rattle.mux_model.specs.Event.{Event}
-use Rattle.mux_model.specs.Row.{outs}
+use Rattle.event_model.specs.Event.{Event}
+use Rattle.event_model.specs.Row.{outs}
 use Rattle.mux_model.specs.Rows.{document_bodies, document_row, changed_bodies, closed_bodies}
-use Rattle.mux_model.specs.Settings.{Settings}
+use Rattle.event_model.specs.Settings.{Settings}
 use Rattle.mux_model.specs.Stages.{Life, life_of, is_ready}
 use Rattle.mux_model.proofs.DocumentFolds.{outs_to_start}
 use Rattle.mux_hub.specs.Stands.{Stands, DocumentTies, ReadyDocuments, is_early}

@@ -5,17 +5,17 @@ use Rattle.std.specs.Option.{option_and_then}
 use Rattle.focus_switch.specs.Documents.{Documents}
 use Rattle.document_model.specs.Helds.{HeldText}
 use Rattle.mux_model.proofs.DocumentFolds.{texts_more, sent_encoding}
-use Rattle.mux_model.specs.declared.stage.Stage.{Stage}
-use Rattle.mux_model.specs.declared.stage.Stage.TheVariants.{Unspawned, Spawning, Initializing, Ready, Stopping, Ending, Ended}
+use Rattle.event_model.specs.declared.stage.Stage.{Stage}
+use Rattle.event_model.specs.declared.stage.Stage.TheVariants.{Unspawned, Spawning, Initializing, Ready, Stopping, Ending, Ended}
 use Rattle.mux_model.specs.Documents.{encoding_behind, encoding_of, encoding_for, start_for, texts_from, Sent, sent_behind, held_at}
 use Rattle.std.specs.List.{AllByRecursion}
 use Rattle.std.proofs.lemmas.List.Sums.{fold-append}
 use Rattle.mux_history.specs.declared.cause.Cause.{Cause}
 use Rattle.mux_history.specs.declared.out.Out.{Out}
 use Rattle.mux_model.specs.Rows.{outs_of}
-use Rattle.mux_model.specs.Settings.{Settings}
+use Rattle.event_model.specs.Settings.{Settings}
 use Rattle.mux_hub.specs.Steps.{Steps}
-use Rattle.mux_model.specs.Event.{Event, heard, said}
+use Rattle.event_model.specs.Event.{Event, heard, said}
 use Rattle.mux_model.specs.Phases.{Desk, desk_behind, no_desk, editors_behind, backlog_of, backlog_behind}
 use Rattle.mux_model.specs.Requests.{Asking, open_behind, asking_of, asking_behind}
 use Rattle.mux_model.specs.Spawns.{start_of, Home, Founding, starts_behind, groups_behind, start_behind, home_of, home_behind, founding_of, founding_behind, group_behind}

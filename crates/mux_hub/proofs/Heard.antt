@@ -17,7 +17,7 @@ use Rattle.json_nodes.proofs.Numbers.{root_at}
 use Rattle.mux_history.specs.declared.out.Out.{Out}
 use Rattle.mux_history.specs.declared.out.Out.TheVariants.{ToEditor}
 use Rattle.position_codec.specs.declared.Encoding.{Encoding}
-use Rattle.mux_model.specs.declared.phase.Phase.TheVariants.{Answered}
+use Rattle.event_model.specs.declared.phase.Phase.TheVariants.{Answered}
 use Rattle.mux_model.specs.Rows.{is_waiting}
 use Rattle.focus_switch.specs.Documents.{Documents}
 use Rattle.focus_switch.specs.Rows.{Step, change_row}
@@ -27,7 +27,7 @@ use Rattle.mux_members.specs.declared.notice.Notice.{Notice}
 use Rattle.mux_members.specs.declared.notice.Notice.TheVariants.{Changes}
 use Rattle.mux_members.specs.Notices.{Says}
 use Rattle.mux_model.specs.Requests.{has_number}
-use Rattle.mux_model.specs.declared.stage.Stage.TheVariants.{Ready}
+use Rattle.event_model.specs.declared.stage.Stage.TheVariants.{Ready}
 use Rattle.mux_hub.specs.declared.pending.Pending.{Pending}
 use Rattle.mux_hub.specs.Tables.{Kept, asked_of}
 use Rattle.mux_hub.specs.Turns.{from_editor, from_server, requested, place_of, place_written, place_if, is_no_number, or_next, answered, changed_by, document_step, DocumentGives, begun, ready_if, welcome_text, sent_more, Gives}

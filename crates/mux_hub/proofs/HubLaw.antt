@@ -7,11 +7,11 @@ use Rattle.mux_history.specs.declared.out.Out.{Out}
 use Rattle.mux_history.specs.declared.entry.Entry.{Entry}
 use Rattle.mux_history.specs.Journals.{append_told}
 use Rattle.mux_model.specs.Built.{built}
-use Rattle.mux_model.specs.Event.{events_of, with_entry}
+use Rattle.event_model.specs.Event.{events_of, with_entry}
 use Rattle.mux_model.specs.Fits.{fits}
 use Rattle.mux_model.specs.Legal.{Legal, LegalFrom}
 use Rattle.mux_model.specs.Rows.{emits, entry_of}
-use Rattle.mux_model.specs.Settings.{Settings}
+use Rattle.event_model.specs.Settings.{Settings}
 use Rattle.mux_hub.specs.Hubs.{HubView, HubStands, Tells}
 use Rattle.mux_hub.specs.Stands.{Stands}
 use Rattle.mux_hub.specs.Tables.{Kept, built_in}

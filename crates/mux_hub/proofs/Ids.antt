@@ -5,7 +5,7 @@ use Rattle.std.specs.List.{remove, AllByRecursion}
 use Rattle.std.specs.Prelude.{slice_get}
 use Rattle.json_text.proofs.Put.{same_name}
 use Rattle.rpc_message.specs.Message.{Id, integer, text}
-use Rattle.mux_model.specs.Event.{same_id}
+use Rattle.event_model.specs.Event.{same_id}
 use Rattle.mux_model.specs.Requests.{is_open, without, answers}
 use Rattle.mux_hub.specs.Stands.{Distinct, MeansId}
 use Rattle.mux_hub.proofs.Classes.{swapped}

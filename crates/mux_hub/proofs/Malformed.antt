@@ -7,19 +7,19 @@ use Rattle.mux_history.specs.declared.out.Out.TheVariants.{ToEditor}
 use Rattle.rpc_message.specs.Message.{Message, not_json, not_message, error, Id, message_of}
 use Rattle.rpc_message.specs.Texts.{error_tree}
 use Rattle.rpc_message.proofs.Fixed.{error_law, null_as_response}
-use Rattle.mux_model.specs.declared.phase.Phase.{Phase}
-use Rattle.mux_model.specs.declared.phase.Phase.TheVariants.{Absent, New, Waiting, Answered, Running, Down, Closed, Gone}
-use Rattle.mux_model.specs.declared.stage.Stage.{Stage}
-use Rattle.mux_model.specs.declared.stage.Stage.TheVariants.{Unspawned, Spawning, Initializing, Ready, Stopping, Ending, Ended}
+use Rattle.event_model.specs.declared.phase.Phase.{Phase}
+use Rattle.event_model.specs.declared.phase.Phase.TheVariants.{Absent, New, Waiting, Answered, Running, Down, Closed, Gone}
+use Rattle.event_model.specs.declared.stage.Stage.{Stage}
+use Rattle.event_model.specs.declared.stage.Stage.TheVariants.{Unspawned, Spawning, Initializing, Ready, Stopping, Ending, Ended}
 use Rattle.document_model.specs.Sayings.{saying_of}
 use Rattle.document_model.specs.Sayings.{nothing as nothing_said}
 use Rattle.mux_model.specs.Documents.{encoding_by}
-use Rattle.mux_model.specs.Event.{Event, with_cause, heard, said, requests}
+use Rattle.event_model.specs.Event.{Event, with_cause, heard, said, requests}
 use Rattle.mux_model.specs.Phases.{Desk, desk_of, desk_hears, phase_told, is_there, is_malformed}
 use Rattle.mux_model.specs.Requests.{Asked, answers, answered_id, asked_by, asking_of, asks, without}
-use Rattle.mux_model.specs.Row.{outs, choose, send, nothing}
+use Rattle.event_model.specs.Row.{outs, choose, send, nothing}
 use Rattle.mux_model.specs.Rows.{from_editor, from_server, malformed_code, malformed_row, malformed_text, message_row}
-use Rattle.mux_model.specs.Settings.{Settings}
+use Rattle.event_model.specs.Settings.{Settings}
 use Rattle.mux_model.specs.Stages.{life_of, stage_hears}
 use Rattle.mux_hub.specs.Stands.{Stands}
 use Rattle.mux_hub.specs.Steps.{Steps}

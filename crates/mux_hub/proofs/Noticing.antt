@@ -10,16 +10,16 @@ use Rattle.document_model.specs.Sayings.{Saying, saying_by}
 use Rattle.document_model.specs.Texts.{texts_behind}
 use Rattle.document_model.proofs.Spoken.{AllSpeak}
 use Rattle.rpc_message.specs.Message.{notification, message_of}
-use Rattle.mux_model.specs.declared.phase.Phase.{Phase}
-use Rattle.mux_model.specs.declared.phase.Phase.TheVariants.{Absent, New, Waiting, Answered, Running, Down, Closed, Gone}
-use Rattle.mux_model.specs.declared.stage.Stage.{Stage}
+use Rattle.event_model.specs.declared.phase.Phase.{Phase}
+use Rattle.event_model.specs.declared.phase.Phase.TheVariants.{Absent, New, Waiting, Answered, Running, Down, Closed, Gone}
+use Rattle.event_model.specs.declared.stage.Stage.{Stage}
 use Rattle.mux_model.specs.Documents.{encoding_behind, encoding_for, is_served, sent_behind, texts_from, texts_heard, texts_next}
-use Rattle.mux_model.specs.Event.{Event, heard, said}
+use Rattle.event_model.specs.Event.{Event, heard, said}
 use Rattle.mux_model.specs.Phases.{Desk, desk_of, desk_behind, desk_hears, editors_behind, backlog_behind, no_desk}
 use Rattle.mux_model.specs.Requests.{Asking, asking_behind, open_behind}
-use Rattle.mux_model.specs.Row.{outs}
+use Rattle.event_model.specs.Row.{outs}
 use Rattle.mux_model.specs.Rows.{from_editor, document_row}
-use Rattle.mux_model.specs.Settings.{Settings}
+use Rattle.event_model.specs.Settings.{Settings}
 use Rattle.mux_model.specs.Spawns.{Home, Founding, starts_behind, groups_behind, start_behind, home_behind, founding_behind, group_behind}
 use Rattle.mux_model.specs.Stages.{life_behind}
 use Rattle.mux_hub.specs.declared.pending.Pending.{Pending}

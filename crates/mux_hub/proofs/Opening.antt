@@ -5,18 +5,18 @@ use Rattle.mux_history.specs.declared.cause.Cause.TheVariants.{Joined, FromEdito
 use Rattle.mux_history.specs.declared.out.Out.TheVariants.{ToServer, Spawn}
 use Rattle.json_text.specs.Json.{Json}
 use Rattle.rpc_message.specs.Message.{request, not_message, Id, integer, id_bytes, message_of}
-use Rattle.mux_model.specs.declared.phase.Phase.{Phase}
-use Rattle.mux_model.specs.declared.phase.Phase.TheVariants.{Absent, New, Waiting, Answered, Running, Down, Closed, Gone}
-use Rattle.mux_model.specs.declared.stage.Stage.{Stage}
-use Rattle.mux_model.specs.declared.stage.Stage.TheVariants.{Unspawned, Spawning, Initializing, Ending}
-use Rattle.mux_model.specs.Event.{Event, took, heard, said, requests}
+use Rattle.event_model.specs.declared.phase.Phase.{Phase}
+use Rattle.event_model.specs.declared.phase.Phase.TheVariants.{Absent, New, Waiting, Answered, Running, Down, Closed, Gone}
+use Rattle.event_model.specs.declared.stage.Stage.{Stage}
+use Rattle.event_model.specs.declared.stage.Stage.TheVariants.{Unspawned, Spawning, Initializing, Ending}
+use Rattle.event_model.specs.Event.{Event, took, heard, said, requests}
 use Rattle.mux_model.specs.Phases.{desk_of}
 use Rattle.mux_model.specs.Rows.{initialize_for, founder_body, initialize_in, initialize_by}
 use Rattle.mux_model.specs.Stages.{life_of}
 use Rattle.mux_hub.specs.declared.pending.Pending.{Pending}
 use Rattle.mux_model.specs.Spawns.{group_of, founding_of, starts_of, starts_behind, groups_of, groups_behind, first_of, founded_by}
 use Rattle.std.proofs.lemmas.List.Sums.{fold-append}
-use Rattle.mux_model.specs.Settings.{Settings}
+use Rattle.event_model.specs.Settings.{Settings}
 use Rattle.document_model.specs.Sayings.{saying_of}
 use Rattle.mux_hub.specs.Stands.{Stands, Opens, MeansId, PhaseTies, StageTies, is_early}
 use Rattle.mux_hub.specs.Steps.{Steps}

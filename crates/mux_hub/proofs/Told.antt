@@ -11,10 +11,10 @@ use Rattle.document_model.specs.Sayings.{saying_of}
 use Rattle.document_model.specs.Texts.{Texts}
 use Rattle.document_model.proofs.Spoken.{Speaks, AllSpeak}
 use Rattle.document_model.proofs.Written.{Spoken, spoken}
-use Rattle.mux_model.specs.declared.stage.Stage.{Stage}
-use Rattle.mux_model.specs.declared.stage.Stage.TheVariants.{Unspawned, Spawning, Initializing, Ready, Stopping, Ending, Ended}
+use Rattle.event_model.specs.declared.stage.Stage.{Stage}
+use Rattle.event_model.specs.declared.stage.Stage.TheVariants.{Unspawned, Spawning, Initializing, Ready, Stopping, Ending, Ended}
 use Rattle.mux_model.specs.Documents.{encoding_behind, sent_behind, texts_from}
-use Rattle.mux_model.specs.Event.{Event, said}
+use Rattle.event_model.specs.Event.{Event, said}
 use Rattle.mux_model.specs.Requests.{Asking, asking_behind, asking_sends}
 use Rattle.mux_model.specs.Stages.{Life, life_behind, stage_told}
 use Rattle.mux_hub.proofs.Documents.{given_to_server}

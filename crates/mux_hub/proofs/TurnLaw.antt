@@ -16,17 +16,17 @@ use Rattle.rpc_message.specs.ValueTexts.{IsIdText}
 use Rattle.rpc_message.proofs.Fixed.{ok_law, error_law, initialized_law, id_as_response}
 use Rattle.rpc_message.proofs.Ids.{request_with_id, result_with_id, error_with_id, request_id_bytes, result_bytes_law}
 use Rattle.rpc_message.proofs.Decimals.{decimal_law}
-use Rattle.mux_model.specs.declared.phase.Phase.{Phase}
-use Rattle.mux_model.specs.declared.phase.Phase.TheVariants.{Absent, New, Waiting, Answered, Running, Down, Closed, Gone}
-use Rattle.mux_model.specs.declared.stage.Stage.{Stage}
-use Rattle.mux_model.specs.declared.stage.Stage.TheVariants.{Unspawned, Spawning, Initializing, Ready, Stopping, Ending, Ended}
+use Rattle.event_model.specs.declared.phase.Phase.{Phase}
+use Rattle.event_model.specs.declared.phase.Phase.TheVariants.{Absent, New, Waiting, Answered, Running, Down, Closed, Gone}
+use Rattle.event_model.specs.declared.stage.Stage.{Stage}
+use Rattle.event_model.specs.declared.stage.Stage.TheVariants.{Unspawned, Spawning, Initializing, Ready, Stopping, Ending, Ended}
 use Rattle.mux_model.specs.Built.{built_behind, built_from_editor, built_from_server, built_request, built_response, is_other}
-use Rattle.mux_model.specs.Event.{Event, with_cause, notifies}
+use Rattle.event_model.specs.Event.{Event, with_cause, notifies}
 use Rattle.mux_model.specs.Fits.{fits_behind}
 use Rattle.mux_model.specs.Phases.{desk_of, editors_of, is_linked, is_there}
 use Rattle.mux_model.specs.Requests.{Asked, open_of, is_open, asking_of, asked_by, answered_id, has_number}
 use Rattle.mux_model.specs.Rows.{is_waiting}
-use Rattle.mux_model.specs.Settings.{Settings}
+use Rattle.event_model.specs.Settings.{Settings}
 use Rattle.mux_model.specs.Stages.{life_of, may_start, runs, is_ready, is_first_result}
 use Rattle.mux_hub.specs.declared.pending.Pending.{Pending}
 use Rattle.mux_hub.specs.Stands.{Stands, MeansId, PhaseTies, is_early}

@@ -3,9 +3,9 @@ use Rattle.std.specs.Prelude.{◌≡◌, ℕ, List, Bool, false, Option, Some, N
 use Rattle.mux_history.specs.declared.cause.Cause.{Cause}
 use Rattle.mux_history.specs.declared.cause.Cause.TheVariants.{FromEditor, FromServer}
 use Rattle.mux_history.specs.declared.entry.Entry.{Entry}
-use Rattle.mux_model.specs.Event.{events_of}
+use Rattle.event_model.specs.Event.{events_of}
 use Rattle.mux_model.specs.Legal.{Legal}
-use Rattle.mux_model.specs.Settings.{Settings}
+use Rattle.event_model.specs.Settings.{Settings}
 use Rattle.mux_hub.specs.Tables.{Kept}
 use Rattle.mux_hub.specs.Stands.{Stands}
 

@@ -8,12 +8,12 @@ use Rattle.position_codec.specs.declared.Encoding.{Encoding}
 use Rattle.focus_switch.specs.Documents.{Documents}
 use Rattle.document_model.specs.Follows.{Held, AllSpelt, Orderly, texts_in}
 use Rattle.document_model.specs.Helds.{HeldText}
-use Rattle.mux_model.specs.declared.phase.Phase.{Phase}
-use Rattle.mux_model.specs.declared.phase.Phase.TheVariants.{Absent, New, Waiting, Answered, Running}
-use Rattle.mux_model.specs.declared.stage.Stage.{Stage}
-use Rattle.mux_model.specs.declared.stage.Stage.TheVariants.{Unspawned, Spawning, Initializing, Ready, Stopping, Ending, Ended}
+use Rattle.event_model.specs.declared.phase.Phase.{Phase}
+use Rattle.event_model.specs.declared.phase.Phase.TheVariants.{Absent, New, Waiting, Answered, Running}
+use Rattle.event_model.specs.declared.stage.Stage.{Stage}
+use Rattle.event_model.specs.declared.stage.Stage.TheVariants.{Unspawned, Spawning, Initializing, Ready, Stopping, Ending, Ended}
 use Rattle.mux_model.specs.Documents.{encoding_of, texts_of, held_at}
-use Rattle.mux_model.specs.Event.{Event}
+use Rattle.event_model.specs.Event.{Event}
 use Rattle.mux_model.specs.Phases.{desk_of, no_desk, editors_of, backlog_of}
 use Rattle.mux_model.specs.Requests.{open_of, asking_of, is_open}
 use Rattle.mux_model.specs.Rows.{initialize_for}

@@ -2,9 +2,9 @@
 use Rattle.std.specs.Prelude.{◌≡◌, List}
 use Rattle.mux_history.specs.declared.cause.Cause.{Cause}
 use Rattle.mux_history.specs.declared.out.Out.{Out}
-use Rattle.mux_model.specs.Event.{Event, behind, with_cause}
+use Rattle.event_model.specs.Event.{Event, behind, with_cause}
 use Rattle.mux_model.specs.Rows.{outs_of}
-use Rattle.mux_model.specs.Settings.{Settings}
+use Rattle.event_model.specs.Settings.{Settings}
 use Rattle.mux_hub.specs.Stands.{Stands}
 use Rattle.mux_hub.specs.Tables.{Kept}
 

@@ -16,10 +16,10 @@ use Rattle.mux_history.specs.declared.out.Out.{Out}
 use Rattle.mux_history.specs.declared.out.Out.TheVariants.{ToEditor, ToServer, Spawn}
 use Rattle.rpc_message.specs.Message.{Message, request, notification, result, error, not_json, not_message, Id, message_of, id_bytes, result_bytes}
 use Rattle.rpc_message.specs.Texts.{ok_text, error_text, initialized_text, with_id_text, request_failed}
-use Rattle.mux_model.specs.declared.phase.Phase.{Phase}
-use Rattle.mux_model.specs.declared.phase.Phase.TheVariants.{New, Waiting, Answered, Running}
-use Rattle.mux_model.specs.declared.stage.Stage.{Stage}
-use Rattle.mux_model.specs.declared.stage.Stage.TheVariants.{Spawning, Initializing, Ready}
+use Rattle.event_model.specs.declared.phase.Phase.{Phase}
+use Rattle.event_model.specs.declared.phase.Phase.TheVariants.{New, Waiting, Answered, Running}
+use Rattle.event_model.specs.declared.stage.Stage.{Stage}
+use Rattle.event_model.specs.declared.stage.Stage.TheVariants.{Spawning, Initializing, Ready}
 use Rattle.mux_model.specs.Phases.{is_there}
 use Rattle.mux_model.specs.Requests.{has_number}
 use Rattle.mux_model.specs.Rows.{initialize_for, is_waiting, malformed_text}

@@ -25,7 +25,7 @@ use mux_members::{
     class_in, has_bare_capabilities, has_token, is_first_result, is_initialize, is_initialized,
     is_plain_result, reads_versions, speaks,
 };
-use mux_model::{Phase, Stage};
+use event_model::{Phase, Stage};
 use rpc_message::{Envelope, Malformed, Message, same_id};
 use std::alloc::Global;
 

@@ -14,7 +14,7 @@ use crate::tables::Tables;
 use focus_switch::Shared;
 use message_body::{Body, Memory};
 use mux_history::{Cause, Entry, Journal, Outs};
-use mux_model::{Limits, Phase, Server, Stage};
+use event_model::{Limits, Phase, Server, Stage};
 use std::alloc::Global;
 use std::marker::Model;
 

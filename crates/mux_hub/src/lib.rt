@@ -10,4 +10,4 @@ mod turns;
 
 pub use fault::StepFault;
 pub use hub::Hub;
-pub use mux_model::{Limits, Server};
+pub use event_model::{Limits, Server};

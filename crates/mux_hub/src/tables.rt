@@ -1,6 +1,6 @@
 // What the hub keeps of the history: where editor 0 and start 0 stand, and the requests between them.
 ghost use Rattle.std.specs.Prelude.{◌≡◌, List};
-ghost use Rattle.mux_model.specs.Event.{Event};
+ghost use Rattle.event_model.specs.Event.{Event};
 ghost use Rattle.mux_model.specs.Fits.{fits_behind};
 ghost use Rattle.mux_model.specs.Phases.{is_linked};
 ghost use Rattle.mux_model.specs.Stages.{may_start, runs};
@@ -11,7 +11,7 @@ use doc_text::DocText;
 use focus_switch::Shared;
 use message_body::Body;
 use mux_history::Cause;
-use mux_model::{Phase, Stage};
+use event_model::{Phase, Stage};
 use std::marker::Model;
 
 // How many editors joined.

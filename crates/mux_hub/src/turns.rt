@@ -21,7 +21,7 @@ use itoa::Buffer;
 use message_body::{Body, Memory};
 use mux_history::{Cause, Out, Outs};
 use mux_members::{Notice, encoding, initialize_request, notice_in};
-use mux_model::{Phase, Stage};
+use event_model::{Phase, Stage};
 use position_codec::Encoding;
 use rpc_message::{Envelope, ErrorCode, Malformed, Message, error_answer, initialized, ok_reply};
 use std::alloc::Global;

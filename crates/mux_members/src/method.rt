@@ -5,7 +5,7 @@ ghost use Rattle.lsp_method.specs.Class.{class_of};
 ghost use Rattle.lsp_method.specs.declared.variants.Origin.TheVariants.{Editor};
 ghost use Rattle.rpc_message.specs.Message.{Id, message_of, request};
 ghost use Rattle.rpc_message.specs.Parsed.{IsRead};
-ghost use Rattle.mux_model.specs.Event.{notifies, requests};
+ghost use Rattle.event_model.specs.Event.{notifies, requests};
 
 use crate::envelope::{notification_method, request_method};
 use crate::look::spells;

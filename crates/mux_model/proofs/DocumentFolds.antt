@@ -3,8 +3,8 @@ use Rattle.std.proofs.Common.{◌≡◌, ℕ, List, [], ◌∷◌, ◌++◌, map
 use Rattle.mux_history.specs.declared.out.Out.TheVariants.{ToServer}
 use Rattle.document_model.specs.Texts.{Texts, no_texts}
 use Rattle.mux_model.specs.Documents.{encoding_behind, encoding_of, texts_next, texts_from, texts_of, Sent, sent_behind, sent_of}
-use Rattle.mux_model.specs.Event.{Event, behind}
-use Rattle.mux_model.specs.Row.{outs}
+use Rattle.event_model.specs.Event.{Event, behind}
+use Rattle.event_model.specs.Row.{outs}
 use Rattle.mux_model.specs.Rows.{to_start}
 
 texts_both : (before : List Event) (x : Texts) (events evs : List Event) → texts_from before x (events ++ evs) ≡ texts_from (before ++ events) (texts_from before x events) evs

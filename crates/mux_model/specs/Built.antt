@@ -12,11 +12,11 @@ use Rattle.lsp_method.specs.declared.variants.Class.{Class}
 use Rattle.lsp_method.specs.declared.variants.Class.TheVariants.{Other}
 use Rattle.lsp_method.specs.declared.variants.Origin.TheVariants.{Editor}
 use Rattle.rpc_message.specs.Message.{Message, request, notification, result, error, not_json, not_message, Id, message_of}
-use Rattle.mux_model.specs.declared.phase.Phase.{Phase}
-use Rattle.mux_model.specs.declared.phase.Phase.TheVariants.{New, Answered, Running}
-use Rattle.mux_model.specs.declared.stage.Stage.{Stage}
-use Rattle.mux_model.specs.declared.stage.Stage.TheVariants.{Initializing, Ready}
-use Rattle.mux_model.specs.Event.{Event, events_of, requests, notifies}
+use Rattle.event_model.specs.declared.phase.Phase.{Phase}
+use Rattle.event_model.specs.declared.phase.Phase.TheVariants.{New, Answered, Running}
+use Rattle.event_model.specs.declared.stage.Stage.{Stage}
+use Rattle.event_model.specs.declared.stage.Stage.TheVariants.{Initializing, Ready}
+use Rattle.event_model.specs.Event.{Event, events_of, requests, notifies}
 use Rattle.mux_model.specs.Members.{named_of, is_bare_capabilities, has_token, reads_versions}
 use Rattle.mux_model.specs.Phases.{desk_of, is_malformed}
 use Rattle.mux_model.specs.Requests.{Asked, open_of, is_open, asking_of, asked_by}

@@ -13,9 +13,9 @@ use Rattle.focus_switch.specs.Documents.{Open}
 use Rattle.document_model.specs.Helds.{HeldText, told}
 use Rattle.document_model.specs.Sayings.{saying_of}
 use Rattle.document_model.specs.Texts.{Texts, no_texts, texts_behind}
-use Rattle.mux_model.specs.declared.phase.Phase.{Phase}
-use Rattle.mux_model.specs.declared.phase.Phase.TheVariants.{Answered, Running}
-use Rattle.mux_model.specs.Event.{Event, took, did, requests}
+use Rattle.event_model.specs.declared.phase.Phase.{Phase}
+use Rattle.event_model.specs.declared.phase.Phase.TheVariants.{Answered, Running}
+use Rattle.event_model.specs.Event.{Event, took, did, requests}
 use Rattle.mux_model.specs.Members.{named_of, string_of}
 use Rattle.mux_model.specs.Phases.{desk_of}
 use Rattle.mux_model.specs.Spawns.{start_of, home_of}

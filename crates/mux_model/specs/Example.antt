@@ -5,11 +5,11 @@ use Rattle.mux_history.specs.declared.cause.Cause.{Cause}
 use Rattle.mux_history.specs.declared.cause.Cause.TheVariants.{Joined, FromEditor, Started, FromServer}
 use Rattle.mux_history.specs.declared.out.Out.{Out}
 use Rattle.mux_history.specs.declared.out.Out.TheVariants.{ToEditor, ToServer, Spawn}
-use Rattle.mux_model.specs.Event.{Event, behind, with_cause}
+use Rattle.event_model.specs.Event.{Event, behind, with_cause}
 use Rattle.mux_model.specs.Built.{built_behind}
 use Rattle.mux_model.specs.Fits.{fits_behind}
 use Rattle.mux_model.specs.Rows.{outs_of}
-use Rattle.mux_model.specs.Settings.{Settings}
+use Rattle.event_model.specs.Settings.{Settings}
 
 -- the built-in limits, with one server
 abbrev pub example_settings : Settings

@@ -3,7 +3,7 @@ use Rattle.std.specs.Prelude.{Bool, true, ◌&&◌, List, nat_eq, nat_le}
 use Rattle.mux_history.specs.declared.cause.Cause.{Cause}
 use Rattle.mux_history.specs.declared.cause.Cause.TheVariants.{Joined, FromEditor, EditorGone, Started, StartFailed, FromServer, ServerGone, Drained, Tick}
 use Rattle.mux_history.specs.declared.entry.Entry.{Entry}
-use Rattle.mux_model.specs.Event.{Event, events_of}
+use Rattle.event_model.specs.Event.{Event, events_of}
 use Rattle.mux_model.specs.Phases.{desk_of, editors_of, backlog_of, is_linked}
 use Rattle.mux_model.specs.Stages.{life_of, may_start, runs}
 

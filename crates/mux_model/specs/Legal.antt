@@ -4,7 +4,7 @@ use Rattle.mux_history.specs.declared.entry.Entry.{Entry}
 use Rattle.mux_model.specs.Built.{built}
 use Rattle.mux_model.specs.Fits.{fits}
 use Rattle.mux_model.specs.Rows.{emits}
-use Rattle.mux_model.specs.Settings.{Settings}
+use Rattle.event_model.specs.Settings.{Settings}
 
 -- each cause fits the entries before it and is built, and its outs are the routing table's
 abbrev pub LegalFrom : Settings → List Entry → List Entry → Type 0

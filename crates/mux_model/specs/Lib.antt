@@ -1,14 +1,11 @@
 pub mod Built
 pub mod Documents
-pub mod Event
 pub mod Example
 pub mod Fits
 pub mod Legal
 pub mod Members
 pub mod Phases
 pub mod Requests
-pub mod Row
 pub mod Rows
-pub mod Settings
 pub mod Spawns
 pub mod Stages

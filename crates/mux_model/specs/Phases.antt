@@ -3,9 +3,9 @@ use Rattle.std.specs.Prelude.{ℕ, ◌+◌, ◌-◌, Bool, true, false, not, ◌
 use Rattle.mux_history.specs.declared.cause.Cause.TheVariants.{Joined, FromEditor, EditorGone, Drained}
 use Rattle.mux_history.specs.declared.out.Out.TheVariants.{ToEditor, CloseEditor}
 use Rattle.rpc_message.specs.Message.{Message, not_json, not_message, result}
-use Rattle.mux_model.specs.declared.phase.Phase.{Phase}
-use Rattle.mux_model.specs.declared.phase.Phase.TheVariants.{Absent, New, Waiting, Answered, Running, Down, Closed, Gone}
-use Rattle.mux_model.specs.Event.{Event, took, did, requests, notifies}
+use Rattle.event_model.specs.declared.phase.Phase.{Phase}
+use Rattle.event_model.specs.declared.phase.Phase.TheVariants.{Absent, New, Waiting, Answered, Running, Down, Closed, Gone}
+use Rattle.event_model.specs.Event.{Event, took, did, requests, notifies}
 
 -- where an editor stands, and the body of its initialize, which is empty before it came
 pub record Desk : Type 0 where

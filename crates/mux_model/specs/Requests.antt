@@ -4,7 +4,7 @@ use Rattle.std.specs.Prelude.{Option, Some, None}
 use Rattle.mux_history.specs.declared.cause.Cause.TheVariants.{FromEditor}
 use Rattle.mux_history.specs.declared.out.Out.TheVariants.{ToEditor, ToServer}
 use Rattle.rpc_message.specs.Message.{Message, request, result, error, Id, integer, id_bytes}
-use Rattle.mux_model.specs.Event.{Event, took, did, same_id}
+use Rattle.event_model.specs.Event.{Event, took, did, same_id}
 
 -- the id that a response has
 abbrev pub answered_id : Message → Option Id

@@ -13,17 +13,17 @@ use Rattle.document_model.specs.Sayings as saying
 use Rattle.document_model.specs.Texts.{opened, found, changed}
 use Rattle.rpc_message.specs.Message.{Message, request, notification, not_json, message_of, id_bytes, result_bytes}
 use Rattle.rpc_message.specs.Texts.{ok_text, error_text, initialized_text, initialize_text, with_id_text, Code, parse_error, invalid_request, request_failed}
-use Rattle.mux_model.specs.declared.phase.Phase.{Phase}
-use Rattle.mux_model.specs.declared.phase.Phase.TheVariants.{New, Waiting, Answered, Running}
-use Rattle.mux_model.specs.declared.stage.Stage.{Stage}
-use Rattle.mux_model.specs.declared.stage.Stage.TheVariants.{Spawning, Initializing, Ready}
-use Rattle.mux_model.specs.Event.{Event, events_of, with_cause, requests}
+use Rattle.event_model.specs.declared.phase.Phase.{Phase}
+use Rattle.event_model.specs.declared.phase.Phase.TheVariants.{New, Waiting, Answered, Running}
+use Rattle.event_model.specs.declared.stage.Stage.{Stage}
+use Rattle.event_model.specs.declared.stage.Stage.TheVariants.{Spawning, Initializing, Ready}
+use Rattle.event_model.specs.Event.{Event, events_of, with_cause, requests}
 use Rattle.mux_model.specs.Members.{params_of, root_uri, string_or_null, options_of}
 use Rattle.mux_model.specs.Phases.{desk_of, editors_of, is_there, is_malformed}
 use Rattle.mux_model.specs.Requests.{Asked, asking_of, asked_by, answered_id}
 use Rattle.mux_model.specs.Documents.{start_for, encoding_for, texts_of, held_at}
-use Rattle.mux_model.specs.Row.{Row, nothing, send, choose, look, outs, each, on, ◌⨾◌}
-use Rattle.mux_model.specs.Settings.{Settings}
+use Rattle.event_model.specs.Row.{Row, nothing, send, choose, look, outs, each, on, ◌⨾◌}
+use Rattle.event_model.specs.Settings.{Settings}
 use Rattle.mux_model.specs.Spawns.{starts_of, groups_of, home_of, founding_of, group_of}
 use Rattle.mux_model.specs.Stages.{life_of, is_ready, is_first_result}
 

@@ -3,7 +3,7 @@ use Rattle.std.specs.Prelude.{ℕ, ◌+◌, max, List, fold, nat_eq, if◌then�
 use Rattle.std.specs.Prelude.{Option, Some, None}
 use Rattle.mux_history.specs.declared.cause.Cause.TheVariants.{FromEditor}
 use Rattle.mux_history.specs.declared.out.Out.TheVariants.{Spawn}
-use Rattle.mux_model.specs.Event.{Event, took, did}
+use Rattle.event_model.specs.Event.{Event, took, did}
 
 -- how many starts were spawned, and how many groups were founded
 abbrev pub starts_behind : ℕ → Event → ℕ

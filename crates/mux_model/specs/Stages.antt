@@ -4,9 +4,9 @@ use Rattle.std.specs.Prelude.{Some}
 use Rattle.mux_history.specs.declared.cause.Cause.TheVariants.{Started, StartFailed, FromServer, ServerGone}
 use Rattle.mux_history.specs.declared.out.Out.TheVariants.{ToServer, Spawn, EndServer}
 use Rattle.rpc_message.specs.Message.{Message, result, integer}
-use Rattle.mux_model.specs.declared.stage.Stage.{Stage}
-use Rattle.mux_model.specs.declared.stage.Stage.TheVariants.{Unspawned, Spawning, Initializing, Ready, Stopping, Ending, Ended}
-use Rattle.mux_model.specs.Event.{Event, took, did, requests}
+use Rattle.event_model.specs.declared.stage.Stage.{Stage}
+use Rattle.event_model.specs.declared.stage.Stage.TheVariants.{Unspawned, Spawning, Initializing, Ready, Stopping, Ending, Ended}
+use Rattle.event_model.specs.Event.{Event, took, did, requests}
 
 -- its stage, and whether its program ever ran
 pub record Life : Type 0 where

@@ -1,7 +1,7 @@
 -- Where a start of a server stands (LSP 3.17, Lifecycle Messages).
 use Rattle.std.specs.Prelude.{◌≡◌, ◌≢◌, ℕ, Bool, true, false, Option, Some, None, is_some}
-use Rattle.mux_model.specs.declared.stage.Stage.{Stage}
-use Rattle.mux_model.specs.declared.stage.Stage.TheVariants.{Unspawned, Spawning, Stopping}
+use Rattle.event_model.specs.declared.stage.Stage.{Stage}
+use Rattle.event_model.specs.declared.stage.Stage.TheVariants.{Unspawned, Spawning, Stopping}
 
 -- a start: its number and that of its group, its stage, and the number and the moment of its `shutdown`
 pub record Standing : Type 0 where

@@ -1,9 +1,9 @@
 // One start of a server.
 ghost use Rattle.std.specs.Prelude.{◌≡◌, ◌≢◌, ◌↔◌, IsSome};
-ghost use Rattle.mux_model.specs.declared.stage.Stage.TheVariants.{Ended, Ending, Initializing, Ready, Spawning, Stopping, Unspawned};
+ghost use Rattle.event_model.specs.declared.stage.Stage.TheVariants.{Ended, Ending, Initializing, Ready, Spawning, Stopping, Unspawned};
 ghost use Rattle.restart_replay.specs.Standings.{moved, spawned, stopped};
 
-use mux_model::Stage;
+use event_model::Stage;
 use std::marker::Model;
 
 /// Where one start of a server stands (LSP 3.17, Lifecycle Messages), from its spawn on.

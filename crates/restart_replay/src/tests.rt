@@ -1,5 +1,5 @@
 use crate::Life;
-use mux_model::Stage;
+use event_model::Stage;
 
 #[test]
 fn a_start_goes_through_its_stages(rt: HostRuntime) {

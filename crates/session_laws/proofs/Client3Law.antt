@@ -8,16 +8,16 @@ use Rattle.lsp_method.specs.declared.variants.Origin.TheVariants.{Editor}
 use Rattle.mux_history.specs.declared.cause.Cause.TheVariants.{FromEditor, Joined, EditorGone}
 use Rattle.mux_history.specs.declared.out.Out.TheVariants.{ToEditor, ToServer, CloseEditor, Spawn}
 use Rattle.rpc_message.specs.Message.{Message, request, notification, result, error, not_json, not_message, Id, message_of}
-use Rattle.mux_model.specs.declared.phase.Phase.{Phase}
-use Rattle.mux_model.specs.declared.phase.Phase.TheVariants.{Absent, New, Waiting, Answered, Running, Down, Closed, Gone}
+use Rattle.event_model.specs.declared.phase.Phase.{Phase}
+use Rattle.event_model.specs.declared.phase.Phase.TheVariants.{Absent, New, Waiting, Answered, Running, Down, Closed, Gone}
 use Rattle.mux_model.specs.Built.{is_other, built_from_editor, built_behind}
-use Rattle.mux_model.specs.Event.{Event, took, said, requests, heard, with_cause}
+use Rattle.event_model.specs.Event.{Event, took, said, requests, heard, with_cause}
 use Rattle.mux_model.specs.Members.{has_token}
 use Rattle.mux_model.specs.Phases.{Desk, desk_of, desk_behind, desk_hears, phase_told, is_there, makes_running, phase_closed, editors_of}
 use Rattle.mux_model.specs.Requests.{open_of, is_open, asks, without}
-use Rattle.session_laws.specs.Always.{Always}
+use Rattle.event_model.specs.Always.{Always}
 use Rattle.session_laws.specs.ClientRules.{Opening, opening_hears, opening_told, opening_behind, opening_of, may_hear, ClientRule3, KeepsClient3}
-use Rattle.session_laws.specs.Parts.{editor_part, is_of_editor}
+use Rattle.event_model.specs.Parts.{editor_part, is_of_editor}
 use Rattle.session_laws.proofs.Bodies.{IsResponseTo, is_result, is_error}
 use Rattle.session_laws.proofs.Why.{is_early}
 use Rattle.session_laws.proofs.Folds.{desk_more}
@@ -28,7 +28,7 @@ use Rattle.mux_history.specs.declared.cause.Cause.{Cause}
 use Rattle.mux_history.specs.declared.entry.Entry.{Entry}
 use Rattle.mux_model.specs.Fits.{fits_behind}
 use Rattle.mux_model.specs.Legal.{Legal}
-use Rattle.mux_model.specs.Settings.{Settings}
+use Rattle.event_model.specs.Settings.{Settings}
 use Rattle.mux_model.specs.Spawns.{starts_of}
 use Rattle.session_laws.proofs.Editors.{Editors}
 use Rattle.session_laws.proofs.FactLaws.{fact_laws, no_facts}

@@ -12,18 +12,18 @@ use Rattle.document_model.specs.Sayings.{changes, saying_of, Saying, opens, clos
 use Rattle.document_model.specs.Texts.{Texts, found, text_after, changed, opened}
 use Rattle.document_model.proofs.Spelt.{changes_spelt, changed_spelt, opens_spelt, closes_spelt, find_spelt, latest_spelt}
 use Rattle.rpc_message.specs.Message.{message_of, notification}
-use Rattle.mux_model.specs.declared.stage.Stage.{Stage}
-use Rattle.mux_model.specs.declared.stage.Stage.TheVariants.{Unspawned, Spawning, Initializing, Ready, Stopping, Ending, Ended}
+use Rattle.event_model.specs.declared.stage.Stage.{Stage}
+use Rattle.event_model.specs.declared.stage.Stage.TheVariants.{Unspawned, Spawning, Initializing, Ready, Stopping, Ending, Ended}
 use Rattle.mux_model.specs.Stages.{is_ready, Life, life_of}
 use Rattle.document_model.specs.Helds.{HeldText}
 use Rattle.document_model.specs.Rows.{switched, versioned, sent_open, sent_change, sent_close}
 use Rattle.document_model.specs.Sayings as saying
 use Rattle.mux_history.specs.declared.cause.Cause.TheVariants.{FromEditor}
 use Rattle.mux_model.specs.Documents.{Sent, encoding_for, texts_of, held_at}
-use Rattle.mux_model.specs.Event.{Event, heard, with_cause}
+use Rattle.event_model.specs.Event.{Event, heard, with_cause}
 use Rattle.mux_model.specs.Requests.{Asking, asker_of}
 use Rattle.mux_model.specs.Rows.{changed_bodies, closed_bodies, document_bodies, to_start, document_row}
-use Rattle.mux_model.specs.Settings.{Settings}
+use Rattle.event_model.specs.Settings.{Settings}
 use Rattle.session_laws.proofs.Why.{Why}
 use Rattle.session_laws.proofs.Folds.{life_more, asking_more}
 use Rattle.session_laws.proofs.Reasons.{Because, by_nothing, by_choose, by_on, by_then}

@@ -5,15 +5,15 @@ use Rattle.mux_history.specs.declared.cause.Cause.{Cause}
 use Rattle.mux_history.specs.declared.cause.Cause.TheVariants.{Joined, FromEditor, EditorGone, Started, StartFailed, FromServer, ServerGone}
 use Rattle.mux_history.specs.declared.out.Out.TheVariants.{CloseEditor, ToEditor, ToServer, Spawn}
 use Rattle.rpc_message.specs.Message.{Message, request, not_message, Id, message_of}
-use Rattle.mux_model.specs.declared.stage.Stage.{Stage}
-use Rattle.mux_model.specs.declared.stage.Stage.TheVariants.{Unspawned, Spawning, Initializing, Ready, Stopping, Ending, Ended}
-use Rattle.mux_model.specs.declared.phase.Phase.{Phase}
-use Rattle.mux_model.specs.declared.phase.Phase.TheVariants.{Absent, New, Gone}
-use Rattle.mux_model.specs.Event.{Event, took, did, heard, said, with_cause, requests}
+use Rattle.event_model.specs.declared.stage.Stage.{Stage}
+use Rattle.event_model.specs.declared.stage.Stage.TheVariants.{Unspawned, Spawning, Initializing, Ready, Stopping, Ending, Ended}
+use Rattle.event_model.specs.declared.phase.Phase.{Phase}
+use Rattle.event_model.specs.declared.phase.Phase.TheVariants.{Absent, New, Gone}
+use Rattle.event_model.specs.Event.{Event, took, did, heard, said, with_cause, requests}
 use Rattle.mux_model.specs.Fits.{fits_behind}
 use Rattle.mux_model.specs.Phases.{is_there, phase_closed, Desk, desk_of, editors_of}
 use Rattle.mux_model.specs.Requests.{Asker, Asking, asking_of, asking_sends, is_own, open_of}
-use Rattle.mux_model.specs.Settings.{Settings}
+use Rattle.event_model.specs.Settings.{Settings}
 use Rattle.mux_model.specs.Spawns.{starts_of}
 use Rattle.mux_model.specs.Stages.{Life, life_of, life_behind, no_life, stage_started, stage_hears, stage_told, is_first_result}
 use Rattle.session_laws.proofs.Asked as asked

@@ -7,17 +7,17 @@ use Rattle.mux_history.specs.declared.entry.Entry.{Entry}
 use Rattle.mux_history.specs.declared.out.Out.{Out}
 use Rattle.mux_history.specs.declared.out.Out.TheVariants.{ToEditor, ToServer, Spawn, CloseEditor, EndServer}
 use Rattle.rpc_message.specs.Message.{request, result, error, Id, message_of}
-use Rattle.mux_model.specs.declared.stage.Stage.{Stage}
-use Rattle.mux_model.specs.declared.stage.Stage.TheVariants.{Unspawned, Spawning}
-use Rattle.mux_model.specs.declared.phase.Phase.TheVariants.{Waiting}
+use Rattle.event_model.specs.declared.stage.Stage.{Stage}
+use Rattle.event_model.specs.declared.stage.Stage.TheVariants.{Unspawned, Spawning}
+use Rattle.event_model.specs.declared.phase.Phase.TheVariants.{Waiting}
 use Rattle.mux_model.specs.Built.{built_behind}
-use Rattle.mux_model.specs.Event.{Event, said, behind, with_cause, events_of}
+use Rattle.event_model.specs.Event.{Event, said, behind, with_cause, events_of}
 use Rattle.mux_model.specs.Fits.{fits_behind}
 use Rattle.mux_model.specs.Legal.{Legal}
 use Rattle.mux_model.specs.Phases.{desk_of, is_there, is_malformed}
 use Rattle.mux_model.specs.Requests.{asking_of, open_of, is_open}
 use Rattle.mux_model.specs.Rows.{outs_of}
-use Rattle.mux_model.specs.Settings.{Settings}
+use Rattle.event_model.specs.Settings.{Settings}
 use Rattle.mux_model.specs.Spawns.{starts_of}
 use Rattle.mux_model.specs.Stages.{life_of}
 use Rattle.session_laws.proofs.Asked.{AllAsked, IsKnown}

@@ -5,12 +5,12 @@ use Rattle.mux_history.specs.declared.entry.Entry.{Entry}
 use Rattle.mux_history.specs.declared.out.Out.{Out}
 use Rattle.mux_history.specs.declared.out.Out.TheVariants.{ToEditor, ToServer, Spawn, CloseEditor, EndServer}
 use Rattle.mux_model.specs.Built.{built_behind}
-use Rattle.mux_model.specs.Event.{Event, said, behind, with_cause, events_of}
+use Rattle.event_model.specs.Event.{Event, said, behind, with_cause, events_of}
 use Rattle.mux_model.specs.Fits.{fits_behind}
 use Rattle.mux_model.specs.Legal.{Legal}
 use Rattle.mux_model.specs.Phases.{desk_of, is_there}
 use Rattle.mux_model.specs.Rows.{outs_of}
-use Rattle.mux_model.specs.Settings.{Settings}
+use Rattle.event_model.specs.Settings.{Settings}
 use Rattle.mux_model.specs.Spawns.{starts_of}
 use Rattle.session_laws.proofs.FactLaws.{fact_laws, no_facts}
 use Rattle.session_laws.proofs.Keeps.{every_history, EntryKeeps}

@@ -2,8 +2,8 @@
 use Rattle.std.proofs.Common.{◌≡◌, ℕ, zero, suc, ◌≤◌, Bool, true, false, cond, List, [], ◌∷◌, ◌++◌, filter, nat_eq, refl, sym, ◌∙◌, ap, subst, arith, append-nil, append_assoc}
 use Rattle.std.proofs.lemmas.List.Elements.{filter-append}
 use Rattle.mux_history.specs.declared.out.Out.{Out}
-use Rattle.mux_model.specs.Event.{Event, behind}
-use Rattle.mux_model.specs.Row.{Row, outs, each}
+use Rattle.event_model.specs.Event.{Event, behind}
+use Rattle.event_model.specs.Row.{Row, outs, each}
 use Rattle.mux_model.specs.Rows.{below}
 use Rattle.session_laws.proofs.Keeps.{behind_both, behind_nothing}
 use Rattle.session_laws.proofs.Reasons.{Reasons, Because, by_nothing, reasons_both}

@@ -4,10 +4,10 @@ use Rattle.json_text.specs.Json.{Json}
 use Rattle.mux_history.specs.declared.cause.Cause.TheVariants.{Started, FromServer, Joined, StartFailed, ServerGone}
 use Rattle.mux_history.specs.declared.out.Out.TheVariants.{ToEditor, ToServer, Spawn, CloseEditor, EndServer}
 use Rattle.rpc_message.specs.Message.{Message, request, not_message, integer, message_of}
-use Rattle.mux_model.specs.declared.stage.Stage.{Stage}
-use Rattle.mux_model.specs.declared.stage.Stage.TheVariants.{Unspawned, Spawning, Initializing, Ready, Stopping, Ending, Ended}
-use Rattle.mux_model.specs.Event.{Event, took, did, requests, heard, said, behind, with_cause}
-use Rattle.mux_model.specs.Settings.{Settings}
+use Rattle.event_model.specs.declared.stage.Stage.{Stage}
+use Rattle.event_model.specs.declared.stage.Stage.TheVariants.{Unspawned, Spawning, Initializing, Ready, Stopping, Ending, Ended}
+use Rattle.event_model.specs.Event.{Event, took, did, requests, heard, said, behind, with_cause}
+use Rattle.event_model.specs.Settings.{Settings}
 use Rattle.mux_model.specs.Stages.{stage_started, stage_hears, stage_told, is_first_result, Life, life_of, life_behind}
 use Rattle.document_model.specs.Sayings.{saying_of, speaks}
 use Rattle.document_model.proofs.Written.{Spoken, spoken}
@@ -24,12 +24,12 @@ use Rattle.rpc_message.specs.Texts.{initialized_text}
 use Rattle.rpc_message.proofs.Fixed.{initialized_law}
 use Rattle.mux_model.specs.Legal.{Legal}
 use Rattle.mux_model.specs.Requests.{asking_of}
-use Rattle.mux_model.specs.Row.{Row, nothing, choose, outs, each}
+use Rattle.event_model.specs.Row.{Row, nothing, choose, outs, each}
 use Rattle.mux_model.specs.Rows.{outs_of, started, from_server, first_result, welcome, waiting_for, founder_body, initialize_for}
 use Rattle.mux_model.specs.Spawns.{starts_of}
 use Rattle.mux_model.proofs.Openings.{any_opening_law}
-use Rattle.session_laws.specs.Always.{Always}
-use Rattle.session_laws.specs.Parts.{server_part, is_of_server}
+use Rattle.event_model.specs.Always.{Always}
+use Rattle.event_model.specs.Parts.{server_part, is_of_server}
 use Rattle.session_laws.proofs.Folds.{life_more}
 use Rattle.session_laws.proofs.Keeps.{behind_both}
 use Rattle.session_laws.proofs.Reasons.{Because, by_nothing, by_send, by_then, by_look, reasons_keep}

@@ -4,11 +4,11 @@ use Rattle.std.specs.Fmt.{digits}
 use Rattle.mux_history.specs.declared.cause.Cause.TheVariants.{Joined, FromEditor, EditorGone, Started, StartFailed, FromServer, ServerGone, Drained, Tick}
 use Rattle.mux_history.specs.declared.out.Out.TheVariants.{ToEditor, ToServer, Spawn, CloseEditor, EndServer}
 use Rattle.rpc_message.specs.Message.{Message, request, notification, result, error, not_json, not_message, integer, message_of}
-use Rattle.mux_model.specs.declared.stage.Stage.{Stage}
-use Rattle.mux_model.specs.declared.stage.Stage.TheVariants.{Unspawned, Spawning}
-use Rattle.mux_model.specs.Event.{Event, took, did, heard, with_cause}
+use Rattle.event_model.specs.declared.stage.Stage.{Stage}
+use Rattle.event_model.specs.declared.stage.Stage.TheVariants.{Unspawned, Spawning}
+use Rattle.event_model.specs.Event.{Event, took, did, heard, with_cause}
 use Rattle.mux_model.specs.Requests.{Asking, asking_behind, asking_sends, asking_of, no_asking}
-use Rattle.session_laws.specs.Parts.{is_of_server}
+use Rattle.event_model.specs.Parts.{is_of_server}
 use Rattle.session_laws.specs.ServerRules.{requests_behind, HasNumber, ServerRule3, KeepsServer3}
 use Rattle.session_laws.proofs.Rules.{word_first}
 use Rattle.session_laws.proofs.PartLaws.{is_to_server, No, no_law, ServerRule, server_history}
@@ -16,7 +16,7 @@ use Rattle.mux_history.specs.declared.cause.Cause.{Cause}
 use Rattle.mux_history.specs.declared.entry.Entry.{Entry}
 use Rattle.document_model.proofs.Written.{Spoken, spoken}
 use Rattle.mux_model.specs.Legal.{Legal}
-use Rattle.mux_model.specs.Settings.{Settings}
+use Rattle.event_model.specs.Settings.{Settings}
 use Rattle.session_laws.specs.Ranges.{InRange}
 use Rattle.session_laws.proofs.Folds.{asking_more}
 use Rattle.session_laws.proofs.Known.{Facts, is_unbegun}

@@ -8,8 +8,8 @@ use Rattle.document_model.specs.Sayings.{Saying, opens, changes, closes, misshap
 use Rattle.mux_history.specs.declared.cause.Cause.TheVariants.{Joined, FromEditor, EditorGone, Started, StartFailed, FromServer, ServerGone, Drained, Tick}
 use Rattle.mux_history.specs.declared.out.Out.TheVariants.{ToEditor, ToServer, Spawn, CloseEditor, EndServer}
 use Rattle.mux_model.specs.Documents.{Sent, held_behind, sent_behind}
-use Rattle.mux_model.specs.Event.{Event, took, did}
-use Rattle.session_laws.specs.Parts.{server_part, is_of_server}
+use Rattle.event_model.specs.Event.{Event, took, did}
+use Rattle.event_model.specs.Parts.{server_part, is_of_server}
 use Rattle.session_laws.specs.ServerRules.{version_told, version_behind, IsNext, AllowsSaying, ServerRule4, version_of, KeepsServer4}
 use Rattle.session_laws.proofs.Rules.{word_first}
 use Rattle.session_laws.proofs.PartLaws.{is_to_server, No, no_law, ServerRule, server_history}
@@ -19,7 +19,7 @@ use Rattle.mux_history.specs.declared.entry.Entry.{Entry}
 use Rattle.rpc_message.specs.Message.{message_of}
 use Rattle.mux_model.specs.Legal.{Legal}
 use Rattle.mux_model.specs.Requests.{asking_of}
-use Rattle.mux_model.specs.Settings.{Settings}
+use Rattle.event_model.specs.Settings.{Settings}
 use Rattle.session_laws.specs.Ranges.{InRange}
 use Rattle.session_laws.proofs.Why.{WhyToServer, begins, greets, forwarded, tells}
 

@@ -6,14 +6,14 @@ use Rattle.json_text.specs.Json.{Json, object, no_members}
 use Rattle.mux_history.specs.declared.cause.Cause.TheVariants.{FromEditor, Started, FromServer}
 use Rattle.mux_history.specs.declared.out.Out.TheVariants.{ToEditor, ToServer}
 use Rattle.rpc_message.specs.Message.{Message, request, notification, result, error, not_json, not_message, Id, integer, text, message_of, id_bytes, result_bytes}
-use Rattle.mux_model.specs.declared.phase.Phase.{Phase}
-use Rattle.mux_model.specs.declared.phase.Phase.TheVariants.{Absent, New, Waiting, Answered, Running, Down, Closed, Gone}
-use Rattle.mux_model.specs.Event.{Event, heard, said, behind, with_cause, requests}
+use Rattle.event_model.specs.declared.phase.Phase.{Phase}
+use Rattle.event_model.specs.declared.phase.Phase.TheVariants.{Absent, New, Waiting, Answered, Running, Down, Closed, Gone}
+use Rattle.event_model.specs.Event.{Event, heard, said, behind, with_cause, requests}
 use Rattle.mux_model.specs.Phases.{Desk, desk_of, desk_behind, desk_hears, phase_told, editors_of, is_there, makes_running}
 use Rattle.mux_model.specs.Requests.{Asked, Asking, asking_of, asked_by, asker_of, answered_id, open_of, is_open, asks}
-use Rattle.mux_model.specs.Row.{each}
+use Rattle.event_model.specs.Row.{each}
 use Rattle.mux_model.specs.Rows.{can_ask, is_waiting, answer_error, request_row, served_row, message_row, malformed_code, from_editor, is_group, waiting_for, welcome, first_result, response_row, from_server, founder_body, started, row_of}
-use Rattle.mux_model.specs.Settings.{Settings}
+use Rattle.event_model.specs.Settings.{Settings}
 use Rattle.mux_model.specs.Stages.{Life, life_of, is_ready, is_first_result, stage_hears}
 use Rattle.session_laws.specs.ServerRules.{is_response}
 use Rattle.session_laws.proofs.Why.{is_early, IsForward, Why, IsAsking, begins, greets, forwarded, rejects, refuses, welcomes, passes}
@@ -29,11 +29,11 @@ use Rattle.rpc_message.specs.Texts.{ok_text, initialized_text, with_id_text, req
 use Rattle.rpc_message.proofs.Decimals.{decimal_law}
 use Rattle.rpc_message.proofs.Fixed.{initialized_law}
 use Rattle.rpc_message.proofs.Ids.{request_with_id, request_id_bytes}
-use Rattle.mux_model.specs.declared.stage.Stage.{Stage}
-use Rattle.mux_model.specs.declared.stage.Stage.TheVariants.{Unspawned, Spawning, Initializing, Ready, Stopping, Ending, Ended}
+use Rattle.event_model.specs.declared.stage.Stage.{Stage}
+use Rattle.event_model.specs.declared.stage.Stage.TheVariants.{Unspawned, Spawning, Initializing, Ready, Stopping, Ending, Ended}
 use Rattle.mux_model.specs.Spawns.{home_of, group_of}
 use Rattle.mux_model.proofs.Openings.{any_opening_law}
-use Rattle.session_laws.specs.Parts.{server_part, is_of_server}
+use Rattle.event_model.specs.Parts.{server_part, is_of_server}
 use Rattle.session_laws.proofs.Bodies.{refusal_says, malformed_says}
 use Rattle.session_laws.proofs.Opened.{Spelt}
 use Rattle.session_laws.proofs.Reasons.{Because, by_nothing, by_send, by_then, by_choose, by_look, by_on}

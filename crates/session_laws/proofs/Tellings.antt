@@ -8,9 +8,9 @@ use Rattle.document_model.specs.Sayings.{Saying, closes, saying_of, speaks, open
 use Rattle.document_model.proofs.Written.{Spoken, spoken, open_says, FullSays, full_says, close_says}
 use Rattle.mux_history.specs.declared.out.Out.TheVariants.{ToServer}
 use Rattle.rpc_message.specs.Message.{message_of}
-use Rattle.mux_model.specs.declared.stage.Stage.TheVariants.{Ready}
+use Rattle.event_model.specs.declared.stage.Stage.TheVariants.{Ready}
 use Rattle.mux_model.specs.Documents.{Sent, sent_behind, sent_of, held_at}
-use Rattle.mux_model.specs.Event.{Event, said}
+use Rattle.event_model.specs.Event.{Event, said}
 use Rattle.mux_model.specs.Requests.{Asking, asking_of, asking_sends}
 use Rattle.mux_model.specs.Stages.{Life, life_of, stage_told}
 use Rattle.session_laws.specs.ServerRules.{AllowsSaying, IsNext}
@@ -24,9 +24,9 @@ use Rattle.document_model.specs.Rows.{switched, differing, versioned}
 use Rattle.document_model.proofs.Versioned.{versioned_says}
 use Rattle.mux_history.specs.declared.cause.Cause.{Cause}
 use Rattle.mux_history.specs.declared.out.Out.{Out}
-use Rattle.mux_model.specs.Row.{send}
+use Rattle.event_model.specs.Row.{send}
 use Rattle.mux_model.specs.Rows.{to_start}
-use Rattle.mux_model.specs.Settings.{Settings}
+use Rattle.event_model.specs.Settings.{Settings}
 use Rattle.session_laws.specs.Ranges.{InRange}
 use Rattle.session_laws.proofs.Reasons.{Because, by_nothing, by_send, by_then}
 use Rattle.session_laws.proofs.Why.{Why, moves, tells}

@@ -7,15 +7,15 @@ use Rattle.document_model.specs.Sayings.{saying_of, speaks}
 use Rattle.mux_history.specs.declared.cause.Cause.{Cause}
 use Rattle.mux_history.specs.declared.cause.Cause.TheVariants.{Started, FromServer, FromEditor}
 use Rattle.rpc_message.specs.Message.{request, Id, message_of, id_bytes, notification, result, error, integer, result_bytes}
-use Rattle.mux_model.specs.declared.phase.Phase.{Phase}
-use Rattle.mux_model.specs.declared.phase.Phase.TheVariants.{Absent, New, Waiting}
-use Rattle.mux_model.specs.declared.stage.Stage.{Stage}
-use Rattle.mux_model.specs.declared.stage.Stage.TheVariants.{Spawning, Initializing, Ready}
+use Rattle.event_model.specs.declared.phase.Phase.{Phase}
+use Rattle.event_model.specs.declared.phase.Phase.TheVariants.{Absent, New, Waiting}
+use Rattle.event_model.specs.declared.stage.Stage.{Stage}
+use Rattle.event_model.specs.declared.stage.Stage.TheVariants.{Spawning, Initializing, Ready}
 use Rattle.mux_model.specs.Documents.{held_at}
-use Rattle.mux_model.specs.Event.{Event, heard, with_cause}
+use Rattle.event_model.specs.Event.{Event, heard, with_cause}
 use Rattle.mux_model.specs.Phases.{desk_of, is_there, is_malformed}
 use Rattle.mux_model.specs.Requests.{Asked, asking_of, asked_by, answered_id, open_of, is_open, Asker}
-use Rattle.mux_model.specs.Settings.{Settings}
+use Rattle.event_model.specs.Settings.{Settings}
 use Rattle.mux_model.specs.Stages.{life_of, is_first_result}
 use Rattle.session_laws.specs.Ranges.{InRange}
 use Rattle.session_laws.specs.ServerRules.{is_response, AllowsSaying}
@@ -24,7 +24,7 @@ use Rattle.mux_history.specs.declared.out.Out.TheVariants.{ToEditor, ToServer, S
 use Rattle.rpc_message.specs.Texts.{ok_text, with_id_text}
 use Rattle.rpc_message.specs.ValueTexts.{IsIdText}
 use Rattle.mux_model.specs.Spawns.{starts_of}
-use Rattle.session_laws.specs.Parts.{server_part}
+use Rattle.event_model.specs.Parts.{server_part}
 
 -- it got no result to its `initialize` yet
 abbrev pub is_early : Phase → Bool

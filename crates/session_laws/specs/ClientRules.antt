@@ -5,11 +5,11 @@ use Rattle.mux_history.specs.declared.cause.Cause.TheVariants.{FromEditor}
 use Rattle.mux_history.specs.declared.entry.Entry.{Entry}
 use Rattle.mux_history.specs.declared.out.Out.TheVariants.{ToEditor}
 use Rattle.rpc_message.specs.Message.{Message, request, notification, result, error, not_json, not_message, Id}
-use Rattle.mux_model.specs.Event.{Event, took, did, events_of, requests}
+use Rattle.event_model.specs.Event.{Event, took, did, events_of, requests}
 use Rattle.mux_model.specs.Phases.{is_malformed}
 use Rattle.mux_model.specs.Requests.{open_of, is_open, without, asks}
-use Rattle.session_laws.specs.Always.{Always}
-use Rattle.session_laws.specs.Parts.{editor_part}
+use Rattle.event_model.specs.Always.{Always}
+use Rattle.event_model.specs.Parts.{editor_part}
 
 -- Rule 2 (JSON-RPC 2.0, section 5, and LSP 3.17, Response Message): a response has the id of an open request, which it closes;
 -- an error with a null id answers a body that was no message; and every body is a message.

@@ -1,6 +1,6 @@
 -- Settings as the machine holds them.
 use Rattle.std.specs.Prelude.{◌<◌, ◌^◌}
-use Rattle.mux_model.specs.Settings.{Settings}
+use Rattle.event_model.specs.Settings.{Settings}
 
 -- the limits are numbers of 32 bits
 pub record InRange (settings : Settings) : Type 0 where

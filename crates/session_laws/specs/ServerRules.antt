@@ -8,10 +8,10 @@ use Rattle.mux_history.specs.declared.cause.Cause.TheVariants.{Started, FromServ
 use Rattle.mux_history.specs.declared.entry.Entry.{Entry}
 use Rattle.mux_history.specs.declared.out.Out.TheVariants.{ToServer, EndServer}
 use Rattle.rpc_message.specs.Message.{Message, request, result, error, integer}
-use Rattle.mux_model.specs.Event.{Event, took, did, events_of, same_id, requests, notifies}
+use Rattle.event_model.specs.Event.{Event, took, did, events_of, same_id, requests, notifies}
 use Rattle.mux_model.specs.Stages.{is_first_result}
-use Rattle.session_laws.specs.Always.{Always}
-use Rattle.session_laws.specs.Parts.{server_part}
+use Rattle.event_model.specs.Always.{Always}
+use Rattle.event_model.specs.Parts.{server_part}
 
 -- Rule 1 (LSP 3.17, Lifecycle Messages): bodies go to a program while it runs, and not once it is to be ended.
 pub record Program : Type 0 where

@@ -2,7 +2,7 @@
 ghost use Rattle.std.specs.Prelude.{List};
 ghost use Rattle.mux_history.specs.declared.entry.Entry.{Entry};
 ghost use Rattle.mux_model.specs.Legal.{Legal};
-ghost use Rattle.mux_model.specs.Settings.{Settings};
+ghost use Rattle.event_model.specs.Settings.{Settings};
 ghost use Rattle.session_laws.specs.ClientRules.{KeepsClient2, KeepsClient3};
 ghost use Rattle.session_laws.specs.Ranges.{InRange};
 ghost use Rattle.session_laws.specs.ServerRules.{KeepsServer1, KeepsServer2, KeepsServer3, KeepsServer4};

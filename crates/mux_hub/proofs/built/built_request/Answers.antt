@@ -1,5 +1,5 @@
 use Rattle.std.proofs.Common.{◌≡◌, sym, subst}
-use Rattle.mux_model.specs.declared.phase.Phase.{Phase}
+use Rattle.event_model.specs.declared.phase.Phase.{Phase}
 use Rattle.mux_model.specs.Built.{built_request}
 use Rattle.mux_hub.specs.Tables.{open_in}
 use Rattle.mux_hub.proofs.built.built_request.Goals as goal

@@ -1,7 +1,7 @@
 -- A response is read, and goes by the bytes of its id.
 use Rattle.std.proofs.Common.{◌≡◌, ap, sym, subst, ◌∙◌}
 use Rattle.rpc_message.specs.Parsed.{IsRead}
-use Rattle.mux_model.specs.declared.stage.Stage.TheVariants.{Ready}
+use Rattle.event_model.specs.declared.stage.Stage.TheVariants.{Ready}
 use Rattle.std.specs.Prelude.{IfOk}
 use Rattle.rpc_message.specs.Message.{message_of}
 use Rattle.mux_hub.specs.Turns.{Turn, from_server, Gives}

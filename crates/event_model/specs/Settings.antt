@@ -1,7 +1,7 @@
 -- What the multiplexer was given.
 use Rattle.std.specs.Prelude.{ℕ, List}
-use Rattle.mux_model.specs.declared.settings.Limits.{Limits}
-use Rattle.mux_model.specs.declared.settings.Server.{Server}
+use Rattle.event_model.specs.declared.settings.Limits.{Limits}
+use Rattle.event_model.specs.declared.settings.Server.{Server}
 
 pub record Settings : Type 0 where
   pub limits : Limits

@@ -2,7 +2,7 @@
 use Rattle.std.specs.Prelude.{ℕ, Bool, false, List, filter, nat_eq}
 use Rattle.mux_history.specs.declared.cause.Cause.TheVariants.{FromEditor, EditorGone, Started, StartFailed, FromServer, ServerGone}
 use Rattle.mux_history.specs.declared.out.Out.TheVariants.{ToEditor, ToServer, CloseEditor, EndServer}
-use Rattle.mux_model.specs.Event.{Event, took, did}
+use Rattle.event_model.specs.Event.{Event, took, did}
 
 -- what comes from editor e, what goes to it, and the end of its link
 abbrev pub is_of_editor : ℕ → Event → Bool

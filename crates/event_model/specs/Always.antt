@@ -1,6 +1,6 @@
 -- A rule that holds at every event of a list.
 use Rattle.std.specs.Prelude.{List, [], ◌∷◌, ◌++◌}
-use Rattle.mux_model.specs.Event.{Event}
+use Rattle.event_model.specs.Event.{Event}
 
 -- at each of these events, behind those before it
 abbrev pub AlwaysFrom : (List Event → Event → Type 0) → List Event → List Event → Type 0

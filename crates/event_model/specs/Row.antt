@@ -2,7 +2,7 @@
 use Rattle.std.specs.Prelude.{Bool, true, false, List, [], ◌∷◌, ◌++◌}
 use Rattle.std.specs.Prelude.{Option, Some, None}
 use Rattle.mux_history.specs.declared.out.Out.{Out}
-use Rattle.mux_model.specs.Event.{Event, behind}
+use Rattle.event_model.specs.Event.{Event, behind}
 
 pub data Row : Type 0 where
   nothing : Row
