@@ -5,7 +5,7 @@ use Rattle.std.proofs.lemmas.List.{map-id, get_or_read, append-nil}
 use Rattle.std.proofs.lemmas.List.FromFn.{filter_of_map_range_with_len_more}
 use Rattle.editor_session.specs.declared.session.Session.{Session}
 use Rattle.editor_session.specs.declared.session.Wanted.{Wanted}
-use Rattle.editor_session.specs.Sessions.{is_wanted, joined, session_of}
+use Rattle.editor_session.specs.Sessions.{absent, is_wanted, session_of}
 
 -- one number more
 filter_more : (p : ℕ → Bool) (n : ℕ) (b : Bool) → p n ≡ b → filter p (range_with_len 0 (n + 1)) ≡ filter p (range_with_len 0 n) ++ (if b then n ∷ [] else [])
@@ -24,7 +24,7 @@ pub record IsTested (wanted : Wanted) (sessions : List Session) (n : ℕ) (b : B
 
 tested : (wanted : Wanted) (sessions : List Session) (n : ℕ) (b : Bool) → IsTested wanted sessions n b → is_wanted wanted (session_of sessions n) ≡ b
 tested wanted sessions n b t =
-    ap (λ l. is_wanted wanted (session_of l n)) (sym t.same) ∙ sym (ap (is_wanted wanted) (get_or_read t.items n t.session t.inside t.read joined)) ∙ sym t.answer
+    ap (λ l. is_wanted wanted (session_of l n)) (sym t.same) ∙ sym (ap (is_wanted wanted) (get_or_read t.items n t.session t.inside t.read absent)) ∙ sym t.answer
 
 -- it is one of those that are looked for
 pub wanted_more : (wanted : Wanted) (sessions : List Session) (n : ℕ) → IsTested wanted sessions n true

@@ -4,7 +4,7 @@ use Rattle.std.specs.Prelude.{Option, Some, None}
 use Rattle.std.specs.List.{All, filter, range_with_len}
 use Rattle.event_model.specs.declared.phase.Phase.{Phase}
 use Rattle.event_model.specs.declared.phase.Phase.TheVariants.{Absent, New, Waiting, Answered, Running, Down}
-use Rattle.mux_model.specs.Phases.{is_there}
+use Rattle.event_model.specs.Phases.{is_there}
 use Rattle.editor_session.specs.declared.session.Session.{Session}
 use Rattle.editor_session.specs.declared.session.Wanted.{Wanted}
 use Rattle.editor_session.specs.declared.session.Wanted.TheVariants as wanted
@@ -13,9 +13,13 @@ use Rattle.editor_session.specs.declared.session.Wanted.TheVariants as wanted
 abbrev pub joined : Session
 joined = record { phase = New; group = None; id = None; asks = 0; backlog = 0 }
 
--- the editor of a number
+-- one that never joined
+abbrev pub absent : Session
+absent = record { phase = Absent; group = None; id = None; asks = 0; backlog = 0 }
+
+-- the editor of a number; one past the end never joined
 abbrev pub session_of : List Session → ℕ → Session
-session_of sessions e = slice_index_or sessions e joined
+session_of sessions e = slice_index_or sessions e absent
 
 -- the editors, with this one in place of the one of that number
 abbrev pub with_session : List Session → ℕ → Session → List Session

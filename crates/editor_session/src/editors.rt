@@ -1,7 +1,7 @@
 // The editors, by their numbers.
 ghost use Rattle.std.specs.Prelude.{◌≡◌, ◌≢◌, ◌+◌, ◌-◌, ◌^◌, ◌<◌, ◌≤◌, [], ◌∷◌, ◌++◌, length, true, IfOk, OnOk, OnErr, option_copied, Some};
 ghost use Rattle.event_model.specs.declared.phase.Phase.TheVariants.{Absent};
-ghost use Rattle.mux_model.specs.Phases.{is_there};
+ghost use Rattle.event_model.specs.Phases.{is_there};
 ghost use Rattle.editor_session.specs.Sessions.{is_joined, is_of, is_running, is_wanted, joined, numbers_of, session_of, with_session};
 
 use crate::session::{Session, Wanted};

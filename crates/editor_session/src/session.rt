@@ -1,6 +1,6 @@
 // One editor.
 ghost use Rattle.std.specs.Prelude.{◌≡◌};
-ghost use Rattle.mux_model.specs.Phases.{is_there};
+ghost use Rattle.event_model.specs.Phases.{is_there};
 ghost use Rattle.editor_session.specs.Sessions.{is_in, is_of, is_running, is_wanted, joined};
 
 use message_body::Body;

@@ -1,5 +1,9 @@
 pub mod Always
 pub mod Event
 pub mod Parts
+pub mod Phases
+pub mod Requests
 pub mod Row
 pub mod Settings
+pub mod Spawns
+pub mod Stages

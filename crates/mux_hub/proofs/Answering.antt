@@ -12,13 +12,13 @@ use Rattle.event_model.specs.declared.phase.Phase.TheVariants.{Absent, New, Wait
 use Rattle.event_model.specs.declared.stage.Stage.{Stage}
 use Rattle.event_model.specs.declared.stage.Stage.TheVariants.{Unspawned, Initializing, Ready}
 use Rattle.event_model.specs.Event.{Event, heard, said, with_cause, behind, same_id}
-use Rattle.mux_model.specs.Phases.{Desk, desk_of, phase_told, editors_of, is_there}
-use Rattle.mux_model.specs.Requests.{asking_of, asked_by, answered_id, answers}
+use Rattle.event_model.specs.Phases.{Desk, desk_of, phase_told, editors_of, is_there}
+use Rattle.event_model.specs.Requests.{asking_of, asked_by, answered_id, answers}
 use Rattle.event_model.specs.Row.{outs, each}
 use Rattle.mux_model.specs.Rows.{outs_of, welcome, waiting_for, is_waiting}
 use Rattle.event_model.specs.Settings.{Settings}
-use Rattle.mux_model.specs.Spawns.{home_of, group_of}
-use Rattle.mux_model.specs.Stages.{life_of, is_first_result}
+use Rattle.event_model.specs.Spawns.{home_of, group_of}
+use Rattle.event_model.specs.Stages.{life_of, is_first_result}
 use Rattle.mux_hub.specs.declared.pending.Pending.{Pending}
 use Rattle.mux_hub.specs.Stands.{Stands, MeansId, PhaseTies, DocumentTies, EarlyDocuments, ReadyDocuments, is_early}
 use Rattle.mux_hub.specs.Steps.{Steps}

@@ -13,9 +13,9 @@ use Rattle.rpc_message.specs.Message.{Message, request, notification, result, er
 use Rattle.event_model.specs.declared.phase.Phase.TheVariants.{Absent}
 use Rattle.mux_model.specs.Built.{is_passed_plainly, built_behind, built_from_editor, built_from_server}
 use Rattle.event_model.specs.Event.{Event, same_id}
-use Rattle.mux_model.specs.Phases.{desk_of}
-use Rattle.mux_model.specs.Requests.{open_of, is_open, asking_of, asked_by}
-use Rattle.mux_model.specs.Stages.{life_of}
+use Rattle.event_model.specs.Phases.{desk_of}
+use Rattle.event_model.specs.Requests.{open_of, is_open, asking_of, asked_by}
+use Rattle.event_model.specs.Stages.{life_of}
 use Rattle.mux_hub.specs.declared.pending.Pending.{Pending}
 use Rattle.mux_hub.specs.Stands.{Stands, MeansId}
 use Rattle.mux_hub.specs.Tables.{Kept, asked_for, ids_of, open_in, built_in, phase_at, stage_at, id_meant}

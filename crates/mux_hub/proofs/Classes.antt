@@ -6,7 +6,7 @@ use Rattle.std.proofs.lemmas.Slice.Eq.{bytes_eq-Decides}
 use Rattle.lsp_method.specs.Class.{class_of, own_request, editor_request}
 use Rattle.lsp_method.specs.declared.variants.Origin.TheVariants.{Editor}
 use Rattle.mux_model.specs.Built.{is_other}
-use Rattle.mux_model.specs.Requests.{is_own}
+use Rattle.event_model.specs.Requests.{is_own}
 
 pub record NotOwn (m : List ℕ) : Type 0 where
   pub initialize : bytes_eq m (codes "initialize") ≡ false

@@ -26,7 +26,7 @@ use Rattle.event_model.specs.Event.{Event}
 use Rattle.event_model.specs.Row.{outs}
 use Rattle.mux_model.specs.Rows.{document_bodies, document_row, changed_bodies, closed_bodies}
 use Rattle.event_model.specs.Settings.{Settings}
-use Rattle.mux_model.specs.Stages.{Life, life_of, is_ready}
+use Rattle.event_model.specs.Stages.{Life, life_of, is_ready}
 use Rattle.mux_model.proofs.DocumentFolds.{outs_to_start}
 use Rattle.mux_hub.specs.Stands.{Stands, DocumentTies, ReadyDocuments, is_early}
 use Rattle.mux_hub.specs.Tables.{Kept, first_in}

@@ -16,10 +16,10 @@ use Rattle.mux_model.specs.Rows.{outs_of}
 use Rattle.event_model.specs.Settings.{Settings}
 use Rattle.mux_hub.specs.Steps.{Steps}
 use Rattle.event_model.specs.Event.{Event, heard, said}
-use Rattle.mux_model.specs.Phases.{Desk, desk_behind, no_desk, editors_behind, backlog_of, backlog_behind}
-use Rattle.mux_model.specs.Requests.{Asking, open_behind, asking_of, asking_behind}
-use Rattle.mux_model.specs.Spawns.{start_of, Home, Founding, starts_behind, groups_behind, start_behind, home_of, home_behind, founding_of, founding_behind, group_behind}
-use Rattle.mux_model.specs.Stages.{life_behind, no_life}
+use Rattle.event_model.specs.Phases.{Desk, desk_behind, no_desk, editors_behind, backlog_of, backlog_behind}
+use Rattle.event_model.specs.Requests.{Asking, open_behind, asking_of, asking_behind}
+use Rattle.event_model.specs.Spawns.{start_of, Home, Founding, starts_behind, groups_behind, start_behind, home_of, home_behind, founding_of, founding_behind, group_behind}
+use Rattle.event_model.specs.Stages.{life_behind, no_life}
 use Rattle.mux_hub.specs.Tables.{Kept, asked_for, joined_in, spawned_in, first_in, open_in}
 use Rattle.mux_hub.specs.Stands.{Stands, Distinct, DocumentTies, MeansId, PhaseTies, StageTies}
 use Rattle.mux_hub.proofs.Documents.{DocumentsGo, ties_same}

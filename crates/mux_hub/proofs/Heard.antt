@@ -26,7 +26,7 @@ use Rattle.rpc_message.proofs.Reading.{held_tree}
 use Rattle.mux_members.specs.declared.notice.Notice.{Notice}
 use Rattle.mux_members.specs.declared.notice.Notice.TheVariants.{Changes}
 use Rattle.mux_members.specs.Notices.{Says}
-use Rattle.mux_model.specs.Requests.{has_number}
+use Rattle.event_model.specs.Requests.{has_number}
 use Rattle.event_model.specs.declared.stage.Stage.TheVariants.{Ready}
 use Rattle.mux_hub.specs.declared.pending.Pending.{Pending}
 use Rattle.mux_hub.specs.Tables.{Kept, asked_of}

@@ -6,7 +6,7 @@ use Rattle.std.specs.Prelude.{slice_get}
 use Rattle.json_text.proofs.Put.{same_name}
 use Rattle.rpc_message.specs.Message.{Id, integer, text}
 use Rattle.event_model.specs.Event.{same_id}
-use Rattle.mux_model.specs.Requests.{is_open, without, answers}
+use Rattle.event_model.specs.Requests.{is_open, without, answers}
 use Rattle.mux_hub.specs.Stands.{Distinct, MeansId}
 use Rattle.mux_hub.proofs.Classes.{swapped}
 use Rattle.mux_hub.specs.declared.pending.Pending.{Pending}

@@ -15,12 +15,12 @@ use Rattle.document_model.specs.Sayings.{saying_of}
 use Rattle.document_model.specs.Sayings.{nothing as nothing_said}
 use Rattle.mux_model.specs.Documents.{encoding_by}
 use Rattle.event_model.specs.Event.{Event, with_cause, heard, said, requests}
-use Rattle.mux_model.specs.Phases.{Desk, desk_of, desk_hears, phase_told, is_there, is_malformed}
-use Rattle.mux_model.specs.Requests.{Asked, answers, answered_id, asked_by, asking_of, asks, without}
+use Rattle.event_model.specs.Phases.{Desk, desk_of, desk_hears, phase_told, is_there, is_malformed}
+use Rattle.event_model.specs.Requests.{Asked, answers, answered_id, asked_by, asking_of, asks, without}
 use Rattle.event_model.specs.Row.{outs, choose, send, nothing}
 use Rattle.mux_model.specs.Rows.{from_editor, from_server, malformed_code, malformed_row, malformed_text, message_row}
 use Rattle.event_model.specs.Settings.{Settings}
-use Rattle.mux_model.specs.Stages.{life_of, stage_hears}
+use Rattle.event_model.specs.Stages.{life_of, stage_hears}
 use Rattle.mux_hub.specs.Stands.{Stands}
 use Rattle.mux_hub.specs.Steps.{Steps}
 use Rattle.mux_hub.specs.Tables.{Kept, open_in}

@@ -15,13 +15,13 @@ use Rattle.event_model.specs.declared.phase.Phase.TheVariants.{Absent, New, Wait
 use Rattle.event_model.specs.declared.stage.Stage.{Stage}
 use Rattle.mux_model.specs.Documents.{encoding_behind, encoding_for, is_served, sent_behind, texts_from, texts_heard, texts_next}
 use Rattle.event_model.specs.Event.{Event, heard, said}
-use Rattle.mux_model.specs.Phases.{Desk, desk_of, desk_behind, desk_hears, editors_behind, backlog_behind, no_desk}
-use Rattle.mux_model.specs.Requests.{Asking, asking_behind, open_behind}
+use Rattle.event_model.specs.Phases.{Desk, desk_of, desk_behind, desk_hears, editors_behind, backlog_behind, no_desk}
+use Rattle.event_model.specs.Requests.{Asking, asking_behind, open_behind}
 use Rattle.event_model.specs.Row.{outs}
 use Rattle.mux_model.specs.Rows.{from_editor, document_row}
 use Rattle.event_model.specs.Settings.{Settings}
-use Rattle.mux_model.specs.Spawns.{Home, Founding, starts_behind, groups_behind, start_behind, home_behind, founding_behind, group_behind}
-use Rattle.mux_model.specs.Stages.{life_behind}
+use Rattle.event_model.specs.Spawns.{Home, Founding, starts_behind, groups_behind, start_behind, home_behind, founding_behind, group_behind}
+use Rattle.event_model.specs.Stages.{life_behind}
 use Rattle.mux_hub.specs.declared.pending.Pending.{Pending}
 use Rattle.mux_hub.specs.Stands.{Stands, DocumentTies, PhaseTies}
 use Rattle.mux_hub.specs.Steps.{Steps}

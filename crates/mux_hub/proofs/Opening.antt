@@ -10,11 +10,11 @@ use Rattle.event_model.specs.declared.phase.Phase.TheVariants.{Absent, New, Wait
 use Rattle.event_model.specs.declared.stage.Stage.{Stage}
 use Rattle.event_model.specs.declared.stage.Stage.TheVariants.{Unspawned, Spawning, Initializing, Ending}
 use Rattle.event_model.specs.Event.{Event, took, heard, said, requests}
-use Rattle.mux_model.specs.Phases.{desk_of}
+use Rattle.event_model.specs.Phases.{desk_of}
 use Rattle.mux_model.specs.Rows.{initialize_for, founder_body, initialize_in, initialize_by}
-use Rattle.mux_model.specs.Stages.{life_of}
+use Rattle.event_model.specs.Stages.{life_of}
 use Rattle.mux_hub.specs.declared.pending.Pending.{Pending}
-use Rattle.mux_model.specs.Spawns.{group_of, founding_of, starts_of, starts_behind, groups_of, groups_behind, first_of, founded_by}
+use Rattle.event_model.specs.Spawns.{group_of, founding_of, starts_of, starts_behind, groups_of, groups_behind, first_of, founded_by}
 use Rattle.std.proofs.lemmas.List.Sums.{fold-append}
 use Rattle.event_model.specs.Settings.{Settings}
 use Rattle.document_model.specs.Sayings.{saying_of}

@@ -13,14 +13,14 @@ use Rattle.event_model.specs.declared.phase.Phase.TheVariants.{Absent, New, Wait
 use Rattle.event_model.specs.declared.stage.Stage.{Stage}
 use Rattle.event_model.specs.declared.stage.Stage.TheVariants.{Unspawned, Spawning, Initializing, Ready, Stopping, Ending, Ended}
 use Rattle.event_model.specs.Event.{Event, took, heard, said, requests}
-use Rattle.mux_model.specs.Phases.{desk_of, desk_hears}
-use Rattle.mux_model.specs.Requests.{Asker, asking_of, asking_behind, no_asking, is_open, is_own}
+use Rattle.event_model.specs.Phases.{desk_of, desk_hears}
+use Rattle.event_model.specs.Requests.{Asker, asking_of, asking_behind, no_asking, is_open, is_own}
 use Rattle.event_model.specs.Row.{outs}
 use Rattle.document_model.specs.Sayings.{saying_of}
 use Rattle.mux_model.specs.Documents.{start_for}
 use Rattle.mux_model.specs.Rows.{from_editor, request_row, answer_error}
 use Rattle.event_model.specs.Settings.{Settings}
-use Rattle.mux_model.specs.Stages.{life_of}
+use Rattle.event_model.specs.Stages.{life_of}
 use Rattle.mux_hub.specs.declared.pending.Pending.{Pending}
 use Rattle.mux_hub.specs.Stands.{Stands, MeansId, PhaseTies, StageTies, is_early}
 use Rattle.mux_hub.specs.Steps.{Steps}

@@ -15,8 +15,8 @@ use Rattle.event_model.specs.declared.stage.Stage.{Stage}
 use Rattle.event_model.specs.declared.stage.Stage.TheVariants.{Unspawned, Spawning, Initializing, Ready, Stopping, Ending, Ended}
 use Rattle.mux_model.specs.Documents.{encoding_behind, sent_behind, texts_from}
 use Rattle.event_model.specs.Event.{Event, said}
-use Rattle.mux_model.specs.Requests.{Asking, asking_behind, asking_sends}
-use Rattle.mux_model.specs.Stages.{Life, life_behind, stage_told}
+use Rattle.event_model.specs.Requests.{Asking, asking_behind, asking_sends}
+use Rattle.event_model.specs.Stages.{Life, life_behind, stage_told}
 use Rattle.mux_hub.proofs.Documents.{given_to_server}
 use Rattle.mux_hub.proofs.Numbers.{not_zero}
 

@@ -23,11 +23,11 @@ use Rattle.event_model.specs.declared.stage.Stage.TheVariants.{Unspawned, Spawni
 use Rattle.mux_model.specs.Built.{built_behind, built_from_editor, built_from_server, built_request, built_response, is_other}
 use Rattle.event_model.specs.Event.{Event, with_cause, notifies}
 use Rattle.mux_model.specs.Fits.{fits_behind}
-use Rattle.mux_model.specs.Phases.{desk_of, editors_of, is_linked, is_there}
-use Rattle.mux_model.specs.Requests.{Asked, open_of, is_open, asking_of, asked_by, answered_id, has_number}
+use Rattle.event_model.specs.Phases.{desk_of, editors_of, is_linked, is_there}
+use Rattle.event_model.specs.Requests.{Asked, open_of, is_open, asking_of, asked_by, answered_id, has_number}
 use Rattle.mux_model.specs.Rows.{is_waiting}
 use Rattle.event_model.specs.Settings.{Settings}
-use Rattle.mux_model.specs.Stages.{life_of, may_start, runs, is_ready, is_first_result}
+use Rattle.event_model.specs.Stages.{life_of, may_start, runs, is_ready, is_first_result}
 use Rattle.mux_hub.specs.declared.pending.Pending.{Pending}
 use Rattle.mux_hub.specs.Stands.{Stands, MeansId, PhaseTies, is_early}
 use Rattle.mux_hub.specs.Steps.{Steps}

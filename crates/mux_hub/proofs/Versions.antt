@@ -19,7 +19,7 @@ use Rattle.event_model.specs.declared.phase.Phase.TheVariants.{Absent, New, Wait
 use Rattle.event_model.specs.declared.stage.Stage.{Stage}
 use Rattle.event_model.specs.declared.stage.Stage.TheVariants.{Unspawned, Spawning, Initializing, Ready, Stopping, Ending, Ended}
 use Rattle.mux_model.specs.Documents.{encoding_in, is_served}
-use Rattle.mux_model.specs.Phases.{is_there}
+use Rattle.event_model.specs.Phases.{is_there}
 use Rattle.mux_model.specs.Rows.{is_waiting, malformed_text}
 use Rattle.mux_hub.specs.declared.pending.Pending.{Pending}
 use Rattle.mux_hub.specs.Tables.{Kept}

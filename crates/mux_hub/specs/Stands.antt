@@ -14,11 +14,11 @@ use Rattle.event_model.specs.declared.stage.Stage.{Stage}
 use Rattle.event_model.specs.declared.stage.Stage.TheVariants.{Unspawned, Spawning, Initializing, Ready, Stopping, Ending, Ended}
 use Rattle.mux_model.specs.Documents.{encoding_of, texts_of, held_at}
 use Rattle.event_model.specs.Event.{Event}
-use Rattle.mux_model.specs.Phases.{desk_of, no_desk, editors_of, backlog_of}
-use Rattle.mux_model.specs.Requests.{open_of, asking_of, is_open}
+use Rattle.event_model.specs.Phases.{desk_of, no_desk, editors_of, backlog_of}
+use Rattle.event_model.specs.Requests.{open_of, asking_of, is_open}
 use Rattle.mux_model.specs.Rows.{initialize_for}
-use Rattle.mux_model.specs.Spawns.{starts_of, groups_of, start_of, home_of, founding_of, group_of}
-use Rattle.mux_model.specs.Stages.{life_of, no_life}
+use Rattle.event_model.specs.Spawns.{starts_of, groups_of, start_of, home_of, founding_of, group_of}
+use Rattle.event_model.specs.Stages.{life_of, no_life}
 use Rattle.mux_hub.specs.declared.pending.Pending.{Pending}
 use Rattle.mux_hub.specs.Tables.{Kept, asked_for, joined_in, spawned_in, first_in, open_in, id_meant}
 

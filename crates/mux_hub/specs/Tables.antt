@@ -11,7 +11,7 @@ use Rattle.event_model.specs.declared.stage.Stage.TheVariants.{Unspawned}
 use Rattle.mux_history.specs.declared.cause.Cause.{Cause}
 use Rattle.mux_history.specs.declared.cause.Cause.TheVariants.{Joined, FromEditor, Started, FromServer}
 use Rattle.mux_model.specs.Built.{built_from_editor, built_from_server}
-use Rattle.mux_model.specs.Requests.{Asked}
+use Rattle.event_model.specs.Requests.{Asked}
 use Rattle.focus_switch.specs.Documents.{Documents}
 use Rattle.mux_hub.specs.declared.pending.Pending.{Pending}
 

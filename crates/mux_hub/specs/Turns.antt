@@ -20,10 +20,10 @@ use Rattle.event_model.specs.declared.phase.Phase.{Phase}
 use Rattle.event_model.specs.declared.phase.Phase.TheVariants.{New, Waiting, Answered, Running}
 use Rattle.event_model.specs.declared.stage.Stage.{Stage}
 use Rattle.event_model.specs.declared.stage.Stage.TheVariants.{Spawning, Initializing, Ready}
-use Rattle.mux_model.specs.Phases.{is_there}
-use Rattle.mux_model.specs.Requests.{has_number}
+use Rattle.event_model.specs.Phases.{is_there}
+use Rattle.event_model.specs.Requests.{has_number}
 use Rattle.mux_model.specs.Rows.{initialize_for, is_waiting, malformed_text}
-use Rattle.mux_model.specs.Stages.{is_ready}
+use Rattle.event_model.specs.Stages.{is_ready}
 use Rattle.mux_hub.specs.declared.pending.Pending.{Pending}
 use Rattle.mux_hub.specs.Tables.{Kept, asked_of, after_message}
 

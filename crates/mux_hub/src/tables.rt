@@ -2,8 +2,8 @@
 ghost use Rattle.std.specs.Prelude.{◌≡◌, List};
 ghost use Rattle.event_model.specs.Event.{Event};
 ghost use Rattle.mux_model.specs.Fits.{fits_behind};
-ghost use Rattle.mux_model.specs.Phases.{is_linked};
-ghost use Rattle.mux_model.specs.Stages.{may_start, runs};
+ghost use Rattle.event_model.specs.Phases.{is_linked};
+ghost use Rattle.event_model.specs.Stages.{may_start, runs};
 ghost use Rattle.mux_hub.specs.Tables.{joined_in};
 
 use crate::pending::Pending;

@@ -1,9 +1,9 @@
 // What the hub does for a cause, over its tables.
 ghost use Rattle.std.specs.Prelude.{◌≡◌, ℕ, ◌≤◌, ◌<◌, ◌∷◌, [], List, length, IfOk, IfErr, IfSome, Option, slice_get, codes, decimal, bytes_eq};
-ghost use Rattle.mux_model.specs.Phases.{is_there};
+ghost use Rattle.event_model.specs.Phases.{is_there};
 ghost use Rattle.mux_model.specs.Rows.{is_waiting};
-ghost use Rattle.mux_model.specs.Requests.{answered_id};
-ghost use Rattle.mux_model.specs.Stages.{is_ready};
+ghost use Rattle.event_model.specs.Requests.{answered_id};
+ghost use Rattle.event_model.specs.Stages.{is_ready};
 ghost use Rattle.json_text.specs.Json.{Json};
 ghost use Rattle.rpc_message.specs.Message.{Id, message_of, id_bytes, notification, request};
 ghost use Rattle.rpc_message.specs.Message.{result as outcome_of};

@@ -2,7 +2,7 @@
 ghost use Rattle.std.specs.Prelude.{◌≡◌, Some};
 ghost use Rattle.rpc_message.specs.Message.{Id};
 ghost use Rattle.rpc_message.specs.ValueTexts.{IsIdText};
-ghost use Rattle.mux_model.specs.Requests.{Asked, has_number};
+ghost use Rattle.event_model.specs.Requests.{Asked, has_number};
 
 use itoa::Buffer;
 use rpc_message::is_quoted;

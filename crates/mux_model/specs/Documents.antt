@@ -17,8 +17,8 @@ use Rattle.event_model.specs.declared.phase.Phase.{Phase}
 use Rattle.event_model.specs.declared.phase.Phase.TheVariants.{Answered, Running}
 use Rattle.event_model.specs.Event.{Event, took, did, requests}
 use Rattle.mux_model.specs.Members.{named_of, string_of}
-use Rattle.mux_model.specs.Phases.{desk_of}
-use Rattle.mux_model.specs.Spawns.{start_of, home_of}
+use Rattle.event_model.specs.Phases.{desk_of}
+use Rattle.event_model.specs.Spawns.{start_of, home_of}
 
 -- How positions count (LSP 3.17, PositionEncodingKind): as the result of `initialize` says, and else by units of UTF-16.
 abbrev pub encoding_named : Option (List ℕ) → Encoding

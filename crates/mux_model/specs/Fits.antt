@@ -4,8 +4,8 @@ use Rattle.mux_history.specs.declared.cause.Cause.{Cause}
 use Rattle.mux_history.specs.declared.cause.Cause.TheVariants.{Joined, FromEditor, EditorGone, Started, StartFailed, FromServer, ServerGone, Drained, Tick}
 use Rattle.mux_history.specs.declared.entry.Entry.{Entry}
 use Rattle.event_model.specs.Event.{Event, events_of}
-use Rattle.mux_model.specs.Phases.{desk_of, editors_of, backlog_of, is_linked}
-use Rattle.mux_model.specs.Stages.{life_of, may_start, runs}
+use Rattle.event_model.specs.Phases.{desk_of, editors_of, backlog_of, is_linked}
+use Rattle.event_model.specs.Stages.{life_of, may_start, runs}
 
 abbrev pub fits_behind : List Event → Cause → Bool
 fits_behind before (Joined e) = nat_eq e (editors_of before)

@@ -4,8 +4,4 @@ pub mod Example
 pub mod Fits
 pub mod Legal
 pub mod Members
-pub mod Phases
-pub mod Requests
 pub mod Rows
-pub mod Spawns
-pub mod Stages

@@ -19,13 +19,13 @@ use Rattle.event_model.specs.declared.stage.Stage.{Stage}
 use Rattle.event_model.specs.declared.stage.Stage.TheVariants.{Spawning, Initializing, Ready}
 use Rattle.event_model.specs.Event.{Event, events_of, with_cause, requests}
 use Rattle.mux_model.specs.Members.{params_of, root_uri, string_or_null, options_of}
-use Rattle.mux_model.specs.Phases.{desk_of, editors_of, is_there, is_malformed}
-use Rattle.mux_model.specs.Requests.{Asked, asking_of, asked_by, answered_id}
+use Rattle.event_model.specs.Phases.{desk_of, editors_of, is_there, is_malformed}
+use Rattle.event_model.specs.Requests.{Asked, asking_of, asked_by, answered_id}
 use Rattle.mux_model.specs.Documents.{start_for, encoding_for, texts_of, held_at}
 use Rattle.event_model.specs.Row.{Row, nothing, send, choose, look, outs, each, on, ◌⨾◌}
 use Rattle.event_model.specs.Settings.{Settings}
-use Rattle.mux_model.specs.Spawns.{starts_of, groups_of, home_of, founding_of, group_of}
-use Rattle.mux_model.specs.Stages.{life_of, is_ready, is_first_result}
+use Rattle.event_model.specs.Spawns.{starts_of, groups_of, home_of, founding_of, group_of}
+use Rattle.event_model.specs.Stages.{life_of, is_ready, is_first_result}
 
 abbrev pub answer_error : ℕ → List ℕ → Code → Row
 answer_error e body code = send (ToEditor e (error_text (id_bytes body) code))

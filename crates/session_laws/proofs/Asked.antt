@@ -8,8 +8,8 @@ use Rattle.rpc_message.specs.Message.{Message, request, notification, result, er
 use Rattle.rpc_message.specs.ValueTexts.{IsIdText}
 use Rattle.event_model.specs.declared.phase.Phase.TheVariants.{Absent, New}
 use Rattle.event_model.specs.Event.{Event, took, said, same_id}
-use Rattle.mux_model.specs.Phases.{Desk, desk_of, desk_behind, desk_hears, phase_told}
-use Rattle.mux_model.specs.Requests.{Asker, Asked, Asking, asking_of, asking_behind, asking_sends, numbered, is_own, answers, answered_id, open_of, open_behind, is_open, asks, without}
+use Rattle.event_model.specs.Phases.{Desk, desk_of, desk_behind, desk_hears, phase_told}
+use Rattle.event_model.specs.Requests.{Asker, Asked, Asking, asking_of, asking_behind, asking_sends, numbered, is_own, answers, answered_id, open_of, open_behind, is_open, asks, without}
 use Rattle.session_laws.proofs.Why.{is_early}
 use Rattle.session_laws.proofs.Folds.{desk_more, opens_more, asking_more}
 use Rattle.session_laws.proofs.Late.{hears_late, told_late}

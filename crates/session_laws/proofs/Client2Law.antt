@@ -5,8 +5,8 @@ use Rattle.mux_history.specs.declared.out.Out.TheVariants.{ToEditor, ToServer, S
 use Rattle.json_text.specs.Json.{Json}
 use Rattle.rpc_message.specs.Message.{Message, error, Id, message_of}
 use Rattle.event_model.specs.Event.{Event, took, did, said, heard, with_cause}
-use Rattle.mux_model.specs.Phases.{is_malformed}
-use Rattle.mux_model.specs.Requests.{answered_id, open_of, open_behind, is_open, asks, without}
+use Rattle.event_model.specs.Phases.{is_malformed}
+use Rattle.event_model.specs.Requests.{answered_id, open_of, open_behind, is_open, asks, without}
 use Rattle.event_model.specs.Always.{Always}
 use Rattle.session_laws.specs.ClientRules.{IsAnswer, null_errors_of, null_errors_behind, malformed_of, malformed_behind, ClientRule2, KeepsClient2}
 use Rattle.event_model.specs.Parts.{editor_part, is_of_editor}
@@ -17,7 +17,7 @@ use Rattle.mux_history.specs.declared.cause.Cause.{Cause}
 use Rattle.mux_history.specs.declared.entry.Entry.{Entry}
 use Rattle.mux_model.specs.Legal.{Legal}
 use Rattle.event_model.specs.Settings.{Settings}
-use Rattle.mux_model.specs.Spawns.{starts_of}
+use Rattle.event_model.specs.Spawns.{starts_of}
 use Rattle.session_laws.proofs.FactLaws.{fact_laws, no_facts}
 use Rattle.session_laws.proofs.Known.{Law, Told, nulls, begun, responds, law_holds}
 

@@ -13,8 +13,8 @@ use Rattle.event_model.specs.declared.phase.Phase.TheVariants.{Absent, New, Wait
 use Rattle.mux_model.specs.Built.{is_other, built_from_editor, built_behind}
 use Rattle.event_model.specs.Event.{Event, took, said, requests, heard, with_cause}
 use Rattle.mux_model.specs.Members.{has_token}
-use Rattle.mux_model.specs.Phases.{Desk, desk_of, desk_behind, desk_hears, phase_told, is_there, makes_running, phase_closed, editors_of}
-use Rattle.mux_model.specs.Requests.{open_of, is_open, asks, without}
+use Rattle.event_model.specs.Phases.{Desk, desk_of, desk_behind, desk_hears, phase_told, is_there, makes_running, phase_closed, editors_of}
+use Rattle.event_model.specs.Requests.{open_of, is_open, asks, without}
 use Rattle.event_model.specs.Always.{Always}
 use Rattle.session_laws.specs.ClientRules.{Opening, opening_hears, opening_told, opening_behind, opening_of, may_hear, ClientRule3, KeepsClient3}
 use Rattle.event_model.specs.Parts.{editor_part, is_of_editor}
@@ -29,7 +29,7 @@ use Rattle.mux_history.specs.declared.entry.Entry.{Entry}
 use Rattle.mux_model.specs.Fits.{fits_behind}
 use Rattle.mux_model.specs.Legal.{Legal}
 use Rattle.event_model.specs.Settings.{Settings}
-use Rattle.mux_model.specs.Spawns.{starts_of}
+use Rattle.event_model.specs.Spawns.{starts_of}
 use Rattle.session_laws.proofs.Editors.{Editors}
 use Rattle.session_laws.proofs.FactLaws.{fact_laws, no_facts}
 use Rattle.session_laws.proofs.Known.{Law, Told, nulls, begun, responds, law_holds}

@@ -14,14 +14,14 @@ use Rattle.document_model.proofs.Spelt.{changes_spelt, changed_spelt, opens_spel
 use Rattle.rpc_message.specs.Message.{message_of, notification}
 use Rattle.event_model.specs.declared.stage.Stage.{Stage}
 use Rattle.event_model.specs.declared.stage.Stage.TheVariants.{Unspawned, Spawning, Initializing, Ready, Stopping, Ending, Ended}
-use Rattle.mux_model.specs.Stages.{is_ready, Life, life_of}
+use Rattle.event_model.specs.Stages.{is_ready, Life, life_of}
 use Rattle.document_model.specs.Helds.{HeldText}
 use Rattle.document_model.specs.Rows.{switched, versioned, sent_open, sent_change, sent_close}
 use Rattle.document_model.specs.Sayings as saying
 use Rattle.mux_history.specs.declared.cause.Cause.TheVariants.{FromEditor}
 use Rattle.mux_model.specs.Documents.{Sent, encoding_for, texts_of, held_at}
 use Rattle.event_model.specs.Event.{Event, heard, with_cause}
-use Rattle.mux_model.specs.Requests.{Asking, asker_of}
+use Rattle.event_model.specs.Requests.{Asking, asker_of}
 use Rattle.mux_model.specs.Rows.{changed_bodies, closed_bodies, document_bodies, to_start, document_row}
 use Rattle.event_model.specs.Settings.{Settings}
 use Rattle.session_laws.proofs.Why.{Why}

@@ -11,11 +11,11 @@ use Rattle.event_model.specs.declared.phase.Phase.{Phase}
 use Rattle.event_model.specs.declared.phase.Phase.TheVariants.{Absent, New, Gone}
 use Rattle.event_model.specs.Event.{Event, took, did, heard, said, with_cause, requests}
 use Rattle.mux_model.specs.Fits.{fits_behind}
-use Rattle.mux_model.specs.Phases.{is_there, phase_closed, Desk, desk_of, editors_of}
-use Rattle.mux_model.specs.Requests.{Asker, Asking, asking_of, asking_sends, is_own, open_of}
+use Rattle.event_model.specs.Phases.{is_there, phase_closed, Desk, desk_of, editors_of}
+use Rattle.event_model.specs.Requests.{Asker, Asking, asking_of, asking_sends, is_own, open_of}
 use Rattle.event_model.specs.Settings.{Settings}
-use Rattle.mux_model.specs.Spawns.{starts_of}
-use Rattle.mux_model.specs.Stages.{Life, life_of, life_behind, no_life, stage_started, stage_hears, stage_told, is_first_result}
+use Rattle.event_model.specs.Spawns.{starts_of}
+use Rattle.event_model.specs.Stages.{Life, life_of, life_behind, no_life, stage_started, stage_hears, stage_told, is_first_result}
 use Rattle.session_laws.proofs.Asked as asked
 use Rattle.session_laws.proofs.Asked.{AllAsked, IsKnown}
 use Rattle.session_laws.proofs.Why.{is_early, WhyToServer, begins, greets, forwarded, tells}

@@ -14,12 +14,12 @@ use Rattle.mux_model.specs.Built.{built_behind}
 use Rattle.event_model.specs.Event.{Event, said, behind, with_cause, events_of}
 use Rattle.mux_model.specs.Fits.{fits_behind}
 use Rattle.mux_model.specs.Legal.{Legal}
-use Rattle.mux_model.specs.Phases.{desk_of, is_there, is_malformed}
-use Rattle.mux_model.specs.Requests.{asking_of, open_of, is_open}
+use Rattle.event_model.specs.Phases.{desk_of, is_there, is_malformed}
+use Rattle.event_model.specs.Requests.{asking_of, open_of, is_open}
 use Rattle.mux_model.specs.Rows.{outs_of}
 use Rattle.event_model.specs.Settings.{Settings}
-use Rattle.mux_model.specs.Spawns.{starts_of}
-use Rattle.mux_model.specs.Stages.{life_of}
+use Rattle.event_model.specs.Spawns.{starts_of}
+use Rattle.event_model.specs.Stages.{life_of}
 use Rattle.session_laws.proofs.Asked.{AllAsked, IsKnown}
 use Rattle.session_laws.proofs.Bodies.{IsResponseTo, is_error, passed_says, welcome_says}
 use Rattle.session_laws.proofs.Why.{is_early, Why, WhyToServer, WhyToEditor, rejects, refuses, welcomes, passes}

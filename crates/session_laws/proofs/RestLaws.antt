@@ -8,10 +8,10 @@ use Rattle.mux_model.specs.Built.{built_behind}
 use Rattle.event_model.specs.Event.{Event, said, behind, with_cause, events_of}
 use Rattle.mux_model.specs.Fits.{fits_behind}
 use Rattle.mux_model.specs.Legal.{Legal}
-use Rattle.mux_model.specs.Phases.{desk_of, is_there}
+use Rattle.event_model.specs.Phases.{desk_of, is_there}
 use Rattle.mux_model.specs.Rows.{outs_of}
 use Rattle.event_model.specs.Settings.{Settings}
-use Rattle.mux_model.specs.Spawns.{starts_of}
+use Rattle.event_model.specs.Spawns.{starts_of}
 use Rattle.session_laws.proofs.FactLaws.{fact_laws, no_facts}
 use Rattle.session_laws.proofs.Keeps.{every_history, EntryKeeps}
 use Rattle.session_laws.proofs.Known.{Facts, Told, told, facts_took, facts_did}

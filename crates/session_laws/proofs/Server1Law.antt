@@ -6,7 +6,7 @@ use Rattle.rpc_message.specs.Message.{Message, not_message, message_of}
 use Rattle.event_model.specs.declared.stage.Stage.{Stage}
 use Rattle.event_model.specs.declared.stage.Stage.TheVariants.{Unspawned, Spawning, Initializing, Ready, Stopping, Ending, Ended}
 use Rattle.event_model.specs.Event.{Event, took, did, requests, heard, said, with_cause}
-use Rattle.mux_model.specs.Stages.{stage_started, stage_hears, stage_told, is_first_result, Life, life_of, life_behind}
+use Rattle.event_model.specs.Stages.{stage_started, stage_hears, stage_told, is_first_result, Life, life_of, life_behind}
 use Rattle.session_laws.specs.ServerRules.{Program, program_behind, ServerRule1, program_of, KeepsServer1}
 use Rattle.session_laws.proofs.Why.{WhyToServer, begins, greets, forwarded, tells}
 use Rattle.session_laws.proofs.PartLaws.{is_to_server, ServerRule, server_history}
@@ -14,7 +14,7 @@ use Rattle.mux_history.specs.declared.cause.Cause.{Cause}
 use Rattle.mux_history.specs.declared.entry.Entry.{Entry}
 use Rattle.mux_model.specs.Legal.{Legal}
 use Rattle.event_model.specs.Settings.{Settings}
-use Rattle.mux_model.specs.Spawns.{starts_of}
+use Rattle.event_model.specs.Spawns.{starts_of}
 use Rattle.event_model.specs.Parts.{server_part, is_of_server}
 use Rattle.session_laws.proofs.Folds.{life_more}
 use Rattle.session_laws.proofs.Known.{Law}

@@ -8,7 +8,7 @@ use Rattle.event_model.specs.declared.stage.Stage.{Stage}
 use Rattle.event_model.specs.declared.stage.Stage.TheVariants.{Unspawned, Spawning, Initializing, Ready, Stopping, Ending, Ended}
 use Rattle.event_model.specs.Event.{Event, took, did, requests, heard, said, behind, with_cause}
 use Rattle.event_model.specs.Settings.{Settings}
-use Rattle.mux_model.specs.Stages.{stage_started, stage_hears, stage_told, is_first_result, Life, life_of, life_behind}
+use Rattle.event_model.specs.Stages.{stage_started, stage_hears, stage_told, is_first_result, Life, life_of, life_behind}
 use Rattle.document_model.specs.Sayings.{saying_of, speaks}
 use Rattle.document_model.proofs.Written.{Spoken, spoken}
 use Rattle.session_laws.specs.Ranges.{InRange}
@@ -23,10 +23,10 @@ use Rattle.mux_history.specs.declared.out.Out.{Out}
 use Rattle.rpc_message.specs.Texts.{initialized_text}
 use Rattle.rpc_message.proofs.Fixed.{initialized_law}
 use Rattle.mux_model.specs.Legal.{Legal}
-use Rattle.mux_model.specs.Requests.{asking_of}
+use Rattle.event_model.specs.Requests.{asking_of}
 use Rattle.event_model.specs.Row.{Row, nothing, choose, outs, each}
 use Rattle.mux_model.specs.Rows.{outs_of, started, from_server, first_result, welcome, waiting_for, founder_body, initialize_for}
-use Rattle.mux_model.specs.Spawns.{starts_of}
+use Rattle.event_model.specs.Spawns.{starts_of}
 use Rattle.mux_model.proofs.Openings.{any_opening_law}
 use Rattle.event_model.specs.Always.{Always}
 use Rattle.event_model.specs.Parts.{server_part, is_of_server}

@@ -7,7 +7,7 @@ use Rattle.rpc_message.specs.Message.{Message, request, notification, result, er
 use Rattle.event_model.specs.declared.stage.Stage.{Stage}
 use Rattle.event_model.specs.declared.stage.Stage.TheVariants.{Unspawned, Spawning}
 use Rattle.event_model.specs.Event.{Event, took, did, heard, with_cause}
-use Rattle.mux_model.specs.Requests.{Asking, asking_behind, asking_sends, asking_of, no_asking}
+use Rattle.event_model.specs.Requests.{Asking, asking_behind, asking_sends, asking_of, no_asking}
 use Rattle.event_model.specs.Parts.{is_of_server}
 use Rattle.session_laws.specs.ServerRules.{requests_behind, HasNumber, ServerRule3, KeepsServer3}
 use Rattle.session_laws.proofs.Rules.{word_first}

@@ -18,7 +18,7 @@ use Rattle.mux_history.specs.declared.cause.Cause.{Cause}
 use Rattle.mux_history.specs.declared.entry.Entry.{Entry}
 use Rattle.rpc_message.specs.Message.{message_of}
 use Rattle.mux_model.specs.Legal.{Legal}
-use Rattle.mux_model.specs.Requests.{asking_of}
+use Rattle.event_model.specs.Requests.{asking_of}
 use Rattle.event_model.specs.Settings.{Settings}
 use Rattle.session_laws.specs.Ranges.{InRange}
 use Rattle.session_laws.proofs.Why.{WhyToServer, begins, greets, forwarded, tells}

@@ -9,12 +9,12 @@ use Rattle.rpc_message.specs.Message.{Message, request, notification, result, er
 use Rattle.event_model.specs.declared.phase.Phase.{Phase}
 use Rattle.event_model.specs.declared.phase.Phase.TheVariants.{Absent, New, Waiting, Answered, Running, Down, Closed, Gone}
 use Rattle.event_model.specs.Event.{Event, heard, said, behind, with_cause, requests}
-use Rattle.mux_model.specs.Phases.{Desk, desk_of, desk_behind, desk_hears, phase_told, editors_of, is_there, makes_running}
-use Rattle.mux_model.specs.Requests.{Asked, Asking, asking_of, asked_by, asker_of, answered_id, open_of, is_open, asks}
+use Rattle.event_model.specs.Phases.{Desk, desk_of, desk_behind, desk_hears, phase_told, editors_of, is_there, makes_running}
+use Rattle.event_model.specs.Requests.{Asked, Asking, asking_of, asked_by, asker_of, answered_id, open_of, is_open, asks}
 use Rattle.event_model.specs.Row.{each}
 use Rattle.mux_model.specs.Rows.{can_ask, is_waiting, answer_error, request_row, served_row, message_row, malformed_code, from_editor, is_group, waiting_for, welcome, first_result, response_row, from_server, founder_body, started, row_of}
 use Rattle.event_model.specs.Settings.{Settings}
-use Rattle.mux_model.specs.Stages.{Life, life_of, is_ready, is_first_result, stage_hears}
+use Rattle.event_model.specs.Stages.{Life, life_of, is_ready, is_first_result, stage_hears}
 use Rattle.session_laws.specs.ServerRules.{is_response}
 use Rattle.session_laws.proofs.Why.{is_early, IsForward, Why, IsAsking, begins, greets, forwarded, rejects, refuses, welcomes, passes}
 use Rattle.session_laws.proofs.DocumentRow.{ready_is, document_keeps}
@@ -31,7 +31,7 @@ use Rattle.rpc_message.proofs.Fixed.{initialized_law}
 use Rattle.rpc_message.proofs.Ids.{request_with_id, request_id_bytes}
 use Rattle.event_model.specs.declared.stage.Stage.{Stage}
 use Rattle.event_model.specs.declared.stage.Stage.TheVariants.{Unspawned, Spawning, Initializing, Ready, Stopping, Ending, Ended}
-use Rattle.mux_model.specs.Spawns.{home_of, group_of}
+use Rattle.event_model.specs.Spawns.{home_of, group_of}
 use Rattle.mux_model.proofs.Openings.{any_opening_law}
 use Rattle.event_model.specs.Parts.{server_part, is_of_server}
 use Rattle.session_laws.proofs.Bodies.{refusal_says, malformed_says}

@@ -11,8 +11,8 @@ use Rattle.rpc_message.specs.Message.{message_of}
 use Rattle.event_model.specs.declared.stage.Stage.TheVariants.{Ready}
 use Rattle.mux_model.specs.Documents.{Sent, sent_behind, sent_of, held_at}
 use Rattle.event_model.specs.Event.{Event, said}
-use Rattle.mux_model.specs.Requests.{Asking, asking_of, asking_sends}
-use Rattle.mux_model.specs.Stages.{Life, life_of, stage_told}
+use Rattle.event_model.specs.Requests.{Asking, asking_of, asking_sends}
+use Rattle.event_model.specs.Stages.{Life, life_of, stage_told}
 use Rattle.session_laws.specs.ServerRules.{AllowsSaying, IsNext}
 use Rattle.session_laws.proofs.Folds.{life_more, asking_more}
 use Rattle.session_laws.proofs.Words.{same_number}

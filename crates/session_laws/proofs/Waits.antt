@@ -8,8 +8,8 @@ use Rattle.rpc_message.specs.Message.{Message, request, notification, result, er
 use Rattle.event_model.specs.declared.phase.Phase.{Phase}
 use Rattle.event_model.specs.declared.phase.Phase.TheVariants.{Absent, New, Waiting, Answered, Running, Down, Closed, Gone}
 use Rattle.event_model.specs.Event.{Event, took, did, said, requests}
-use Rattle.mux_model.specs.Phases.{Desk, desk_of, desk_behind, desk_hears, phase_told, makes_running}
-use Rattle.mux_model.specs.Requests.{Asked, asking_of, has_number, answered_id, open_of, open_behind, is_open, asks, without}
+use Rattle.event_model.specs.Phases.{Desk, desk_of, desk_behind, desk_hears, phase_told, makes_running}
+use Rattle.event_model.specs.Requests.{Asked, asking_of, has_number, answered_id, open_of, open_behind, is_open, asks, without}
 use Rattle.session_laws.proofs.Asked.{IsAsked, AllAsked, hears_open}
 use Rattle.session_laws.proofs.Why.{is_early, IsPassedOn}
 use Rattle.session_laws.proofs.Folds.{desk_more, opens_more}

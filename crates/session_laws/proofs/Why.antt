@@ -13,17 +13,17 @@ use Rattle.event_model.specs.declared.stage.Stage.{Stage}
 use Rattle.event_model.specs.declared.stage.Stage.TheVariants.{Spawning, Initializing, Ready}
 use Rattle.mux_model.specs.Documents.{held_at}
 use Rattle.event_model.specs.Event.{Event, heard, with_cause}
-use Rattle.mux_model.specs.Phases.{desk_of, is_there, is_malformed}
-use Rattle.mux_model.specs.Requests.{Asked, asking_of, asked_by, answered_id, open_of, is_open, Asker}
+use Rattle.event_model.specs.Phases.{desk_of, is_there, is_malformed}
+use Rattle.event_model.specs.Requests.{Asked, asking_of, asked_by, answered_id, open_of, is_open, Asker}
 use Rattle.event_model.specs.Settings.{Settings}
-use Rattle.mux_model.specs.Stages.{life_of, is_first_result}
+use Rattle.event_model.specs.Stages.{life_of, is_first_result}
 use Rattle.session_laws.specs.Ranges.{InRange}
 use Rattle.session_laws.specs.ServerRules.{is_response, AllowsSaying}
 use Rattle.mux_history.specs.declared.out.Out.{Out}
 use Rattle.mux_history.specs.declared.out.Out.TheVariants.{ToEditor, ToServer, Spawn, CloseEditor, EndServer}
 use Rattle.rpc_message.specs.Texts.{ok_text, with_id_text}
 use Rattle.rpc_message.specs.ValueTexts.{IsIdText}
-use Rattle.mux_model.specs.Spawns.{starts_of}
+use Rattle.event_model.specs.Spawns.{starts_of}
 use Rattle.event_model.specs.Parts.{server_part}
 
 -- it got no result to its `initialize` yet

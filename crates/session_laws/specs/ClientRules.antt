@@ -6,8 +6,8 @@ use Rattle.mux_history.specs.declared.entry.Entry.{Entry}
 use Rattle.mux_history.specs.declared.out.Out.TheVariants.{ToEditor}
 use Rattle.rpc_message.specs.Message.{Message, request, notification, result, error, not_json, not_message, Id}
 use Rattle.event_model.specs.Event.{Event, took, did, events_of, requests}
-use Rattle.mux_model.specs.Phases.{is_malformed}
-use Rattle.mux_model.specs.Requests.{open_of, is_open, without, asks}
+use Rattle.event_model.specs.Phases.{is_malformed}
+use Rattle.event_model.specs.Requests.{open_of, is_open, without, asks}
 use Rattle.event_model.specs.Always.{Always}
 use Rattle.event_model.specs.Parts.{editor_part}
 

@@ -9,7 +9,7 @@ use Rattle.mux_history.specs.declared.entry.Entry.{Entry}
 use Rattle.mux_history.specs.declared.out.Out.TheVariants.{ToServer, EndServer}
 use Rattle.rpc_message.specs.Message.{Message, request, result, error, integer}
 use Rattle.event_model.specs.Event.{Event, took, did, events_of, same_id, requests, notifies}
-use Rattle.mux_model.specs.Stages.{is_first_result}
+use Rattle.event_model.specs.Stages.{is_first_result}
 use Rattle.event_model.specs.Always.{Always}
 use Rattle.event_model.specs.Parts.{server_part}
 
