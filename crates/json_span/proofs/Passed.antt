@@ -12,7 +12,7 @@ use Rattle.std.specs.Char.{is_ascii_digit}
 use Rattle.json_text.specs.Json.{is_space}
 use Rattle.json_nodes.specs.declared.node.Node.{Node}
 use Rattle.json_nodes.specs.declared.node.Place.{Place}
-use Rattle.json_token.specs.Runs.{is_passed, takes_digits}
+use Rattle.json_token.specs.Runs.{is_plain_ascii, takes_digits}
 use Rattle.json_token.specs.declared.number.NumberPart.{NumberPart}
 use Rattle.json_token.specs.declared.string.Part.TheVariants.{Plain}
 use Rattle.json_token.specs.declared.string.Move.{Move}
@@ -47,11 +47,11 @@ run_passes d at q s keeps (b ∷ bs) = go (q b) refl (run_passes d (at + 1) q s 
         ∙ (ap (λ p. read d p (drop (prefix_len q bs) bs) s) place ∙ (more ∙ sym (one d at b bs s s (keeps at b e)))))
     go false e more = ap (λ t. read d (at + cond t (1 + prefix_len q bs) 0) (drop (cond t (1 + prefix_len q bs) 0) (b ∷ bs)) s) e ∙ ap (λ p. read d p (b ∷ bs) s) (omega arith)
 
-pub text_keeps : (d from : ℕ) (name : Place) (os : List Open) (ns : List Node) → Keeps d is_passed (state (mode.InText from Plain) name os ns)
+pub text_keeps : (d from : ℕ) (name : Place) (os : List Open) (ns : List Node) → Keeps d is_plain_ascii (state (mode.InText from Plain) name os ns)
 unfolding step
 text_keeps d from name os ns p b h = ap (λ m. in_text p from m (state (mode.InText from Plain) name os ns)) (passed_goes b h)
 
-pub key_keeps : (d from : ℕ) (name : Place) (os : List Open) (ns : List Node) → Keeps d is_passed (state (mode.InKey from Plain) name os ns)
+pub key_keeps : (d from : ℕ) (name : Place) (os : List Open) (ns : List Node) → Keeps d is_plain_ascii (state (mode.InKey from Plain) name os ns)
 unfolding step
 key_keeps d from name os ns p b h = ap (λ m. in_key p from m (state (mode.InKey from Plain) name os ns)) (passed_goes b h)
 
@@ -160,11 +160,11 @@ key_front bytes at end n k e same v =
     subst (λ k. (from : ℕ) → Crosses bytes at (at + k) (mode.InKey from Plain)) (sym same) (key_crossed bytes at (at + n) (omega arith) (omega arith) (front_is bytes at end n within v.front))
 
 -- bytes of ASCII that stand for themselves
-pub text_passed : (bytes : List ℕ) (at to : ℕ) → to ≡ at + prefix_len is_passed (drop at bytes) → (from : ℕ) → Crosses bytes at to (mode.InText from Plain)
-text_passed bytes at to e from name os ns = passed_from 1024 at to is_passed (state (mode.InText from Plain) name os ns) (text_keeps 1024 from name os ns) bytes e
+pub text_passed : (bytes : List ℕ) (at to : ℕ) → to ≡ at + prefix_len is_plain_ascii (drop at bytes) → (from : ℕ) → Crosses bytes at to (mode.InText from Plain)
+text_passed bytes at to e from name os ns = passed_from 1024 at to is_plain_ascii (state (mode.InText from Plain) name os ns) (text_keeps 1024 from name os ns) bytes e
 
-pub key_passed : (bytes : List ℕ) (at to : ℕ) → to ≡ at + prefix_len is_passed (drop at bytes) → (from : ℕ) → Crosses bytes at to (mode.InKey from Plain)
-key_passed bytes at to e from name os ns = passed_from 1024 at to is_passed (state (mode.InKey from Plain) name os ns) (key_keeps 1024 from name os ns) bytes e
+pub key_passed : (bytes : List ℕ) (at to : ℕ) → to ≡ at + prefix_len is_plain_ascii (drop at bytes) → (from : ℕ) → Crosses bytes at to (mode.InKey from Plain)
+key_passed bytes at to e from name os ns = passed_from 1024 at to is_plain_ascii (state (mode.InKey from Plain) name os ns) (key_keeps 1024 from name os ns) bytes e
 
 pub crosses_in : (bytes : List ℕ) (at to : ℕ) (m k : Mode) → m ≡ k → Crosses bytes at to k → Crosses bytes at to m
 crosses_in bytes at to m k e h = subst (Crosses bytes at to) (sym e) h

@@ -1,5 +1,5 @@
 //! A JSON text a byte at a time (RFC 8259).
-ghost use Rattle.std.specs.Prelude.{◌≡◌, ℕ, ◌+◌, ◌^◌, ◌<◌, ◌≤◌, ◌++◌, ◌∷◌, [], length, drop, MatchResult, IfOk, IsTrue, Ok};
+ghost use Rattle.std.specs.Prelude.{◌≡◌, ℕ, ◌+◌, ◌^◌, ◌<◌, ◌≤◌, ◌++◌, ◌∷◌, [], length, drop, MatchResult, IfOk, Ok};
 ghost use Rattle.std.specs.List.{prefix_len};
 ghost use Rattle.json_text.specs.Json.{is_space};
 ghost use Rattle.json_span.specs.Machine.{start, node_at, leaf, opens, closes, begins, first_item, next_key, first_key, colon, continues, behind, in_word, in_number, in_text, in_key, step, finish, read, ends_with, first_in, next_in};
@@ -14,8 +14,8 @@ use crate::word::{WordMove, word_move};
 use json_nodes::{Node, Place};
 use json_text::Kind;
 use json_token::{
-    Move, NumberMove, Part, digits_end, number_may_end, number_move, plain_end, space_end,
-    string_move, takes_digits, text_end,
+    Move, NumberMove, Part, digits_end, number_may_end, number_move, plain_ascii_end, plain_end,
+    space_end, string_move, takes_digits,
 };
 use std::alloc::Global;
 
@@ -40,23 +40,15 @@ fn next_in(object: bool) -> Mode
     if object { Mode::NextKey } else { Mode::Value }
 }
 
-// Whether a character begins behind this part of a string, or the string ends.
-#[inline(always)]
-fn is_between(part: Part) -> bool
-    ensures { IsTrue result → part ≡ Part.Plain }
-{
-    matches!(part, Part::Plain)
-}
-
 // Where the characters end that stand for themselves in a string, or the first fault in their bytes.
 #[inline(never)]
-fn wide_end(bytes: &[u8], at: usize) -> usize
+fn characters_end(bytes: &[u8], at: usize) -> usize
     requires { at ≤ length bytes.now }
     ensures text { (from : ℕ) → Crosses bytes.now at result (Mode.InText from Part.Plain) }
     ensures key { (from : ℕ) → Crosses bytes.now at result (Mode.InKey from Part.Plain) }
     ensures bounds { (at ≤ result) × (result ≤ length bytes.now) }
 {
-    let end = text_end(bytes, at);
+    let end = plain_end(bytes, at);
     match simdutf8::compat::from_utf8(&bytes[at..end]) {
         Ok(_) => end,
         Err(fault) => at + fault.valid_up_to(),
@@ -65,17 +57,31 @@ fn wide_end(bytes: &[u8], at: usize) -> usize
 
 // The same; most strings have none but bytes of ASCII.
 #[inline(always)]
-fn text_run_end(bytes: &[u8], at: usize) -> usize
+fn plain_run_end(bytes: &[u8], at: usize) -> usize
     requires { at ≤ length bytes.now }
     ensures text { (from : ℕ) → Crosses bytes.now at result (Mode.InText from Part.Plain) }
     ensures key { (from : ℕ) → Crosses bytes.now at result (Mode.InKey from Part.Plain) }
     ensures bounds { (at ≤ result) × (result ≤ length bytes.now) }
 {
-    let end = plain_end(bytes, at);
+    let end = plain_ascii_end(bytes, at);
     if end < bytes.len() && bytes[end] >= 0x80 {
-        wide_end(bytes, end)
+        characters_end(bytes, end)
     } else {
         end
+    }
+}
+
+// Where the bytes end that pass over whole characters, in a string of which this part has been read.
+#[inline(always)]
+fn string_run_end(part: Part, bytes: &[u8], at: usize) -> usize
+    requires { at ≤ length bytes.now }
+    ensures text { (from : ℕ) → Crosses bytes.now at result (Mode.InText from part) }
+    ensures key { (from : ℕ) → Crosses bytes.now at result (Mode.InKey from part) }
+    ensures bounds { (at ≤ result) × (result ≤ length bytes.now) }
+{
+    match part {
+        Part::Plain => plain_run_end(bytes, at),
+        _ => at,
     }
 }
 
@@ -393,11 +399,10 @@ impl Reader {
         ensures bounds { (at ≤ result) × (result ≤ length bytes.now) }
     {
         match self.mode {
-            Mode::InText(_, part) if is_between(part) => text_run_end(bytes, at),
-            Mode::InKey(_, part) if is_between(part) => text_run_end(bytes, at),
+            Mode::InText(_, part) => string_run_end(part, bytes, at),
+            Mode::InKey(_, part) => string_run_end(part, bytes, at),
             Mode::InNumber(_, part) if takes_digits(part) => digits_end(bytes, at),
-            Mode::InText(_, _) | Mode::InKey(_, _) | Mode::InNumber(_, _) | Mode::InWord(_, _) =>
-                at,
+            Mode::InNumber(_, _) | Mode::InWord(_, _) => at,
             _ => blank_end(bytes, at),
         }
     }

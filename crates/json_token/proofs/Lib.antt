@@ -2,6 +2,7 @@ pub mod Comparing
 pub mod Decoding
 pub mod Encoded
 pub mod Lanes
+pub mod Fronts
 pub mod NumberBytes
 pub mod Numbers
 pub mod Pieces

@@ -6,7 +6,7 @@ use Rattle.json_text.specs.String.{is_plain, is_hex, is_short}
 use Rattle.json_token.specs.declared.string.Part.{Part}
 use Rattle.json_token.specs.declared.string.Part.TheVariants.{Plain, Escape, Hex4, Hex3, Hex2, Hex1, Tail1, Tail2, Tail3, AfterE0, AfterEd, AfterF0, AfterF4}
 use Rattle.json_token.specs.declared.string.Move.TheVariants.{Goes, Ends}
-use Rattle.json_token.specs.Runs.{is_passed}
+use Rattle.json_token.specs.Runs.{is_plain_ascii}
 use Rattle.json_token.specs.StringMoves.{lead_move, plain_move, escape_move, digit_move, tail_move}
 
 pub quote_ends : plain_move 34 ≡ Ends
@@ -21,7 +21,7 @@ pub plain_goes : (b : ℕ) → b < 128 → IsTrue (is_plain b) → plain_move b 
 unfolding plain_move
 plain_goes b h k = grind (arith, nat_tests)
 
-pub passed_goes : (b : ℕ) → is_passed b ≡ true → plain_move b ≡ Goes Plain
+pub passed_goes : (b : ℕ) → is_plain_ascii b ≡ true → plain_move b ≡ Goes Plain
 unfolding plain_move
 passed_goes b h = grind (arith, nat_tests)
 

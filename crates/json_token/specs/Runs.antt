@@ -7,11 +7,11 @@ use Rattle.json_token.specs.declared.number.NumberPart.{NumberPart}
 use Rattle.json_token.specs.declared.number.NumberPart.TheVariants as part
 
 -- a byte of ASCII that stands for itself in a string
-abbrev pub is_passed : ℕ → Bool
-is_passed b = is_plain b && nat_lt b 128
+abbrev pub is_plain_ascii : ℕ → Bool
+is_plain_ascii b = is_plain b && nat_lt b 128
 
-abbrev pub is_stop : ℕ → Bool
-is_stop b = not (is_passed b)
+abbrev pub is_not_plain_ascii : ℕ → Bool
+is_not_plain_ascii b = not (is_plain_ascii b)
 
 abbrev pub is_not_plain : ℕ → Bool
 is_not_plain b = not (is_plain b)

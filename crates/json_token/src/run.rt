@@ -5,13 +5,13 @@ ghost use Rattle.std.specs.Char.{is_ascii_digit};
 ghost use Rattle.std.specs.Simd.Lanes.{mask_l};
 ghost use Rattle.json_text.specs.Json.{is_space};
 ghost use Rattle.json_text.specs.String.{is_plain};
-ghost use Rattle.json_token.specs.Runs.{is_stop, is_passed, is_not_plain, is_no_digit, is_no_space};
+ghost use Rattle.json_token.specs.Runs.{is_not_plain_ascii, is_plain_ascii, is_not_plain, is_no_digit, is_no_space};
 
 use std::simd::prelude::*;
 
 #[inline(always)]
-fn stops(v: u8x16) -> u64
-    ensures { result ≡ mask_l (map is_stop v) }
+fn not_plain_ascii(v: u8x16) -> u64
+    ensures { result ≡ mask_l (map is_not_plain_ascii v) }
 {
     (v.simd_eq(u8x16::splat(b'"'))
         | v.simd_eq(u8x16::splat(b'\\'))
@@ -56,8 +56,8 @@ fn is_plain(byte: u8) -> bool
 
 // Whether a byte of ASCII stands for itself in a string.
 #[inline(always)]
-fn is_passed(byte: u8) -> bool
-    ensures { result ≡ is_passed byte }
+fn is_plain_ascii(byte: u8) -> bool
+    ensures { result ≡ is_plain_ascii byte }
 {
     byte != b'"' && byte != b'\\' && byte >= 0x20 && byte < 0x80
 }
@@ -70,12 +70,12 @@ fn is_space(byte: u8) -> bool
 }
 
 #[inline(never)]
-fn plain_end_slowly(bytes: &[u8], from: usize) -> usize
+fn plain_ascii_end_slowly(bytes: &[u8], from: usize) -> usize
     requires { from ≤ length bytes.now }
-    ensures { result ≡ from + prefix_len is_passed (drop from bytes.now) }
+    ensures { result ≡ from + prefix_len is_plain_ascii (drop from bytes.now) }
 {
     let mut at = from;
-    while at < bytes.len() && is_passed(bytes[at]) {
+    while at < bytes.len() && is_plain_ascii(bytes[at]) {
         at += 1;
     }
     at
@@ -83,24 +83,24 @@ fn plain_end_slowly(bytes: &[u8], from: usize) -> usize
 
 /// Where the bytes of ASCII end that stand for themselves in a string.
 #[inline(always)]
-pub fn plain_end(bytes: &[u8], from: usize) -> usize
+pub fn plain_ascii_end(bytes: &[u8], from: usize) -> usize
     requires { from ≤ length bytes.now }
-    ensures value { result ≡ from + prefix_len is_passed (drop from bytes.now) }
+    ensures value { result ≡ from + prefix_len is_plain_ascii (drop from bytes.now) }
     ensures bound { result ≤ length bytes.now }
 {
     let mut at = from;
     while bytes.len() - at >= 16 {
-        let found = stops(u8x16::from_slice(&bytes[at..]));
+        let found = not_plain_ascii(u8x16::from_slice(&bytes[at..]));
         if found != 0 {
             return at + found.trailing_zeros() as usize;
         }
         at += 16;
     }
-    plain_end_slowly(bytes, at)
+    plain_ascii_end_slowly(bytes, at)
 }
 
 #[inline(never)]
-fn text_end_slowly(bytes: &[u8], from: usize) -> usize
+fn plain_end_slowly(bytes: &[u8], from: usize) -> usize
     requires { from ≤ length bytes.now }
     ensures { result ≡ from + prefix_len is_plain (drop from bytes.now) }
 {
@@ -113,7 +113,7 @@ fn text_end_slowly(bytes: &[u8], from: usize) -> usize
 
 /// Where a quotation mark, a backslash or a control character ends a run, whatever its other bytes are.
 #[inline(always)]
-pub fn text_end(bytes: &[u8], from: usize) -> usize
+pub fn plain_end(bytes: &[u8], from: usize) -> usize
     requires { from ≤ length bytes.now }
     ensures value { result ≡ from + prefix_len is_plain (drop from bytes.now) }
     ensures bound { result ≤ length bytes.now }
@@ -126,7 +126,7 @@ pub fn text_end(bytes: &[u8], from: usize) -> usize
         }
         at += 16;
     }
-    text_end_slowly(bytes, at)
+    plain_end_slowly(bytes, at)
 }
 
 #[inline(never)]

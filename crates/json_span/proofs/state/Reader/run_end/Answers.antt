@@ -1,9 +1,7 @@
-use Rattle.std.proofs.Common.{◌≡◌, true, ap, ◌∙◌, reverse}
+use Rattle.std.proofs.Common.{◌≡◌, true, reverse}
 use Rattle.std.specs.Char.{is_ascii_digit}
 use Rattle.json_text.specs.Json.{is_space}
 use Rattle.json_token.specs.Runs.{takes_digits}
-use Rattle.json_token.specs.declared.string.Part.TheVariants.{Plain}
-use Rattle.json_span.specs.declared.state.Mode.TheVariants as mode
 use Rattle.json_span.specs.Views.{state_of}
 use Rattle.json_span.proofs.Passed.{passed_from, keeps_in, crosses_in, digits_keep, space_keeps, rests_else}
 use Rattle.json_span.proofs.state.Reader.run_end.Goals as goal
@@ -18,15 +16,13 @@ pub returns-in-InText-clause-same : goal.returns-in-InText-clause-same
 returns-in-InText-clause-same c =
     let r = c.args.self.now in
     let m = c.in-InText in
-    let plain : m.part ≡ Plain = c.is_between.ensures cc in
-    crosses_in c.args.bytes.now c.args.at c.text_run_end.result r.mode _ (m.is ∙ ap (mode.InText m.field-0) plain) (c.text_run_end.ensures.text m.field-0) r.name (reverse r.stack.items) r.nodes.items
+    crosses_in c.args.bytes.now c.args.at c.string_run_end.result r.mode _ m.is (c.string_run_end.ensures.text m.field-0) r.name (reverse r.stack.items) r.nodes.items
 
 pub returns-in-InKey-clause-same : goal.returns-in-InKey-clause-same
 returns-in-InKey-clause-same c =
     let r = c.args.self.now in
     let m = c.in-InKey in
-    let plain : m.part ≡ Plain = c.is_between-in-InKey-1.ensures cc in
-    crosses_in c.args.bytes.now c.args.at c.text_run_end-in-InKey.result r.mode _ (m.is ∙ ap (mode.InKey m.field-0) plain) (c.text_run_end-in-InKey.ensures.key m.field-0) r.name (reverse r.stack.items) r.nodes.items
+    crosses_in c.args.bytes.now c.args.at c.string_run_end-in-InKey.result r.mode _ m.is (c.string_run_end-in-InKey.ensures.key m.field-0) r.name (reverse r.stack.items) r.nodes.items
 
 pub returns-in-InNumber-clause-same : goal.returns-in-InNumber-clause-same
 returns-in-InNumber-clause-same c =
