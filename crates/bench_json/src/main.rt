@@ -1,6 +1,6 @@
 //! Reads the standard input as one JSON text and writes how many values it has, for `bench/json`. With the word `own` it writes
-//! the nanoseconds of processor time that the reading took, and with the word `kit` those of the reader of the kit's crate
-//! `json`, which also begins with the bytes and checks that they are UTF-8.
+//! the least nanoseconds of processor time that a reading took, and with the word `kit` those of the reader of the kit's crate
+//! `json`, with the check that the bytes are UTF-8.
 #![tactic(auto)]
 
 use json_span::Tape;
@@ -40,29 +40,42 @@ fn count_values(rt: &HostRuntime, bytes: &[u8]) -> Option<usize> {
     }
 }
 
-// How many bytes the kit's reader took; None where it refuses them.
-fn kit_reads(rt: &HostRuntime, bytes: &[u8]) -> Option<usize> {
-    let text = simdutf8::compat::from_utf8(bytes).ok()?;
-    let length = u32::try_from(text.len()).ok()?;
-    let mut scratch = json::Scratch::new(rt.alloc());
-    scratch.reserve_tape(length).ok()?;
-    match json::Tape::parse(text, &mut scratch, Vec::new(rt.alloc())) {
-        Ok(_) => Some(text.len()),
-        Err(_) => None,
+// How often a text is read to find the least time.
+const READINGS: u32 = 5;
+
+// The least nanoseconds that a reading takes; None where the text is refused or the clock fails.
+fn time_own(rt: &HostRuntime, bytes: &[u8]) -> Option<u128> {
+    let mut least = u128::MAX;
+    for _ in 0..READINGS {
+        let begin = rt.process_cpu_time().ok()?;
+        count_values(rt, bytes)?;
+        let end = rt.process_cpu_time().ok()?;
+        least = least.min(end.saturating_sub(begin).as_nanos());
     }
+    Some(least)
+}
+
+// The same of the kit's reader, which is handed its index with room for the text.
+fn time_kit(rt: &HostRuntime, bytes: &[u8]) -> Option<u128> {
+    let mut scratch = json::Scratch::new(rt.alloc());
+    scratch.reserve_tape(u32::try_from(bytes.len()).ok()?).ok()?;
+    let mut least = u128::MAX;
+    for _ in 0..READINGS {
+        let begin = rt.process_cpu_time().ok()?;
+        let text = simdutf8::compat::from_utf8(bytes).ok()?;
+        json::Tape::parse(text, &mut scratch, Vec::new(rt.alloc())).ok()?;
+        let end = rt.process_cpu_time().ok()?;
+        least = least.min(end.saturating_sub(begin).as_nanos());
+    }
+    Some(least)
 }
 
 // What is to be written; None where the text is refused or the clock fails.
 fn answer(rt: &HostRuntime, work: Work, bytes: &[u8]) -> Option<u128> {
-    let begin = rt.process_cpu_time().ok()?;
-    let count = match work {
-        Work::TimeKit => kit_reads(rt, bytes)?,
-        Work::TimeOwn | Work::Count => count_values(rt, bytes)?,
-    };
-    let end = rt.process_cpu_time().ok()?;
     match work {
-        Work::Count => Some(count as u128),
-        Work::TimeOwn | Work::TimeKit => Some(end.saturating_sub(begin).as_nanos()),
+        Work::Count => Some(count_values(rt, bytes)? as u128),
+        Work::TimeOwn => time_own(rt, bytes),
+        Work::TimeKit => time_kit(rt, bytes),
     }
 }
 
