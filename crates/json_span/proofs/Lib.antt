@@ -8,6 +8,7 @@ pub mod FoundTexts
 pub mod FoundTokens
 pub mod Limits
 pub mod NodeLists
+pub mod Passed
 pub mod Passes
 pub mod Quoted
 pub mod Rules

@@ -1,5 +1,5 @@
 -- A text as it is quoted is a string of its characters (RFC 8259, section 7).
-use Rattle.std.proofs.Common.{◌≡◌, ℕ, zero, suc, ◌+◌, ◌<◌, ◌≤◌, ◌/◌, ◌%◌, Bool, true, false, ◌&&◌, nat_lt, List, [], ◌∷◌, ◌++◌, length, map, IsUtf8, IsTrue, inl, inr, refl, sym, ap, ap₂, ◌∙◌, subst, arith, append-nil, zero-add, rules, String, Global, string_bytes}
+use Rattle.std.proofs.Common.{◌≡◌, ℕ, zero, suc, ◌+◌, ◌<◌, ◌≤◌, ◌/◌, ◌%◌, Bool, true, false, ◌&&◌, nat_lt, List, [], ◌∷◌, ◌++◌, length, map, IsUtf8, IsTrue, inl, inr, refl, sym, ap, ap₂, ◌∙◌, subst, arith, append-nil, zero-add}
 use Rattle.std.specs.Prelude.{if◌then◌else◌, flat_map, bytes_eq, unwrap_or}
 use Rattle.std.specs.Char.{IsScalar, digit_char}
 use Rattle.std.specs.Char.Escape.{encode_utf16}
@@ -13,13 +13,10 @@ use Rattle.std.proofs.lemmas.Slice.Eq.{bytes_eq-Decides}
 use Rattle.std.proofs.lemmas.Str.{encodes-chars, scalars-chars, utf16_chars-nil}
 use Rattle.std.proofs.str.Utf16.{one_unit}
 use lib.Utf8.{scalar, scalars, encode, encodes}
-use Rattle.json.specs.Print.{escape_letter, escape_byte, escape, quoted}
+use Rattle.json.specs.Print.{escape_letter, escape_byte, escape, quoted, print, print_from}
+use Rattle.json.specs.Token.{Token}
+use Rattle.json.specs.Token as token
 use Rattle.json.proofs.Printed.Strings.{escape_byte_plain}
-use Rattle.serde_json.specs.Data as seen
-use Rattle.serde_json.specs.View.{view}
-use Rattle.serde_json.specs.Written.{has_float, compact_text}
-use Rattle.serde_json.specs.declared.value.Value.{the_lemmas}
-use Rattle.serde_json.specs.declared.value.Value.TheVariants as data_of
 use Rattle.json_text.specs.String.{Piece, plain, short, unit, IsPiece, is_plain, is_short, is_hex, spelled, units, characters, SpellsCharacters}
 use Rattle.json_text.specs.Json.{string, value}
 use Rattle.json_token.proofs.Decoding.{plain_units}
@@ -127,13 +124,11 @@ spells_text text u = let cs = chars text in
 pub quoted_text : (at : ℕ) (text : List ℕ) → IsUtf8 text → value (string (record { from = at; to = at + length (quoted text) }) (chars text)) at (quoted text)
 quoted_text at text u = ((34 ∷ [], escape text ++ 34 ∷ [], refl, refl, (escape text, 34 ∷ [], refl, spells_text text u, refl)), refl)
 
--- what serde_json writes for a string is its text, quoted
-
-string_view : (s : String Global) → view (data_of.String s) ≡ seen.string (string_bytes s)
-string_view s = search (rules, the_lemmas)
-
-pub writes_quoted : (s : String Global) (bytes : List ℕ) → (has_float (view (data_of.String s)) ≡ false → bytes ≡ compact_text (view (data_of.String s))) → bytes ≡ quoted (string_bytes s)
-writes_quoted s bytes h = h (ap has_float (string_view s)) ∙ ap compact_text (string_view s)
+-- what the kit writes for one string behind some bytes
+pub printed_string : (written before items : List ℕ) (tokens : List Token) (text : List ℕ) → items ≡ before ++ print tokens → before ≡ written → tokens ≡ token.string text ∷ [] → items ≡ written ++ quoted text
+unfolding print_from
+printed_string written before items tokens text e b t =
+    e ∙ ap₂ (λ (x : List ℕ) (ts : List Token). x ++ print ts) b t ∙ ap (λ (x : List ℕ). written ++ x) (append-nil (quoted text))
 
 pub quoted_body : (body text : List ℕ) → body ≡ quoted text → IsUtf8 text → value (string (record { from = 0; to = length body }) (chars text)) 0 body
 quoted_body body text e u =

@@ -1,11 +1,14 @@
 -- What the code's reader and its answers are to the machine.
-use Rattle.std.specs.Prelude.{◌≡◌, ℕ, ◌≤◌, List, length, reverse}
+use Rattle.std.specs.Prelude.{◌≡◌, ℕ, ◌≤◌, List, length, drop, reverse}
 use Rattle.std.specs.Prelude.{Result, Ok, Err}
 use Rattle.json_nodes.specs.declared.node.Node.{Node}
+use Rattle.json_nodes.specs.declared.node.Place.{Place}
 use Rattle.json_span.specs.declared.fault.JsonFault.{JsonFault}
 use Rattle.json_span.specs.declared.fault.JsonFault.TheVariants.{Syntax, TooDeep, Memory}
 use Rattle.json_span.specs.declared.state.Reader.{Reader}
-use Rattle.json_span.specs.Machine.{State, state, Fault, syntax, deep}
+use Rattle.json_span.specs.declared.state.Mode.{Mode}
+use Rattle.json_span.specs.declared.state.Open.{Open}
+use Rattle.json_span.specs.Machine.{State, state, Fault, syntax, deep, read}
 
 -- the reader's stack has the innermost bracket last
 abbrev pub state_of : Reader → State
@@ -31,3 +34,7 @@ Reads (Err e) nodes m = Fails e m
 pub record Fits (at : ℕ) (r : Reader) : Type 0 where
   pub few_nodes : length r.nodes.items ≤ at
   pub few_open : length r.stack.items ≤ 1024
+
+-- from the place `to` on the machine reads in this mode as it does from `at` on
+abbrev pub Crosses : List ℕ → ℕ → ℕ → Mode → Type 0
+Crosses bytes at to m = (name : Place) (os : List Open) (ns : List Node) → read 1024 to (drop to bytes) (state m name os ns) ≡ read 1024 at (drop at bytes) (state m name os ns)

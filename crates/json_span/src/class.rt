@@ -24,6 +24,7 @@ pub enum Class {
     Other,
 }
 
+#[inline(always)]
 fn class_of_number(byte: u8) -> Class
     ensures { result ≡ class_of_number (number_begin byte) }
 {
@@ -35,6 +36,7 @@ fn class_of_number(byte: u8) -> Class
 
 /// What this byte is.
 #[tactic(auto, unfolding(crate::specs::Classes::class_of))]
+#[inline(always)]
 pub fn class_of(byte: u8) -> Class
     ensures { result ≡ class_of byte }
 {

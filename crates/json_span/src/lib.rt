@@ -15,5 +15,5 @@ mod word;
 pub use fault::JsonFault;
 pub use json_text::{Change, Kind, Span, splice};
 pub use message_body::{Body, Memory};
-pub use string::quote;
+pub use string::{append_quoted, quote};
 pub use tape::{Tape, same};

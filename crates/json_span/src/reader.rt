@@ -1,7 +1,9 @@
 //! A JSON text a byte at a time (RFC 8259).
-ghost use Rattle.std.specs.Prelude.{◌≡◌, ◌+◌, ◌^◌, ◌<◌, ◌≤◌, ◌++◌, ◌∷◌, [], length, MatchResult, IfOk, Ok};
-ghost use Rattle.json_span.specs.Machine.{start, node_at, leaf, opens, closes, begins, first_item, next_key, first_key, colon, continues, behind, in_word, in_number, in_text, in_key, step, finish, ends_with, first_in, next_in};
-ghost use Rattle.json_span.specs.Views.{state_of, Gives, Reads, Fits};
+ghost use Rattle.std.specs.Prelude.{◌≡◌, ℕ, ◌+◌, ◌^◌, ◌<◌, ◌≤◌, ◌++◌, ◌∷◌, [], length, drop, MatchResult, IfOk, Ok};
+ghost use Rattle.std.specs.List.{prefix_len};
+ghost use Rattle.json_text.specs.Json.{is_space};
+ghost use Rattle.json_span.specs.Machine.{start, node_at, leaf, opens, closes, begins, first_item, next_key, first_key, colon, continues, behind, in_word, in_number, in_text, in_key, step, finish, read, ends_with, first_in, next_in};
+ghost use Rattle.json_span.specs.Views.{state_of, Gives, Reads, Fits, Crosses};
 ghost use Rattle.json_span.specs.Classes.{class_of};
 
 use crate::class::{Class, class_of};
@@ -11,12 +13,16 @@ use crate::state::{Mode, Open, Reader};
 use crate::word::{WordMove, word_move};
 use json_nodes::{Node, Place};
 use json_text::Kind;
-use json_token::{Move, NumberMove, Part, number_may_end, number_move, string_move};
+use json_token::{
+    Move, NumberMove, Part, digits_end, number_may_end, number_move, plain_ascii_end, plain_end,
+    space_end, string_move, takes_digits,
+};
 use std::alloc::Global;
 
 /// The most arrays and objects that may be open at once.
 pub const DEPTH: usize = 1024;
 
+#[inline(always)]
 fn first_in(object: bool) -> Mode
     ensures { result ≡ first_in object }
 {
@@ -27,10 +33,69 @@ fn first_in(object: bool) -> Mode
     }
 }
 
+#[inline(always)]
 fn next_in(object: bool) -> Mode
     ensures { result ≡ next_in object }
 {
     if object { Mode::NextKey } else { Mode::Value }
+}
+
+// Where the characters end that stand for themselves in a string, or the first fault in their bytes.
+#[inline(never)]
+fn characters_end(bytes: &[u8], at: usize) -> usize
+    requires { at ≤ length bytes.now }
+    ensures text { (from : ℕ) → Crosses bytes.now at result (Mode.InText from Part.Plain) }
+    ensures key { (from : ℕ) → Crosses bytes.now at result (Mode.InKey from Part.Plain) }
+    ensures bounds { (at ≤ result) × (result ≤ length bytes.now) }
+{
+    let end = plain_end(bytes, at);
+    match simdutf8::compat::from_utf8(&bytes[at..end]) {
+        Ok(_) => end,
+        Err(fault) => at + fault.valid_up_to(),
+    }
+}
+
+// The same; most strings have none but bytes of ASCII.
+#[inline(always)]
+fn plain_run_end(bytes: &[u8], at: usize) -> usize
+    requires { at ≤ length bytes.now }
+    ensures text { (from : ℕ) → Crosses bytes.now at result (Mode.InText from Part.Plain) }
+    ensures key { (from : ℕ) → Crosses bytes.now at result (Mode.InKey from Part.Plain) }
+    ensures bounds { (at ≤ result) × (result ≤ length bytes.now) }
+{
+    let end = plain_ascii_end(bytes, at);
+    if end < bytes.len() && bytes[end] >= 0x80 {
+        characters_end(bytes, end)
+    } else {
+        end
+    }
+}
+
+// Where the bytes end that pass over whole characters, in a string of which this part has been read.
+#[inline(always)]
+fn string_run_end(part: Part, bytes: &[u8], at: usize) -> usize
+    requires { at ≤ length bytes.now }
+    ensures text { (from : ℕ) → Crosses bytes.now at result (Mode.InText from part) }
+    ensures key { (from : ℕ) → Crosses bytes.now at result (Mode.InKey from part) }
+    ensures bounds { (at ≤ result) × (result ≤ length bytes.now) }
+{
+    match part {
+        Part::Plain => plain_run_end(bytes, at),
+        _ => at,
+    }
+}
+
+// White space is rare in most texts, so the first byte is looked at by itself.
+#[inline(always)]
+fn blank_end(bytes: &[u8], at: usize) -> usize
+    requires { at ≤ length bytes.now }
+    ensures value { result ≡ at + prefix_len is_space (drop at bytes.now) }
+    ensures bound { result ≤ length bytes.now }
+{
+    if at < bytes.len() && bytes[at] > b' ' {
+        return at;
+    }
+    space_end(bytes, at)
 }
 
 impl Reader {
@@ -66,6 +131,7 @@ impl Reader {
     }
 
     // Behind a value that is no array and no object.
+    #[inline(always)]
     fn leaf(&mut self, kind: Kind, from: u32, to: usize) -> Result<(), JsonFault>
         requires small { to < 2 ^ 32 }
         requires few { length self.old.nodes.items < 2 ^ 31 }
@@ -115,6 +181,7 @@ impl Reader {
     }
 
     // A byte where a value may begin.
+    #[inline(always)]
     fn begins(&mut self, at: usize, class: Class) -> Result<(), JsonFault>
         requires small { at < 2 ^ 28 }
         requires fits { Fits at self.old }
@@ -133,6 +200,7 @@ impl Reader {
         Ok(())
     }
 
+    #[inline(always)]
     fn first_item(&mut self, at: usize, class: Class) -> Result<(), JsonFault>
         requires small { at < 2 ^ 28 }
         requires fits { Fits at self.old }
@@ -145,6 +213,7 @@ impl Reader {
         }
     }
 
+    #[inline(always)]
     fn next_key(&mut self, at: usize, class: Class) -> Result<(), JsonFault>
         requires small { at < 2 ^ 28 }
         requires fits { Fits at self.old }
@@ -159,6 +228,7 @@ impl Reader {
         Ok(())
     }
 
+    #[inline(always)]
     fn first_key(&mut self, at: usize, class: Class) -> Result<(), JsonFault>
         requires small { at < 2 ^ 28 }
         requires fits { Fits at self.old }
@@ -171,6 +241,7 @@ impl Reader {
         }
     }
 
+    #[inline(always)]
     fn colon(&mut self, at: usize, class: Class) -> Result<(), JsonFault>
         requires fits { Fits at self.old }
         ensures gives { Gives result (state_of self.new) (colon at class (state_of self.old)) }
@@ -185,6 +256,7 @@ impl Reader {
     }
 
     // A comma behind a value.
+    #[inline(always)]
     fn continues(&mut self, at: usize) -> Result<(), JsonFault>
         requires fits { Fits (at + 1) self.old }
         ensures gives { Gives result (state_of self.new) (continues at (state_of self.old).stack (state_of self.old)) }
@@ -198,6 +270,7 @@ impl Reader {
     }
 
     // A byte behind a value.
+    #[inline(always)]
     fn behind(&mut self, at: usize, class: Class) -> Result<(), JsonFault>
         requires small { at < 2 ^ 28 }
         requires fits { Fits (at + 1) self.old }
@@ -213,6 +286,7 @@ impl Reader {
         }
     }
 
+    #[inline(always)]
     fn in_word(&mut self, at: usize, from: u32, moved: WordMove) -> Result<(), JsonFault>
         requires small { at < 2 ^ 28 }
         requires fits { Fits at self.old }
@@ -230,6 +304,7 @@ impl Reader {
     }
 
     // The byte that ends a number stands behind it.
+    #[inline(always)]
     fn in_number(
         &mut self,
         at: usize,
@@ -255,6 +330,7 @@ impl Reader {
         }
     }
 
+    #[inline(always)]
     fn in_text(&mut self, at: usize, from: u32, moved: Move) -> Result<(), JsonFault>
         requires small { at < 2 ^ 28 }
         requires fits { Fits at self.old }
@@ -271,6 +347,7 @@ impl Reader {
         }
     }
 
+    #[inline(always)]
     fn in_key(&mut self, at: usize, from: u32, moved: Move) -> Result<(), JsonFault>
         requires small { at < 2 ^ 28 }
         requires fits { Fits at self.old }
@@ -293,6 +370,7 @@ impl Reader {
 
     /// The next byte, which stands at this place.
     #[tactic(auto, unfolding(crate::specs::Machine::step))]
+    #[inline(always)]
     pub fn step(&mut self, at: usize, byte: u8) -> Result<(), JsonFault>
         requires small { at < 2 ^ 28 }
         requires fits { Fits at self.old }
@@ -310,6 +388,22 @@ impl Reader {
             Mode::InNumber(from, part) => self.in_number(at, from, byte, number_move(part, byte)),
             Mode::InText(from, part) => self.in_text(at, from, string_move(part, byte)),
             Mode::InKey(from, part) => self.in_key(at, from, string_move(part, byte)),
+        }
+    }
+
+    /// Where the bytes end, from this place on, that leave the reader as it is.
+    #[inline(always)]
+    pub fn run_end(&self, bytes: &[u8], at: usize) -> usize
+        requires { at ≤ length bytes.now }
+        ensures same { read DEPTH result (drop result bytes.now) (state_of self.now) ≡ read DEPTH at (drop at bytes.now) (state_of self.now) }
+        ensures bounds { (at ≤ result) × (result ≤ length bytes.now) }
+    {
+        match self.mode {
+            Mode::InText(_, part) => string_run_end(part, bytes, at),
+            Mode::InKey(_, part) => string_run_end(part, bytes, at),
+            Mode::InNumber(_, part) if takes_digits(part) => digits_end(bytes, at),
+            Mode::InNumber(_, _) | Mode::InWord(_, _) => at,
+            _ => blank_end(bytes, at),
         }
     }
 

@@ -46,8 +46,10 @@ fn read_nodes(alloc: Global, bytes: &[u8]) -> Result<Vec<Node>, JsonFault>
     ensures { Reads result (λ v. v.items) (read 1024 0 bytes.now start) }
 {
     let mut reader = Reader::new(alloc);
-    for (at, byte) in bytes.iter().enumerate() {
-        reader.step(at, *byte)?;
+    let mut at = 0;
+    while at < bytes.len() {
+        reader.step(at, bytes[at])?;
+        at = reader.run_end(bytes, at + 1);
     }
     reader.finish(bytes.len())
 }

@@ -1,10 +1,14 @@
 pub mod Comparing
 pub mod Decoding
 pub mod Encoded
+pub mod Lanes
+pub mod Fronts
 pub mod NumberBytes
 pub mod Numbers
 pub mod Pieces
+pub mod Runs
 pub mod Scalars
 pub mod Shorter
 pub mod TextBytes
+pub mod TextRuns
 pub mod Walks

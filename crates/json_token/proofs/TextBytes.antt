@@ -1,11 +1,12 @@
 -- What each byte does to a string, both ways.
 use Rattle.std.proofs.Common.{◌≡◌, refl, ap, ℕ, ◌<◌, ◌≤◌, ◌⊎◌, arith}
-use Rattle.std.specs.Prelude.{IsTrue}
+use Rattle.std.specs.Prelude.{IsTrue, true}
 use Rattle.std.proofs.lemmas.Bool.Decides.{nat_tests}
 use Rattle.json_text.specs.String.{is_plain, is_hex, is_short}
 use Rattle.json_token.specs.declared.string.Part.{Part}
 use Rattle.json_token.specs.declared.string.Part.TheVariants.{Plain, Escape, Hex4, Hex3, Hex2, Hex1, Tail1, Tail2, Tail3, AfterE0, AfterEd, AfterF0, AfterF4}
 use Rattle.json_token.specs.declared.string.Move.TheVariants.{Goes, Ends}
+use Rattle.json_token.specs.Runs.{is_plain_ascii}
 use Rattle.json_token.specs.StringMoves.{lead_move, plain_move, escape_move, digit_move, tail_move}
 
 pub quote_ends : plain_move 34 ≡ Ends
@@ -19,6 +20,10 @@ slash_goes = refl
 pub plain_goes : (b : ℕ) → b < 128 → IsTrue (is_plain b) → plain_move b ≡ Goes Plain
 unfolding plain_move
 plain_goes b h k = grind (arith, nat_tests)
+
+pub passed_goes : (b : ℕ) → is_plain_ascii b ≡ true → plain_move b ≡ Goes Plain
+unfolding plain_move
+passed_goes b h = grind (arith, nat_tests)
 
 pub two_goes : (b : ℕ) → 194 ≤ b → b < 224 → plain_move b ≡ Goes Tail1
 unfolding plain_move lead_move

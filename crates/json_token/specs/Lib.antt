@@ -1,3 +1,4 @@
 pub mod Characters
 pub mod NumberMoves
+pub mod Runs
 pub mod StringMoves

@@ -1,9 +1,10 @@
 //! A string's characters as text, and compared with a text or with another string's.
-ghost use Rattle.std.specs.Prelude.{◌≡◌, ℕ, ◌↔◌, List, IfOk, IsTrue, encode_utf8_all};
+ghost use Rattle.std.specs.Prelude.{◌≡◌, ℕ, ◌↔◌, ◌++◌, List, IfOk, OnOk, IsTrue, encode_utf8, encode_utf8_all};
 ghost use Rattle.std.specs.Str.{chars};
 ghost use Rattle.json_text.specs.String.{SpellsCharacters};
 
 use crate::character::{is_at_end, next_character, strip_character};
+use crate::run::plain_end;
 use std::alloc::{AllocError, Global};
 
 /// The characters that the bytes between a string's quotation marks stand for, in UTF-8. A surrogate with no partner stands for
@@ -11,13 +12,25 @@ use std::alloc::{AllocError, Global};
 pub fn decode(alloc: Global, raw: &[u8]) -> Result<Vec<u8>, AllocError>
     ensures { (cs : List ℕ) → SpellsCharacters cs raw.now → IfOk result (λ v. v.items ≡ encode_utf8_all cs) }
 {
-    let mut text = String::new(alloc);
+    let mut text = Vec::new(alloc);
     let mut rest = raw;
-    while let Some((character, more)) = next_character(rest) {
-        text.push(character)?;
+    loop {
+        let end = plain_end(rest, 0);
+        text.extend_from_slice(&rest[..end])?;
+        let Some((character, more)) = next_character(&rest[end..]) else {
+            return Ok(text);
+        };
+        push_character(&mut text, character)?;
         rest = more;
     }
-    Ok(text.into_bytes())
+}
+
+// Behind these bytes, a character in UTF-8.
+fn push_character(text: &mut Vec<u8>, character: char) -> Result<(), AllocError>
+    ensures { OnOk result (text.new.items ≡ text.old.items ++ encode_utf8 character) }
+{
+    let mut buffer = [0; 4];
+    text.extend_from_slice(character.encode_utf8(&mut buffer).as_bytes())
 }
 
 /// Whether the bytes between a string's quotation marks stand for the characters of a text.

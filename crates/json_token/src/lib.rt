@@ -4,11 +4,13 @@
 mod character;
 mod decoded;
 mod number;
+mod run;
 mod string;
 #[cfg(test)]
 mod tests;
 
 pub use character::next_character;
 pub use decoded::{decode, same_characters, spells_text};
-pub use number::{NumberMove, NumberPart, number_begin, number_may_end, number_move};
+pub use number::{NumberMove, NumberPart, number_begin, number_may_end, number_move, takes_digits};
+pub use run::{digits_end, plain_ascii_end, plain_end, space_end};
 pub use string::{Move, Part, string_move};

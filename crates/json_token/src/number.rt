@@ -1,5 +1,6 @@
 //! Numbers (RFC 8259, section 6), a byte at a time.
 ghost use Rattle.std.specs.Prelude.{◌≡◌};
+ghost use Rattle.json_token.specs.Runs.{takes_digits};
 ghost use Rattle.json_token.specs.NumberMoves.{number_byte, number_begin, number_move, number_may_end, after_minus, after_zero, after_whole, after_point, after_fraction, after_letter, after_sign, after_exponent};
 
 /// What of a number has been read.
@@ -47,6 +48,7 @@ pub enum NumberByte {
 }
 
 #[tactic(auto, unfolding(crate::specs::NumberMoves::number_byte))]
+#[inline(always)]
 fn number_byte(byte: u8) -> NumberByte
     ensures { result ≡ number_byte byte }
 {
@@ -62,6 +64,7 @@ fn number_byte(byte: u8) -> NumberByte
 }
 
 /// The part that a number's first byte begins, if a number may begin with it.
+#[inline(always)]
 pub fn number_begin(byte: u8) -> Option<NumberPart>
     ensures { result ≡ number_begin byte }
 {
@@ -97,6 +100,21 @@ pub fn number_may_end(part: NumberPart) -> bool
     match part {
         NumberPart::Zero | NumberPart::Whole | NumberPart::Fraction | NumberPart::Exponent => true,
         NumberPart::Minus | NumberPart::Point | NumberPart::Letter | NumberPart::Sign => false,
+    }
+}
+
+/// Whether one more digit leaves a number of which this part has been read at this part.
+#[inline(always)]
+pub fn takes_digits(part: NumberPart) -> bool
+    ensures { result ≡ takes_digits part }
+{
+    match part {
+        NumberPart::Whole | NumberPart::Fraction | NumberPart::Exponent => true,
+        NumberPart::Minus
+        | NumberPart::Zero
+        | NumberPart::Point
+        | NumberPart::Letter
+        | NumberPart::Sign => false,
     }
 }
 

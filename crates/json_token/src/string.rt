@@ -46,6 +46,7 @@ pub enum Move {
 }
 
 /// What the next byte does to a string of which this part has been read.
+#[inline(always)]
 pub fn string_move(part: Part, byte: u8) -> Move
     ensures { result ≡ string_move part byte }
 {
@@ -67,6 +68,7 @@ pub fn string_move(part: Part, byte: u8) -> Move
 }
 
 #[tactic(auto, unfolding(crate::specs::StringMoves::plain_move))]
+#[inline(always)]
 fn plain_move(byte: u8) -> Move
     ensures { result ≡ plain_move byte }
 {
