@@ -1,12 +1,8 @@
 pub mod Bares
-pub mod Changing
-pub mod Following
 pub mod Holders
 pub mod Orders
 pub mod ScalarTrees
-pub mod Sends
 pub mod Spelt
 pub mod Spoken
-pub mod Tellings
 pub mod Versioned
 pub mod Written

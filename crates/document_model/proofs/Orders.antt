@@ -7,11 +7,11 @@ use Rattle.std.proofs.lemmas.Bool.{eq-eqb}
 use Rattle.json_text.specs.Json.{Json}
 use Rattle.json_text.proofs.Put.{same_name}
 use Rattle.position_codec.specs.declared.Encoding.{Encoding}
-use Rattle.focus_switch.specs.Documents.{Open, is_open_at, put_open, drop_open}
+use Rattle.document_model.specs.Opens.{Open, is_open_at, put_open, drop_open}
 use Rattle.document_model.proofs.Spelt.{all_put, all_drop}
 use Rattle.document_model.specs.Sayings.{Saying, opens, changes, closes, misshapen, nothing}
 use Rattle.document_model.specs.Texts.{Texts, no_texts, found, touched, opened, text_after, changed, texts_behind}
-use Rattle.document_model.specs.Follows.{Once, Orderly}
+use Rattle.document_model.specs.Orderly.{Once, Orderly}
 use Rattle.document_model.proofs.Holders.{is_at, rest_elsewhere}
 
 -- what holds of all that is open, and of what is put among it or taken from it

@@ -15,8 +15,8 @@ use Rattle.doc_text.specs.declared.change.Extent.TheVariants.{Whole, Part}
 use Rattle.doc_text.specs.declared.change.ContentChange.{ContentChange}
 use Rattle.doc_text.specs.Changes.{changed as changed_by, both, text_of, extent_of, change_of, all_changes, changes_of, offset_in, place_in, changed_all, text_behind}
 use Rattle.rpc_message.specs.Message.{Message, not_json, not_message, request, notification, result, error, message_of}
-use Rattle.focus_switch.specs.Documents.{Open, is_open_at, put_open, drop_open, later, latest}
-use Rattle.document_model.specs.Follows.{IsSpelt, AllSpelt}
+use Rattle.document_model.specs.Opens.{Open, is_open_at, put_open, drop_open, later, latest}
+use Rattle.document_model.specs.Orderly.{IsSpelt, AllSpelt}
 use Rattle.document_model.specs.Sayings.{Saying, opens, changes, closes, misshapen, nothing, member_of, string_at, integer_at, opening, changing, closing, opening_by, changing_by, closing_by, saying_by, saying_of}
 use Rattle.document_model.specs.Texts.{Texts, texts_behind, text_after, found, changed, touched, opened}
 use Rattle.document_model.proofs.ScalarTrees.{either_way, MayHold, may_hold, AllScalars, ItemsScalars, named_in_scalars, member_scalars, optional_spelt, string_at_spelt, ParamsScalars, body_scalars}

@@ -7,10 +7,10 @@ use Rattle.std.proofs.lemmas.Bool.{ltb-true}
 use Rattle.std.proofs.lemmas.Slice.Eq.{bytes_eq-Decides}
 use Rattle.json_text.specs.Json.{Json}
 use Rattle.position_codec.specs.declared.Encoding.{Encoding}
-use Rattle.focus_switch.specs.Documents.{Open}
-use Rattle.focus_switch.specs.Texts.{open_text, full_text, close_text}
+use Rattle.document_model.specs.Opens.{Open}
+use Rattle.document_model.specs.Bodies.{open_text, full_text, close_text}
 use Rattle.rpc_message.specs.Message.{message_of}
-use Rattle.document_model.specs.Follows.{IsSpelt}
+use Rattle.document_model.specs.Orderly.{IsSpelt}
 use Rattle.document_model.specs.Helds.{HeldText, told}
 use Rattle.document_model.specs.Rows.{switched, differing, sent_open, versioned, sent_change, sent_close}
 use Rattle.document_model.specs.Sayings.{Saying, opens, changes, closes, misshapen, nothing, saying_of, speaks}

@@ -19,7 +19,7 @@ use Rattle.std.proofs.lemmas.Slice.Eq.{bytes_eq-Decides}
 use Rattle.rpc_message.proofs.Decimals.{decimal_number, decimal_integer}
 use Rattle.rpc_message.proofs.Meaning.{message_says}
 use Rattle.doc_text.specs.Changes.{string_text}
-use Rattle.focus_switch.specs.Notices.{integer_text, document_in, uri_in, version_in, changes_in, version_edits, edits_in}
+use Rattle.document_model.specs.Notices.{integer_text, document_in, uri_in, version_in, changes_in, version_edits, edits_in}
 use Rattle.document_model.specs.Rows.{versioned_in, versioned}
 use Rattle.document_model.specs.Sayings.{changes, changing, saying_of}
 use Rattle.document_model.proofs.Bares.{Notice, notice, change_notified, notice_saying, notice_said}

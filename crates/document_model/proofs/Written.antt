@@ -20,7 +20,7 @@ use Rattle.json_text.proofs.Forms.{says}
 use Rattle.json_span.proofs.Quoted.{spells_text}
 use Rattle.rpc_message.proofs.Meaning.{message_says}
 use Rattle.rpc_message.proofs.Decimals.{decimal_integer, decimal_number}
-use Rattle.focus_switch.specs.Texts.{open_text, full_text, close_text}
+use Rattle.document_model.specs.Bodies.{open_text, full_text, close_text}
 use Rattle.rpc_message.specs.Message.{Message, not_json, not_message, request, notification, result, error, no_name_twice, is_integer, message_in, message_of}
 use Rattle.document_model.specs.Helds.{number_of}
 use Rattle.document_model.specs.Sayings.{opens, changes, closes, changing, saying_by, saying_of, speaks}

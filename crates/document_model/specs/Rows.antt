@@ -3,9 +3,9 @@ use Rattle.std.specs.Prelude.{ℕ, ◌+◌, ◌&&◌, List, [], ◌∷◌, nat_l
 use Rattle.std.specs.Prelude.{Option, Some, None}
 use Rattle.json_text.specs.Tree.{tree_of}
 use Rattle.json_text.specs.Json.{Json}
-use Rattle.focus_switch.specs.Documents.{Open}
-use Rattle.focus_switch.specs.Notices.{with_version}
-use Rattle.focus_switch.specs.Texts.{open_text, full_text, close_text}
+use Rattle.document_model.specs.Opens.{Open}
+use Rattle.document_model.specs.Notices.{with_version}
+use Rattle.document_model.specs.Bodies.{open_text, full_text, close_text}
 use Rattle.document_model.specs.Helds.{HeldText}
 
 -- the whole text of an editor, as a change, or, at the limit of versions, by closing and opening

@@ -6,7 +6,7 @@ use Rattle.json_text.specs.Json.{Json}
 use Rattle.json_text.specs.Named.{named_in}
 use Rattle.rpc_message.specs.Message.{Message, notification}
 use Rattle.doc_text.specs.Changes.{string_text}
-use Rattle.focus_switch.specs.Notices.{integer_text}
+use Rattle.document_model.specs.Notices.{integer_text}
 
 -- A document is opened, with its URI, its language, its version and its text; it is changed, to a version, by a list of changes; it is closed.
 -- A version is its digits. `misshapen` is said by a notification of one of these methods that lacks a part; `nothing` by any other message.

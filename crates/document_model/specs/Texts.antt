@@ -5,7 +5,7 @@ use Rattle.std.specs.Option.{option_and_then, option_map, option_map_or}
 use Rattle.json_text.specs.Json.{Json}
 use Rattle.position_codec.specs.declared.Encoding.{Encoding}
 use Rattle.doc_text.specs.Changes.{text_behind}
-use Rattle.focus_switch.specs.Documents.{Open, is_open_at, put_open, drop_open}
+use Rattle.document_model.specs.Opens.{Open, is_open_at, put_open, drop_open}
 use Rattle.document_model.specs.Sayings.{Saying, opens, changes, closes, misshapen, nothing}
 
 -- the documents that are open, in the order of opening, and how many openings and changes were accepted so far

@@ -6,9 +6,10 @@ use Rattle.json_nodes.specs.Doc.{Doc}
 use Rattle.mux_history.specs.declared.out.Out.{Out}
 use Rattle.focus_switch.specs.declared.notice.Change.{Change}
 use Rattle.focus_switch.specs.declared.telling.Telling.{Telling}
-use Rattle.focus_switch.specs.Documents.{Open, Documents, held_of, put_open}
+use Rattle.document_model.specs.Opens.{Open, put_open}
+use Rattle.focus_switch.specs.Documents.{Documents, held_of}
 use Rattle.focus_switch.specs.Noted.{FoundChange}
-use Rattle.focus_switch.specs.Notices.{DidChange, did_change}
+use Rattle.document_model.specs.Notices.{DidChange, did_change}
 use Rattle.focus_switch.specs.Rows.{Step, send, touch, or_nothing, change_row, change_sends, changed_open}
 
 pub seen : (doc : Doc) (o : Option DidChange) (c : Change) → FoundChange doc o (Some c) → (q : DidChange) × (o ≡ Some q) × FoundChange doc (Some q) (Some c)

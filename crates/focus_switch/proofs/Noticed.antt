@@ -19,7 +19,7 @@ use Rattle.json_nodes.proofs.Sames.{number_of, object_of}
 use Rattle.json_nodes.proofs.Spelling.{IsMember, is_member, members_end}
 use Rattle.rpc_message.specs.Message.{is_integer}
 use Rattle.focus_switch.specs.declared.notice.Change.{Change}
-use Rattle.focus_switch.specs.Notices.{did_change, did_change_of, integer_text, uri_in, version_in, changes_in, version_edits, edits_in, written_from}
+use Rattle.document_model.specs.Notices.{did_change, did_change_of, integer_text, uri_in, version_in, changes_in, version_edits, edits_in, written_from}
 use Rattle.focus_switch.specs.Noted.{FoundChange, FirstMember, made}
 
 pub same_doc : (doc : Doc) (bs : List ℕ) (ns : List Node) → bs ≡ doc.bytes → ns ≡ doc.nodes → ◌≡◌ {A = Doc} (record { bytes = bs; nodes = ns }) doc

@@ -3,7 +3,7 @@ use Rattle.std.proofs.Common.{◌≡◌, ℕ, zero, suc, ◌+◌, ◌<◌, ◌�
 use Rattle.std.specs.Prelude.{slice_set}
 use Rattle.std.specs.List.{position_or_len, remove}
 use Rattle.focus_switch.specs.declared.opens.Opening.{Opening}
-use Rattle.focus_switch.specs.Documents.{Open, is_open_at, put_open, drop_open}
+use Rattle.document_model.specs.Opens.{Open, is_open_at, put_open, drop_open}
 use Rattle.focus_switch.specs.Shown.{shown, all_shown}
 
 module _ {T : Type 0} (bytes : T → List ℕ) (e : ℕ) (u : List ℕ) where

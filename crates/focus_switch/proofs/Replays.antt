@@ -4,7 +4,8 @@ use Rattle.std.specs.Prelude.{Option, Some, None, fold, slice_get, nat_eq, if◌
 use Rattle.std.proofs.lemmas.List.Sums.{fold-append}
 use Rattle.mux_history.specs.declared.out.Out.{Out}
 use Rattle.focus_switch.specs.declared.telling.Telling.{Telling}
-use Rattle.focus_switch.specs.Documents.{Open, Documents, held_of}
+use Rattle.document_model.specs.Opens.{Open}
+use Rattle.focus_switch.specs.Documents.{Documents, held_of}
 use Rattle.focus_switch.specs.Rows.{Step, nothing, tell, send, or_nothing, each, replayed, replay_sends, synced, sync_sends}
 
 -- what is open stays

@@ -11,7 +11,7 @@ use Rattle.rpc_message.specs.Message.{is_integer}
 use Rattle.position_codec.specs.declared.Encoding.TheVariants.{Utf16}
 use Rattle.focus_switch.specs.Documents.{Documents}
 use Rattle.focus_switch.specs.Rows.{Step, nothing, or_nothing, open_row, change_row, close_row, ready_row, unready_row, sync_row}
-use Rattle.focus_switch.specs.Texts.{open_text, full_text, close_text}
+use Rattle.document_model.specs.Bodies.{open_text, full_text, close_text}
 
 -- no documents, and start 0 is ready
 abbrev begun : ℕ → Documents

@@ -3,16 +3,8 @@ use Rattle.std.specs.Prelude.{ℕ, Bool, false, not, ◌&&◌, List, [], ◌∷�
 use Rattle.std.specs.Prelude.{Option, Some, None}
 use Rattle.std.specs.Option.{option_map_or}
 use Rattle.position_codec.specs.declared.Encoding.{Encoding}
+use Rattle.document_model.specs.Opens.{Open}
 use Rattle.focus_switch.specs.declared.held.Held.{Held}
-
--- a document that is open at an editor, as that editor has it. `touched` is the turn of the editor's last touch of it.
-pub record Open : Type 0 where
-  pub editor : ℕ
-  pub uri : List ℕ
-  pub language : List ℕ
-  pub version : List ℕ
-  pub text : List ℕ
-  pub touched : ℕ
 
 -- The start of the server that is ready, if one is; how the last one that was ready counts positions; the limit of versions; the next turn;
 -- what is open, in the order of opening; and what the ready start was told of each document.
@@ -23,41 +15,6 @@ pub record Documents : Type 0 where
   pub turn : ℕ
   pub opens : List Open
   pub helds : List (List ℕ × Held)
-
--- what is open
-
-abbrev pub is_open_at : ℕ → List ℕ → Open → Bool
-is_open_at e u o = nat_eq o.editor e && bytes_eq o.uri u
-
--- in the place of the same document at the same editor, or behind all
-abbrev pub put_open : Open → List Open → List Open
-put_open o [] = o ∷ []
-put_open o (p ∷ ps) = if is_open_at o.editor o.uri p then o ∷ ps else p ∷ put_open o ps
-
--- without the document at e
-abbrev pub drop_open : ℕ → List ℕ → List Open → List Open
-drop_open e u [] = []
-drop_open e u (o ∷ os) = if is_open_at e u o then os else o ∷ drop_open e u os
-
--- of those that pass the test, the one that was touched last
-abbrev pub later : Open → Option Open → Option Open
-later o None = Some o
-later o (Some best) = if nat_lt o.touched best.touched then Some best else Some o
-
-abbrev pub latest : (Open → Bool) → List Open → Option Open
-latest test opens = fold (λ best o. if test o then later o best else best) None opens
-
--- the holder of a document: the editor that touched it last, of those at which it is open
-abbrev pub holder : List ℕ → List Open → Option Open
-holder u opens = latest (λ o. bytes_eq o.uri u) opens
-
--- the holder, were the document not open at e
-abbrev pub holder_beside : ℕ → List ℕ → List Open → Option Open
-holder_beside e u opens = latest (λ o. bytes_eq o.uri u && not (nat_eq o.editor e)) opens
-
--- The server has the holder's text. Is it this text?
-abbrev pub holds : List ℕ → List ℕ → List Open → Bool
-holds u t opens = option_map_or (λ h. bytes_eq h.text t) (holder u opens) false
 
 -- what the start was told
 

@@ -5,7 +5,7 @@ use Rattle.json_text.specs.Json.{Json, object}
 use Rattle.json_nodes.specs.At.{At, FoundChild}
 use Rattle.json_nodes.specs.Doc.{Doc}
 use Rattle.focus_switch.specs.declared.notice.Change.{Change}
-use Rattle.focus_switch.specs.Notices.{DidChange}
+use Rattle.document_model.specs.Notices.{DidChange}
 
 -- the answer is this change, by the number of its list of changes, or there is neither
 abbrev pub FoundChange : Doc → Option DidChange → Option Change → Type 0

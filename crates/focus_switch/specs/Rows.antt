@@ -12,9 +12,10 @@ use Rattle.focus_switch.specs.declared.agreement.Agreement.{Agreement}
 use Rattle.focus_switch.specs.declared.agreement.Agreement.TheVariants.{NotOpen, Differs, Agrees}
 use Rattle.focus_switch.specs.declared.telling.Telling.{Telling}
 use Rattle.focus_switch.specs.declared.telling.Telling.TheVariants.{Opens, Changes, Closes, OpensAnew}
-use Rattle.focus_switch.specs.Documents.{Open, Documents, is_open_at, put_open, drop_open, holder, holder_beside, holds, held_of, put_held}
-use Rattle.focus_switch.specs.Notices.{DidChange, did_change, with_version}
-use Rattle.focus_switch.specs.Texts.{open_text, full_text, close_text}
+use Rattle.document_model.specs.Opens.{Open, is_open_at, put_open, drop_open, holder, holder_beside, holds}
+use Rattle.focus_switch.specs.Documents.{Documents, held_of, put_held}
+use Rattle.document_model.specs.Notices.{DidChange, did_change, with_version}
+use Rattle.document_model.specs.Bodies.{open_text, full_text, close_text}
 
 -- the outs of a call, and the documents behind it
 pub record Step : Type 0 where

@@ -2,7 +2,7 @@
 use Rattle.std.specs.Prelude.{ℕ, List, map}
 use Rattle.std.specs.declared.string.String.{String}
 use Rattle.focus_switch.specs.declared.opens.Opening.{Opening}
-use Rattle.focus_switch.specs.Documents.{Open}
+use Rattle.document_model.specs.Opens.{Open}
 
 -- a document at an editor, with the bytes of its text
 abbrev pub shown : {T : Type 0} → (T → List ℕ) → Opening T → Open

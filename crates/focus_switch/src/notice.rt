@@ -11,7 +11,7 @@ ghost use Rattle.json_nodes.specs.Names.{Tests};
 ghost use Rattle.json_nodes.specs.Same.{drop_members};
 ghost use Rattle.rpc_message.specs.Message.{is_integer};
 ghost use Rattle.doc_text.specs.Changes.{string_text};
-ghost use Rattle.focus_switch.specs.Notices.{did_change, document_in, edits_in, integer_text, with_version, written_from};
+ghost use Rattle.document_model.specs.Notices.{did_change, document_in, edits_in, integer_text, with_version, written_from};
 ghost use Rattle.focus_switch.specs.Noted.{FirstMember, FoundChange, made};
 
 use json_nodes::{bytes_in, name_in};

@@ -1,7 +1,7 @@
 //! What is open at the editors.
 ghost use Rattle.std.specs.Prelude.{◌≡◌, ◌++◌, [], ◌∷◌, find, length, map, slice_get, Some, None, IfOk, OnOk, option_map, if◌then◌else◌};
 ghost use Rattle.std.specs.List.{position_or_len};
-ghost use Rattle.focus_switch.specs.Documents.{drop_open, holder, holder_beside, is_open_at, later, put_open};
+ghost use Rattle.document_model.specs.Opens.{drop_open, holder, holder_beside, is_open_at, later, put_open};
 ghost use Rattle.focus_switch.specs.Rows.{touched_at, uris_of};
 ghost use Rattle.focus_switch.specs.Shown.{all_bytes, all_shown, shown};
 
@@ -30,7 +30,7 @@ pub struct Opens<T: Text> {
 
 impl<T: Text> Model for Opens<T> {
     ghost use Rattle.std.specs.Prelude.{List};
-    ghost use Rattle.focus_switch.specs.Documents.{Open};
+    ghost use Rattle.document_model.specs.Opens.{Open};
 
     ghost Value = { List Open };
 

@@ -3,8 +3,9 @@ ghost use Rattle.std.specs.Prelude.{◌≡◌, ◌≤◌, ◌<◌, ◌^◌, ◌+
 ghost use Rattle.json_text.specs.Json.{Json};
 ghost use Rattle.json_nodes.specs.At.{At};
 ghost use Rattle.focus_switch.specs.Noted.{FoundChange};
-ghost use Rattle.focus_switch.specs.Notices.{DidChange};
-ghost use Rattle.focus_switch.specs.Documents.{Open, held_of, holds, put_open};
+ghost use Rattle.document_model.specs.Notices.{DidChange};
+ghost use Rattle.document_model.specs.Opens.{Open, holds, put_open};
+ghost use Rattle.focus_switch.specs.Documents.{held_of};
 ghost use Rattle.focus_switch.specs.Rows.{Step, agreement, agreement_of, change_row, change_sends, change_tells, changed_open, close_next, close_row, close_sends, differing, each, open_row, open_sends, had, leave_row, nothing, or_nothing, ready_row, replay_all, replay_sends, replayed, send, sync_row, sync_sends, synced, text_after, touched_at, unready_row};
 ghost use Rattle.focus_switch.specs.Shown.{all_bytes, shown};
 

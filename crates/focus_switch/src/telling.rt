@@ -3,7 +3,7 @@ ghost use Rattle.std.specs.Prelude.{◌≡◌, ◌+◌, ◌^◌, ◌≤◌, map,
 ghost use Rattle.mux_history.specs.declared.out.Out.TheVariants.{ToServer};
 ghost use Rattle.focus_switch.specs.Rows.{bodies_told, held_behind, switch};
 ghost use Rattle.focus_switch.specs.Shown.{shown};
-ghost use Rattle.focus_switch.specs.Texts.{full_text, open_text};
+ghost use Rattle.document_model.specs.Bodies.{full_text, open_text};
 
 use crate::held::Held;
 use crate::opens::Opening;

@@ -1,7 +1,7 @@
 //! The notifications on a document that are written (LSP 3.17, Text Document Synchronization).
 ghost use Rattle.std.specs.Prelude.{◌≡◌, ◌++◌, ◌<◌, ◌^◌, IfOk, OnOk};
 ghost use Rattle.json.specs.Print.{quoted};
-ghost use Rattle.focus_switch.specs.Texts.{close_text, full_text, open_text};
+ghost use Rattle.document_model.specs.Bodies.{close_text, full_text, open_text};
 
 use json_span::quote;
 use message_body::{Body, Memory};

@@ -24,10 +24,11 @@ use Rattle.mux_hub.specs.Stands.{Stands, MeansId, PhaseTies, DocumentTies, Early
 use Rattle.mux_hub.specs.Steps.{Steps}
 use Rattle.mux_hub.specs.Tables.{Kept, ids_of, asked_of, asked_for, joined_in, open_in, id_meant}
 use Rattle.position_codec.specs.declared.Encoding.{Encoding}
-use Rattle.focus_switch.specs.Documents.{Documents, holder}
+use Rattle.document_model.specs.Opens.{holder}
+use Rattle.focus_switch.specs.Documents.{Documents}
 use Rattle.focus_switch.specs.Rows.{ready_row, replayed}
 use Rattle.focus_switch.specs.Rows.{each as each_told, nothing as told_nothing}
-use Rattle.document_model.specs.Follows.{Matches}
+use Rattle.document_laws.specs.Follows.{Matches}
 use Rattle.document_model.specs.Helds.{HeldText, told}
 use Rattle.document_model.specs.Sayings.{saying_of}
 use Rattle.mux_model.specs.Documents.{encoding_behind, encoding_by, encoding_in, held_at}

@@ -3,19 +3,21 @@ use Rattle.std.proofs.Common.{◌≡◌, ℕ, ◌<◌, ◌^◌, true, false, Lis
 use Rattle.json_text.specs.Json.{Json}
 use Rattle.json_text.specs.Tree.{tree_of}
 use Rattle.position_codec.specs.declared.Encoding.{Encoding}
-use Rattle.focus_switch.specs.Documents.{Open, Documents, holder_beside}
+use Rattle.document_model.specs.Opens.{Open, holder_beside}
+use Rattle.focus_switch.specs.Documents.{Documents}
 use Rattle.focus_switch.specs.Rows.{Step, open_row, change_row, close_row}
 use Rattle.focus_switch.specs.Rows.{nothing as told_nothing}
-use Rattle.document_model.specs.Follows.{AllSpelt, IsSpelt, Held, Orderly, texts_in, told_outs}
+use Rattle.document_model.specs.Orderly.{AllSpelt, IsSpelt, Orderly}
+use Rattle.document_laws.specs.Follows.{Held, texts_in, told_outs}
 use Rattle.document_model.specs.Helds.{HeldText}
 use Rattle.document_model.specs.Rows.{sent_open, sent_change, sent_close}
 use Rattle.document_model.specs.Sayings.{Saying, opens, changes, closes, misshapen, nothing, saying_of}
 use Rattle.document_model.specs.Texts.{Texts, texts_behind, opened, found, changed}
-use Rattle.document_model.proofs.Changing.{change_none, change_not_open, change_texts, change_stays, change_silent, change_outs, change_held}
-use Rattle.document_model.proofs.Following.{open_texts, open_stays, open_silent, open_outs, open_held, close_none, close_texts, close_stays, close_silent, close_outs, close_held}
+use Rattle.document_laws.proofs.Changing.{change_none, change_not_open, change_texts, change_stays, change_silent, change_outs, change_held}
+use Rattle.document_laws.proofs.Following.{open_texts, open_stays, open_silent, open_outs, open_held, close_none, close_texts, close_stays, close_silent, close_outs, close_held}
 use Rattle.document_model.proofs.Orders.{orderly_behind}
 use Rattle.document_model.proofs.ScalarTrees.{MayHold}
-use Rattle.document_model.proofs.Sends.{Stays}
+use Rattle.document_laws.proofs.Sends.{Stays}
 use Rattle.document_model.proofs.Spelt.{IsSaidSpelt, said_spelt, texts_spelt, document_spelt, opens_spelt, closes_spelt, latest_spelt}
 use Rattle.document_model.proofs.Spoken.{AllSpeak, sent_open_speaks, sent_change_speaks, sent_close_speaks}
 use Rattle.rpc_message.specs.Message.{message_in, message_of}

@@ -4,9 +4,11 @@ use Rattle.std.specs.List.{AllByRecursion}
 use Rattle.mux_history.specs.declared.cause.Cause.TheVariants.{Joined, FromEditor, Started, FromServer}
 use Rattle.mux_history.specs.declared.out.Out.TheVariants.{ToEditor, ToServer, Spawn}
 use Rattle.position_codec.specs.declared.Encoding.{Encoding}
-use Rattle.focus_switch.specs.Documents.{Documents, held_of, holder}
+use Rattle.document_model.specs.Opens.{holder}
+use Rattle.focus_switch.specs.Documents.{Documents, held_of}
 use Rattle.rpc_message.specs.Message.{Message}
-use Rattle.document_model.specs.Follows.{AllSpelt, Matches, Orderly, texts_in}
+use Rattle.document_model.specs.Orderly.{AllSpelt, Orderly}
+use Rattle.document_laws.specs.Follows.{Matches, texts_in}
 use Rattle.document_model.specs.Helds.{HeldText, told}
 use Rattle.document_model.specs.Sayings.{nothing, saying_of}
 use Rattle.document_model.specs.Texts.{Texts, texts_behind}

@@ -4,7 +4,8 @@ use Rattle.std.specs.Prelude.{bytes_eq}
 use Rattle.json_text.specs.Json.{Json}
 use Rattle.mux_history.specs.declared.cause.Cause.TheVariants.{FromEditor}
 use Rattle.focus_switch.specs.Rows.{Step}
-use Rattle.document_model.specs.Follows.{AllSpelt, Orderly, texts_in, told_outs}
+use Rattle.document_model.specs.Orderly.{AllSpelt, Orderly}
+use Rattle.document_laws.specs.Follows.{texts_in, told_outs}
 use Rattle.document_model.specs.Helds.{HeldText}
 use Rattle.document_model.specs.Sayings.{Saying, saying_by}
 use Rattle.document_model.specs.Texts.{texts_behind}

@@ -5,7 +5,7 @@ use Rattle.mux_history.specs.declared.out.Out.TheVariants.{ToServer}
 use Rattle.json_text.specs.Json.{Json}
 use Rattle.position_codec.specs.declared.Encoding.{Encoding}
 use Rattle.rpc_message.specs.Message.{notification, message_of}
-use Rattle.document_model.specs.Follows.{told_outs}
+use Rattle.document_laws.specs.Follows.{told_outs}
 use Rattle.document_model.specs.Helds.{HeldText, told}
 use Rattle.document_model.specs.Sayings.{saying_of}
 use Rattle.document_model.specs.Texts.{Texts}

@@ -6,13 +6,14 @@ use Rattle.json_text.specs.Tree.{tree_of}
 use Rattle.mux_history.specs.declared.cause.Cause.{Cause}
 use Rattle.mux_history.specs.declared.cause.Cause.TheVariants.{Joined, FromEditor, EditorGone, Started, StartFailed, FromServer, ServerGone, Drained, Tick}
 use Rattle.position_codec.specs.declared.Encoding.{Encoding}
-use Rattle.focus_switch.specs.Documents.{Open, Documents, held_of}
-use Rattle.focus_switch.specs.Notices.{DidChange, did_change}
+use Rattle.document_model.specs.Opens.{Open}
+use Rattle.focus_switch.specs.Documents.{Documents, held_of}
+use Rattle.document_model.specs.Notices.{DidChange, did_change}
 use Rattle.focus_switch.specs.Rows.{Step, send, touch, change_sends, changed_open, or_nothing, change_row, each, replay_sends, replayed, ready_row}
 use Rattle.focus_switch.specs.Rows.{nothing as told_nothing}
 use Rattle.document_model.specs.Sayings.{Saying, opens, changes, closes, misshapen, nothing, saying_by}
-use Rattle.document_model.proofs.Following.{open_stays, close_stays, touch_stays}
-use Rattle.document_model.proofs.Sends.{send_keeps}
+use Rattle.document_laws.proofs.Following.{open_stays, close_stays, touch_stays}
+use Rattle.document_laws.proofs.Sends.{send_keeps}
 use Rattle.rpc_message.specs.Message.{Message, request, notification, result, error, not_json, not_message, Id, message_of}
 use Rattle.event_model.specs.declared.phase.Phase.{Phase}
 use Rattle.event_model.specs.declared.phase.Phase.TheVariants.{Absent, New, Waiting, Answered, Running, Down, Closed, Gone}

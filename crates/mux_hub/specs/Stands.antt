@@ -6,7 +6,8 @@ use Rattle.rpc_message.specs.Message.{id_bytes, message_of, request, integer}
 use Rattle.rpc_message.specs.ValueTexts.{IsIdText}
 use Rattle.position_codec.specs.declared.Encoding.{Encoding}
 use Rattle.focus_switch.specs.Documents.{Documents}
-use Rattle.document_model.specs.Follows.{Held, AllSpelt, Orderly, texts_in}
+use Rattle.document_model.specs.Orderly.{AllSpelt, Orderly}
+use Rattle.document_laws.specs.Follows.{Held, texts_in}
 use Rattle.document_model.specs.Helds.{HeldText}
 use Rattle.event_model.specs.declared.phase.Phase.{Phase}
 use Rattle.event_model.specs.declared.phase.Phase.TheVariants.{Absent, New, Waiting, Answered, Running}

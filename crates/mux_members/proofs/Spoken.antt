@@ -12,7 +12,7 @@ use Rattle.rpc_message.specs.declared.envelope.Envelope.TheVariants.{Request, No
 use Rattle.rpc_message.specs.Envelopes.{Tells}
 use Rattle.rpc_message.specs.Message.{Message}
 use Rattle.doc_text.specs.Changes.{string_text}
-use Rattle.focus_switch.specs.Notices.{integer_text}
+use Rattle.document_model.specs.Notices.{integer_text}
 use Rattle.document_model.specs.Sayings.{Saying, nothing, member_of, string_at, integer_at, opening, changing, closing, opening_by, changing_by, closing_by, saying_by, saying_of, speaks}
 use Rattle.mux_members.specs.declared.notice.Notice.{Notice}
 use Rattle.mux_members.specs.declared.notice.Notice.TheVariants.{Opens, Changes, Closes, Nothing}

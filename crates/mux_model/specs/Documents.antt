@@ -9,7 +9,7 @@ use Rattle.mux_history.specs.declared.out.Out.TheVariants.{ToServer, CloseEditor
 use Rattle.rpc_message.specs.Message.{Message, result, integer}
 use Rattle.position_codec.specs.declared.Encoding.{Encoding}
 use Rattle.position_codec.specs.declared.Encoding.TheVariants.{Utf8, Utf16, Utf32}
-use Rattle.focus_switch.specs.Documents.{Open}
+use Rattle.document_model.specs.Opens.{Open}
 use Rattle.document_model.specs.Helds.{HeldText, told}
 use Rattle.document_model.specs.Sayings.{saying_of}
 use Rattle.document_model.specs.Texts.{Texts, no_texts, texts_behind}

@@ -6,7 +6,7 @@ use Rattle.mux_history.specs.declared.cause.Cause.TheVariants.{FromEditor, Start
 use Rattle.mux_history.specs.declared.out.Out.{Out}
 use Rattle.mux_history.specs.declared.out.Out.TheVariants.{ToEditor, ToServer, Spawn}
 use Rattle.mux_history.specs.declared.entry.Entry.{Entry}
-use Rattle.focus_switch.specs.Documents.{Open, holder_beside}
+use Rattle.document_model.specs.Opens.{Open, holder_beside}
 use Rattle.document_model.specs.Rows.{sent_open, sent_change, sent_close}
 use Rattle.document_model.specs.Sayings.{Saying, opens, changes, closes, misshapen, saying_by}
 use Rattle.document_model.specs.Sayings as saying

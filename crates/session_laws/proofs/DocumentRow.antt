@@ -6,8 +6,8 @@ use Rattle.std.proofs.lemmas.Slice.Eq.{bytes_eq-Decides}
 use Rattle.json_text.specs.Json.{Json}
 use Rattle.position_codec.specs.declared.Encoding.{Encoding}
 use Rattle.doc_text.specs.Changes.{text_behind}
-use Rattle.focus_switch.specs.Documents.{Open, later, latest, holder_beside, is_open_at}
-use Rattle.document_model.specs.Follows.{IsSpelt}
+use Rattle.document_model.specs.Opens.{Open, later, latest, holder_beside, is_open_at}
+use Rattle.document_model.specs.Orderly.{IsSpelt}
 use Rattle.document_model.specs.Sayings.{changes, saying_of, Saying, opens, closes, misshapen, saying_by}
 use Rattle.document_model.specs.Texts.{Texts, found, text_after, changed, opened}
 use Rattle.document_model.proofs.Spelt.{changes_spelt, changed_spelt, opens_spelt, closes_spelt, find_spelt, latest_spelt}

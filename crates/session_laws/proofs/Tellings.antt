@@ -17,9 +17,9 @@ use Rattle.session_laws.specs.ServerRules.{AllowsSaying, IsNext}
 use Rattle.session_laws.proofs.Folds.{life_more, asking_more}
 use Rattle.session_laws.proofs.Words.{same_number}
 use Rattle.json_text.specs.Json.{Json}
-use Rattle.focus_switch.specs.Documents.{Open}
-use Rattle.focus_switch.specs.Texts.{open_text, full_text, close_text}
-use Rattle.document_model.specs.Follows.{IsSpelt}
+use Rattle.document_model.specs.Opens.{Open}
+use Rattle.document_model.specs.Bodies.{open_text, full_text, close_text}
+use Rattle.document_model.specs.Orderly.{IsSpelt}
 use Rattle.document_model.specs.Rows.{switched, differing, versioned}
 use Rattle.document_model.proofs.Versioned.{versioned_says}
 use Rattle.mux_history.specs.declared.cause.Cause.{Cause}

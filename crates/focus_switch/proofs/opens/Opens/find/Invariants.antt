@@ -1,5 +1,5 @@
 use Rattle.std.proofs.Common.{◌≡◌, find, drop}
-use Rattle.focus_switch.specs.Documents.{is_open_at}
+use Rattle.document_model.specs.Opens.{is_open_at}
 use Rattle.focus_switch.specs.Shown.{all_shown}
 use Rattle.focus_switch.proofs.opens.Opens.find.Given as goal
 

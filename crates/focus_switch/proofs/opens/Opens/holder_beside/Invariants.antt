@@ -1,5 +1,5 @@
 use Rattle.std.proofs.Common.{◌≡◌, take, option_map}
-use Rattle.focus_switch.specs.Documents.{holder_beside}
+use Rattle.document_model.specs.Opens.{holder_beside}
 use Rattle.focus_switch.specs.Shown.{shown, all_shown}
 use Rattle.focus_switch.proofs.opens.Opens.holder_beside.Given as goal
 

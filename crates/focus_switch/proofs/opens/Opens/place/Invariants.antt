@@ -1,6 +1,6 @@
 use Rattle.std.proofs.Common.{◌≡◌, ◌+◌, drop}
 use Rattle.std.specs.List.{position_or_len}
-use Rattle.focus_switch.specs.Documents.{is_open_at}
+use Rattle.document_model.specs.Opens.{is_open_at}
 use Rattle.focus_switch.specs.Shown.{all_shown}
 use Rattle.focus_switch.proofs.opens.Opens.place.Given as goal
 

@@ -1,7 +1,7 @@
 use Rattle.std.proofs.Common.{sym, ◌∙◌, ap, subst, option_map}
 use Rattle.json_nodes.specs.At.{At}
 use Rattle.json_nodes.specs.Doc.{Doc}
-use Rattle.focus_switch.specs.Notices.{did_change}
+use Rattle.document_model.specs.Notices.{did_change}
 use Rattle.focus_switch.specs.Noted.{FoundChange}
 use Rattle.focus_switch.specs.Shown.{shown}
 use Rattle.focus_switch.proofs.Changing.{seen, nothing_changed, something_changed}

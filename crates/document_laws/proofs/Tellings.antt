@@ -9,18 +9,19 @@ use Rattle.position_codec.specs.declared.Encoding.{Encoding}
 use Rattle.rpc_message.specs.Message.{message_of}
 use Rattle.focus_switch.specs.declared.telling.Telling.{Telling}
 use Rattle.focus_switch.specs.declared.telling.Telling.TheVariants.{Opens, Changes, Closes, OpensAnew}
-use Rattle.focus_switch.specs.Documents.{Open, Documents, holder}
+use Rattle.document_model.specs.Opens.{Open, holder}
+use Rattle.focus_switch.specs.Documents.{Documents}
 use Rattle.focus_switch.specs.Rows.{switch, differing}
-use Rattle.focus_switch.specs.Texts.{open_text, full_text, close_text}
-use Rattle.document_model.specs.Follows.{IsSpelt}
+use Rattle.document_model.specs.Bodies.{open_text, full_text, close_text}
+use Rattle.document_model.specs.Orderly.{IsSpelt}
 use Rattle.document_model.proofs.Written.{number_law, open_says, FullSays, full_says, close_says}
 use Rattle.document_model.specs.Sayings.{Saying, opens, changes, closes, saying_of}
 use Rattle.document_model.specs.Texts.{text_after}
 use Rattle.document_model.specs.Helds.{HeldText, number_of, changed_held, told}
 use Rattle.document_model.specs.Rows as sent
-use Rattle.document_model.specs.Follows.{Matches}
+use Rattle.document_laws.specs.Follows.{Matches}
 use Rattle.document_model.proofs.Holders.{bytes_same}
-use Rattle.document_model.proofs.Sends.{bodies_of, version_behind, told_bodies}
+use Rattle.document_laws.proofs.Sends.{bodies_of, version_behind, told_bodies}
 
 -- Behind these bodies the start has u as this holder has it, under the version that is kept; and nothing was said of other documents.
 pub record Follows (encoding : Option Encoding) (u : List ℕ) (o : Option Open) (v : Option ℕ) (h : Option HeldText) (x : Option Telling) : Type 0 where

@@ -7,18 +7,20 @@ use Rattle.mux_history.specs.declared.out.Out.TheVariants.{ToServer}
 use Rattle.position_codec.specs.declared.Encoding.{Encoding}
 use Rattle.focus_switch.specs.declared.telling.Telling.{Telling}
 use Rattle.focus_switch.specs.declared.telling.Telling.TheVariants.{Closes}
-use Rattle.focus_switch.specs.Documents.{Open, Documents, is_open_at, put_open, drop_open, holder, holder_beside, held_of}
+use Rattle.document_model.specs.Opens.{Open, is_open_at, put_open, drop_open, holder, holder_beside}
+use Rattle.focus_switch.specs.Documents.{Documents, held_of}
 use Rattle.focus_switch.specs.Rows.{Step, nothing, or_nothing, send, touch, forget, differing, open_sends, open_row, close_sends, close_row}
-use Rattle.focus_switch.specs.Texts.{close_text}
-use Rattle.document_model.specs.Follows.{texts_in}
-use Rattle.document_model.specs.Follows.{IsSpelt}
+use Rattle.document_model.specs.Bodies.{close_text}
+use Rattle.document_laws.specs.Follows.{texts_in}
+use Rattle.document_model.specs.Orderly.{IsSpelt}
 use Rattle.document_model.specs.Texts.{Texts, found, touched, opened}
 use Rattle.document_model.specs.Helds.{HeldText}
 use Rattle.document_model.specs.Rows.{sent_open, sent_close}
-use Rattle.document_model.specs.Follows.{Matches, Once, Orderly, Held, told_outs}
+use Rattle.document_model.specs.Orderly.{Once, Orderly}
+use Rattle.document_laws.specs.Follows.{Matches, Held, told_outs}
 use Rattle.document_model.proofs.Holders.{bytes_same, both_true, holder_put, holder_put_other, holder_drop, holder_drop_other, drop_none, find_is, found_holder}
-use Rattle.document_model.proofs.Sends.{bodies_of, version_behind, Stays, Kept, send_outs, send_silent, send_keeps, told_bodies, row_held, latest_of, find_of, all_there, by_match}
-use Rattle.document_model.proofs.Tellings.{Follows, open_follows, close_follows, differ_follows, differ_sent}
+use Rattle.document_laws.proofs.Sends.{bodies_of, version_behind, Stays, Kept, send_outs, send_silent, send_keeps, told_bodies, row_held, latest_of, find_of, all_there, by_match}
+use Rattle.document_laws.proofs.Tellings.{Follows, open_follows, close_follows, differ_follows, differ_sent}
 
 -- behind a touch
 

@@ -13,27 +13,29 @@ use Rattle.rpc_message.specs.Message.{message_of}
 use Rattle.doc_text.specs.Changes.{text_behind}
 use Rattle.focus_switch.specs.declared.telling.Telling.{Telling}
 use Rattle.focus_switch.specs.declared.telling.Telling.TheVariants.{Changes, OpensAnew}
-use Rattle.focus_switch.specs.Documents.{Open, Documents, holder, holds, held_of}
-use Rattle.focus_switch.specs.Notices.{DidChange, did_change, with_version}
+use Rattle.document_model.specs.Opens.{Open, holder, holds}
+use Rattle.focus_switch.specs.Documents.{Documents, held_of}
+use Rattle.document_model.specs.Notices.{DidChange, did_change, with_version}
 use Rattle.focus_switch.specs.Rows.{Step, nothing, or_nothing, send, touch, switch, had, change_sends, changed_open, change_row}
-use Rattle.focus_switch.specs.Texts.{open_text, full_text, close_text}
-use Rattle.document_model.specs.Follows.{texts_in}
-use Rattle.document_model.specs.Follows.{IsSpelt}
+use Rattle.document_model.specs.Bodies.{open_text, full_text, close_text}
+use Rattle.document_laws.specs.Follows.{texts_in}
+use Rattle.document_model.specs.Orderly.{IsSpelt}
 use Rattle.document_model.specs.Sayings.{changes, saying_of}
 use Rattle.document_model.specs.Texts.{found, touched, text_after, changed, texts_behind}
 use Rattle.document_model.specs.Helds.{HeldText}
 use Rattle.document_model.specs.Rows.{versioned_in, versioned, sent_change}
-use Rattle.document_model.specs.Follows.{Matches, Orderly, Held, told_outs}
+use Rattle.document_model.specs.Orderly.{Orderly}
+use Rattle.document_laws.specs.Follows.{Matches, Held, told_outs}
 use Rattle.document_model.proofs.Holders.{bytes_same, both_true, find_is, found_holder}
 use Rattle.document_model.proofs.Orders.{ChangedTo, changed_is, changed_found}
-use Rattle.document_model.proofs.Sends.{bodies_of, Stays, send_outs, send_silent, by_match}
-use Rattle.document_model.proofs.Tellings.{Follows, version_follows, switch_follows}
+use Rattle.document_laws.proofs.Sends.{bodies_of, Stays, send_outs, send_silent, by_match}
+use Rattle.document_laws.proofs.Tellings.{Follows, version_follows, switch_follows}
 use Rattle.document_model.proofs.ScalarTrees.{AllScalars, MayHold}
 use Rattle.document_model.proofs.Spelt.{IsSaidSpelt, said_spelt, document_spelt}
 use Rattle.document_model.proofs.Bares.{change_said, text_behind_bare}
 use Rattle.document_model.proofs.Versioned.{versioned_says}
 use Rattle.document_model.proofs.Written.{number_law}
-use Rattle.document_model.proofs.Following.{touch_texts, touch_stays, touch_held}
+use Rattle.document_laws.proofs.Following.{touch_texts, touch_stays, touch_held}
 
 module _ (e : ℕ) (body : List ℕ) (tree : Json) (u w : List ℕ) (cs : Json) (s : Documents) (read : tree_of body ≡ Some tree) (said : saying_of (message_of body) ≡ changes u w cs) where
   abbrev behind : Open → Step

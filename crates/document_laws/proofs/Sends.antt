@@ -7,12 +7,14 @@ use Rattle.mux_history.specs.declared.out.Out.TheVariants.{ToServer}
 use Rattle.position_codec.specs.declared.Encoding.{Encoding}
 use Rattle.rpc_message.specs.Message.{message_of}
 use Rattle.focus_switch.specs.declared.telling.Telling.{Telling}
-use Rattle.focus_switch.specs.Documents.{Open, Documents, later, latest, holder, held_of}
+use Rattle.document_model.specs.Opens.{Open, later, latest, holder}
+use Rattle.focus_switch.specs.Documents.{Documents, held_of}
 use Rattle.focus_switch.specs.Rows.{version_told, bodies_told, held_behind, tell, send}
 use Rattle.document_model.specs.Sayings.{saying_of}
 use Rattle.document_model.specs.Helds.{HeldText, told}
-use Rattle.document_model.specs.Follows.{Matches, Held, told_outs}
-use Rattle.document_model.proofs.Holders.{pick, bytes_same, held_put, held_put_other}
+use Rattle.document_laws.specs.Follows.{Matches, Held, told_outs}
+use Rattle.document_laws.proofs.Keeping.{held_put, held_put_other}
+use Rattle.document_model.proofs.Holders.{pick, bytes_same}
 
 abbrev pub bodies_of : Option Telling → List (List ℕ)
 bodies_of None = []

@@ -6,7 +6,8 @@ use Rattle.mux_history.specs.declared.out.Out.{Out}
 use Rattle.mux_history.specs.declared.out.Out.TheVariants.{ToServer}
 use Rattle.rpc_message.specs.Message.{message_of}
 use Rattle.position_codec.specs.declared.Encoding.{Encoding}
-use Rattle.focus_switch.specs.Documents.{Open, Documents, is_open_at, holder, held_of}
+use Rattle.document_model.specs.Opens.{Open, is_open_at, holder}
+use Rattle.focus_switch.specs.Documents.{Documents, held_of}
 use Rattle.document_model.specs.Helds.{HeldText, told}
 use Rattle.document_model.specs.Sayings.{saying_of}
 use Rattle.document_model.specs.Texts.{Texts}
@@ -16,22 +17,6 @@ abbrev pub Matches : Option ℕ → Option Open → Option HeldText → Type 0
 Matches (Some v) (Some o) (Some h) = (h.version ≡ v) × (h.text ≡ o.text)
 Matches None None None = Unit {0}
 Matches _ _ _ = ⊥
-
--- an editor has a document open once, and each turn is one
-abbrev pub Once : List Open → Type 0
-Once [] = Unit {0}
-Once (o ∷ os) = AllByRecursion (λ (p : Open). is_open_at o.editor o.uri p ≡ false) os × Once os
-
--- URI, language and text are UTF-8
-abbrev pub IsSpelt : Open → Type 0
-IsSpelt o = IsUtf8 o.uri × IsUtf8 o.language × IsUtf8 o.text
-
-abbrev pub AllSpelt : List Open → Type 0
-AllSpelt os = AllByRecursion IsSpelt os
-
-pub record Orderly (x : Texts) : Type 0 where
-  pub once : Once x.opens
-  pub turns : AllByRecursion (λ (o : Open). o.touched < x.turn) x.opens
 
 -- what the editors have open, by the documents that are kept
 abbrev pub texts_in : Documents → Texts

@@ -1,0 +1,5 @@
+pub mod Changing
+pub mod Following
+pub mod Keeping
+pub mod Sends
+pub mod Tellings
