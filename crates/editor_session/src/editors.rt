@@ -5,8 +5,8 @@ ghost use Rattle.event_model.specs.Phases.{is_there};
 ghost use Rattle.editor_session.specs.Sessions.{is_joined, is_of, is_running, is_wanted, joined, numbers_of, session_of, with_session};
 
 use crate::session::{Session, Wanted};
-use message_body::{Body, Memory};
 use event_model::Phase;
+use message_body::{Body, Memory};
 use std::alloc::Global;
 use std::marker::Model;
 

@@ -3,8 +3,8 @@ ghost use Rattle.std.specs.Prelude.{◌≡◌};
 ghost use Rattle.event_model.specs.Phases.{is_there};
 ghost use Rattle.editor_session.specs.Sessions.{is_in, is_of, is_running, is_wanted, joined};
 
-use message_body::Body;
 use event_model::Phase;
+use message_body::Body;
 
 /// What is kept of one editor.
 #[derive(Debug, Drop)]

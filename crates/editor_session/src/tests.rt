@@ -1,6 +1,6 @@
 use crate::Editors;
-use message_body::Body;
 use event_model::Phase;
+use message_body::Body;
 use std::test::Fail;
 
 #[test]

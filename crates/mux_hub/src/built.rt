@@ -18,6 +18,7 @@ ghost use Rattle.mux_hub.specs.Tables.{asked_for, ids_of, open_in, built_in, pha
 use crate::pending::Pending;
 use crate::tables::Tables;
 use crate::turns::place_by_id;
+use event_model::{Phase, Stage};
 use lsp_method::Class;
 use message_body::{Body, Memory};
 use mux_history::Cause;
@@ -25,7 +26,6 @@ use mux_members::{
     class_in, has_bare_capabilities, has_token, is_first_result, is_initialize, is_initialized,
     is_plain_result, reads_versions, speaks,
 };
-use event_model::{Phase, Stage};
 use rpc_message::{Envelope, Malformed, Message, same_id};
 use std::alloc::Global;
 

@@ -11,10 +11,10 @@ ghost use Rattle.mux_hub.specs.Turns.{turn, Gives};
 
 use crate::fault::StepFault;
 use crate::tables::Tables;
+use event_model::{Limits, Phase, Server, Stage};
 use focus_switch::Shared;
 use message_body::{Body, Memory};
 use mux_history::{Cause, Entry, Journal, Outs};
-use event_model::{Limits, Phase, Server, Stage};
 use std::alloc::Global;
 use std::marker::Model;
 

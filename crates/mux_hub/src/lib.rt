@@ -8,6 +8,6 @@ mod pending;
 mod tables;
 mod turns;
 
+pub use event_model::{Limits, Server};
 pub use fault::StepFault;
 pub use hub::Hub;
-pub use event_model::{Limits, Server};

@@ -8,10 +8,10 @@ ghost use Rattle.mux_hub.specs.Tables.{joined_in};
 
 use crate::pending::Pending;
 use doc_text::DocText;
+use event_model::{Phase, Stage};
 use focus_switch::Shared;
 use message_body::Body;
 use mux_history::Cause;
-use event_model::{Phase, Stage};
 use std::marker::Model;
 
 // How many editors joined.

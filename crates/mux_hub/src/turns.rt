@@ -17,11 +17,11 @@ ghost use Rattle.mux_hub.specs.Turns.{Turn, turn, joined, noted, noticed, docume
 
 use crate::pending::Pending;
 use crate::tables::Tables;
+use event_model::{Phase, Stage};
 use itoa::Buffer;
 use message_body::{Body, Memory};
 use mux_history::{Cause, Out, Outs};
 use mux_members::{Notice, encoding, initialize_request, notice_in};
-use event_model::{Phase, Stage};
 use position_codec::Encoding;
 use rpc_message::{Envelope, ErrorCode, Malformed, Message, error_answer, initialized, ok_reply};
 use std::alloc::Global;
