@@ -1,5 +1,5 @@
 //! Identifiers, by their bytes (JSON-RPC 2.0, section 4; LSP 3.17, Request Message).
-ghost use Rattle.std.specs.Prelude.{◌≡◌, ℕ, List, [], ◌∷◌, ◌++◌};
+ghost use Rattle.std.specs.Prelude.{◌≡◌, ◌&&◌, ℕ, false, List, [], ◌∷◌, ◌++◌, bytes_eq};
 ghost use Rattle.rpc_message.specs.Ids.{is_quoted};
 ghost use Rattle.rpc_message.specs.Message.{Id, is_integer, same_id};
 ghost use Rattle.rpc_message.specs.ValueTexts.{IsIdText};
@@ -40,9 +40,11 @@ fn between_quotes(id: &[u8]) -> &[u8]
     }
 }
 
-/// Whether two identifiers are the same: two integers of one text, or two strings of the same characters.
+/// Whether two identifiers are the same: two integers of one text, or two strings of the same characters. Bytes of which
+/// one doesn't begin as a string are the same where they are equal, whatever they are.
 pub fn same_id(a: &[u8], b: &[u8]) -> bool
-    ensures { (i j : Id) → IsIdText i a.now → IsIdText j b.now → result ≡ same_id i j }
+    ensures ids { (i j : Id) → IsIdText i a.now → IsIdText j b.now → result ≡ same_id i j }
+    ensures bytes { (is_quoted a.now && is_quoted b.now) ≡ false → result ≡ bytes_eq a.now b.now }
 {
     if is_quoted(a) && is_quoted(b) {
         same_characters(between_quotes(a), between_quotes(b))
