@@ -1,5 +1,5 @@
 //! A JSON text a byte at a time (RFC 8259).
-ghost use Rattle.std.specs.Prelude.{◌≡◌, ℕ, ◌+◌, ◌^◌, ◌<◌, ◌≤◌, ◌++◌, ◌∷◌, [], length, drop, MatchResult, IfOk, Ok};
+ghost use Rattle.std.specs.Prelude.{◌≡◌, ℕ, ◌+◌, ◌^◌, ◌<◌, ◌≤◌, ◌++◌, ◌∷◌, [], length, drop, slice_range, MatchResult, IfOk, IfSome, IsTrue, IsUtf8, Ok};
 ghost use Rattle.std.specs.List.{prefix_len};
 ghost use Rattle.json_text.specs.Json.{is_space};
 ghost use Rattle.json_span.specs.Machine.{start, node_at, leaf, opens, closes, begins, first_item, next_key, first_key, colon, continues, behind, in_word, in_number, in_text, in_key, step, finish, read, ends_with, first_in, next_in};
@@ -40,15 +40,33 @@ fn next_in(object: bool) -> Mode
     if object { Mode::NextKey } else { Mode::Value }
 }
 
+// Whether these bytes are a part of the text that begins and ends between characters; false where there is no text.
+#[inline(always)]
+fn is_part(text: Option<&str>, bytes: &[u8], at: usize, end: usize) -> bool
+    requires same { IfSome text (λ t. t.now ≡ bytes.now) }
+    ensures { IsTrue result → IsUtf8 (slice_range bytes.now at end) }
+{
+    let _ = bytes;
+    let Some(text) = text else { return false };
+    match text.get(at..end) {
+        Some(_part) => true,
+        None => false,
+    }
+}
+
 // Where the characters end that stand for themselves in a string, or the first fault in their bytes.
 #[inline(never)]
-fn characters_end(bytes: &[u8], at: usize) -> usize
-    requires { at ≤ length bytes.now }
+fn characters_end(text: Option<&str>, bytes: &[u8], at: usize) -> usize
+    requires same { IfSome text (λ t. t.now ≡ bytes.now) }
+    requires inside { at ≤ length bytes.now }
     ensures text { (from : ℕ) → Crosses bytes.now at result (Mode.InText from Part.Plain) }
     ensures key { (from : ℕ) → Crosses bytes.now at result (Mode.InKey from Part.Plain) }
     ensures bounds { (at ≤ result) × (result ≤ length bytes.now) }
 {
     let end = plain_end(bytes, at);
+    if is_part(text, bytes, at, end) {
+        return end;
+    }
     match simdutf8::compat::from_utf8(&bytes[at..end]) {
         Ok(_) => end,
         Err(fault) => at + fault.valid_up_to(),
@@ -57,15 +75,16 @@ fn characters_end(bytes: &[u8], at: usize) -> usize
 
 // The same; most strings have none but bytes of ASCII.
 #[inline(always)]
-fn plain_run_end(bytes: &[u8], at: usize) -> usize
-    requires { at ≤ length bytes.now }
+fn plain_run_end(text: Option<&str>, bytes: &[u8], at: usize) -> usize
+    requires same { IfSome text (λ t. t.now ≡ bytes.now) }
+    requires inside { at ≤ length bytes.now }
     ensures text { (from : ℕ) → Crosses bytes.now at result (Mode.InText from Part.Plain) }
     ensures key { (from : ℕ) → Crosses bytes.now at result (Mode.InKey from Part.Plain) }
     ensures bounds { (at ≤ result) × (result ≤ length bytes.now) }
 {
     let end = plain_ascii_end(bytes, at);
     if end < bytes.len() && bytes[end] >= 0x80 {
-        characters_end(bytes, end)
+        characters_end(text, bytes, end)
     } else {
         end
     }
@@ -73,14 +92,15 @@ fn plain_run_end(bytes: &[u8], at: usize) -> usize
 
 // Where the bytes end that pass over whole characters, in a string of which this part has been read.
 #[inline(always)]
-fn string_run_end(part: Part, bytes: &[u8], at: usize) -> usize
-    requires { at ≤ length bytes.now }
+fn string_run_end(part: Part, text: Option<&str>, bytes: &[u8], at: usize) -> usize
+    requires same { IfSome text (λ t. t.now ≡ bytes.now) }
+    requires inside { at ≤ length bytes.now }
     ensures text { (from : ℕ) → Crosses bytes.now at result (Mode.InText from part) }
     ensures key { (from : ℕ) → Crosses bytes.now at result (Mode.InKey from part) }
     ensures bounds { (at ≤ result) × (result ≤ length bytes.now) }
 {
     match part {
-        Part::Plain => plain_run_end(bytes, at),
+        Part::Plain => plain_run_end(text, bytes, at),
         _ => at,
     }
 }
@@ -391,16 +411,17 @@ impl Reader {
         }
     }
 
-    /// Where the bytes end, from this place on, that leave the reader as it is.
+    /// Where the bytes end, from this place on, that leave the reader as it is. `text` is the same bytes, where they are UTF-8.
     #[inline(always)]
-    pub fn run_end(&self, bytes: &[u8], at: usize) -> usize
-        requires { at ≤ length bytes.now }
+    pub fn run_end(&self, text: Option<&str>, bytes: &[u8], at: usize) -> usize
+        requires same { IfSome text (λ t. t.now ≡ bytes.now) }
+        requires inside { at ≤ length bytes.now }
         ensures same { read DEPTH result (drop result bytes.now) (state_of self.now) ≡ read DEPTH at (drop at bytes.now) (state_of self.now) }
         ensures bounds { (at ≤ result) × (result ≤ length bytes.now) }
     {
         match self.mode {
-            Mode::InText(_, part) => string_run_end(part, bytes, at),
-            Mode::InKey(_, part) => string_run_end(part, bytes, at),
+            Mode::InText(_, part) => string_run_end(part, text, bytes, at),
+            Mode::InKey(_, part) => string_run_end(part, text, bytes, at),
             Mode::InNumber(_, part) if takes_digits(part) => digits_end(bytes, at),
             Mode::InNumber(_, _) | Mode::InWord(_, _) => at,
             _ => blank_end(bytes, at),

@@ -45,11 +45,12 @@ fn read_nodes(alloc: Global, bytes: &[u8]) -> Result<Vec<Node>, JsonFault>
     requires { length bytes.now ≤ 268435456 }
     ensures { Reads result (λ v. v.items) (read 1024 0 bytes.now start) }
 {
+    let text = simdutf8::compat::from_utf8(bytes).ok();
     let mut reader = Reader::new(alloc);
     let mut at = 0;
     while at < bytes.len() {
         reader.step(at, bytes[at])?;
-        at = reader.run_end(bytes, at + 1);
+        at = reader.run_end(text, bytes, at + 1);
     }
     reader.finish(bytes.len())
 }
