@@ -1,21 +1,20 @@
 -- How a block ends, and that each one that is begun can be ended.
-use Rattle.std.proofs.Common.{◌≡◌, refl, ap, ◌∙◌, sym, subst, ℕ, ◌+◌, ◌-◌, ◌*◌, ◌<◌, ◌≤◌, Bool, true, false, List, [], ◌∷◌, ◌++◌, ◌⊎◌, inl, inr, length, append_assoc, append-nil, arith}
+use Rattle.std.proofs.Common.{◌≡◌, refl, ap, ◌∙◌, sym, subst, ℕ, ◌+◌, ◌-◌, ◌*◌, ◌<◌, ◌≤◌, true, false, List, [], ◌∷◌, ◌++◌, ◌⊎◌, inl, inr, length, append_assoc, append-nil, arith}
 use Rattle.std.specs.Prelude.{◌==◌, nat_le, Option, Some, None, codes}
 use Rattle.std.proofs.lemmas.Bool.{le-leb}
 use Rattle.std.proofs.lemmas.List.{length-append, length-map}
 use Rattle.std.proofs.lemmas.Bool.Decides.{nat_tests}
 use Rattle.base_frame.specs.declared.block.BadWhy.{BadWhy}
-use Rattle.base_frame.specs.declared.block.BadWhy.TheVariants.{Byte, TwoLengths, NoLength, TooLong, LongHeader}
+use Rattle.base_frame.specs.declared.block.BadWhy.TheVariants.{TwoLengths, NoLength, TooLong}
 use Rattle.base_frame.specs.declared.block.Part.{Part}
 use Rattle.base_frame.specs.declared.block.Part.TheVariants.{Start, LengthName, OtherName, Value, Before, Digits, After, LineEnd, BlockEnd}
 use Rattle.base_frame.specs.declared.block.State.{State}
-use Rattle.base_frame.specs.declared.block.Move.{Move}
 use Rattle.base_frame.specs.declared.block.Move.TheVariants.{Goes, Ends, Bad}
-use Rattle.base_frame.specs.Block.{small, is_name_byte, is_space, is_digit, goes, part_step, start}
+use Rattle.base_frame.specs.Block.{small, is_name_byte, is_digit, goes, part_step, start}
 use Rattle.base_frame.specs.Grammar.{Each, NotEmpty, number, IsLengthName, IsOpenBlock, BeginsBlock, IsUnended, IsSecond, IsWithout, IsBeyond}
-use Rattle.base_frame.proofs.Names.{SoFar, no_some}
-use Rattle.base_frame.proofs.Steps.{Read, Says, Naming, step_says, no_fields}
-use Rattle.base_frame.proofs.Walks.{st, Walks, walk_then, walk_split, walk_same, walk_name, walk_whole_name, whole_name, second_step, colon_other, walk_fields, walk_have, walk_before, walk_digits, walk_length_name, beyond_first, beyond_next, walk_block}
+use Rattle.base_frame.proofs.Names.{SoFar}
+use Rattle.base_frame.proofs.Steps.{Read, Says, step_says, no_fields}
+use Rattle.base_frame.proofs.Walks.{st, Walks, walk_then, walk_name, walk_whole_name, whole_name, second_step, colon_other, walk_fields, walk_have, walk_before, walk_digits, walk_length_name, beyond_first, beyond_next, walk_block}
 
 pub read_walk : (limit : ℕ) (pre bs : List ℕ) (s t : State) → Read limit pre s.length s.part → Walks limit s bs t → Read limit (pre ++ bs) t.length t.part
 read_walk limit pre [] s t h k = subst (λ (x : State). Read limit (pre ++ []) x.length x.part) k (subst (λ x. Read limit x s.length s.part) (sym (append-nil pre)) h)

@@ -1,7 +1,10 @@
 pub mod Ends
+pub mod Examples
 pub mod Laws
 pub mod Names
 pub mod OneWay
+pub mod Places
+pub mod ReadBack
 pub mod Readers
 pub mod Steps
 pub mod Ties

@@ -1,13 +1,13 @@
 -- The name of a field, a byte at a time.
-use Rattle.std.proofs.Common.{◌≡◌, refl, ap, ◌∙◌, sym, subst, ℕ, ◌+◌, ◌<◌, ◌≤◌, Bool, true, false, List, [], ◌∷◌, ◌++◌, length, append_assoc, append-nil, arith}
+use Rattle.std.proofs.Common.{◌≡◌, refl, ap, ◌∙◌, sym, subst, ℕ, ◌+◌, ◌<◌, Bool, true, false, List, [], ◌∷◌, ◌++◌, length, append_assoc, append-nil, arith}
 use Rattle.std.specs.Prelude.{map, codes, slice_get, ◌==◌, ◌&&◌, nat_lt, if◌then◌else◌, Option, Some, None}
 use Rattle.std.proofs.lemmas.List.{length-append, length-map, map-append}
 use Rattle.std.proofs.lemmas.Bool.Decides.{nat_tests}
 use Rattle.base_frame.specs.declared.block.Part.{Part}
 use Rattle.base_frame.specs.declared.block.Part.TheVariants.{Start, LengthName, OtherName, Value, Before, Digits, After, LineEnd, BlockEnd}
 use Rattle.base_frame.specs.declared.block.Move.{Move}
-use Rattle.base_frame.specs.Block.{small, letter_goes, lettered, goes, is_name_byte, named, part_step}
-use Rattle.base_frame.specs.Grammar.{Each, NotEmpty, IsLengthName}
+use Rattle.base_frame.specs.Block.{small, letter_goes, lettered, goes}
+use Rattle.base_frame.specs.Grammar.{IsLengthName}
 
 -- what a name of these bytes so far may yet be
 abbrev pub SoFar : List ℕ → Part → Type 0

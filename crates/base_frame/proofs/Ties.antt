@@ -1,6 +1,6 @@
 -- The machine and the grammar say the same of frames and faults.
-use Rattle.std.proofs.Common.{suc, ◌≡◌, refl, ap, ◌∙◌, sym, subst, ℕ, ◌+◌, ◌-◌, ◌*◌, ◌<◌, ◌≤◌, Bool, true, false, List, [], ◌∷◌, ◌++◌, ◌⊎◌, inl, inr, length, take, drop, append_assoc, append-nil, arith}
-use Rattle.std.specs.Prelude.{nat_le, if◌then◌else◌, Option, Some, None}
+use Rattle.std.proofs.Common.{suc, ◌≡◌, refl, ap, ◌∙◌, sym, subst, ℕ, ◌+◌, ◌<◌, ◌≤◌, Bool, true, false, List, [], ◌∷◌, ◌++◌, ◌⊎◌, inl, inr, length, take, drop, append_assoc, append-nil, arith}
+use Rattle.std.specs.Prelude.{nat_le, if◌then◌else◌, Some}
 use Rattle.std.proofs.lemmas.Bool.{leb-true, le-leb}
 use Rattle.std.proofs.lemmas.List.{length-append, length-take-le, take-append-drop}
 use Rattle.std.proofs.lemmas.Bool.Decides.{nat_tests}
@@ -11,12 +11,12 @@ use Rattle.base_frame.specs.declared.block.State.{State}
 use Rattle.base_frame.specs.declared.block.Move.{Move}
 use Rattle.base_frame.specs.declared.block.Move.TheVariants.{Goes, Ends, Bad}
 use Rattle.base_frame.specs.Block.{part_step, step, start}
-use Rattle.base_frame.specs.Frames.{Front, whole, fault, short, content, after, front_from, front_of}
-use Rattle.base_frame.specs.Grammar.{IsOpenBlock, IsFrame, IsFault, BeginsBlock, IsUnended, IsCause, IsBadBehind, IsSecond, IsWithout, IsBeyond}
+use Rattle.base_frame.specs.Machine.{Front, whole, fault, short, content, after, front_from, front_of}
+use Rattle.base_frame.specs.Grammar.{IsOpenBlock, IsFrame, IsFault, BeginsBlock, IsUnended, IsCause, IsBadBehind}
 use Rattle.base_frame.specs.Laws.{FramesAreGrammar, FaultsAreGrammar}
-use Rattle.base_frame.proofs.Steps.{Read, Says, step_says, by_test}
+use Rattle.base_frame.proofs.Steps.{Says, step_says}
 use Rattle.base_frame.proofs.Walks.{st, Walks, walk_same, walk_block, walk_then}
-use Rattle.base_frame.proofs.Ends.{read_front, is_unended, Passes, begins_passes, unended_walks, StopsBy, second_stops, without_stops, beyond_stops}
+use Rattle.base_frame.proofs.Ends.{read_front, is_unended, begins_passes, unended_walks, StopsBy, second_stops, without_stops, beyond_stops}
 
 not_below : (at : ℕ) → nat_le 4096 at ≡ true → at < 4096 → ⊥
 not_below at e h = let k = leb-true 4096 at e in omega (arith, k, h)
@@ -155,7 +155,7 @@ says limit front t b m w h = subst (Says limit front b) h (step_says limit front
 
 -- frames
 
-taken : (limit : ℕ) (stream c more : List ℕ) → front_of limit stream ≡ whole c more → IsFrame limit stream c more
+pub taken : (limit : ℕ) (stream c more : List ℕ) → front_of limit stream ≡ whole c more → IsFrame limit stream c more
 taken limit stream c more h =
     let e : Ended limit 0 start stream c more = explained limit stream (whole c more) h in
     record {
@@ -174,7 +174,7 @@ content_is c more =
     ap (λ t. if t then whole (take (length c) (c ++ more)) (drop (length c) (c ++ more)) else short) (le-leb (length c) (length (c ++ more)) (subst (λ n. length c ≤ n) (sym (length-append c more)) (omega arith)))
     ∙ (ap (λ x. whole x (drop (length c) (c ++ more))) (take_all c more) ∙ ap (whole c) (drop_all c more))
 
-frame_taken : (limit : ℕ) (stream c more : List ℕ) → IsFrame limit stream c more → front_of limit stream ≡ whole c more
+pub frame_taken : (limit : ℕ) (stream c more : List ℕ) → IsFrame limit stream c more → front_of limit stream ≡ whole c more
 frame_taken limit stream c more h =
     let w = walk_block limit (length c) h.block h.header.0 in
     let split : stream ≡ w.0 ++ 10 ∷ (c ++ more) = h.bytes ∙ (ap (λ x. x ++ (c ++ more)) w.1 ∙ append_assoc w.0 (10 ∷ []) (c ++ more)) in
@@ -240,7 +240,7 @@ bad_of : (limit : ℕ) (front : List ℕ) (b : ℕ) (t : State) (p : ℕ) (why :
 bad_of limit front b t p why e w (inl h) = subst (IsBadBehind limit front b) (sym h.1) (e ∙ h.0, is_unended limit front t w)
 bad_of limit front b t p why e w (inr h) = stopped_bad limit front b why (subst (λ n. n < 4096) (sym e) h.0) (t, w, h.1)
 
-found : (limit : ℕ) (bs : List ℕ) (at : ℕ) (why : BadWhy) → front_of limit bs ≡ fault at why → IsFault limit bs at why
+pub found : (limit : ℕ) (bs : List ℕ) (at : ℕ) (why : BadWhy) → front_of limit bs ≡ fault at why → IsFault limit bs at why
 found limit bs at why h =
     let e : Stopped limit 0 start bs at why = explained limit bs (fault at why) h in
     let place : length e.front ≡ at = sym (none_plus (length e.front)) ∙ e.place in
@@ -291,7 +291,7 @@ bad_is limit front b rest TwoLengths h = short_fault limit front b rest TwoLengt
 bad_is limit front b rest NoLength h = short_fault limit front b rest NoLength h.0 h.1 h.2 h.3
 bad_is limit front b rest TooLong h = short_fault limit front b rest TooLong h.0 h.1 h.2 h.3
 
-fault_found : (limit : ℕ) (bs : List ℕ) (at : ℕ) (why : BadWhy) → IsFault limit bs at why → front_of limit bs ≡ fault at why
+pub fault_found : (limit : ℕ) (bs : List ℕ) (at : ℕ) (why : BadWhy) → IsFault limit bs at why → front_of limit bs ≡ fault at why
 fault_found limit bs at why h = ap (front_of limit) h.bytes ∙ (bad_is limit h.front h.byte h.rest why h.bad ∙ ap (λ p. fault p why) h.place)
 
 pub faults_are : FaultsAreGrammar

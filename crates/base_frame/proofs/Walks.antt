@@ -1,17 +1,16 @@
 -- What the machine does with the bytes of a block, without the bound on its size.
-use Rattle.std.proofs.Common.{◌≡◌, refl, ap, ◌∙◌, sym, subst, ℕ, ◌+◌, ◌-◌, ◌*◌, ◌<◌, ◌≤◌, Bool, true, false, List, [], ◌∷◌, ◌++◌, length, append_assoc, append-nil, arith}
-use Rattle.std.specs.Prelude.{◌==◌, nat_le, if◌then◌else◌, Option, Some, None, is_none}
-use Rattle.std.proofs.lemmas.Bool.{eqb-true, eqb-false, leb-true, eq-eqb, ne_eqb, le-leb}
+use Rattle.std.proofs.Common.{◌≡◌, refl, ◌∙◌, sym, subst, ℕ, ◌+◌, ◌-◌, ◌*◌, ◌≤◌, Bool, true, false, List, [], ◌∷◌, ◌++◌, append_assoc, append-nil, arith}
+use Rattle.std.specs.Prelude.{◌==◌, nat_le, Option, Some, None}
+use Rattle.std.proofs.lemmas.Bool.{eqb-false, ne_eqb, le-leb}
 use Rattle.std.proofs.lemmas.Bool.Decides.{nat_tests}
-use Rattle.base_frame.specs.declared.block.BadWhy.TheVariants.{Byte, TwoLengths, NoLength, TooLong, LongHeader}
+use Rattle.base_frame.specs.declared.block.BadWhy.TheVariants.{TwoLengths, TooLong}
 use Rattle.base_frame.specs.declared.block.Part.{Part}
 use Rattle.base_frame.specs.declared.block.Part.TheVariants.{Start, LengthName, OtherName, Value, Before, Digits, After, LineEnd, BlockEnd}
 use Rattle.base_frame.specs.declared.block.State.{State}
-use Rattle.base_frame.specs.declared.block.Move.{Move}
-use Rattle.base_frame.specs.declared.block.Move.TheVariants.{Goes, Ends, Bad}
-use Rattle.base_frame.specs.Block.{is_name_byte, is_value_byte, is_space, is_digit, goes, lettered, named, part_step, start}
-use Rattle.base_frame.specs.Grammar.{Each, NotEmpty, number, IsLengthName, line, IsField, IsLengthField, Lines, AreFields, HaveLength, Fields, IsOpenBlock, BeginsBlock, IsUnended}
-use Rattle.base_frame.proofs.Names.{no_some, SoFar, Lettered, letter_in, other_in, nothing_so_far, fourteen, not_fourteen, other_is}
+use Rattle.base_frame.specs.declared.block.Move.TheVariants.{Goes, Bad}
+use Rattle.base_frame.specs.Block.{is_name_byte, is_value_byte, is_space, is_digit, goes, lettered, part_step, start}
+use Rattle.base_frame.specs.Grammar.{Each, NotEmpty, number, IsLengthName, IsField, IsLengthField, Lines, AreFields, HaveLength, IsOpenBlock}
+use Rattle.base_frame.proofs.Names.{SoFar, letter_in, other_in, nothing_so_far, fourteen, not_fourteen, other_is}
 
 abbrev pub st : Part → Option ℕ → State
 st p l = record { part = p; length = l }

@@ -3,5 +3,7 @@ pub mod Block
 pub mod Frames
 pub mod Grammar
 pub mod Laws
+pub mod Machine
 pub mod Reader
 pub mod Views
+pub mod Worked
