@@ -8,7 +8,7 @@ use Rattle.base_frame.specs.declared.block.State.{State}
 use Rattle.base_frame.specs.declared.block.Move.{Move}
 use Rattle.base_frame.specs.declared.block.Move.TheVariants.{Goes, Ends, Bad}
 use Rattle.base_frame.specs.Block.{step, start}
-use Rattle.base_frame.specs.Frames.{Front, whole, fault, short, content, after, front_from, front_of, NotWhole, Splits}
+use Rattle.base_frame.specs.Machine.{Front, whole, fault, short, content, after, front_from, front_of, NotWhole, Cuts}
 
 -- the front of more bytes, where these stood at the front
 abbrev pub Grows : List ℕ → Front → Front → Type 0
@@ -89,18 +89,18 @@ whole_fewer limit bs c more h = fewer_left bs c more (subst (λ f. Fewer bs f) h
 
 -- frames behind frames
 
-pub splits_grow : (limit : ℕ) (stream : List ℕ) (cs : List (List ℕ)) (rest extra : List ℕ) → Splits limit stream cs rest → Splits limit (stream ++ extra) cs (rest ++ extra)
-splits_grow limit stream [] rest extra h = ap (λ b. b ++ extra) h
-splits_grow limit stream (c ∷ cs) rest extra h = (h.0 ++ extra, whole_grows limit stream extra c h.0 h.1, splits_grow limit h.0 cs rest extra h.2)
+pub cuts_grow : (limit : ℕ) (stream : List ℕ) (cs : List (List ℕ)) (rest extra : List ℕ) → Cuts limit stream cs rest → Cuts limit (stream ++ extra) cs (rest ++ extra)
+cuts_grow limit stream [] rest extra h = ap (λ b. b ++ extra) h
+cuts_grow limit stream (c ∷ cs) rest extra h = (h.0 ++ extra, whole_grows limit stream extra c h.0 h.1, cuts_grow limit h.0 cs rest extra h.2)
 
-pub splits_then : (limit : ℕ) (stream : List ℕ) (cs : List (List ℕ)) (rest : List ℕ) (ds : List (List ℕ)) (more : List ℕ) → Splits limit stream cs rest → Splits limit rest ds more → Splits limit stream (cs ++ ds) more
-splits_then limit stream [] rest ds more h k = subst (λ b. Splits limit b ds more) (sym h) k
-splits_then limit stream (c ∷ cs) rest ds more h k = (h.0, h.1, splits_then limit h.0 cs rest ds more h.2 k)
+pub cuts_then : (limit : ℕ) (stream : List ℕ) (cs : List (List ℕ)) (rest : List ℕ) (ds : List (List ℕ)) (more : List ℕ) → Cuts limit stream cs rest → Cuts limit rest ds more → Cuts limit stream (cs ++ ds) more
+cuts_then limit stream [] rest ds more h k = subst (λ b. Cuts limit b ds more) (sym h) k
+cuts_then limit stream (c ∷ cs) rest ds more h k = (h.0, h.1, cuts_then limit h.0 cs rest ds more h.2 k)
 
-pub splits_one : (limit : ℕ) (stream : List ℕ) (cs : List (List ℕ)) (rest c more : List ℕ) → Splits limit stream cs rest → front_of limit rest ≡ whole c more → Splits limit stream (cs ++ c ∷ []) more
-splits_one limit stream cs rest c more h k = splits_then limit stream cs rest (c ∷ []) more h (more, k, refl)
+pub cuts_one : (limit : ℕ) (stream : List ℕ) (cs : List (List ℕ)) (rest c more : List ℕ) → Cuts limit stream cs rest → front_of limit rest ≡ whole c more → Cuts limit stream (cs ++ c ∷ []) more
+cuts_one limit stream cs rest c more h k = cuts_then limit stream cs rest (c ∷ []) more h (more, k, refl)
 
-pub splits_pushed : (limit : ℕ) (stream : List ℕ) (cs new : List (List ℕ)) (rest c more value : List ℕ) → Splits limit stream cs rest → whole c more ≡ front_of limit rest
-    → new ≡ cs ++ value ∷ [] → value ≡ c → Splits limit stream new more
-splits_pushed limit stream cs new rest c more value h k p q =
-    subst (λ xs. Splits limit stream xs more) (sym (p ∙ ap (λ b. cs ++ b ∷ []) q)) (splits_one limit stream cs rest c more h (sym k))
+pub cuts_pushed : (limit : ℕ) (stream : List ℕ) (cs new : List (List ℕ)) (rest c more value : List ℕ) → Cuts limit stream cs rest → whole c more ≡ front_of limit rest
+    → new ≡ cs ++ value ∷ [] → value ≡ c → Cuts limit stream new more
+cuts_pushed limit stream cs new rest c more value h k p q =
+    subst (λ xs. Cuts limit stream xs more) (sym (p ∙ ap (λ b. cs ++ b ∷ []) q)) (cuts_one limit stream cs rest c more h (sym k))

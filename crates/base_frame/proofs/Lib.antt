@@ -1,3 +1,11 @@
+pub mod Ends
+pub mod Examples
 pub mod Laws
+pub mod Names
 pub mod OneWay
+pub mod Places
+pub mod ReadBack
 pub mod Readers
+pub mod Steps
+pub mod Ties
+pub mod Walks

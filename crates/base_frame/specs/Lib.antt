@@ -1,6 +1,9 @@
 pub mod Answer
 pub mod Block
 pub mod Frames
+pub mod Grammar
 pub mod Laws
+pub mod Machine
 pub mod Reader
 pub mod Views
+pub mod Worked

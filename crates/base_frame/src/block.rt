@@ -18,7 +18,7 @@ pub enum BadWhy {
 }
 
 /// Where in a header block a byte stands.
-#[derive(Clone, Copy)]
+#[derive(Clone, Copy, Debug)]
 pub enum Part {
     /// At the front of a line.
     Start,
@@ -41,7 +41,7 @@ pub enum Part {
 }
 
 /// What of a header block has been read.
-#[derive(Clone, Copy)]
+#[derive(Clone, Copy, Debug)]
 pub struct State {
     pub part: Part,
     /// The value of `Content-Length`, as far as it was read.

@@ -10,6 +10,6 @@ mod tests;
 mod written;
 
 pub use block::BadWhy;
-pub use law::frames_law;
+pub use law::{fault_law, frame_law, frames_law, worked_law, written_law};
 pub use reader::{FrameReader, Next};
 pub use written::frame;

@@ -1,11 +1,12 @@
 //! The frames of a stream that comes in pieces.
-ghost use Rattle.std.specs.Prelude.{◌≡◌, ℕ, List, [], ◌++◌, OnOk, OnErr, IfOk, IsOk};
-ghost use Rattle.base_frame.specs.Frames.{front_of, NotWhole, Splits};
-ghost use Rattle.base_frame.specs.Reader.{IsBad, Stands, Added, is_fault, is_whole};
+ghost use Rattle.std.specs.Prelude.{◌≡◌, ℕ, true, List, [], ◌++◌, OnOk, OnErr, IfOk, IsOk};
+ghost use Rattle.base_frame.specs.Machine.{front_of, NotWhole, Cuts, IsAt, Taken, is_fault, is_whole};
+ghost use Rattle.base_frame.specs.Views.{found_view};
+ghost use Rattle.base_frame.specs.Reader.{IsBad, Stands};
 ghost use Rattle.base_frame.specs.Answer.{Gives, NotFrame, IsBadFrame};
 
 use crate::block::BadWhy;
-use crate::front::{Found, front_of};
+use crate::front::{Found, Place, advance, front_at, front_of, front_place};
 use message_body::{Body, Memory};
 use std::alloc::Global;
 use std::collections::VecDeque;
@@ -28,14 +29,19 @@ pub struct FrameReader {
     limit: u32,
     ready: VecDeque<Body>,
     rest: Vec<u8>,
+    // How far the header block at the front of the rest was read.
+    place: Place,
 }
 
 impl Model for FrameReader {
     ghost use Rattle.base_frame.specs.Reader.{Held};
+    ghost use Rattle.base_frame.specs.Machine.{IsAt};
 
     ghost Value = { Held };
 
     ghost view = { λ r. record { limit = r.limit; ready = r.ready.items; rest = r.rest.items } };
+
+    ghost invariant = { λ r. IsAt r.limit r.place.at r.place.state r.rest.items };
 }
 
 /// The contents of the frames that bytes begin with, and the bytes behind them.
@@ -56,6 +62,7 @@ impl FrameReader {
             limit,
             ready: VecDeque::new(alloc),
             rest: Vec::new(alloc),
+            place: front_place(),
         }
     }
 
@@ -71,11 +78,26 @@ impl FrameReader {
         }
         let kept = self.rest.len();
         self.rest.extend_from_slice(piece)?;
-        if let Err(memory) = self.take_frames() {
-            self.rest.truncate(kept);
-            return Err(memory);
+        if !has_frame(self.limit, self.rest.as_slice(), self.place) {
+            self.place = advance(self.limit, self.rest.as_slice(), self.place);
+            return Ok(());
         }
-        Ok(())
+        match take_frames(
+            self.alloc,
+            self.limit,
+            &mut self.ready,
+            self.rest.as_slice(),
+        ) {
+            Ok(rest) => {
+                self.rest = rest;
+                self.place = front_place();
+                Ok(())
+            }
+            Err(memory) => {
+                self.rest.truncate(kept);
+                Err(memory)
+            }
+        }
     }
 
     /// The next content. It takes no memory.
@@ -88,50 +110,54 @@ impl FrameReader {
         if let Some(body) = self.ready.pop_front() {
             return Next::Frame(body);
         }
-        match front_of(self.limit, self.rest.as_slice()) {
+        match self.front() {
             Found::Fault(at, why) => Next::BadFrame(at as u64, why),
             Found::Short => Next::NotYet,
             Found::Whole(_, _) => Next::NotYet,
         }
     }
 
+    // What stands at the front of the rest.
+    fn front(&self) -> Found<'_>
+        ensures { found_view result ≡ front_of self.now.limit self.now.rest }
+    {
+        front_at(self.limit, self.rest.as_slice(), self.place)
+    }
+
     // Whether a fault stands behind the contents to be given.
     fn is_bad(&self) -> bool
-        ensures { result ≡ is_fault (front_of self.now.limit self.now.rest) }
+        ensures front { result ≡ is_fault (front_of self.now.limit self.now.rest) }
+        ensures bad { IsBad self.now → result ≡ true }
     {
-        match front_of(self.limit, self.rest.as_slice()) {
-            Found::Fault(_, _) => true,
-            _ => false,
-        }
-    }
-
-    // Takes the frames off the front of the rest.
-    fn take_frames(&mut self) -> Result<(), Memory>
-        ensures limit { self.new.limit ≡ self.old.limit }
-        ensures ok { OnOk result (Added self.old self.new) }
-        ensures err { OnErr result (self.new ≡ self.old) }
-    {
-        if !self.has_frame() {
-            return Ok(());
-        }
-        let mut parts = split(self.alloc, self.limit, self.rest.as_slice())?;
-        self.ready.append(&mut parts.ready)?;
-        self.rest = parts.rest;
-        Ok(())
-    }
-
-    fn has_frame(&self) -> bool
-        ensures { result ≡ is_whole (front_of self.now.limit self.now.rest) }
-    {
-        match front_of(self.limit, self.rest.as_slice()) {
-            Found::Whole(_, _) => true,
-            _ => false,
-        }
+        matches!(self.front(), Found::Fault(_, _))
     }
 }
 
+// Whether a whole frame stands at the front of these bytes, whose header block was read up to this place.
+fn has_frame(limit: u32, bytes: &[u8], place: Place) -> bool
+    requires { IsAt limit place.at place.state bytes.now }
+    ensures { result ≡ is_whole (front_of limit bytes.now) }
+{
+    matches!(front_at(limit, bytes, place), Found::Whole(_, _))
+}
+
+// Makes the contents of the frames at the front of these bytes ready, and gives the bytes behind them.
+fn take_frames(
+    alloc: Global,
+    limit: u32,
+    ready: &mut VecDeque<Body>,
+    bytes: &[u8],
+) -> Result<Vec<u8>, Memory>
+    ensures ok { IfOk result (λ rest. Taken limit bytes.now ready.old.items ready.new.items rest.items) }
+    ensures err { OnErr result (ready.new.items ≡ ready.old.items) }
+{
+    let mut parts = split(alloc, limit, bytes)?;
+    ready.append(&mut parts.ready)?;
+    Ok(parts.rest)
+}
+
 fn split(alloc: Global, limit: u32, bytes: &[u8]) -> Result<Parts, Memory>
-    ensures { IfOk result (λ p. Splits limit bytes.now p.ready.items p.rest.items × NotWhole (front_of limit p.rest.items)) }
+    ensures { IfOk result (λ p. Cuts limit bytes.now p.ready.items p.rest.items × NotWhole (front_of limit p.rest.items)) }
 {
     let mut ready = VecDeque::new(alloc);
     let mut rest = bytes;

@@ -1,5 +1,6 @@
 //! A frame as it is written.
-ghost use Rattle.std.specs.Prelude.{◌≡◌, ◌++◌, length, codes, decimal, IfOk};
+ghost use Rattle.std.specs.Prelude.{◌≡◌, IfOk};
+ghost use Rattle.base_frame.specs.Frames.{framed};
 
 use itoa::Buffer;
 use message_body::{Body, Memory};
@@ -7,7 +8,7 @@ use std::alloc::Global;
 
 /// The frame with this content: `Content-Length`, the empty line and the content (LSP 3.17, Base Protocol).
 pub fn frame(alloc: Global, body: &[u8]) -> Result<Body, Memory>
-    ensures { IfOk result (λ framed. framed ≡ codes "Content-Length: " ++ decimal (length body.now) ++ codes "\r\n\r\n" ++ body.now) }
+    ensures { IfOk result (λ bytes. bytes ≡ framed body.now) }
 {
     let mut buffer = Buffer::new();
     let mut bytes = Vec::from_slice(alloc, b"Content-Length: ")?;
