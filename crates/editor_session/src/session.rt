@@ -74,7 +74,7 @@ impl Session {
     fn is_there(&self) -> bool
         ensures { result ≡ is_there self.now.phase }
     {
-        !matches!(self.phase, Phase::Absent | Phase::Closed | Phase::Gone)
+        self.phase.is_there()
     }
 
     // Whether it is one of those that are looked for.

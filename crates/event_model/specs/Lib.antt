@@ -1,4 +1,6 @@
 pub mod Always
+pub mod Does
+pub mod Each
 pub mod Event
 pub mod Parts
 pub mod Phases

@@ -65,6 +65,17 @@ is_linked Absent = false
 is_linked Gone = false
 is_linked _ = true
 
+-- its `initialize` wasn't answered yet
+abbrev pub is_waiting : Phase → Bool
+is_waiting Waiting = true
+is_waiting _ = false
+
+-- its notifications are accepted: from the answer to its `initialize` until its `shutdown`, or the end of its link
+abbrev pub is_served : Phase → Bool
+is_served Answered = true
+is_served Running = true
+is_served _ = false
+
 -- how many editors joined
 abbrev pub editors_behind : ℕ → Event → ℕ
 editors_behind n (took (Joined e) m) = n + 1

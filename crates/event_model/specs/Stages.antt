@@ -50,22 +50,24 @@ no_life = record { stage = Unspawned; started = false }
 abbrev pub life_of : ℕ → List Event → Life
 life_of s events = fold (life_behind s) no_life events
 
+-- it is to begin, or to end
+abbrev pub may_begin : Stage → Bool
+may_begin Spawning = true
+may_begin Ending = true
+may_begin _ = false
+
+-- its program ended, or couldn't be run
+abbrev pub is_ended : Stage → Bool
+is_ended Ended = true
+is_ended _ = false
+
 -- its program may yet run, or fail to
 abbrev pub may_start : Life → Bool
-may_start life = waits life.stage && not life.started
-  where
-    waits : Stage → Bool
-    waits Spawning = true
-    waits Ending = true
-    waits _ = false
+may_start life = may_begin life.stage && not life.started
 
 -- its program runs
 abbrev pub runs : Life → Bool
 runs life = life.started && not (is_ended life.stage)
-  where
-    is_ended : Stage → Bool
-    is_ended Ended = true
-    is_ended _ = false
 
 abbrev pub is_ready : Stage → Bool
 is_ready Ready = true

@@ -1,3 +1,6 @@
+ghost use Rattle.std.specs.Prelude.{◌≡◌};
+ghost use Rattle.event_model.specs.Phases.{is_linked, is_served, is_there, is_waiting};
+
 /// Where an editor stands (LSP 3.17, Lifecycle Messages, as the multiplexer sees it).
 #[derive(Clone, Copy, Debug, PartialEq, Eq)]
 pub enum Phase {
@@ -17,4 +20,34 @@ pub enum Phase {
     Closed,
     /// Its link ended.
     Gone,
+}
+
+impl Phase {
+    /// Whether the editor joined, and its link neither ended nor is to be ended.
+    pub fn is_there(self) -> bool
+        ensures { result ≡ is_there self }
+    {
+        !matches!(self, Phase::Absent | Phase::Closed | Phase::Gone)
+    }
+
+    /// Whether the editor joined, and its link didn't end.
+    pub fn is_linked(self) -> bool
+        ensures { result ≡ is_linked self }
+    {
+        !matches!(self, Phase::Absent | Phase::Gone)
+    }
+
+    /// Whether its `initialize` came and wasn't answered yet.
+    pub fn is_waiting(self) -> bool
+        ensures { result ≡ is_waiting self }
+    {
+        matches!(self, Phase::Waiting)
+    }
+
+    /// Whether its `initialize` was answered, its `shutdown` didn't come, and its link neither ended nor is to be ended.
+    pub fn is_served(self) -> bool
+        ensures { result ≡ is_served self }
+    {
+        matches!(self, Phase::Answered | Phase::Running)
+    }
 }

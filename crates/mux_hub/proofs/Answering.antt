@@ -15,7 +15,8 @@ use Rattle.event_model.specs.Event.{Event, heard, said, with_cause, behind, same
 use Rattle.event_model.specs.Phases.{Desk, desk_of, phase_told, editors_of, is_there}
 use Rattle.event_model.specs.Requests.{asking_of, asked_by, answered_id, answers}
 use Rattle.event_model.specs.Row.{outs, each}
-use Rattle.mux_model.specs.Rows.{outs_of, welcome, waiting_for, is_waiting}
+use Rattle.mux_model.specs.Rows.{outs_of, welcome, waiting_for}
+use Rattle.event_model.specs.Phases.{is_waiting}
 use Rattle.event_model.specs.Settings.{Settings}
 use Rattle.event_model.specs.Spawns.{home_of, group_of}
 use Rattle.event_model.specs.Stages.{life_of, is_first_result}

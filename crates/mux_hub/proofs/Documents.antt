@@ -14,7 +14,8 @@ use Rattle.document_model.specs.Sayings.{nothing, saying_of}
 use Rattle.document_model.specs.Texts.{Texts, texts_behind}
 use Rattle.event_model.specs.declared.stage.Stage.{Stage}
 use Rattle.event_model.specs.declared.stage.Stage.TheVariants.{Unspawned, Spawning, Initializing, Ready, Stopping, Ending, Ended}
-use Rattle.mux_model.specs.Documents.{encoding_behind, encoding_by, encoding_for, is_served, held_behind, sent_behind, texts_heard, texts_next, texts_from, without_editor}
+use Rattle.mux_model.specs.Documents.{encoding_behind, encoding_by, encoding_for, held_behind, sent_behind, texts_heard, texts_next, texts_from, without_editor}
+use Rattle.event_model.specs.Phases.{is_served}
 use Rattle.event_model.specs.Event.{Event, took, did, requests}
 use Rattle.event_model.specs.Phases.{desk_of}
 use Rattle.mux_hub.specs.Stands.{DocumentTies, EarlyDocuments, is_early}

@@ -18,7 +18,7 @@ use Rattle.mux_history.specs.declared.out.Out.{Out}
 use Rattle.mux_history.specs.declared.out.Out.TheVariants.{ToEditor}
 use Rattle.position_codec.specs.declared.Encoding.{Encoding}
 use Rattle.event_model.specs.declared.phase.Phase.TheVariants.{Answered}
-use Rattle.mux_model.specs.Rows.{is_waiting}
+use Rattle.event_model.specs.Phases.{is_waiting}
 use Rattle.focus_switch.specs.Documents.{Documents}
 use Rattle.focus_switch.specs.Rows.{Step, change_row}
 use Rattle.document_model.specs.Sayings.{Saying, opens, changes, closes, misshapen, nothing, saying_of}

@@ -14,7 +14,8 @@ use Rattle.rpc_message.specs.Message.{notification, message_of}
 use Rattle.event_model.specs.declared.phase.Phase.{Phase}
 use Rattle.event_model.specs.declared.phase.Phase.TheVariants.{Absent, New, Waiting, Answered, Running, Down, Closed, Gone}
 use Rattle.event_model.specs.declared.stage.Stage.{Stage}
-use Rattle.mux_model.specs.Documents.{encoding_behind, encoding_for, is_served, sent_behind, texts_from, texts_heard, texts_next}
+use Rattle.mux_model.specs.Documents.{encoding_behind, encoding_for, sent_behind, texts_from, texts_heard, texts_next}
+use Rattle.event_model.specs.Phases.{is_served}
 use Rattle.event_model.specs.Event.{Event, heard, said}
 use Rattle.event_model.specs.Phases.{Desk, desk_of, desk_behind, desk_hears, editors_behind, backlog_behind, no_desk}
 use Rattle.event_model.specs.Requests.{Asking, asking_behind, open_behind}

@@ -25,7 +25,7 @@ use Rattle.event_model.specs.Event.{Event, with_cause, notifies}
 use Rattle.mux_model.specs.Fits.{fits_behind}
 use Rattle.event_model.specs.Phases.{desk_of, editors_of, is_linked, is_there}
 use Rattle.event_model.specs.Requests.{Asked, open_of, is_open, asking_of, asked_by, answered_id, has_number}
-use Rattle.mux_model.specs.Rows.{is_waiting}
+use Rattle.event_model.specs.Phases.{is_waiting}
 use Rattle.event_model.specs.Settings.{Settings}
 use Rattle.event_model.specs.Stages.{life_of, may_start, runs, is_ready, is_first_result}
 use Rattle.mux_hub.specs.declared.pending.Pending.{Pending}
@@ -35,7 +35,8 @@ use Rattle.mux_hub.specs.Tables.{Kept, ids_of, asked_of, asked_for, joined_in, o
 use Rattle.mux_hub.specs.Turns.{Turn, turn, from_editor, from_server, resulted, failed, requested, place_of, or_next, answered, pass_if, welcome_text, sent_more, document_step, noticed_if, can_go, ask_if, found, started, ready_if}
 use Rattle.document_model.specs.Sayings.{speaks, saying_by, saying_of}
 use Rattle.focus_switch.specs.Rows.{Step}
-use Rattle.mux_model.specs.Documents.{encoding_in, is_served}
+use Rattle.mux_model.specs.Documents.{encoding_in}
+use Rattle.event_model.specs.Phases.{is_served}
 use Rattle.mux_hub.proofs.Answering.{answered_with, at_ready, initializing_ties, ready_fresh, readied_steps, welcomed_steps, unasked_steps, left_steps, passed_steps}
 use Rattle.mux_hub.proofs.DocumentSteps.{document_right}
 use Rattle.mux_hub.proofs.Noticing.{unserved_steps, noticed_steps}

@@ -19,9 +19,11 @@ use Rattle.event_model.specs.declared.phase.Phase.{Phase}
 use Rattle.event_model.specs.declared.phase.Phase.TheVariants.{Absent, New, Waiting, Answered, Running, Down, Closed, Gone}
 use Rattle.event_model.specs.declared.stage.Stage.{Stage}
 use Rattle.event_model.specs.declared.stage.Stage.TheVariants.{Unspawned, Spawning, Initializing, Ready, Stopping, Ending, Ended}
-use Rattle.mux_model.specs.Documents.{encoding_in, is_served}
+use Rattle.mux_model.specs.Documents.{encoding_in}
+use Rattle.event_model.specs.Phases.{is_served}
 use Rattle.event_model.specs.Phases.{is_there}
-use Rattle.mux_model.specs.Rows.{is_waiting, malformed_text}
+use Rattle.mux_model.specs.Rows.{malformed_text}
+use Rattle.event_model.specs.Phases.{is_waiting}
 use Rattle.mux_hub.specs.declared.pending.Pending.{Pending}
 use Rattle.mux_hub.specs.Tables.{Kept}
 use Rattle.mux_hub.specs.Turns.{Turn, turn, ask_if, can_go, requested, malformed_if, changed_by, document_step, noticed_if, from_editor, pass_on, pass_if, answered, place_of, ready_if, resulted, failed, from_server, started}

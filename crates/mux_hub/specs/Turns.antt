@@ -9,7 +9,8 @@ use Rattle.focus_switch.specs.Documents.{Documents}
 use Rattle.focus_switch.specs.Rows.{Step, open_row, change_row, close_row, ready_row}
 use Rattle.focus_switch.specs.Rows as focus
 use Rattle.document_model.specs.Sayings.{Saying, opens, changes, closes, misshapen, nothing, saying_by}
-use Rattle.mux_model.specs.Documents.{is_served, encoding_in}
+use Rattle.mux_model.specs.Documents.{encoding_in}
+use Rattle.event_model.specs.Phases.{is_served}
 use Rattle.mux_history.specs.declared.cause.Cause.{Cause}
 use Rattle.mux_history.specs.declared.cause.Cause.TheVariants.{Joined, FromEditor, Started, FromServer}
 use Rattle.mux_history.specs.declared.out.Out.{Out}
@@ -22,7 +23,8 @@ use Rattle.event_model.specs.declared.stage.Stage.{Stage}
 use Rattle.event_model.specs.declared.stage.Stage.TheVariants.{Spawning, Initializing, Ready}
 use Rattle.event_model.specs.Phases.{is_there}
 use Rattle.event_model.specs.Requests.{has_number}
-use Rattle.mux_model.specs.Rows.{initialize_for, is_waiting, malformed_text}
+use Rattle.mux_model.specs.Rows.{initialize_for, malformed_text}
+use Rattle.event_model.specs.Phases.{is_waiting}
 use Rattle.event_model.specs.Stages.{is_ready}
 use Rattle.mux_hub.specs.declared.pending.Pending.{Pending}
 use Rattle.mux_hub.specs.Tables.{Kept, asked_of, after_message}

@@ -24,25 +24,18 @@ fn joined_in(phase: Phase) -> u64
     }
 }
 
-// The editor's link isn't gone.
-fn is_linked(phase: Phase) -> bool
-    ensures { result ≡ is_linked phase }
-{
-    !matches!(phase, Phase::Absent | Phase::Gone)
-}
-
 // The start's program may yet run, or fail to.
 fn may_start(stage: Stage, started: bool) -> bool
     ensures { result ≡ may_start (record { stage = stage; started = started }) }
 {
-    matches!(stage, Stage::Spawning | Stage::Ending) && !started
+    stage.may_begin() && !started
 }
 
 // The start's program runs.
 fn runs(stage: Stage, started: bool) -> bool
     ensures { result ≡ runs (record { stage = stage; started = started }) }
 {
-    started && !matches!(stage, Stage::Ended)
+    started && !stage.is_ended()
 }
 
 #[derive(Drop)]
@@ -85,9 +78,9 @@ impl Tables {
         match cause {
             Cause::Joined(editor) => *editor == joined_in(self.phase),
             Cause::FromEditor(editor, _) | Cause::EditorGone(editor, _) => *editor == 0
-                && is_linked(self.phase),
+                && self.phase.is_linked(),
             Cause::Drained(editor, bytes) => *editor == 0
-                && is_linked(self.phase)
+                && self.phase.is_linked()
                 && *bytes <= self.sent,
             Cause::Started(start) | Cause::StartFailed(start) => *start == 0
                 && may_start(self.stage, self.started),

@@ -1,14 +1,15 @@
 // What the hub does for a cause, over its tables.
 ghost use Rattle.std.specs.Prelude.{◌≡◌, ℕ, ◌≤◌, ◌<◌, ◌∷◌, [], List, length, IfOk, IfErr, IfSome, Option, slice_get, codes, decimal, bytes_eq};
 ghost use Rattle.event_model.specs.Phases.{is_there};
-ghost use Rattle.mux_model.specs.Rows.{is_waiting};
+ghost use Rattle.event_model.specs.Phases.{is_waiting};
 ghost use Rattle.event_model.specs.Requests.{answered_id};
 ghost use Rattle.event_model.specs.Stages.{is_ready};
 ghost use Rattle.json_text.specs.Json.{Json};
 ghost use Rattle.rpc_message.specs.Message.{Id, message_of, id_bytes, notification, request};
 ghost use Rattle.rpc_message.specs.Message.{result as outcome_of};
 ghost use Rattle.document_model.specs.Sayings.{saying_by, saying_of};
-ghost use Rattle.mux_model.specs.Documents.{encoding_in, is_served};
+ghost use Rattle.mux_model.specs.Documents.{encoding_in};
+ghost use Rattle.event_model.specs.Phases.{is_served};
 ghost use Rattle.rpc_message.specs.Codes.{code_of};
 ghost use Rattle.rpc_message.specs.Texts.{error_text, request_failed};
 ghost use Rattle.rpc_message.specs.Parsed.{IsRead};
@@ -35,32 +36,11 @@ fn one(alloc: Global, out: Out) -> Result<Outs, Memory>
     Ok(outs)
 }
 
-// The editor is neither closed nor gone.
-fn is_there(phase: Phase) -> bool
-    ensures { result ≡ is_there phase }
-{
-    !matches!(phase, Phase::Absent | Phase::Closed | Phase::Gone)
-}
-
-// The editor's `initialize` was answered, and it isn't down.
-fn is_served(phase: Phase) -> bool
-    ensures { result ≡ is_served phase }
-{
-    matches!(phase, Phase::Answered | Phase::Running)
-}
-
-// The editor's `initialize` wasn't answered yet.
-fn is_waiting(phase: Phase) -> bool
-    ensures { result ≡ is_waiting phase }
-{
-    matches!(phase, Phase::Waiting)
-}
-
 // The start is ready, and a number is left.
 fn can_go(requests: u32, stage: Stage, next: u32) -> bool
     ensures { result ≡ can_go requests stage next }
 {
-    matches!(stage, Stage::Ready) && next < requests
+    stage.is_ready() && next < requests
 }
 
 // Whether these bytes write this number.
@@ -155,7 +135,7 @@ impl Tables {
     fn hear_notification(&mut self, alloc: Global, message: &Message) -> Result<Outs, Memory>
         ensures { (body method : List ℕ) (params : Option Json) → IsRead message.now body → message_of body ≡ notification method params → IfOk result (λ outs. Gives (noticed self.old body (saying_by method params)) outs self.new) }
     {
-        if !is_served(self.phase) {
+        if !self.phase.is_served() {
             self.note();
             return Ok(Outs::new(alloc));
         }
@@ -208,7 +188,7 @@ impl Tables {
         ensures { (body : List ℕ) (id : Option Id) (r : Json) → IsRead message.now body → message_of body ≡ outcome_of id r → IfOk result (λ outs. Gives (ready_if (is_waiting self.old.phase) self.old body (encoding_in r)) outs self.new) }
     {
         let mut outs = self.begin(alloc, encoding(message))?;
-        if !is_waiting(self.phase) {
+        if !self.phase.is_waiting() {
             return Ok(outs);
         }
         let text = ok_reply(alloc, self.id.bytes(), message.result_bytes())?;
@@ -235,7 +215,7 @@ impl Tables {
         ensures { (body : List ℕ) → IsRead message.now body → IfOk result (λ outs. Gives (answered self.old body (place_if (is_no_number (id_bytes body)) (id_bytes body) self.old.pending)) outs self.new) }
     {
         match place_by_id(&self.pending, message.id_bytes()) {
-            Some(at) if is_there(self.phase) => self.pass_on(alloc, message, at),
+            Some(at) if self.phase.is_there() => self.pass_on(alloc, message, at),
             _ => Ok(Outs::new(alloc)),
         }
     }
@@ -306,7 +286,7 @@ impl Tables {
     fn reject(&mut self, alloc: Global, code: ErrorCode) -> Result<Outs, Memory>
         ensures { IfOk result (λ outs. Gives (malformed self.old (error_text (codes "null") (code_of code))) outs self.new) }
     {
-        if !is_there(self.phase) {
+        if !self.phase.is_there() {
             return Ok(Outs::new(alloc));
         }
         let text = error_answer(alloc, b"null", code)?;

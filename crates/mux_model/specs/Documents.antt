@@ -1,5 +1,5 @@
 -- What is open at the editors, and what a start has of a document, by the history (LSP 3.17, Text Document Synchronization).
-use Rattle.std.specs.Prelude.{ℕ, Bool, true, false, not, List, [], ◌∷◌, ◌++◌, filter, fold, codes, nat_eq, bytes_eq, if◌then◌else◌}
+use Rattle.std.specs.Prelude.{ℕ, not, List, [], ◌∷◌, ◌++◌, filter, fold, codes, nat_eq, bytes_eq, if◌then◌else◌}
 use Rattle.std.specs.Prelude.{Option, Some, None}
 use Rattle.std.specs.Option.{option_and_then}
 use Rattle.json_text.specs.Json.{Json}
@@ -13,11 +13,9 @@ use Rattle.document_model.specs.Opens.{Open}
 use Rattle.document_model.specs.Helds.{HeldText, told}
 use Rattle.document_model.specs.Sayings.{saying_of}
 use Rattle.document_model.specs.Texts.{Texts, no_texts, texts_behind}
-use Rattle.event_model.specs.declared.phase.Phase.{Phase}
-use Rattle.event_model.specs.declared.phase.Phase.TheVariants.{Answered, Running}
 use Rattle.event_model.specs.Event.{Event, took, did, requests}
 use Rattle.mux_model.specs.Members.{named_of, string_of}
-use Rattle.event_model.specs.Phases.{desk_of}
+use Rattle.event_model.specs.Phases.{desk_of, is_served}
 use Rattle.event_model.specs.Spawns.{start_of, home_of}
 
 -- How positions count (LSP 3.17, PositionEncodingKind): as the result of `initialize` says, and else by units of UTF-16.
@@ -47,12 +45,6 @@ start_for e events = option_and_then (λ g. start_of g events) (home_of e events
 
 abbrev pub encoding_for : ℕ → List Event → Option Encoding
 encoding_for e events = option_and_then (λ s. encoding_of s events) (start_for e events)
-
--- an editor's notifications are accepted from the answer to its `initialize` until its `shutdown`, or the end of its link
-abbrev pub is_served : Phase → Bool
-is_served Answered = true
-is_served Running = true
-is_served _ = false
 
 -- the documents of e end
 abbrev pub without_editor : ℕ → Texts → Texts

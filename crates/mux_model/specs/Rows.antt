@@ -1,5 +1,5 @@
 -- The routing table: for each cause, what is sent.
-use Rattle.std.specs.Prelude.{ℕ, zero, suc, Bool, true, false, ◌&&◌, List, [], ◌∷◌, ◌++◌, filter, codes, nat_eq, nat_lt, decimal}
+use Rattle.std.specs.Prelude.{ℕ, zero, suc, Bool, false, ◌&&◌, List, [], ◌∷◌, ◌++◌, filter, codes, nat_eq, nat_lt, decimal}
 use Rattle.std.specs.Prelude.{Option, Some, None}
 use Rattle.mux_history.specs.declared.cause.Cause.{Cause}
 use Rattle.mux_history.specs.declared.cause.Cause.TheVariants.{FromEditor, Started, FromServer}
@@ -14,12 +14,12 @@ use Rattle.document_model.specs.Texts.{opened, found, changed}
 use Rattle.rpc_message.specs.Message.{Message, request, notification, not_json, message_of, id_bytes, result_bytes}
 use Rattle.rpc_message.specs.Texts.{ok_text, error_text, initialized_text, initialize_text, with_id_text, Code, parse_error, invalid_request, request_failed}
 use Rattle.event_model.specs.declared.phase.Phase.{Phase}
-use Rattle.event_model.specs.declared.phase.Phase.TheVariants.{New, Waiting, Answered, Running}
+use Rattle.event_model.specs.declared.phase.Phase.TheVariants.{New, Answered, Running}
 use Rattle.event_model.specs.declared.stage.Stage.{Stage}
 use Rattle.event_model.specs.declared.stage.Stage.TheVariants.{Spawning, Initializing, Ready}
 use Rattle.event_model.specs.Event.{Event, events_of, with_cause, requests}
 use Rattle.mux_model.specs.Members.{params_of, root_uri, string_or_null, options_of}
-use Rattle.event_model.specs.Phases.{desk_of, editors_of, is_there, is_malformed}
+use Rattle.event_model.specs.Phases.{desk_of, editors_of, is_there, is_malformed, is_waiting}
 use Rattle.event_model.specs.Requests.{Asked, asking_of, asked_by, answered_id}
 use Rattle.mux_model.specs.Documents.{start_for, encoding_for, texts_of, held_at}
 use Rattle.event_model.specs.Row.{Row, nothing, send, choose, look, outs, each, on, ◌⨾◌}
@@ -98,10 +98,6 @@ from_editor settings before e body m phase = choose (is_malformed m) (malformed_
 abbrev pub below : ℕ → List ℕ
 below zero = []
 below (suc n) = below n ++ n ∷ []
-
-abbrev pub is_waiting : Phase → Bool
-is_waiting Waiting = true
-is_waiting _ = false
 
 abbrev pub is_group : Option ℕ → Option ℕ → Bool
 is_group (Some g) (Some h) = nat_eq g h

@@ -12,7 +12,8 @@ use Rattle.event_model.specs.Event.{Event, heard, said, behind, with_cause, requ
 use Rattle.event_model.specs.Phases.{Desk, desk_of, desk_behind, desk_hears, phase_told, editors_of, is_there, makes_running}
 use Rattle.event_model.specs.Requests.{Asked, Asking, asking_of, asked_by, asker_of, answered_id, open_of, is_open, asks}
 use Rattle.event_model.specs.Row.{each}
-use Rattle.mux_model.specs.Rows.{can_ask, is_waiting, answer_error, request_row, served_row, message_row, malformed_code, from_editor, is_group, waiting_for, welcome, first_result, response_row, from_server, founder_body, started, row_of}
+use Rattle.mux_model.specs.Rows.{can_ask, answer_error, request_row, served_row, message_row, malformed_code, from_editor, is_group, waiting_for, welcome, first_result, response_row, from_server, founder_body, started, row_of}
+use Rattle.event_model.specs.Phases.{is_waiting}
 use Rattle.event_model.specs.Settings.{Settings}
 use Rattle.event_model.specs.Stages.{Life, life_of, is_ready, is_first_result, stage_hears}
 use Rattle.session_laws.specs.ServerRules.{is_response}

@@ -1,0 +1,6 @@
+-- What holds of each place of a list.
+use Rattle.std.specs.Prelude.{◌≡◌, ℕ, List, Some, slice_get}
+
+-- it holds of each, with its place
+abbrev pub Each : {X : Type 0} → (ℕ → X → Type 0) → List X → Type 0
+Each {X} P xs = (i : ℕ) (x : X) → slice_get xs i ≡ Some x → P i x
