@@ -1,9 +1,8 @@
 -- Bytes that leave the machine as it is are passed over.
-use Rattle.std.proofs.Common.{◌≡◌, refl, sym, ap, ◌∙◌, ℕ, suc, ◌+◌, ◌-◌, ◌≤◌, Bool, true, false, cond, List, [], ◌∷◌, ◌++◌, length, take, drop, subst, arith}
+use Rattle.std.proofs.Common.{◌≡◌, refl, sym, ap, ◌∙◌, ℕ, suc, ◌+◌, ◌-◌, ◌≤◌, Bool, true, false, cond, List, [], ◌∷◌, ◌++◌, length, drop, subst, arith}
 use Rattle.std.specs.Prelude.{Some, Ok, slice_range, IsUtf8}
 use Rattle.std.specs.List.{prefix_len}
-use Rattle.std.specs.Str.{IsValidUpTo}
-use Rattle.std.proofs.lemmas.List.{drop-drop, length-take, length-take-le, take-take}
+use Rattle.std.proofs.lemmas.List.{drop-drop, length-take-le}
 use Rattle.std.proofs.lemmas.List.Folds.{drop_split}
 use Rattle.std.proofs.lemmas.List.Sums.{prefix_len-le-length}
 use Rattle.json_text.specs.String.{is_plain}
@@ -139,25 +138,6 @@ text_crossed bytes at to rises plain u from name os ns =
 pub key_crossed : (bytes : List ℕ) (at to : ℕ) → at ≤ to → to ≤ at + prefix_len is_plain (drop at bytes) → IsUtf8 (slice_range bytes at to) → (from : ℕ) → Crosses bytes at to (mode.InKey from Plain)
 key_crossed bytes at to rises plain u from name os ns =
     crossed bytes at to rises plain u (mode.InKey from) (key_goes 1024 from) name os ns
-
--- as far as the bytes up to a stop are UTF-8
-front_is : (bytes : List ℕ) (at end n : ℕ) → n ≤ end - at → IsUtf8 (take n (slice_range bytes at end)) → IsUtf8 (slice_range bytes at (at + n))
-front_is bytes at end n within u =
-    let count : n ≡ at + n - at = omega arith in
-    subst (λ k. IsUtf8 (take k (drop at bytes))) count (subst IsUtf8 (take-take n (end - at) (drop at bytes) within) u)
-
-front_within : (bytes : List ℕ) (at end n : ℕ) → IsValidUpTo (slice_range bytes at end) n → n ≤ end - at
-front_within bytes at end n v = omega (arith, v.short, length-take (end - at) (drop at bytes))
-
-pub text_front : (bytes : List ℕ) (at end n k : ℕ) → end ≡ at + prefix_len is_plain (drop at bytes) → k ≡ n → IsValidUpTo (slice_range bytes at end) n → (from : ℕ) → Crosses bytes at (at + k) (mode.InText from Plain)
-text_front bytes at end n k e same v =
-    let within = front_within bytes at end n v in
-    subst (λ k. (from : ℕ) → Crosses bytes at (at + k) (mode.InText from Plain)) (sym same) (text_crossed bytes at (at + n) (omega arith) (omega arith) (front_is bytes at end n within v.front))
-
-pub key_front : (bytes : List ℕ) (at end n k : ℕ) → end ≡ at + prefix_len is_plain (drop at bytes) → k ≡ n → IsValidUpTo (slice_range bytes at end) n → (from : ℕ) → Crosses bytes at (at + k) (mode.InKey from Plain)
-key_front bytes at end n k e same v =
-    let within = front_within bytes at end n v in
-    subst (λ k. (from : ℕ) → Crosses bytes at (at + k) (mode.InKey from Plain)) (sym same) (key_crossed bytes at (at + n) (omega arith) (omega arith) (front_is bytes at end n within v.front))
 
 -- bytes of ASCII that stand for themselves
 pub text_passed : (bytes : List ℕ) (at to : ℕ) → to ≡ at + prefix_len is_plain_ascii (drop at bytes) → (from : ℕ) → Crosses bytes at to (mode.InText from Plain)

@@ -9,6 +9,7 @@ use json_text::{Kind, Word};
 /// No name.
 pub const UNNAMED: Place = Place { from: 0, to: 0 };
 
+/// The kind of a literal name's value.
 pub fn kind_of_word(word: Word) -> Kind
     ensures { result ≡ kind_of_word word }
 {
@@ -19,6 +20,7 @@ pub fn kind_of_word(word: Word) -> Kind
     }
 }
 
+/// The kind of what an opening brace, or else a bracket, begins.
 pub fn kind_of_open(object: bool) -> Kind
     ensures { result ≡ kind_of_open object }
 {

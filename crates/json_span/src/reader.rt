@@ -54,8 +54,8 @@ fn is_part(text: Option<&str>, bytes: &[u8], at: usize, end: usize) -> bool
     }
 }
 
-// Where the characters end that stand for themselves in a string, or the first fault in their bytes.
-#[inline(never)]
+// Where the characters end that stand for themselves in a string. Bytes that are no text have a fault, which a step finds.
+#[inline(always)]
 fn characters_end(text: Option<&str>, bytes: &[u8], at: usize) -> usize
     requires same { IfSome text (λ t. t.now ≡ bytes.now) }
     requires inside { at ≤ length bytes.now }
@@ -63,13 +63,14 @@ fn characters_end(text: Option<&str>, bytes: &[u8], at: usize) -> usize
     ensures key { (from : ℕ) → Crosses bytes.now at result (Mode.InKey from Part.Plain) }
     ensures bounds { (at ≤ result) × (result ≤ length bytes.now) }
 {
+    if text.is_none() {
+        return at;
+    }
     let end = plain_end(bytes, at);
     if is_part(text, bytes, at, end) {
-        return end;
-    }
-    match simdutf8::compat::from_utf8(&bytes[at..end]) {
-        Ok(_) => end,
-        Err(fault) => at + fault.valid_up_to(),
+        end
+    } else {
+        at
     }
 }
 
@@ -119,6 +120,7 @@ fn blank_end(bytes: &[u8], at: usize) -> usize
 }
 
 impl Reader {
+    /// Before the first byte of a text.
     pub fn new(alloc: Global) -> Reader
         ensures starts { state_of result ≡ start }
         ensures fits { Fits 0 result }

@@ -14,7 +14,8 @@ pub struct Change {
     pub text: Body,
 }
 
-/// The bytes with each change made, in one pass; the places rise and don't overlap.
+/// The bytes with each change made, in one pass: its cost is linear in the bytes and the new texts. The caller gives the places
+/// in rising order: each begins at or behind the end of the one before, and ends at or behind its own begin, within the bytes.
 pub fn splice(alloc: Global, bytes: &[u8], changes: &[Change]) -> Result<Body, Memory>
     requires { Rise bytes.now (edits_of changes.now) }
     ensures { IfOk result (λ body. body ≡ replace bytes.now (edits_of changes.now)) }

@@ -1,4 +1,4 @@
-//! The numbers and strings of RFC 8259, a byte at a time, and what a string's bytes decode to.
+//! The numbers and strings of RFC 8259, a byte at a time; where runs of bytes end; and what a string's bytes decode to.
 #![tactic(auto)]
 
 mod character;
