@@ -18,11 +18,11 @@ behind_more base xs ys = ap (λ es. base ++ es) (map_said xs ys) ∙ sym (append
 outs_more : {A : Type 0} (row : A → Row) (xs : List A) (x : A) (events : List Event) → outs (each row (xs ++ x ∷ [])) events ≡ outs (after (each row xs) (row x)) events
 outs_more row [] x events = append-nil (outs (row x) events) ∙ ap (outs (row x)) (sym (append-nil events))
 outs_more row (w ∷ xs) x events =
-  let a = outs (row w) events in
-  let mid = behind events a in
-  let b = outs (each row xs) mid in
-  ap (λ zs. a ++ zs) (outs_more row xs x mid)
-  ∙ (sym (append_assoc a b (outs (row x) (behind mid b))) ∙ ap (λ es. (a ++ b) ++ outs (row x) es) (sym (behind_more events a b)))
+    let a = outs (row w) events in
+    let mid = behind events a in
+    let b = outs (each row xs) mid in
+    ap (λ zs. a ++ zs) (outs_more row xs x mid)
+    ∙ (sym (append_assoc a b (outs (row x) (behind mid b))) ∙ ap (λ es. (a ++ b) ++ outs (row x) es) (sym (behind_more events a b)))
 
 take_past : {A : Type 0} (xs : List A) (i : ℕ) → length xs ≤ i → take i xs ≡ xs
 take_past [] zero h = refl
@@ -52,14 +52,14 @@ module _ {K : Type 0} {Stands : K → List Event → Type 0} where
   pub does_then : {p q : Row} {base : List Event} {t u v : K} {xs ys zs : List Out} → Does Stands p base t xs u ys → Does Stands q base u ys v zs → Does Stands (after p q) base t xs v zs
   does_then {p} {q} {base} {t} {u} {v} {xs} {ys} {zs} d e = record {
     done = λ s.
-      let one = d.done s in
-      let two = e.done one.stands in
-      record {
-        outs = two.outs ∙ (ap (λ ws. ws ++ outs q (behind base ys)) one.outs
-          ∙ (append_assoc xs (outs p (behind base xs)) (outs q (behind base ys))
-          ∙ ap (λ es. xs ++ (outs p (behind base xs) ++ outs q es)) (ap (behind base) one.outs ∙ behind_more base xs (outs p (behind base xs)))));
-        stands = two.stands;
-      };
+        let one = d.done s in
+        let two = e.done one.stands in
+        record {
+          outs = two.outs ∙ (ap (λ ws. ws ++ outs q (behind base ys)) one.outs
+              ∙ (append_assoc xs (outs p (behind base xs)) (outs q (behind base ys))
+              ∙ ap (λ es. xs ++ (outs p (behind base xs) ++ outs q es)) (ap (behind base) one.outs ∙ behind_more base xs (outs p (behind base xs)))));
+          stands = two.stands;
+        };
   }
 
   -- what the tables stand for at its place may be used to show what a part does: for "as it stood before"
@@ -70,16 +70,16 @@ module _ {K : Type 0} {Stands : K → List Event → Type 0} where
   pub does_look : {f : List Event → Row} {p : Row} {base : List Event} {t u : K} {xs ys : List Out} → (Stands t (behind base xs) → f (behind base xs) ≡ p) → Does Stands p base t xs u ys → Does Stands (look f) base t xs u ys
   does_look {f} {p} {base} {t} {u} {xs} {ys} e d = record {
     done = λ s.
-      let one = d.done s in
-      record { outs = one.outs ∙ ap (λ r. xs ++ outs r (behind base xs)) (sym (e s)); stands = one.stands };
+        let one = d.done s in
+        record { outs = one.outs ∙ ap (λ r. xs ++ outs r (behind base xs)) (sym (e s)); stands = one.stands };
   }
 
   -- a row that sends what another one does, by the tables
   pub does_alike : {r p : Row} {base : List Event} {t u : K} {xs ys : List Out} → (Stands t (behind base xs) → Alike r p) → Does Stands p base t xs u ys → Does Stands r base t xs u ys
   does_alike {r} {p} {base} {t} {u} {xs} {ys} e d = record {
     done = λ s.
-      let one = d.done s in
-      record { outs = one.outs ∙ ap (λ ws. xs ++ ws) (sym ((e s).sends (behind base xs))); stands = one.stands };
+        let one = d.done s in
+        record { outs = one.outs ∙ ap (λ ws. xs ++ ws) (sym ((e s).sends (behind base xs))); stands = one.stands };
   }
 
   pub does_true : {p q : Row} {base : List Event} {t u : K} {xs ys : List Out} → Does Stands p base t xs u ys → Does Stands (choose true p q) base t xs u ys
@@ -91,8 +91,8 @@ module _ {K : Type 0} {Stands : K → List Event → Type 0} where
   pub does_more : {A : Type 0} (row : A → Row) (done : List A) (a : A) {base : List Event} {t u v : K} {xs ys zs : List Out} → Does Stands (each row done) base t xs u ys → Does Stands (row a) base u ys v zs → Does Stands (each row (done ++ a ∷ [])) base t xs v zs
   does_more {A} row done a {base} {t} {u} {v} {xs} {ys} {zs} d e = record {
     done = λ s.
-      let one = (does_then d e).done s in
-      record { outs = one.outs ∙ ap (λ ws. xs ++ ws) (sym (outs_more row done a (behind base xs))); stands = one.stands };
+        let one = (does_then d e).done s in
+        record { outs = one.outs ∙ ap (λ ws. xs ++ ws) (sym (outs_more row done a (behind base xs))); stands = one.stands };
   }
 
   -- the step of a loop over a list, and its end
