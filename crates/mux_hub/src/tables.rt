@@ -71,7 +71,7 @@ impl Model for Tables {
 impl Tables {
     ghost use Rattle.mux_hub.specs.Stands.{Stands};
 
-    /// Whether this cause can come now.
+    /// E1: whether this cause can come now.
     pub fn fits(&self, cause: &Cause) -> bool
         ensures { (events : List Event) → Stands self.now events → result ≡ fits_behind events cause.now }
     {

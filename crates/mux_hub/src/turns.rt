@@ -84,7 +84,7 @@ pub fn place_by_id(pending: &[Pending], id: &[u8]) -> Option<usize>
 }
 
 impl Tables {
-    /// A link was accepted.
+    /// J1: a link was accepted.
     fn join(&mut self)
         ensures { self.new ≡ (joined self.old).now }
     {
@@ -105,7 +105,7 @@ impl Tables {
         Ok(outs)
     }
 
-    /// A notification makes an answered editor run.
+    /// E15: a notification makes an answered editor run.
     fn note(&mut self)
         ensures { self.new ≡ (noted self.old).now }
     {
@@ -114,7 +114,7 @@ impl Tables {
         }
     }
 
-    /// The editor opens, changes or closes a document (LSP 3.17, Text Document Synchronization).
+    /// E12 to E14: the editor opens, changes or closes a document (LSP 3.17, Text Document Synchronization).
     fn document(&mut self, alloc: Global, message: &Message) -> Result<Outs, Memory>
         ensures { (body : List ℕ) → IsRead message.now body → IfOk result (λ outs. DocumentGives (document_step body (saying_of (message_of body)) self.old.documents) self.old outs self.new) }
     {
@@ -144,7 +144,7 @@ impl Tables {
         Ok(outs)
     }
 
-    /// The request goes to the start under its next number.
+    /// E10: the request goes to the start under its next number.
     fn forward(&mut self, alloc: Global, message: &Message) -> Result<Outs, Memory>
         requires { self.old.next < 4294967295 }
         ensures { (body : List ℕ) → IsRead message.now body → IfOk result (λ outs. Gives (forward self.old body) outs self.new) }
@@ -162,7 +162,7 @@ impl Tables {
         Ok(outs)
     }
 
-    /// The request is answered with an error (LSP 3.17, RequestFailed).
+    /// E10: the request is answered with an error (LSP 3.17, RequestFailed).
     fn refuse(&mut self, alloc: Global, message: &Message) -> Result<Outs, Memory>
         ensures { (body : List ℕ) → IsRead message.now body → IfOk result (λ outs. Gives (refuse self.old (error_text (id_bytes body) request_failed)) outs self.new) }
     {
@@ -172,7 +172,7 @@ impl Tables {
         one(alloc, Out::ToEditor(0, text))
     }
 
-    /// The start answered `initialize`: it is told that the session begins, and of each document that is open.
+    /// S2: the start answered `initialize`: it is told that the session begins, and of each document that is open.
     fn begin(&mut self, alloc: Global, encoding: Encoding) -> Result<Outs, Memory>
         ensures { IfOk result (λ outs. Gives (begun self.old encoding) outs self.new) }
     {
@@ -183,7 +183,7 @@ impl Tables {
         Ok(outs)
     }
 
-    /// The start answered `initialize`: it is told so, and so is the editor, if it waits.
+    /// S2: the start answered `initialize`: it is told so, and so is the editor, if it waits.
     fn ready(&mut self, alloc: Global, message: &Message) -> Result<Outs, Memory>
         ensures { (body : List ℕ) (id : Option Id) (r : Json) → IsRead message.now body → message_of body ≡ outcome_of id r → IfOk result (λ outs. Gives (ready_if (is_waiting self.old.phase) self.old body (encoding_in r)) outs self.new) }
     {
@@ -198,7 +198,7 @@ impl Tables {
         Ok(outs)
     }
 
-    /// An answer goes to the editor that asked, under its own id (JSON-RPC 2.0, section 5).
+    /// S5: an answer goes to the editor that asked, under its own id (JSON-RPC 2.0, section 5).
     fn pass_on(&mut self, alloc: Global, message: &Message, at: usize) -> Result<Outs, Memory>
         requires { at < length self.old.pending }
         ensures { (body : List ℕ) → IsRead message.now body → IfOk result (λ outs. Gives (pass_on self.old body at (slice_get self.old.pending at)) outs self.new) }
@@ -210,7 +210,7 @@ impl Tables {
         Ok(outs)
     }
 
-    /// A response to a request of the start's number goes to the editor that asked, if it is there.
+    /// S5: a response to a request of the start's number goes to the editor that asked, if it is there.
     fn answer(&mut self, alloc: Global, message: &Message) -> Result<Outs, Memory>
         ensures { (body : List ℕ) → IsRead message.now body → IfOk result (λ outs. Gives (answered self.old body (place_if (is_no_number (id_bytes body)) (id_bytes body) self.old.pending)) outs self.new) }
     {
@@ -221,7 +221,7 @@ impl Tables {
     }
 
     #[tactic(auto, using(crate::proofs::Heard::outcome_turn, crate::proofs::Heard::failure_turn))]
-    /// A result or an error came from the start, or something else, which gives nothing.
+    /// A result or an error came from the start; or something else, S1 among it, which gives nothing.
     fn hear_server(&mut self, alloc: Global, body: &Body) -> Result<Outs, Memory>
         requires { length body.now ≤ 268435456 }
         ensures { IfOk result (λ outs. Gives (from_server self.old body.now (message_of body.now) self.old.stage) outs self.new) }
@@ -240,7 +240,7 @@ impl Tables {
         }
     }
 
-    /// The editor's initialize founds a group, for which a server is to be started; the editor waits.
+    /// E7: the editor's initialize founds a group, for which a server is to be started; the editor waits.
     fn found(&mut self, alloc: Global, message: &Message) -> Result<Outs, Memory>
         ensures { (body method : List ℕ) (id : Id) (params : Option Json) → IsRead message.now body → message_of body ≡ request id method params → IfOk result (λ outs. Gives (found self.old body) outs self.new) }
     {
@@ -255,7 +255,7 @@ impl Tables {
         Ok(outs)
     }
 
-    /// A request goes on where it can, and else is refused.
+    /// E10: a request goes on where it can, and else is refused.
     fn ask(&mut self, alloc: Global, requests: u32, message: &Message) -> Result<Outs, Memory>
         ensures { (body : List ℕ) → IsRead message.now body → IfOk result (λ outs. Gives (ask_if (can_go requests self.old.stage self.old.next) self.old body) outs self.new) }
     {
@@ -266,7 +266,7 @@ impl Tables {
         }
     }
 
-    /// A request came from the editor.
+    /// A request came from the editor; E8 gives nothing where it is built.
     fn hear_request(
         &mut self,
         alloc: Global,
@@ -282,7 +282,7 @@ impl Tables {
         }
     }
 
-    /// A body that is no message is answered under a null id, if the editor is there (JSON-RPC 2.0, section 5).
+    /// E2: a body that is no message is answered under a null id, if the editor is there (JSON-RPC 2.0, section 5).
     fn reject(&mut self, alloc: Global, code: ErrorCode) -> Result<Outs, Memory>
         ensures { IfOk result (λ outs. Gives (malformed self.old (error_text (codes "null") (code_of code))) outs self.new) }
     {

@@ -7,6 +7,7 @@ use Rattle.event_model.specs.Event.{Event, events_of}
 use Rattle.event_model.specs.Phases.{desk_of, editors_of, backlog_of, is_linked}
 use Rattle.event_model.specs.Stages.{life_of, may_start, runs}
 
+-- E1
 abbrev pub fits_behind : List Event → Cause → Bool
 fits_behind before (Joined e) = nat_eq e (editors_of before)
 fits_behind before (FromEditor e body) = is_linked (desk_of e before).phase

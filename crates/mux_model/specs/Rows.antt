@@ -69,11 +69,13 @@ to_start s bodies = each (λ body. send (ToServer s body)) bodies
 abbrev pub document_row : Settings → List Event → ℕ → List ℕ → Saying → Row
 document_row settings before e body x = on (start_for e before) nothing (λ s. choose (is_ready (life_of s before).stage) (to_start s (document_bodies settings before s e body x)) nothing)
 
+-- E15 gives nothing, as a notification on no document does
 abbrev pub served_row : Settings → List Event → ℕ → List ℕ → Message → Row
 served_row settings before e body (request id method params) = request_row settings before e body
 served_row settings before e body (notification method params) = document_row settings before e body (saying_by method params)
 served_row settings before e body other = nothing
 
+-- E8 gives nothing where it is built
 abbrev pub message_row : Settings → List Event → ℕ → List ℕ → Message → Phase → Row
 message_row settings before e body m New = choose (requests (codes "initialize") m) found_group nothing
 message_row settings before e body m Answered = served_row settings before e body m
@@ -119,6 +121,7 @@ pass_on before body asked = choose (is_there (desk_of asked.asker.editor before)
 abbrev pub response_row : ℕ → List Event → List ℕ → Message → Row
 response_row s before body m = on (asked_by (answered_id m) (asking_of s before).open_requests) nothing (pass_on before body)
 
+-- S1 gives nothing, as all that is neither S2 nor S5 does
 abbrev pub from_server : ℕ → List Event → List ℕ → Message → Stage → Row
 from_server s before body m Initializing = choose (is_first_result m) (first_result s body) nothing
 from_server s before body m Ready = response_row s before body m
@@ -143,6 +146,7 @@ abbrev pub started : ℕ → List Event → Stage → Row
 started s before Spawning = send (ToServer s (initialize_for (founder_body s before)))
 started s before other = nothing
 
+-- J1 gives nothing, as each cause without a row of its own does
 abbrev pub row_of : Settings → List Event → Cause → Row
 row_of settings before (FromEditor e body) = from_editor settings before e body (message_of body) (desk_of e before).phase
 row_of settings before (FromServer s body) = from_server s before body (message_of body) (life_of s before).stage
