@@ -1,0 +1,9 @@
+//! The table of groups: which editors share a server, by what they have in common and what is declared for them.
+#![tactic(auto)]
+
+mod compare;
+mod groups;
+#[cfg(test)]
+mod tests;
+
+pub use groups::Groups;

@@ -1,0 +1,231 @@
+-- The groups, and which editor is in which, by the history: one fold, since an editor is placed by what the groups were before.
+use Rattle.std.specs.Prelude.{ℕ, ◌+◌, max, Bool, true, false, not, ◌&&◌, List, [], ◌∷◌, ◌++◌, length, map, fold, codes, nat_eq, nat_lt, nat_le, bytes_eq, if◌then◌else◌, encode_utf8_all}
+use Rattle.std.specs.Prelude.{Option, Some, None}
+use Rattle.std.specs.List.{filter, range_with_len, slice_get}
+use Rattle.json_text.specs.Json.{Json, object}
+use Rattle.mux_history.specs.declared.cause.Cause.TheVariants.{FromEditor, EditorGone, StartFailed, FromServer, ServerGone, Tick}
+use Rattle.mux_history.specs.declared.out.Out.TheVariants.{CloseEditor}
+use Rattle.rpc_message.specs.Message.{Message, request, error, integer}
+use Rattle.capability_meet.specs.declared.spot.Spot.TheVariants.{Top}
+use Rattle.capability_meet.specs.Meet.{meet_of}
+use Rattle.event_model.specs.declared.settings.Server.{Server}
+use Rattle.event_model.specs.declared.phase.Phase.{Phase}
+use Rattle.event_model.specs.declared.phase.Phase.TheVariants.{New, Waiting, Answered, Running, Down}
+use Rattle.event_model.specs.declared.stage.Stage.{Stage}
+use Rattle.event_model.specs.declared.stage.Stage.TheVariants.{Initializing}
+use Rattle.event_model.specs.Event.{Event, took, did, requests}
+use Rattle.mux_model.specs.Members.{params_of, named_of, string_of, listed, options_of, bytes_if}
+use Rattle.event_model.specs.Phases.{desk_of, editors_of, is_there}
+use Rattle.event_model.specs.Requests.{open_of, is_open}
+use Rattle.event_model.specs.Settings.{Settings}
+use Rattle.event_model.specs.Spawns.{group_of}
+use Rattle.event_model.specs.Stages.{life_of}
+use Rattle.group_words.specs.declared.kept.Kept.{Kept}
+use Rattle.group_words.specs.declared.placed.Placed.{Placed}
+use Rattle.group_words.specs.Keys.{Common}
+use Rattle.group_words.specs.Past.{past}
+use Rattle.group_words.specs.Placing.{changed, ended, exited, idle_from, is_due, end_where, is_live, placed_in, with_editor, home_by}
+
+-- the time is the greatest tick so far
+abbrev pub time_behind : ℕ → Event → ℕ
+time_behind now (took (Tick t) m) = max now t
+time_behind now other = now
+
+abbrev pub time_of : List Event → ℕ
+time_of events = fold time_behind 0 events
+
+-- the server that an editor's first `lspmux/open` names, where it comes before its `initialize` (E4)
+pub record Meant : Type 0 where
+  pub settled : Bool
+  pub server : Option ℕ
+
+abbrev pub named_from : ℕ → List ℕ → List Server → Option ℕ
+named_from i name [] = None
+named_from i name (x ∷ xs) = if bytes_eq name x.name then Some i else named_from (i + 1) name xs
+
+abbrev pub server_named : List Server → Option (List ℕ) → Option ℕ
+server_named servers None = None
+server_named servers (Some cs) = named_from 0 (encode_utf8_all cs) servers
+
+abbrev pub settles : List Server → Meant → Message → Meant
+settles servers x (request id method params) = if bytes_eq (codes "lspmux/open") method then record { settled = true; server = server_named servers (string_of (named_of (codes "server") params)) } else record { settled = bytes_eq (codes "initialize") method; server = None }
+settles servers x other = x
+
+abbrev pub meant_behind : List Server → ℕ → Meant → Event → Meant
+meant_behind servers e x (took (FromEditor n body) m) = if nat_eq n e && not x.settled then settles servers x m else x
+meant_behind servers e x other = x
+
+abbrev pub meant_of : List Server → ℕ → List Event → Meant
+meant_of servers e events = fold (meant_behind servers e) (record { settled = false; server = None }) events
+
+abbrev pub given_or : {A : Type 0} → Option A → A → A
+given_or (Some a) d = a
+given_or None d = d
+
+abbrev pub server_for : Settings → ℕ → List Event → ℕ
+server_for settings e before = given_or (meant_of settings.servers e before).server settings.default
+
+-- the folders of an initialize: each uri and name
+abbrev pub folder_of : Option (List ℕ) → Option (List ℕ) → List (List ℕ × List ℕ)
+folder_of None name = []
+folder_of (Some uri) name = (encode_utf8_all uri, encode_utf8_all (given_or name uri)) ∷ []
+
+abbrev pub folders_in : List Json → List (List ℕ × List ℕ)
+folders_in [] = []
+folders_in (j ∷ js) = folder_of (string_of (named_of (codes "uri") (Some j))) (string_of (named_of (codes "name") (Some j))) ++ folders_in js
+
+abbrev pub or_root : List (List ℕ × List ℕ) → Option (List ℕ) → List (List ℕ × List ℕ)
+or_root (x ∷ xs) root = x ∷ xs
+or_root [] root = folder_of root None
+
+abbrev pub folders_of : Option Json → List (List ℕ × List ℕ)
+folders_of params = or_root (folders_in (listed (named_of (codes "workspaceFolders") params))) (string_of (named_of (codes "rootUri") params))
+
+-- one trailing slash is removed (of the URL's normal form)
+abbrev pub without_slash : List ℕ → List ℕ
+without_slash [] = []
+without_slash (b ∷ []) = if nat_eq b 47 then [] else b ∷ []
+without_slash (b ∷ c ∷ bs) = b ∷ without_slash (c ∷ bs)
+
+abbrev pub normal_of : List ℕ × List ℕ → List ℕ
+normal_of folder = without_slash folder.0
+
+abbrev pub key_for : Settings → List Event → ℕ → List ℕ → Common
+key_for settings before e body = record {
+  server = server_for settings e before;
+  folders = folders_of (params_of body);
+  normal = map normal_of (folders_of (params_of body));
+  options = options_of body;
+}
+
+-- what an editor offers, and what of it is declared to a server
+abbrev pub is_object : Option Json → Bool
+is_object (Some (object s ms)) = true
+is_object _ = false
+
+abbrev pub offered : List ℕ → List ℕ
+offered body = if is_object (named_of (codes "capabilities") (params_of body)) then given_or (bytes_if (codes "capabilities") (params_of body) body) (codes "{}") else codes "{}"
+
+abbrev pub ceiling_of : Option Server → List ℕ → List ℕ
+ceiling_of None capabilities = capabilities
+ceiling_of (Some server) capabilities = given_or server.ceiling capabilities
+
+abbrev pub declared_for : Settings → List Event → ℕ → List ℕ → List ℕ
+declared_for settings before e body = given_or (meet_of Top (offered body) (ceiling_of (slice_get settings.servers (server_for settings e before)) (offered body))) (codes "{}")
+
+-- the groups, and the group of each editor
+pub record House : Type 0 where
+  pub home : ℕ → Option ℕ
+  pub groups : List Kept
+
+abbrev pub is_new : Phase → Bool
+is_new New = true
+is_new _ = false
+
+-- an editor of a group
+abbrev pub is_begun : Phase → Bool
+is_begun Waiting = true
+is_begun Answered = true
+is_begun Running = true
+is_begun Down = true
+is_begun _ = false
+
+-- for such a one its server is started again
+abbrev pub needs_server : Phase → Bool
+needs_server Waiting = true
+needs_server Answered = true
+needs_server Running = true
+needs_server _ = false
+
+abbrev pub is_home : ℕ → Option ℕ → Bool
+is_home g None = false
+is_home g (Some h) = nat_eq h g
+
+-- the editors of group g in such a phase, rising
+abbrev pub editors_in : (Phase → Bool) → ℕ → (ℕ → Option ℕ) → List Event → List ℕ
+editors_in test g home events = filter (λ e. test (desk_of e events).phase && is_home g (home e)) (range_with_len 0 (editors_of events))
+
+abbrev pub has_editor : (Phase → Bool) → ℕ → (ℕ → Option ℕ) → List Event → Bool
+has_editor test g home events = nat_lt 0 (length (editors_in test g home events))
+
+-- E7: the message places its editor
+abbrev pub places : Phase → Message → Bool
+places phase m = is_new phase && requests (codes "initialize") m
+
+-- E6: the message stops all
+abbrev pub is_doubled : List Event → ℕ → Message → Bool
+is_doubled before e (request id method params) = is_open id (open_of e before)
+is_doubled before e other = false
+
+abbrev pub stops : List Event → ℕ → Message → Bool
+stops before e m = requests (codes "lspmux/stop") m && (is_there (desk_of e before).phase && not (is_doubled before e m))
+
+abbrev pub placed_for : Settings → List Event → ℕ → List ℕ → List Kept → Placed
+placed_for settings before e body groups = placed_in settings.limits.groups (key_for settings before e body) (declared_for settings before e body) groups
+
+abbrev pub groups_hear : Settings → List Event → ℕ → List ℕ → Message → List Kept → List Kept
+groups_hear settings before e body m groups =
+    if places (desk_of e before).phase m then with_editor (placed_for settings before e body groups) (key_for settings before e body) (declared_for settings before e body) groups
+    else if stops before e m then end_where is_live groups else groups
+
+-- an editor leaves, and its group is idle where it was the last
+abbrev pub idle_if_live : ℕ → Kept → Kept
+idle_if_live now x = if x.live then idle_from now x else x
+
+abbrev pub emptied : Option ℕ → Bool → (ℕ → Bool) → ℕ → List Kept → List Kept
+emptied None was stays now groups = groups
+emptied (Some g) was stays now groups = if was && not (stays g) then changed g (idle_if_live now) groups else groups
+
+abbrev pub groups_left : List Event → Event → ℕ → House → List Kept
+groups_left before event e x = emptied (x.home e) (is_begun (desk_of e before).phase) (λ g. has_editor is_begun g x.home (before ++ event ∷ [])) (time_of before) x.groups
+
+-- X1 to X3: a start of a live group ended; S3: it refuses its initialize
+abbrev pub exit_of : ℕ → Bool → Kept → Kept
+exit_of restarts wanted x = if x.live then (if wanted && nat_le (x.exits + 1) restarts then exited x else ended (exited x)) else x
+
+abbrev pub at_group : Option ℕ → (ℕ → Kept → Kept) → List Kept → List Kept
+at_group None f groups = groups
+at_group (Some g) f groups = changed g (f g) groups
+
+abbrev pub groups_lose : Settings → List Event → ℕ → House → List Kept
+groups_lose settings before s x = at_group (group_of s before) (λ g. exit_of settings.limits.restarts (has_editor needs_server g x.home before)) x.groups
+
+abbrev pub is_initializing : Stage → Bool
+is_initializing Initializing = true
+is_initializing _ = false
+
+abbrev pub is_first_error : Message → Bool
+is_first_error (error (Some (integer n)) e) = bytes_eq n (codes "1")
+is_first_error _ = false
+
+abbrev pub groups_refused : List Event → ℕ → Message → List Kept → List Kept
+groups_refused before s m groups = if is_first_error m && is_initializing (life_of s before).stage then at_group (group_of s before) (λ g. ended) groups else groups
+
+abbrev pub groups_next : Settings → List Event → House → Event → List Kept
+groups_next settings before x (took (FromEditor e body) m) = groups_hear settings before e body m x.groups
+groups_next settings before x (took (EditorGone e why) m) = groups_left before (took (EditorGone e why) m) e x
+groups_next settings before x (took (FromServer s body) m) = groups_refused before s m x.groups
+groups_next settings before x (took (StartFailed s) m) = groups_lose settings before s x
+groups_next settings before x (took (ServerGone s) m) = groups_lose settings before s x
+groups_next settings before x (took (Tick t) m) = end_where (is_due settings.limits.idle (max (time_of before) t)) x.groups
+groups_next settings before x (did (CloseEditor e) m) = groups_left before (did (CloseEditor e) m) e x
+groups_next settings before x other = x.groups
+
+abbrev pub home_next : Settings → List Event → House → Event → ℕ → Option ℕ
+home_next settings before x (took (FromEditor e body) m) n = if nat_eq e n && places (desk_of e before).phase m then home_by (placed_for settings before e body x.groups) (x.home n) else x.home n
+home_next settings before x other n = x.home n
+
+abbrev pub house_next : Settings → List Event → House → Event → House
+house_next settings before x event = record { home = λ n. home_next settings before x event n; groups = groups_next settings before x event }
+
+abbrev pub no_house : House
+no_house = record { home = λ n. None; groups = [] }
+
+abbrev pub house_of : Settings → List Event → House
+house_of settings events = past (house_next settings) [] no_house events
+
+abbrev pub groups_of : Settings → List Event → List Kept
+groups_of settings events = (house_of settings events).groups
+
+abbrev pub home_of : Settings → ℕ → List Event → Option ℕ
+home_of settings e events = (house_of settings events).home e

@@ -1,0 +1,12 @@
+//! The groups of editors: what is known of one, and where an editor is placed.
+#![tactic(auto)]
+
+mod idle;
+mod kept;
+mod key;
+mod placed;
+
+pub use idle::Idle;
+pub use kept::Kept;
+pub use key::Key;
+pub use placed::Placed;
