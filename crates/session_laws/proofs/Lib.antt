@@ -21,6 +21,7 @@ pub mod Server2Law
 pub mod Server3Law
 pub mod Server4Law
 pub mod Sessions
+pub mod SpawnedLaw
 pub mod Starts
 pub mod Table
 pub mod Tellings

@@ -1,5 +1,6 @@
 // The rules of `specs/ClientRules.antt` and `specs/ServerRules.antt`, each a law of every legal history.
-ghost use Rattle.std.specs.Prelude.{List};
+ghost use Rattle.std.specs.Prelude.{ℕ, ◌≤◌, List};
+ghost use Rattle.mux_history.specs.Cores.{spawns};
 ghost use Rattle.mux_history.specs.declared.entry.Entry.{Entry};
 ghost use Rattle.mux_model.specs.Legal.{Legal};
 ghost use Rattle.event_model.specs.Settings.{Settings};
@@ -40,4 +41,10 @@ pub fn server_3()
 /// its version plus 1, or closes, where it has it (LSP 3.17, Text Document Synchronization).
 pub fn server_4()
     ensures { (settings : Settings) → InRange settings → (history : List Entry) → Legal settings history → KeepsServer4 history }
+{}
+
+/// A law: no start is spawned twice. It is no rule of a session; that each lane of a server has its own starts follows
+/// from it.
+pub fn spawned_once()
+    ensures { (settings : Settings) (history : List Entry) → Legal settings history → (s : ℕ) → spawns s history ≤ 1 }
 {}
