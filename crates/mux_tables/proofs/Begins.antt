@@ -1,0 +1,38 @@
+-- The tables of a multiplexer that heard nothing.
+use Rattle.std.proofs.Common.{◌≡◌, ℕ, ◌<◌, ◌≤◌, ◌^◌, [], refl, arith}
+use Rattle.std.specs.Prelude.{Option, Some, None}
+use Rattle.event_model.specs.Settings.{Settings}
+use Rattle.mux_tables.specs.declared.tables.Tables.{Tables}
+use Rattle.mux_tables.specs.Stands.{Part, of_life, of_ids, PartStands, blank, GroupsStand, LastsStand, Stands}
+
+none_some : {A : Type 0} {x : A} → ◌≡◌ {A = Option A} None (Some x) → ⊥
+none_some e = cc
+
+blank_stands : (limit s : ℕ) → 2 ≤ limit → (p : Part) → PartStands p limit (blank limit s) []
+blank_stands limit s h of_life = refl
+blank_stands limit s h of_ids = record { next = refl; open_requests = refl; ends = refl; order = record { rising = omega arith; within = h } }
+
+no_lasts : (limit : ℕ) → 2 ≤ limit → LastsStand limit [] []
+no_lasts limit h = record {
+  none = λ g l. refl;
+  each = λ i x e. absurd (none_some e);
+  fresh = λ s l p. blank_stands limit s h p;
+  old = λ s g e. absurd (none_some e);
+}
+
+no_groups : (settings : Settings) (limit idle : ℕ) → settings.limits.groups ≡ limit → settings.limits.idle ≡ idle → GroupsStand settings (record { limit = limit; idle = idle; groups = [] }) []
+no_groups settings limit idle g i = record { groups = refl; limit = g; idle = i }
+
+pub begins : (settings : Settings) (t : Tables) (groups idle : ℕ) → 2 ≤ t.requests → t.requests < 2 ^ 32 → t.editors ≡ [] → t.groups ≡ record { limit = groups; idle = idle; groups = [] } → t.time ≡ 0 → t.lasts.items ≡ [] → t.origins.items ≡ []
+    → settings.limits.groups ≡ groups → settings.limits.idle ≡ idle → settings.limits.requests ≡ t.requests → Stands settings t []
+begins settings t groups idle h below es gs now ls os limit wait last = record {
+  house = record {
+    editors = rw es (record { count = refl; phase = λ e. refl; home = λ e. refl });
+    groups = rw gs (no_groups settings groups idle limit wait);
+    now = rw now refl;
+  };
+  origins = rw os (record { count = refl; group = λ s. refl });
+  lasts = rw ls (no_lasts t.requests h);
+  requests = last;
+  range = below;
+}

@@ -1,0 +1,209 @@
+-- An event leaves alone what it doesn't name: one lemma for each word, by cases of the event, and one for each table.
+use Rattle.std.proofs.Common.{◌≡◌, ℕ, ◌+◌, Bool, true, false, not, List, [], ◌∷◌, ◌++◌, refl, ap, sym, subst, ◌∙◌, nat_eq, arith}
+use Rattle.std.specs.Prelude.{Option, codes, if◌then◌else◌}
+use Rattle.std.proofs.lemmas.Bool.Decides.{nat_tests}
+use Rattle.mux_history.specs.declared.cause.Cause.TheVariants.{Joined, FromEditor, EditorGone, Started, StartFailed, FromServer, ServerGone, Tick}
+use Rattle.mux_history.specs.declared.out.Out.TheVariants.{ToEditor, ToServer, Spawn, CloseEditor, EndServer}
+use Rattle.rpc_message.specs.Message.{Message, request, notification}
+use Rattle.event_model.specs.declared.stage.Stage.{Stage}
+use Rattle.event_model.specs.declared.stage.Stage.TheVariants.{Initializing, Ready}
+use Rattle.event_model.specs.Event.{Event, took, did, requests}
+use Rattle.event_model.specs.Phases.{Desk, desk_behind, editors_behind}
+use Rattle.event_model.specs.Requests.{is_own}
+use Rattle.event_model.specs.Settings.{Settings}
+use Rattle.event_model.specs.Spawns.{starts_behind, start_behind, group_behind}
+use Rattle.event_model.specs.Stages.{Life, life_behind, is_first_result, stage_hears, stage_told}
+use Rattle.event_model.proofs.Frames.{one_more, never}
+use Rattle.editor_session.specs.declared.session.Session.{Session}
+use Rattle.group_table.specs.Tables as group_tables
+use Rattle.group_words.specs.Houses.{time_behind}
+use Rattle.group_words.proofs.Frames.{touches_groups, names_home, groups_stay, home_stays}
+use Rattle.id_rewrite.specs.Tables.{Table}
+use Rattle.mux_tables.specs.declared.tables.Start.{Start}
+use Rattle.mux_tables.specs.Forwarded.{Forwarding, forwarding_behind, forwarding_of, forwards, moves_ids, numbered}
+use Rattle.mux_tables.specs.Stands.{EditorsStand, GroupsStand, OriginsStand, IdsAt, IdsStand, Part, of_life, of_ids, PartStands, LastStands}
+
+pub itself : (n : ℕ) → nat_eq n n ≡ true
+itself n = grind (arith, nat_tests)
+
+-- the event speaks of start s, of an editor, of a start that is spawned, of the time
+abbrev pub names_start : ℕ → Event → Bool
+names_start s (took (Started n) m) = nat_eq n s
+names_start s (took (StartFailed n) m) = nat_eq n s
+names_start s (took (FromServer n body) m) = nat_eq n s
+names_start s (took (ServerGone n) m) = nat_eq n s
+names_start s (did (ToServer n body) m) = nat_eq n s
+names_start s (did (Spawn n g) m) = nat_eq n s
+names_start s (did (EndServer n) m) = nat_eq n s
+names_start s other = false
+
+abbrev pub names_editor : Event → Bool
+names_editor (took (Joined n) m) = true
+names_editor (took (FromEditor n body) m) = true
+names_editor (took (EditorGone n why) m) = true
+names_editor (did (ToEditor n body) m) = true
+names_editor (did (CloseEditor n) m) = true
+names_editor other = false
+
+abbrev pub spawns : Event → Bool
+spawns (did (Spawn n g) m) = true
+spawns other = false
+
+abbrev pub ticks : Event → Bool
+ticks (took (Tick t) m) = true
+ticks other = false
+
+-- the words of editors
+pub editors_alone : (n : ℕ) (ev : Event) → names_editor ev ≡ false → editors_behind n ev ≡ n
+editors_alone n (took (Joined e) m) h = never h
+editors_alone n other h = refl
+
+pub desk_alone : (e : ℕ) (d : Desk) (ev : Event) → names_editor ev ≡ false → desk_behind e d ev ≡ d
+desk_alone e d (took (Joined n) m) h = never h
+desk_alone e d (took (FromEditor n body) m) h = never h
+desk_alone e d (took (EditorGone n why) m) h = never h
+desk_alone e d (did (ToEditor n body) m) h = never h
+desk_alone e d (did (CloseEditor n) m) h = never h
+desk_alone e d other h = refl
+
+homeless : (n : ℕ) (ev : Event) → names_editor ev ≡ false → names_home n ev ≡ false
+homeless n (took (FromEditor e body) m) h = never h
+homeless n other h = refl
+
+-- the time
+pub time_alone : (now : ℕ) (ev : Event) → ticks ev ≡ false → time_behind now ev ≡ now
+time_alone now (took (Tick t) m) h = never h
+time_alone now other h = refl
+
+-- the words of which starts there are
+pub starts_alone : (n : ℕ) (ev : Event) → spawns ev ≡ false → starts_behind n ev ≡ n
+starts_alone n (did (Spawn s g) m) h = never h
+starts_alone n other h = refl
+
+pub start_alone : (g : ℕ) (o : Option ℕ) (ev : Event) → spawns ev ≡ false → start_behind g o ev ≡ o
+start_alone g o (did (Spawn s h) m) k = never k
+start_alone g o other k = refl
+
+pub group_alone : (s : ℕ) (o : Option ℕ) (ev : Event) → spawns ev ≡ false → group_behind s o ev ≡ o
+group_alone s o (did (Spawn n g) m) k = never k
+group_alone s o other k = refl
+
+pub group_apart : (s : ℕ) (o : Option ℕ) (ev : Event) → names_start s ev ≡ false → group_behind s o ev ≡ o
+group_apart s o (did (Spawn n g) m) h = rw h refl
+group_apart s o other h = refl
+
+-- the words of a start
+pub life_alone : (s : ℕ) (x : Life) (ev : Event) → names_start s ev ≡ false → life_behind s x ev ≡ x
+life_alone s x (took (Started n) m) h = rw h refl
+life_alone s x (took (StartFailed n) m) h = rw h refl
+life_alone s x (took (FromServer n body) m) h = rw h refl
+life_alone s x (took (ServerGone n) m) h = rw h refl
+life_alone s x (did (ToServer n body) m) h = rw h refl
+life_alone s x (did (Spawn n g) m) h = rw h refl
+life_alone s x (did (EndServer n) m) h = rw h refl
+life_alone s x other h = refl
+
+-- beside whose request is at work
+pub record SameForwarding (a b : Forwarding) : Type 0 where
+  pub next : a.next ≡ b.next
+  pub open_requests : a.open_requests ≡ b.open_requests
+
+pub forwarding_alone : (s : ℕ) (x : Forwarding) (ev : Event) → names_start s ev ≡ false → SameForwarding (forwarding_behind s x ev) x
+forwarding_alone s x (took (FromServer n body) m) h = rw h (record { next = refl; open_requests = refl })
+forwarding_alone s x (took (StartFailed n) m) h = rw h (record { next = refl; open_requests = refl })
+forwarding_alone s x (took (ServerGone n) m) h = rw h (record { next = refl; open_requests = refl })
+forwarding_alone s x (did (ToServer n body) m) h = rw h (record { next = refl; open_requests = refl })
+forwarding_alone s x other h = record { next = refl; open_requests = refl }
+
+-- the tables of which there is one
+pub editors_stand : (settings : Settings) (t : List Session) (events : List Event) (ev : Event) → names_editor ev ≡ false → EditorsStand settings t events → EditorsStand settings t (events ++ ev ∷ [])
+editors_stand settings t events ev h s = record {
+  count = one_more editors_behind _ _ events ev s.count ∙ editors_alone _ ev h;
+  phase = λ e. ap (λ (d : Desk). d.phase) (one_more (desk_behind e) _ _ events ev refl ∙ desk_alone e _ ev h) ∙ s.phase e;
+  home = λ e. home_stays settings e events ev (homeless e ev h) ∙ s.home e;
+}
+
+pub groups_stand : (settings : Settings) (t : group_tables.Table) (events : List Event) (ev : Event) → touches_groups ev ≡ false → GroupsStand settings t events → GroupsStand settings t (events ++ ev ∷ [])
+groups_stand settings t events ev h s = record { groups = groups_stay settings events ev h ∙ s.groups; limit = s.limit; idle = s.idle }
+
+pub origins_stand : (t : List ℕ) (events : List Event) (ev : Event) → spawns ev ≡ false → OriginsStand t events → OriginsStand t (events ++ ev ∷ [])
+origins_stand t events ev h s = record {
+  count = one_more starts_behind _ _ events ev s.count ∙ starts_alone _ ev h;
+  group = λ n. one_more (group_behind n) _ _ events ev (s.group n) ∙ group_alone n _ ev h;
+}
+
+-- the tables of a start: the events that each speaks of
+abbrev pub touches : Part → Event → Bool
+touches of_life (took (Started n) m) = true
+touches of_life (took (StartFailed n) m) = true
+touches of_life (took (FromServer n body) m) = is_first_result m
+touches of_life (took (ServerGone n) m) = true
+touches of_life (did (ToServer n body) m) = requests (codes "shutdown") m
+touches of_life (did (Spawn n g) m) = true
+touches of_life (did (EndServer n) m) = true
+touches of_life other = false
+touches of_ids (took (StartFailed n) m) = true
+touches of_ids (took (FromServer n body) m) = true
+touches of_ids (took (ServerGone n) m) = true
+touches of_ids (did (ToServer n body) m) = moves_ids m
+touches of_ids other = false
+
+hears_quiet : (g : Stage) (m : Message) → is_first_result m ≡ false → stage_hears g m ≡ g
+hears_quiet Initializing m h = rw h refl
+hears_quiet other m h = refl
+
+told_quiet : (g : Stage) (m : Message) → requests (codes "shutdown") m ≡ false → stage_told g m ≡ g
+told_quiet Ready m h = rw h refl
+told_quiet other m h = refl
+
+same_life : (b : Bool) (x : Life) (g : Stage) → g ≡ x.stage → (if b then record { stage = g; started = x.started } else x) ≡ x
+same_life true x g e = ap (λ z. record { stage = z; started = x.started }) e
+same_life false x g e = refl
+
+life_quiet : (s : ℕ) (x : Life) (ev : Event) → touches of_life ev ≡ false → life_behind s x ev ≡ x
+life_quiet s x (took (Started n) m) h = never h
+life_quiet s x (took (StartFailed n) m) h = never h
+life_quiet s x (took (FromServer n body) m) h = same_life (nat_eq n s) x _ (hears_quiet x.stage m h)
+life_quiet s x (took (ServerGone n) m) h = never h
+life_quiet s x (did (ToServer n body) m) h = same_life (nat_eq n s) x _ (told_quiet x.stage m h)
+life_quiet s x (did (Spawn n g) m) h = never h
+life_quiet s x (did (EndServer n) m) h = never h
+life_quiet s x other h = refl
+
+forwards_quiet : (b : Bool) (x : Forwarding) (m : Message) → moves_ids m ≡ false → SameForwarding (if b then forwards x m else x) x
+forwards_quiet false x m h = record { next = refl; open_requests = refl }
+forwards_quiet true x (request id method ps) h = go (is_own method) h
+  where
+    go : (b : Bool) → not b ≡ false → SameForwarding (if b then x else record { sender = x.sender; next = x.next + 1; open_requests = x.open_requests ++ numbered x.sender x.next }) x
+    go true h = record { next = refl; open_requests = refl }
+    go false h = never h
+forwards_quiet true x (notification method ps) h = rw h (record { next = refl; open_requests = refl })
+forwards_quiet true x other h = record { next = refl; open_requests = refl }
+
+forwarding_quiet : (s : ℕ) (x : Forwarding) (ev : Event) → touches of_ids ev ≡ false → SameForwarding (forwarding_behind s x ev) x
+forwarding_quiet s x (took (FromServer n body) m) h = never h
+forwarding_quiet s x (took (StartFailed n) m) h = never h
+forwarding_quiet s x (took (ServerGone n) m) h = never h
+forwarding_quiet s x (did (ToServer n body) m) h = forwards_quiet (nat_eq n s) x m h
+forwarding_quiet s x other h = record { next = refl; open_requests = refl }
+
+-- an event of another start, and an event of another kind
+ids_by : (limit s : ℕ) (t : Table) (events : List Event) (ev : Event) → SameForwarding (forwarding_behind s (forwarding_of s events) ev) (forwarding_of s events) → IdsStand limit s t events → IdsStand limit s t (events ++ ev ∷ [])
+ids_by limit s t events ev same i = subst (λ x. IdsAt limit x t) (sym (one_more (forwarding_behind s) _ _ events ev refl)) (record { next = same.next ∙ i.next; open_requests = same.open_requests ∙ i.open_requests; ends = i.ends; order = i.order })
+
+pub part_apart : (p : Part) (limit : ℕ) (x : Start) (events : List Event) (ev : Event) → names_start x.life.start ev ≡ false → PartStands p limit x events → PartStands p limit x (events ++ ev ∷ [])
+part_apart of_life limit x events ev h s = one_more (life_behind x.life.start) _ _ events ev s ∙ life_alone x.life.start _ ev h
+part_apart of_ids limit x events ev h s = ids_by limit x.life.start x.ids events ev (forwarding_alone x.life.start (forwarding_of x.life.start events) ev h) s
+
+pub part_quiet : (p : Part) (limit : ℕ) (x : Start) (events : List Event) (ev : Event) → touches p ev ≡ false → PartStands p limit x events → PartStands p limit x (events ++ ev ∷ [])
+part_quiet of_life limit x events ev h s = one_more (life_behind x.life.start) _ _ events ev s ∙ life_quiet x.life.start _ ev h
+part_quiet of_ids limit x events ev h s = ids_by limit x.life.start x.ids events ev (forwarding_quiet x.life.start (forwarding_of x.life.start events) ev h) s
+
+-- the last start of a group, where the event doesn't name it, and no start is spawned for the group
+pub last_stands : (limit : ℕ) (events : List Event) (ev : Event) (g : ℕ) (x : Start) → names_start x.life.start ev ≡ false → ((o : Option ℕ) → start_behind g o ev ≡ o) → LastStands limit events g x → LastStands limit (events ++ ev ∷ []) g x
+last_stands limit events ev g x h k s = record {
+  start = one_more (start_behind g) _ _ events ev s.start ∙ k _;
+  home = one_more (group_behind x.life.start) _ _ events ev s.home ∙ group_apart x.life.start _ ev h;
+  own = s.own;
+  parts = λ p. part_apart p limit x events ev h (s.parts p);
+}

@@ -1,0 +1,129 @@
+-- What the tables do when a cause about an editor comes, as the code has it.
+use Rattle.std.proofs.Common.{◌≡◌, ℕ, ◌<◌, Bool, true, false, List, [], ◌∷◌, ◌++◌, length, max, refl, ap, sym, subst, ◌∙◌, ◌&&◌, nat_eq, codes}
+use Rattle.std.specs.Prelude.{Option, Some, slice_get, slice_set}
+use Rattle.std.proofs.lemmas.Bool.{ne_eqb}
+use Rattle.std.proofs.lemmas.Option.{slice_get-get_or}
+use Rattle.std.proofs.lemmas.List.{length-set, length-append}
+use Rattle.mux_history.specs.declared.cause.Why.{Why}
+use Rattle.mux_history.specs.declared.cause.Cause.TheVariants.{Joined, FromEditor, EditorGone, Tick}
+use Rattle.rpc_message.specs.Message.{message_of, not_message}
+use Rattle.event_model.specs.declared.phase.Phase.{Phase}
+use Rattle.event_model.specs.declared.phase.Phase.TheVariants.{Absent, New, Waiting}
+use Rattle.event_model.specs.declared.phase.Phase.TheVariants as phase
+use Rattle.event_model.specs.Event.{Event, heard, took, requests}
+use Rattle.event_model.specs.Phases.{Desk, desk_of, desk_behind, editors_behind}
+use Rattle.event_model.specs.Settings.{Settings}
+use Rattle.event_model.proofs.Frames.{one_more}
+use Rattle.event_model.proofs.Places.{Same, same, other, compare, get_set_same, get_set_other, get_push_same, get_push_other}
+use Rattle.editor_session.specs.declared.session.Session.{Session}
+use Rattle.editor_session.specs.Sessions.{absent, joined, session_of, with_session}
+use Rattle.group_table.specs.Tables.{Table, after_place, place_in, with_groups}
+use Rattle.group_words.specs.Keys.{Common}
+use Rattle.group_words.specs.Placing as placing
+use Rattle.group_words.specs.Placing.{all_from, home_by, is_due}
+use Rattle.group_words.specs.declared.placed.Placed.{Placed}
+use Rattle.group_words.specs.Houses.{declared_for, emptied, groups_of, is_begun, key_for, placed_for, places, stops, time_behind}
+use Rattle.group_words.proofs.Frames.{groups_more, home_more}
+use Rattle.mux_tables.specs.declared.tables.Tables.{Tables}
+use Rattle.mux_tables.specs.Stands.{EditorsStand, GroupsStand, Stands, ends, phase_in, group_in, stays_in}
+use Rattle.mux_tables.proofs.Ends.{tick_heard}
+use Rattle.mux_tables.proofs.Frames.{itself, groups_stand}
+use Rattle.mux_tables.proofs.Leaves.{gone_by}
+use Rattle.mux_tables.proofs.Moves.{house_moves}
+use Rattle.mux_tables.proofs.Seated.{Seated, initialize_heard}
+
+and_off : (a : Bool) → (a && false) ≡ false
+and_off true = refl
+and_off false = refl
+
+-- J1
+joined_editors : (settings : Settings) (t u : List Session) (events : List Event) (e : ℕ) → e ≡ length t → u ≡ t ++ joined ∷ [] → EditorsStand settings t events → EditorsStand settings u (events ++ took (Joined e) not_message ∷ [])
+joined_editors settings t u events e last is s = record {
+  count = one_more editors_behind _ _ events (took (Joined e) not_message) s.count ∙ (sym (length-append t (joined ∷ [])) ∙ ap length (sym is));
+  phase = λ j. ap (λ (d : Desk). d.phase) (one_more (desk_behind j) _ _ events (took (Joined e) not_message) refl)
+      ∙ (subst (λ n. (desk_behind j (desk_of j events) (took (Joined n) not_message)).phase ≡ phase_in (slice_get (t ++ joined ∷ []) j)) (sym last) (go j (compare (length t) j)) ∙ ap (λ z. phase_in (slice_get z j)) (sym is));
+  home = λ j. home_more settings j events (took (Joined e) not_message) ∙ (s.home j ∙ (place j (compare (length t) j) ∙ ap (λ z. group_in (slice_get z j)) (sym is)));
+}
+  where
+    go : (j : ℕ) → Same (length t) j → (desk_behind j (desk_of j events) (took (Joined (length t)) not_message)).phase ≡ phase_in (slice_get (t ++ joined ∷ []) j)
+    go _ same = rw (itself (length t), get_push_same t joined) refl
+    go j (other h) = rw (ne_eqb (length t) j (λ q. h (sym q)), get_push_other t joined j h) (s.phase j)
+
+    place : (j : ℕ) → Same (length t) j → group_in (slice_get t j) ≡ group_in (slice_get (t ++ joined ∷ []) j)
+    place _ same = rw (get_push_same t joined) (past t)
+      where
+        past : (xs : List Session) → group_in (slice_get xs (length xs)) ≡ group_in (Some joined)
+        past [] = refl
+        past (x ∷ xs) = past xs
+    place j (other h) = rw (get_push_other t joined j h) refl
+
+pub joined_moves : (settings : Settings) (t u : Tables) (events : List Event) (e : ℕ) → e ≡ length t.editors → u.editors ≡ t.editors ++ joined ∷ [] → u.groups ≡ t.groups → u.time ≡ t.time → u.lasts ≡ t.lasts → u.origins ≡ t.origins → u.requests ≡ t.requests
+    → Stands settings t events → Stands settings u (events ++ took (Joined e) not_message ∷ [])
+joined_moves settings t u events e last is gs now ls os r s = house_moves settings t u events (took (Joined e) not_message) (λ n. refl) refl (ap (λ v. v.items) ls) (ap (λ v. v.items) os) r (λ h. record {
+  editors = joined_editors settings t.editors u.editors events e last is h.editors;
+  groups = subst (λ g. GroupsStand settings g (events ++ took (Joined e) not_message ∷ [])) (sym gs) (groups_stand settings t.groups events (took (Joined e) not_message) refl h.groups);
+  now = one_more time_behind _ _ events (took (Joined e) not_message) h.now ∙ sym now;
+}) s
+
+-- a message that places nobody, and stops nothing
+module _ (settings : Settings) (t u : Tables) (events : List Event) (e : ℕ) (body : List ℕ) (p : Phase) (l : e < length t.editors) (is : u.editors ≡ with_session t.editors e (record (session_of t.editors e) { phase = p }))
+    (gs : u.groups ≡ t.groups) (now : u.time ≡ t.time) (ls : u.lasts ≡ t.lasts) (os : u.origins ≡ t.origins) (r : u.requests ≡ t.requests)
+    (stays : places (desk_of e events).phase (message_of body) ≡ false) (goes : stops events e (message_of body) ≡ false) (step : (desk_of e (events ++ heard (FromEditor e body) ∷ [])).phase ≡ p) where
+  abbrev ev : Event
+  ev = took (FromEditor e body) (message_of body)
+
+  heard_editors : EditorsStand settings t.editors events → EditorsStand settings u.editors (events ++ ev ∷ [])
+  heard_editors s = record {
+    count = one_more editors_behind _ _ events ev s.count ∙ (sym (length-set t.editors e y) ∙ ap length (sym is));
+    phase = λ n. phase_at n (compare e n) ∙ ap (λ z. phase_in (slice_get z n)) (sym is);
+    home = λ n. home_more settings n events ev ∙ (rw (stays, and_off (nat_eq e n)) (s.home n) ∙ (home_at n (compare e n) ∙ ap (λ z. group_in (slice_get z n)) (sym is)));
+  }
+    where
+      x : Session
+      x = session_of t.editors e
+
+      y : Session
+      y = record x { phase = p }
+
+      here : slice_get (slice_set t.editors e y) e ≡ Some y
+      here = get_set_same t.editors e y l
+
+      phase_at : (n : ℕ) → Same e n → (desk_of n (events ++ ev ∷ [])).phase ≡ phase_in (slice_get (slice_set t.editors e y) n)
+      phase_at _ same = step ∙ ap phase_in (sym here)
+      phase_at n (other h) = ap (λ (d : Desk). d.phase) (one_more (desk_behind n) _ _ events ev refl) ∙ rw (ne_eqb e n (λ q. h (sym q)), get_set_other t.editors e n y h) (s.phase n)
+
+      home_at : (n : ℕ) → Same e n → group_in (slice_get t.editors n) ≡ group_in (slice_get (slice_set t.editors e y) n)
+      home_at _ same = ap group_in (slice_get-get_or t.editors e absent l) ∙ ap group_in (sym here)
+      home_at n (other h) = ap group_in (sym (get_set_other t.editors e n y h))
+
+  pub heard_moves : Stands settings t events → Stands settings u (events ++ ev ∷ [])
+  heard_moves = house_moves settings t u events ev (λ n. refl) refl (ap (λ v. v.items) ls) (ap (λ v. v.items) os) r (λ h. record {
+    editors = heard_editors h.editors;
+    groups = subst (λ g. GroupsStand settings g (events ++ ev ∷ [])) (sym gs) (record { groups = groups_more settings events ev ∙ (rw (stays, goes) refl ∙ h.groups.groups); limit = h.groups.limit; idle = h.groups.idle });
+    now = one_more time_behind _ _ events ev h.now ∙ sym now;
+  })
+
+-- X5
+pub gone_heard : (settings : Settings) (t u : Tables) (events : List Event) (e : ℕ) (why : Why) (mid : List Session) (p : Phase) (home : Option ℕ) (was : Bool) → e < length t.editors
+    → p ≡ (session_of t.editors e).phase → home ≡ (session_of t.editors e).group → was ≡ is_begun p
+    → mid ≡ with_session t.editors e (record (session_of t.editors e) { phase = phase.Gone }) → u.editors ≡ mid → u.time ≡ t.time → u.lasts ≡ t.lasts → u.origins ≡ t.origins → u.requests ≡ t.requests
+    → u.groups ≡ with_groups (emptied home was (stays_in mid) t.time t.groups.groups) t.groups
+    → Stands settings t events → Stands settings u (events ++ took (EditorGone e why) not_message ∷ [])
+gone_heard settings t u events e why mid p home was l phases homes begun set es now ls os r gs =
+    house_moves settings t u events (took (EditorGone e why) not_message) (λ n. refl) refl (ap (λ v. v.items) ls) (ap (λ v. v.items) os) r
+    (gone_by settings events e why not_message t u mid p home was l phases homes begun set es now gs)
+
+-- E7
+pub initialized_moves : (settings : Settings) (before : List Event) (e : ℕ) (body : List ℕ) (t u : Tables) (mid : Table) (x : Session) (p : Placed) (key : Common) (given : List ℕ) → requests (codes "initialize") (message_of body) ≡ true → slice_get t.editors e ≡ Some x → x.phase ≡ New
+    → key ≡ key_for settings before e body → given ≡ declared_for settings before e body → p ≡ place_in key given t.groups → mid ≡ after_place key given t.groups → u.groups ≡ with_groups (placing.joined p mid.groups) mid
+    → Seated t.editors u.editors e (home_by p x.group) → u.time ≡ t.time → u.lasts ≡ t.lasts → u.origins ≡ t.origins → u.requests ≡ t.requests → Stands settings t before
+    → (p ≡ placed_for settings before e body (groups_of settings before)) × Stands settings u (before ++ took (FromEditor e body) (message_of body) ∷ [])
+initialized_moves settings before e body t u mid x p key given first at new k d chosen placed busy sits now ls os r s =
+    let h = initialize_heard settings before e body (message_of body) t u mid x p key given first at new k d chosen placed busy sits now s.house in
+    (h.0, house_moves settings t u before (took (FromEditor e body) (message_of body)) (λ n. refl) refl (ap (λ v. v.items) ls) (ap (λ v. v.items) os) r (λ _. h.1) s)
+
+-- X7
+pub ticked_moves : (settings : Settings) (t u : Tables) (events : List Event) (now later : ℕ) (ns : List ℕ) → later ≡ max t.time now → u.editors ≡ t.editors → u.time ≡ later → ns ≡ all_from 0 (is_due t.groups.idle later) t.groups.groups
+    → u.groups ≡ with_groups (ends ns t.groups.groups) t.groups → u.lasts ≡ t.lasts → u.origins ≡ t.origins → u.requests ≡ t.requests → Stands settings t events → Stands settings u (events ++ took (Tick now) not_message ∷ [])
+ticked_moves settings t u events now later ns l es k n gs ls os r =
+    house_moves settings t u events (took (Tick now) not_message) (λ n. refl) refl (ap (λ v. v.items) ls) (ap (λ v. v.items) os) r (tick_heard settings events now later not_message t u ns l es k n gs)

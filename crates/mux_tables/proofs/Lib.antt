@@ -1,0 +1,17 @@
+pub mod Begins
+pub mod Frames
+pub mod IdMoves
+pub mod Lasts
+pub mod Moves
+pub mod Lists
+pub mod Placing
+pub mod Seated
+pub mod Said
+pub mod Sent
+pub mod Spawned
+pub mod Starts
+pub mod Served
+pub mod Leaves
+pub mod Ends
+pub mod Exits
+pub mod Heard

@@ -1,0 +1,66 @@
+-- All tables, one event further.
+use Rattle.std.proofs.Common.{◌≡◌, ◌<◌, ◌^◌, ℕ, List, [], ◌∷◌, ◌++◌, refl, ap, sym, subst, ◌∙◌, false, nat_eq}
+use Rattle.std.specs.Prelude.{Some, slice_get, slice_set}
+use Rattle.event_model.specs.Event.{Event}
+use Rattle.event_model.specs.Settings.{Settings}
+use Rattle.event_model.specs.Spawns.{start_behind, group_behind, group_of}
+use Rattle.event_model.proofs.Frames.{one_more}
+use Rattle.group_words.specs.Houses.{time_behind}
+use Rattle.group_words.proofs.Frames.{touches_groups}
+use Rattle.mux_tables.specs.declared.tables.Start.{Start}
+use Rattle.mux_tables.specs.declared.tables.Tables.{Tables}
+use Rattle.mux_tables.specs.Stands.{Part, PartStands, EditorsStand, GroupsStand, OriginsStand, LastStands, LastsStand, HouseStands, Stands}
+use Rattle.mux_tables.proofs.Frames.{names_start, names_editor, spawns, ticks, editors_stand, groups_stand, origins_stand, start_alone, group_alone, time_alone}
+use Rattle.mux_tables.proofs.Lasts.{lasts_stand, one_last}
+
+module _ (settings : Settings) where
+  -- an event that editors, groups and the time don't speak of
+  pub house_stands : (t u : Tables) (events : List Event) (ev : Event) → names_editor ev ≡ false → (GroupsStand settings t.groups events → GroupsStand settings t.groups (events ++ ev ∷ [])) → ticks ev ≡ false → u.editors ≡ t.editors → u.groups ≡ t.groups → u.time ≡ t.time → HouseStands settings t events → HouseStands settings u (events ++ ev ∷ [])
+  house_stands t u events ev e g w es gs now s = record {
+    editors = subst (λ xs. EditorsStand settings xs (events ++ ev ∷ [])) (sym es) (editors_stand settings t.editors events ev e s.editors);
+    groups = subst (λ xs. GroupsStand settings xs (events ++ ev ∷ [])) (sym gs) (g s.groups);
+    now = one_more time_behind _ _ events ev s.now ∙ (time_alone _ ev w ∙ sym now);
+  }
+
+  -- an event that no table speaks of
+  pub quiet_moves : (t : Tables) (events : List Event) (ev : Event) → names_editor ev ≡ false → touches_groups ev ≡ false → ticks ev ≡ false → ((n : ℕ) → names_start n ev ≡ false) → spawns ev ≡ false → Stands settings t events → Stands settings t (events ++ ev ∷ [])
+  quiet_moves t events ev e g w n k s = record {
+    house = house_stands t t events ev e (groups_stand settings t.groups events ev g) w refl refl refl s.house;
+    origins = origins_stand t.origins.items events ev k s.origins;
+    lasts = lasts_stand t.requests t.lasts.items events ev n k s.lasts;
+    requests = s.requests;
+    range = s.range;
+  }
+
+  -- an event that editors, groups and the time alone speak of
+  pub house_moves : (t u : Tables) (events : List Event) (ev : Event) → ((n : ℕ) → names_start n ev ≡ false) → spawns ev ≡ false → u.lasts.items ≡ t.lasts.items → u.origins.items ≡ t.origins.items → u.requests ≡ t.requests
+      → (HouseStands settings t events → HouseStands settings u (events ++ ev ∷ [])) → Stands settings t events → Stands settings u (events ++ ev ∷ [])
+  house_moves t u events ev n k ls os r go s = record {
+    house = go s.house;
+    origins = subst (λ xs. OriginsStand xs (events ++ ev ∷ [])) (sym os) (origins_stand t.origins.items events ev k s.origins);
+    lasts = rw (ls, r) (lasts_stand t.requests t.lasts.items events ev n k s.lasts);
+    requests = s.requests ∙ sym r;
+    range = subst (λ n. n < 2 ^ 32) (sym r) s.range;
+  }
+
+  -- what moves is the last start of one group
+  module _ (t u : Tables) (events : List Event) (ev : Event) (i : ℕ) (x : Start) (e : names_editor ev ≡ false) (g : GroupsStand settings t.groups events → GroupsStand settings t.groups (events ++ ev ∷ [])) (w : ticks ev ≡ false) (k : spawns ev ≡ false) (n : (m : ℕ) → names_start m ev ≡ nat_eq x.life.start m)
+      (at : slice_get t.lasts.items i ≡ Some x) (es : u.editors ≡ t.editors) (gs : u.groups ≡ t.groups) (now : u.time ≡ t.time) (os : u.origins.items ≡ t.origins.items) (r : u.requests ≡ t.requests) where
+    last_moves : (y : Start) → u.lasts.items ≡ slice_set t.lasts.items i y → (LastStands t.requests events i x → LastStands t.requests (events ++ ev ∷ []) i y) → Stands settings t events → Stands settings u (events ++ ev ∷ [])
+    last_moves y is go s = record {
+      house = house_stands t u events ev e g w es gs now s.house;
+      origins = subst (λ xs. OriginsStand xs (events ++ ev ∷ [])) (sym os) (origins_stand t.origins.items events ev k s.origins);
+      lasts = subst (λ m. LastsStand m u.lasts.items (events ++ ev ∷ [])) (sym r) (one_last t.requests t.origins.items t.lasts.items u.lasts.items events ev i x y n k at is s.origins go s.lasts);
+      requests = s.requests ∙ sym r;
+      range = subst (λ n. n < 2 ^ 32) (sym r) s.range;
+    }
+
+    -- its tables
+    pub parts_move : (y : Start) → y.life.start ≡ x.life.start → y.life.group ≡ x.life.group → u.lasts.items ≡ slice_set t.lasts.items i y → ((p : Part) → PartStands p t.requests x events → PartStands p t.requests y (events ++ ev ∷ []))
+        → Stands settings t events → Stands settings u (events ++ ev ∷ [])
+    parts_move y starts group is go s = last_moves y is (λ g. record {
+      start = one_more (start_behind i) _ _ events ev g.start ∙ (start_alone i _ ev k ∙ ap (λ m. Some m) (sym starts));
+      home = subst (λ m. group_of m (events ++ ev ∷ []) ≡ Some i) (sym starts) (one_more (group_behind x.life.start) _ _ events ev g.home ∙ group_alone x.life.start _ ev k);
+      own = group ∙ g.own;
+      parts = λ p. go p (g.parts p);
+    }) s

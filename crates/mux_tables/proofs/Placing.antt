@@ -1,0 +1,83 @@
+-- An editor is placed.
+use Rattle.std.proofs.Common.{◌≡◌, ℕ, true, ◌&&◌, List, [], ◌∷◌, ◌++◌, length, refl, ap, sym, ◌∙◌, nat_eq, if◌then◌else◌}
+use Rattle.std.specs.Prelude.{Some, slice_get, slice_set, codes}
+use Rattle.std.proofs.lemmas.Bool.{ne_eqb}
+use Rattle.std.proofs.lemmas.Option.{slice_get_within}
+use Rattle.std.proofs.lemmas.List.{length-set}
+use Rattle.mux_history.specs.declared.cause.Cause.TheVariants.{FromEditor}
+use Rattle.rpc_message.specs.Message.{Message}
+use Rattle.event_model.specs.declared.phase.Phase.{Phase}
+use Rattle.event_model.specs.declared.phase.Phase.TheVariants.{New, Waiting}
+use Rattle.event_model.specs.Event.{Event, took, requests}
+use Rattle.event_model.specs.Phases.{Desk, desk_of, desk_behind, desk_hears, editors_behind}
+use Rattle.event_model.specs.Settings.{Settings}
+use Rattle.editor_session.specs.declared.session.Session.{Session}
+use Rattle.event_model.proofs.Places.{Same, same, other, compare, get_set_same, get_set_other}
+use Rattle.group_words.specs.declared.kept.Kept.{Kept}
+use Rattle.group_words.specs.declared.placed.Placed.{Placed}
+use Rattle.group_words.specs.Placing.{home_by, placed_in, with_editor, end_where, is_live}
+use Rattle.group_words.specs.Houses.{groups_of, home_of, key_for, declared_for, placed_for, places, stops, time_behind}
+use Rattle.group_words.proofs.Frames.{itself, groups_more, home_more}
+use Rattle.group_table.specs.Tables.{Table}
+use Rattle.mux_tables.specs.declared.tables.Tables.{Tables}
+use Rattle.mux_tables.specs.Stands.{EditorsStand, GroupsStand, HouseStands, phase_in, group_in}
+use Rattle.event_model.proofs.Frames.{one_more}
+
+hears_first : (p : Phase) (initialize body : List ℕ) (m : Message) → p ≡ New → requests (codes "initialize") m ≡ true → (desk_hears p initialize body m).phase ≡ Waiting
+hears_first p initialize body m n h = rw (n, h) refl
+
+places_first : (p : Phase) (m : Message) → p ≡ New → requests (codes "initialize") m ≡ true → places p m ≡ true
+places_first p m n h = rw (n, h) refl
+
+module _ (settings : Settings) (events : List Event) (e : ℕ) (body : List ℕ) (m : Message) (first : requests (codes "initialize") m ≡ true) where
+  -- where the groups are these
+  abbrev pub placed : List Kept → Placed
+  placed groups = placed_for settings events e body groups
+
+  placed_editors : (t u : List Session) (groups : List Kept) (x y : Session) → groups_of settings events ≡ groups → slice_get t e ≡ Some x → x.phase ≡ New → u ≡ slice_set t e y → y.phase ≡ Waiting → y.group ≡ home_by (placed groups) x.group
+      → EditorsStand settings t events → EditorsStand settings u (events ++ took (FromEditor e body) m ∷ [])
+  placed_editors t u groups x y now at new is waits home s = record {
+    count = one_more editors_behind _ _ events (took (FromEditor e body) m) s.count ∙ (sym (length-set t e y) ∙ ap length (sym is));
+    phase = λ n. ap (λ (d : Desk). d.phase) (one_more (desk_behind n) _ _ events (took (FromEditor e body) m) refl) ∙ (phase_at n (compare e n) ∙ ap (λ z. phase_in (slice_get z n)) (sym is));
+    home = λ n. home_more settings n events (took (FromEditor e body) m) ∙ (home_at n (compare e n) ∙ ap (λ z. group_in (slice_get z n)) (sym is));
+  }
+    where
+      was_new : (desk_of e events).phase ≡ New
+      was_new = s.phase e ∙ (ap phase_in at ∙ new)
+
+      here : slice_get (slice_set t e y) e ≡ Some y
+      here = get_set_same t e y (slice_get_within t e x at)
+
+      phase_at : (n : ℕ) → Same e n → (if nat_eq e n then desk_hears (desk_of n events).phase (desk_of n events).initialize body m else desk_of n events).phase ≡ phase_in (slice_get (slice_set t e y) n)
+      phase_at _ same = rw (itself e, here) (hears_first (desk_of e events).phase (desk_of e events).initialize body m was_new first ∙ sym waits)
+      phase_at n (other h) = rw (ne_eqb e n (λ q. h (sym q)), get_set_other t e n y h) (s.phase n)
+
+      home_at : (n : ℕ) → Same e n → (if nat_eq e n && places (desk_of e events).phase m then home_by (placed (groups_of settings events)) (home_of settings n events) else home_of settings n events) ≡ group_in (slice_get (slice_set t e y) n)
+      home_at _ same = rw (itself e, here, places_first (desk_of e events).phase m was_new first) (ap (λ gs. home_by (placed gs) (home_of settings e events)) now ∙ (ap (home_by (placed groups)) (s.home e ∙ ap group_in at) ∙ sym home))
+      home_at n (other h) = rw (ne_eqb e n (λ q. h (sym q)), get_set_other t e n y h) (s.home n)
+
+  placed_groups : (t u : Table) → (desk_of e events).phase ≡ New → u.limit ≡ t.limit → u.idle ≡ t.idle
+      → u.groups ≡ with_editor (placed_in t.limit (key_for settings events e body) (declared_for settings events e body) t.groups) (key_for settings events e body) (declared_for settings events e body) t.groups
+      → GroupsStand settings t events → GroupsStand settings u (events ++ took (FromEditor e body) m ∷ [])
+  placed_groups t u new l i is s =
+      let k = key_for settings events e body in
+      let d = declared_for settings events e body in
+      record {
+        groups = groups_more settings events (took (FromEditor e body) m)
+            ∙ (ap (λ b. if b then with_editor (placed (groups_of settings events)) k d (groups_of settings events) else if stops events e m then end_where is_live (groups_of settings events) else groups_of settings events) (places_first (desk_of e events).phase m new first)
+            ∙ (ap (λ gs. with_editor (placed_in settings.limits.groups k d gs) k d gs) s.groups
+            ∙ (ap (λ n. with_editor (placed_in n k d t.groups) k d t.groups) s.limit ∙ sym is)));
+        limit = s.limit ∙ sym l;
+        idle = s.idle ∙ sym i;
+      }
+
+  pub initialize_moves : (t u : Tables) (x y : Session) → slice_get t.editors e ≡ Some x → x.phase ≡ New → u.editors ≡ slice_set t.editors e y → y.phase ≡ Waiting
+      → y.group ≡ home_by (placed_in t.groups.limit (key_for settings events e body) (declared_for settings events e body) t.groups.groups) x.group
+      → u.groups.groups ≡ with_editor (placed_in t.groups.limit (key_for settings events e body) (declared_for settings events e body) t.groups.groups) (key_for settings events e body) (declared_for settings events e body) t.groups.groups
+      → u.groups.limit ≡ t.groups.limit → u.groups.idle ≡ t.groups.idle → u.time ≡ t.time
+      → HouseStands settings t events → HouseStands settings u (events ++ took (FromEditor e body) m ∷ [])
+  initialize_moves t u x y at new es waits home gs l i k s = record {
+    editors = placed_editors t.editors u.editors t.groups.groups x y s.groups.groups at new es waits (home ∙ ap (λ n. home_by (placed_in n (key_for settings events e body) (declared_for settings events e body) t.groups.groups) x.group) (sym s.groups.limit)) s.editors;
+    groups = placed_groups t.groups u.groups (s.editors.phase e ∙ (ap phase_in at ∙ new)) l i gs s.groups;
+    now = one_more time_behind _ _ events (took (FromEditor e body) m) s.now ∙ sym k;
+  }

@@ -1,0 +1,99 @@
+-- What the tables do when an out about an editor is said, as the code has it.
+use Rattle.std.proofs.Common.{◌≡◌, ℕ, ◌<◌, Bool, false, List, [], ◌∷◌, ◌++◌, length, refl, ap, sym, subst, ◌∙◌, nat_eq}
+use Rattle.std.specs.Prelude.{Option, Some, slice_get, slice_set}
+use Rattle.std.proofs.lemmas.Bool.{ne_eqb}
+use Rattle.std.proofs.lemmas.Option.{slice_get-get_or}
+use Rattle.std.proofs.lemmas.List.{length-set}
+use Rattle.mux_history.specs.declared.out.Out.{Out}
+use Rattle.mux_history.specs.declared.out.Out.TheVariants.{ToEditor, CloseEditor}
+use Rattle.rpc_message.specs.Message.{message_of, not_message}
+use Rattle.event_model.specs.declared.phase.Phase.{Phase}
+use Rattle.event_model.specs.Does.{Does}
+use Rattle.event_model.specs.Event.{Event, behind, did, said}
+use Rattle.event_model.specs.Phases.{Desk, desk_of, desk_behind, editors_behind, phase_closed}
+use Rattle.event_model.specs.Row.{send}
+use Rattle.event_model.specs.Settings.{Settings}
+use Rattle.event_model.proofs.Frames.{one_more}
+use Rattle.event_model.proofs.Places.{Same, same, other, compare, get_set_same, get_set_other}
+use Rattle.event_model.proofs.Turns.{behind_more}
+use Rattle.editor_session.specs.declared.session.Session.{Session}
+use Rattle.editor_session.specs.Sessions.{absent, session_of, with_session}
+use Rattle.group_table.specs.Tables.{with_groups}
+use Rattle.group_words.specs.Houses.{emptied, is_begun, time_behind}
+use Rattle.group_words.proofs.Frames.{home_stays}
+use Rattle.mux_tables.specs.declared.tables.Tables.{Tables}
+use Rattle.mux_tables.specs.Stands.{EditorsStand, GroupsStand, HouseStands, Keeps, Stands, phase_in, group_in, stays_in}
+use Rattle.mux_tables.proofs.Frames.{groups_stand}
+use Rattle.mux_tables.proofs.Leaves.{closed_by}
+use Rattle.mux_tables.proofs.Moves.{house_moves}
+
+-- one out, by what it does to the tables
+pub does_send : (settings : Settings) (out : Out) (base : List Event) (t u : Tables) (xs ys : List Out) → ys ≡ xs ++ out ∷ [] → (Stands settings t (behind base xs) → Stands settings u (behind base xs ++ said out ∷ [])) → Does (λ t events. Stands settings t events) (send out) base t xs u ys
+does_send settings out base t u xs ys e go = record {
+  done = λ s. record { outs = e; stands = subst (λ es. Stands settings u es) (sym (ap (behind base) e ∙ behind_more base xs (out ∷ []))) (go s) };
+}
+
+-- a body to an editor
+module _ (settings : Settings) (events : List Event) (e : ℕ) (body : List ℕ) where
+  abbrev ev : Event
+  ev = did (ToEditor e body) (message_of body)
+
+  untold : (n : ℕ) (d : Desk) → nat_eq e n ≡ false → desk_behind n d ev ≡ d
+  untold n d h = rw h refl
+
+  told_house : (t u : Tables) → EditorsStand settings u.editors (events ++ ev ∷ []) → u.groups ≡ t.groups → u.time ≡ t.time → HouseStands settings t events → HouseStands settings u (events ++ ev ∷ [])
+  told_house t u after gs now s = record {
+    editors = after;
+    groups = subst (λ xs. GroupsStand settings xs (events ++ ev ∷ [])) (sym gs) (groups_stand settings t.groups events ev refl s.groups);
+    now = one_more time_behind _ _ events ev s.now ∙ sym now;
+  }
+
+  kept_editors : (t : List Session) → Keeps e body events → EditorsStand settings t events → EditorsStand settings t (events ++ ev ∷ [])
+  kept_editors t k s = record {
+    count = one_more editors_behind _ _ events ev s.count;
+    phase = λ n. at n (compare e n);
+    home = λ n. home_stays settings n events ev refl ∙ s.home n;
+  }
+    where
+      at : (n : ℕ) → Same e n → (desk_of n (events ++ ev ∷ [])).phase ≡ phase_in (slice_get t n)
+      at _ same = k ∙ s.phase e
+      at n (other h) = ap (λ (d : Desk). d.phase) (one_more (desk_behind n) _ _ events ev refl ∙ untold n (desk_of n events) (ne_eqb e n (λ q. h (sym q)))) ∙ s.phase n
+
+  moved_editors : (t : List Session) (p : Phase) → e < length t → (desk_of e (events ++ ev ∷ [])).phase ≡ p → EditorsStand settings t events → EditorsStand settings (with_session t e (record (session_of t e) { phase = p })) (events ++ ev ∷ [])
+  moved_editors t p l k s = record {
+    count = one_more editors_behind _ _ events ev s.count ∙ sym (length-set t e y);
+    phase = λ n. at n (compare e n);
+    home = λ n. home_stays settings n events ev refl ∙ (s.home n ∙ home_at n (compare e n));
+  }
+    where
+      y : Session
+      y = record (session_of t e) { phase = p }
+
+      here : slice_get (slice_set t e y) e ≡ Some y
+      here = get_set_same t e y l
+
+      at : (n : ℕ) → Same e n → (desk_of n (events ++ ev ∷ [])).phase ≡ phase_in (slice_get (slice_set t e y) n)
+      at _ same = k ∙ ap phase_in (sym here)
+      at n (other h) = ap (λ (d : Desk). d.phase) (one_more (desk_behind n) _ _ events ev refl ∙ untold n (desk_of n events) (ne_eqb e n (λ q. h (sym q)))) ∙ (s.phase n ∙ ap phase_in (sym (get_set_other t e n y h)))
+
+      home_at : (n : ℕ) → Same e n → group_in (slice_get t n) ≡ group_in (slice_get (slice_set t e y) n)
+      home_at _ same = ap group_in (slice_get-get_or t e absent l) ∙ ap group_in (sym here)
+      home_at n (other h) = ap group_in (sym (get_set_other t e n y h))
+
+pub told_does : (settings : Settings) (t : Tables) (xs ys : List Out) (base : List Event) (e : ℕ) (body : List ℕ) → Keeps e body (behind base xs) → ys ≡ xs ++ ToEditor e body ∷ [] → Does (λ t events. Stands settings t events) (send (ToEditor e body)) base t xs t ys
+told_does settings t xs ys base e body k is = does_send settings (ToEditor e body) base t t xs ys is
+    (house_moves settings t t (behind base xs) (said (ToEditor e body)) (λ n. refl) refl refl refl refl (λ h. told_house settings (behind base xs) e body t t (kept_editors settings (behind base xs) e body t.editors k h.editors) refl refl h))
+
+pub welcome_does : (settings : Settings) (t u : Tables) (xs ys : List Out) (base : List Event) (e : ℕ) (body : List ℕ) (p : Phase) → e < length t.editors → (desk_of e (behind base xs ++ said (ToEditor e body) ∷ [])).phase ≡ p → u.editors ≡ with_session t.editors e (record (session_of t.editors e) { phase = p })
+    → u.groups ≡ t.groups → u.time ≡ t.time → u.lasts ≡ t.lasts → u.origins ≡ t.origins → u.requests ≡ t.requests → ys ≡ xs ++ ToEditor e body ∷ [] → Does (λ t events. Stands settings t events) (send (ToEditor e body)) base t xs u ys
+welcome_does settings t u xs ys base e body p l k es gs now ls os r is = does_send settings (ToEditor e body) base t u xs ys is
+    (house_moves settings t u (behind base xs) (said (ToEditor e body)) (λ n. refl) refl (ap (λ v. v.items) ls) (ap (λ v. v.items) os) r
+    (λ h. told_house settings (behind base xs) e body t u (subst (λ z. EditorsStand settings z (behind base xs ++ said (ToEditor e body) ∷ [])) (sym es) (moved_editors settings (behind base xs) e body t.editors p l k h.editors)) gs now h))
+
+pub close_does : (settings : Settings) (t u : Tables) (xs ys : List Out) (base : List Event) (e : ℕ) (mid : List Session) (before p : Phase) (home : Option ℕ) (was : Bool) → e < length t.editors
+    → before ≡ (session_of t.editors e).phase → home ≡ (session_of t.editors e).group → p ≡ phase_closed before → was ≡ is_begun before
+    → mid ≡ with_session t.editors e (record (session_of t.editors e) { phase = p }) → u.editors ≡ mid → u.time ≡ t.time → u.lasts ≡ t.lasts → u.origins ≡ t.origins → u.requests ≡ t.requests
+    → u.groups ≡ with_groups (emptied home was (stays_in mid) t.time t.groups.groups) t.groups → ys ≡ xs ++ CloseEditor e ∷ [] → Does (λ t events. Stands settings t events) (send (CloseEditor e)) base t xs u ys
+close_does settings t u xs ys base e mid before p home was l phases homes closes begun set es now ls os r gs is = does_send settings (CloseEditor e) base t u xs ys is
+    (house_moves settings t u (behind base xs) (said (CloseEditor e)) (λ n. refl) refl (ap (λ v. v.items) ls) (ap (λ v. v.items) os) r
+    (closed_by settings (behind base xs) e not_message t u mid before p home was l phases homes closes begun set es now gs))

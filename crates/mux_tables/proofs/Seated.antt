@@ -1,0 +1,86 @@
+-- An editor is placed, as the code has it.
+use Rattle.std.proofs.Common.{◌≡◌, ℕ, zero, suc, ◌<◌, true, List, [], ◌∷◌, ◌++◌, length, refl, ap, sym, subst, ◌∙◌, arith}
+use Rattle.std.specs.Prelude.{Option, Some, slice_get, slice_set, slice_index_or, codes}
+use Rattle.mux_history.specs.declared.cause.Cause.TheVariants.{FromEditor}
+use Rattle.rpc_message.specs.Message.{Message}
+use Rattle.event_model.specs.declared.phase.Phase.TheVariants.{New, Waiting}
+use Rattle.event_model.specs.Event.{Event, took, requests}
+use Rattle.event_model.specs.Settings.{Settings}
+use Rattle.editor_session.specs.declared.session.Session.{Session}
+use Rattle.editor_session.specs.Sessions.{session_of, with_session}
+use Rattle.group_words.specs.declared.placed.Placed.{Placed}
+use Rattle.group_words.specs.declared.placed.Placed.TheVariants.{Joins, Evicts, TooMany}
+use Rattle.group_words.proofs.Frames.{changed_length}
+use Rattle.group_words.specs.declared.placed.Placed.TheVariants as placed_as
+use Rattle.group_words.specs.Keys.{Common}
+use Rattle.group_words.specs.Placing as placing
+use Rattle.group_words.specs.Placing.{busy, home_by, placed_in, with_editor, with_placed}
+use Rattle.group_words.specs.Houses.{groups_of, key_for, declared_for, placed_for}
+use Rattle.group_table.specs.Tables.{Inside, Table, after_place, place_in, with_groups}
+use Rattle.mux_tables.specs.declared.tables.Tables.{Tables}
+use Rattle.mux_tables.specs.Stands.{HouseStands}
+use Rattle.mux_tables.proofs.Placing.{initialize_moves}
+
+set_set : {X : Type 0} (xs : List X) (i : ℕ) (y z : X) → slice_set (slice_set xs i y) i z ≡ slice_set xs i z
+set_set [] i y z = refl
+set_set (x ∷ xs) zero y z = refl
+set_set (x ∷ xs) (suc i) y z = ap (λ ws. x ∷ ws) (set_set xs i y z)
+
+index_set : {X : Type 0} (xs : List X) (i : ℕ) (y d : X) → i < length xs → slice_index_or (slice_set xs i y) i d ≡ y
+index_set [] i y d h = absurd (omega arith)
+index_set (x ∷ xs) zero y d h = refl
+index_set (x ∷ xs) (suc i) y d h = index_set xs i y d (omega arith)
+
+pub index_get : {X : Type 0} (xs : List X) (i : ℕ) (x d : X) → slice_get xs i ≡ Some x → slice_index_or xs i d ≡ x
+index_get [] i x d h = cc
+index_get (w ∷ xs) zero x d h = the h
+  where
+    the : {X : Type 0} {v w : X} → ◌≡◌ {A = Option X} (Some v) (Some w) → v ≡ w
+    the e = cc
+index_get (w ∷ xs) (suc i) x d h = index_get xs i x d h
+
+-- what is left of an editor that was placed
+abbrev pub Seated : List Session → List Session → ℕ → Option ℕ → Type 0
+Seated t u e group = (y : Session) × (u ≡ slice_set t e y) × (y.phase ≡ Waiting) × (y.group ≡ group)
+
+abbrev pub waiting : List Session → ℕ → Session
+waiting t e = record (session_of t e) { phase = Waiting }
+
+pub seated : (t u v : List Session) (e g : ℕ) (id : List ℕ) → e < length t → u ≡ with_session t e (waiting t e) → v ≡ with_session u e (record (session_of u e) { group = Some g; id = Some id }) → Seated t v e (Some g)
+seated t u v e g id h one two = (
+  record (waiting t e) { group = Some g; id = Some id },
+  two ∙ (ap (λ w. with_session w e (record (session_of w e) { group = Some g; id = Some id })) one
+      ∙ (ap (λ (z : Session). slice_set (slice_set t e (waiting t e)) e (record z { group = Some g; id = Some id })) (index_set t e (waiting t e) _ h) ∙ set_set t e (waiting t e) _)),
+  refl,
+  refl,
+)
+
+pub unseated : (t u : List Session) (e : ℕ) (x : Session) → slice_get t e ≡ Some x → u ≡ with_session t e (waiting t e) → Seated t u e x.group
+unseated t u e x at one = (waiting t e, one, refl, ap (λ (z : Session). z.group) (index_get t e x _ at))
+
+pub initialize_heard : (settings : Settings) (before : List Event) (e : ℕ) (body : List ℕ) (m : Message) (t u : Tables) (mid : Table) (x : Session) (p : Placed) (key : Common) (given : List ℕ) → requests (codes "initialize") m ≡ true → slice_get t.editors e ≡ Some x → x.phase ≡ New
+    → key ≡ key_for settings before e body → given ≡ declared_for settings before e body → p ≡ place_in key given t.groups → mid ≡ after_place key given t.groups → u.groups ≡ with_groups (placing.joined p mid.groups) mid
+    → Seated t.editors u.editors e (home_by p x.group) → u.time ≡ t.time → HouseStands settings t before
+    → (p ≡ placed_for settings before e body (groups_of settings before)) × HouseStands settings u (before ++ took (FromEditor e body) m ∷ [])
+initialize_heard settings before e body m t u mid x p key given first at new k d chosen placed busy sits now s =
+    let K : Common = key_for settings before e body in
+    let D : List ℕ = declared_for settings before e body in
+    let T : Table = t.groups in
+    let p_is : p ≡ placed_in T.limit K D T.groups = chosen ∙ (ap (λ z. place_in z given T) k ∙ ap (λ z. place_in K z T) d) in
+    let groups : u.groups.groups ≡ with_editor (placed_in T.limit K D T.groups) K D T.groups =
+    ap (λ (w : Table). w.groups) busy ∙ (ap (λ (w : Table). placing.joined p w.groups) placed ∙ (ap (λ q. placing.joined q (with_placed (place_in key given T) key given T.groups)) chosen
+    ∙ (ap (λ z. with_editor (place_in z given T) z given T.groups) k ∙ ap (λ z. with_editor (place_in K z T) K z T.groups) d))) in
+    let limit : u.groups.limit ≡ T.limit = ap (λ (w : Table). w.limit) busy ∙ ap (λ (w : Table). w.limit) placed in
+    let idle : u.groups.idle ≡ T.idle = ap (λ (w : Table). w.idle) busy ∙ ap (λ (w : Table). w.idle) placed in (
+      p_is ∙ (ap (λ n. placed_in n K D T.groups) (sym s.groups.limit) ∙ ap (λ gs. placed_in settings.limits.groups K D gs) (sym s.groups.groups)),
+      initialize_moves settings before e body m first t u x sits.0 at new sits.1 sits.2 (sits.3 ∙ ap (λ q. home_by q x.group) p_is) groups limit idle now s,
+    )
+
+pub joined_inside : (p : Placed) (t u : Table) → u ≡ with_groups (placing.joined p t.groups) t → Inside p (length t.groups) → Inside p (length u.groups)
+joined_inside p t u e h = subst (λ (w : Table). Inside p (length w.groups)) (sym e) (subst (λ n. Inside p n) (sym (same_length p)) h)
+  where
+    same_length : (p : Placed) → length (placing.joined p t.groups) ≡ length t.groups
+    same_length (Joins g) = changed_length g busy t.groups
+    same_length (placed_as.New g) = refl
+    same_length (Evicts a g) = refl
+    same_length TooMany = refl

@@ -1,0 +1,135 @@
+-- What the tables do when an out about a start is said, as the code has it.
+use Rattle.std.proofs.Common.{◌≡◌, ℕ, zero, suc, ◌+◌, ◌<◌, ◌^◌, Bool, true, false, List, [], ◌∷◌, ◌++◌, map, length, get_or, refl, ap, sym, subst, ◌∙◌, nat_eq, bytes_eq, codes}
+use Rattle.std.specs.Prelude.{Option, Some, slice_get, slice_set}
+use Rattle.std.proofs.lemmas.Slice.Eq.{bytes_eq-Decides}
+use Rattle.json_text.specs.Json.{Json}
+use Rattle.mux_history.specs.declared.out.Out.{Out}
+use Rattle.mux_history.specs.declared.out.Out.TheVariants.{ToServer, EndServer}
+use Rattle.rpc_message.specs.Message.{request, notification, not_message, Id, message_of}
+use Rattle.event_model.specs.declared.stage.Stage.{Stage}
+use Rattle.event_model.specs.declared.stage.Stage.TheVariants.{Ready, Ending, Ended}
+use Rattle.event_model.specs.Does.{Does}
+use Rattle.event_model.specs.Event.{Event, behind, did, said, requests}
+use Rattle.event_model.specs.Requests.{is_own}
+use Rattle.event_model.specs.Row.{send}
+use Rattle.event_model.specs.Settings.{Settings}
+use Rattle.event_model.specs.Stages.{stage_ending}
+use Rattle.event_model.proofs.Frames.{never}
+use Rattle.event_model.proofs.Places.{same_item}
+use Rattle.id_rewrite.specs.declared.pending.Pending.{Pending}
+use Rattle.id_rewrite.specs.Tables.{Table, IsInOrder, with_cancelled}
+use Rattle.mux_model.specs.Members.{named_of}
+use Rattle.restart_replay.specs.Standings.{Standing, moved, stopped}
+use Rattle.mux_tables.specs.declared.tables.Start.{Start}
+use Rattle.mux_tables.specs.declared.tables.Tables.{Tables}
+use Rattle.mux_tables.specs.Forwarded.{forwarding_of, is_written, moves_ids}
+use Rattle.mux_tables.specs.Stands.{Part, of_life, of_ids, PartStands, Sends, Stands, forwarded_of, number_in}
+use Rattle.mux_tables.proofs.Frames.{groups_stand, itself, part_quiet}
+use Rattle.mux_tables.proofs.IdMoves.{cancelled_ids, sent_as, sent_ids}
+use Rattle.mux_tables.proofs.Said.{does_send}
+use Rattle.mux_tables.proofs.Starts.{part_ids, part_life, read_here, start_at_place, start_moves, still_ids, still_life}
+
+same_set : (xs : List Start) (g : ℕ) (z : Start) → slice_get xs g ≡ Some z → slice_set xs g z ≡ xs
+same_set [] g z h = refl
+same_set (x ∷ xs) zero z h = ap (λ w. w ∷ xs) (sym (same_item h))
+same_set (x ∷ xs) (suc g) z h = ap (λ ws. x ∷ ws) (same_set xs g z h)
+
+-- a body to the last start of a group, which goes from z to y
+module _ (settings : Settings) (t u : Tables) (xs ys : List Out) (base : List Event) (g s start : ℕ) (z y : Start) (text : List ℕ) (at : slice_get (map number_in t.lasts.items) g ≡ Some s) (within : g < length t.lasts.items) (read : z ≡ get_or t.lasts.items g z)
+    (set : u.lasts.items ≡ slice_set t.lasts.items g y) (own : y.life.start ≡ z.life.start) (group : y.life.group ≡ z.life.group) (es : u.editors ≡ t.editors) (gs : u.groups ≡ t.groups) (now : u.time ≡ t.time) (os : u.origins ≡ t.origins) (r : u.requests ≡ t.requests)
+    (is : start ≡ z.life.start) (said_so : ys ≡ xs ++ ToServer start text ∷ []) where
+  pub sent_does : (Stands settings t (behind base xs) → (p : Part) → PartStands p t.requests z (behind base xs) → PartStands p t.requests y (behind base xs ++ said (ToServer z.life.start text) ∷ [])) → Does (λ t events. Stands settings t events) (send (ToServer s text)) base t xs u ys
+  sent_does parts =
+      let here : z.life.start ≡ s = start_at_place t.lasts.items g s z (read_here t.lasts.items g z within read) at in
+      does_send settings (ToServer s text) base t u xs ys (said_so ∙ ap (λ n. xs ++ ToServer n text ∷ []) (is ∙ here))
+      (λ st. start_moves settings t u (behind base xs) (λ n. did (ToServer n text) (message_of text)) g s z y at within read set own group es gs now os r (λ n. refl) (λ n. refl) (λ n. refl) (λ n m. refl)
+      (λ n _ h. groups_stand settings t.groups (behind base xs) (did (ToServer n text) (message_of text)) refl h) (parts st) st)
+
+-- its program's end
+module _ (settings : Settings) (t u : Tables) (xs ys : List Out) (base : List Event) (g s start : ℕ) (z y : Start) (at : slice_get (map number_in t.lasts.items) g ≡ Some s) (within : g < length t.lasts.items) (read : z ≡ get_or t.lasts.items g z)
+    (set : u.lasts.items ≡ slice_set t.lasts.items g y) (own : y.life.start ≡ z.life.start) (group : y.life.group ≡ z.life.group) (es : u.editors ≡ t.editors) (gs : u.groups ≡ t.groups) (now : u.time ≡ t.time) (os : u.origins ≡ t.origins) (r : u.requests ≡ t.requests)
+    (is : start ≡ z.life.start) (said_so : ys ≡ xs ++ EndServer start ∷ []) where
+  ended_with : ((p : Part) → PartStands p t.requests z (behind base xs) → PartStands p t.requests y (behind base xs ++ said (EndServer z.life.start) ∷ [])) → Does (λ t events. Stands settings t events) (send (EndServer s)) base t xs u ys
+  ended_with parts =
+      let here : z.life.start ≡ s = start_at_place t.lasts.items g s z (read_here t.lasts.items g z within read) at in
+      does_send settings (EndServer s) base t u xs ys (said_so ∙ ap (λ n. xs ++ EndServer n ∷ []) (is ∙ here))
+      (λ st. start_moves settings t u (behind base xs) (λ n. did (EndServer n) not_message) g s z y at within read set own group es gs now os r (λ n. refl) (λ n. refl) (λ n. refl) (λ n m. refl)
+      (λ n _ h. groups_stand settings t.groups (behind base xs) (did (EndServer n) not_message) refl h) parts st)
+
+-- one that moves nothing
+pub notify_does : (settings : Settings) (t : Tables) (xs ys : List Out) (base : List Event) (g s start : ℕ) (z : Start) (text : List ℕ) → slice_get (map number_in t.lasts.items) g ≡ Some s → g < length t.lasts.items → z ≡ get_or t.lasts.items g z
+    → requests (codes "shutdown") (message_of text) ≡ false → moves_ids (message_of text) ≡ false → start ≡ z.life.start → ys ≡ xs ++ ToServer start text ∷ [] → Does (λ t events. Stands settings t events) (send (ToServer s text)) base t xs t ys
+notify_does settings t xs ys base g s start z text at within read runs counts is said_so =
+    sent_does settings t t xs ys base g s start z z text at within read (sym (same_set t.lasts.items g z (read_here t.lasts.items g z within read))) refl refl refl refl refl refl refl is said_so (λ st p h. part p h)
+  where
+    part : (p : Part) → PartStands p t.requests z (behind base xs) → PartStands p t.requests z (behind base xs ++ said (ToServer z.life.start text) ∷ [])
+    part of_life h = part_quiet of_life t.requests z (behind base xs) (said (ToServer z.life.start text)) runs h
+    part of_ids h = part_quiet of_ids t.requests z (behind base xs) (said (ToServer z.life.start text)) counts h
+
+not_shutdown : (method : List ℕ) → is_own method ≡ false → bytes_eq (codes "shutdown") method ≡ false
+not_shutdown method h = go (bytes_eq (codes "shutdown") method) refl
+  where
+    go : (b : Bool) → bytes_eq (codes "shutdown") method ≡ b → b ≡ false
+    go false e = refl
+    go true e = never (sym (ap is_own (sym ((bytes_eq-Decides (codes "shutdown") method).0 e))) ∙ h)
+
+-- an editor's request
+pub forward_does : (settings : Settings) (t u : Tables) (xs ys : List Out) (base : List Event) (g s start e : ℕ) (z : Start) (ids : Table) (pending : Pending) (text id method : List ℕ) (name : Id) (ps : Option Json) → slice_get (map number_in t.lasts.items) g ≡ Some s → g < length t.lasts.items → z ≡ get_or t.lasts.items g z
+    → message_of text ≡ request name method ps → is_own method ≡ false → Sends s e id (behind base xs) → forwarded_of (record { number = z.ids.next; pending = pending }) ≡ sent_as (record { editor = e; id = id }) z.ids.next
+    → ids.requests ≡ z.ids.requests ++ record { number = z.ids.next; pending = pending } ∷ [] → ids.next ≡ z.ids.next + 1 → ids.limit ≡ z.ids.limit → IsInOrder ids
+    → u.lasts.items ≡ slice_set t.lasts.items g (record z { ids = ids }) → u.editors ≡ t.editors → u.groups ≡ t.groups → u.time ≡ t.time → u.origins ≡ t.origins → u.requests ≡ t.requests → start ≡ z.life.start → ys ≡ xs ++ ToServer start text ∷ []
+    → Does (λ t events. Stands settings t events) (send (ToServer s text)) base t xs u ys
+forward_does settings t u xs ys base g s start e z ids pending text id method name ps at within read says own sends kept put next limit order set es gs now os r is said_so =
+    let y : Start = record z { ids = ids } in
+    let here : z.life.start ≡ s = start_at_place t.lasts.items g s z (read_here t.lasts.items g z within read) at in
+    sent_does settings t u xs ys base g s start z y text at within read set refl refl es gs now os r is said_so (λ st p h. part (subst (λ n. Sends n e id (behind base xs)) (sym here) sends) p h)
+  where
+    part : Sends z.life.start e id (behind base xs) → (p : Part) → PartStands p t.requests z (behind base xs) → PartStands p t.requests (record z { ids = ids }) (behind base xs ++ said (ToServer z.life.start text) ∷ [])
+    part sends of_life h = still_life t.requests (behind base xs) (said (ToServer z.life.start text)) z (record z { ids = ids }) refl refl (ap (requests (codes "shutdown")) says ∙ not_shutdown method own) h
+    part sends of_ids h = part_ids t.requests (behind base xs) (said (ToServer z.life.start text)) z (record z { ids = ids }) refl
+        (sent_ids t.requests z.life.start z.ids ids (forwarding_of z.life.start (behind base xs)) text method (message_of text) name ps (record { number = z.ids.next; pending = pending }) (record { editor = e; id = id }) says own sends kept put next limit order) h
+
+-- a cancel
+pub cancel_does : (settings : Settings) (t u : Tables) (xs ys : List Out) (base : List Event) (g s start n : ℕ) (z : Start) (ids : Table) (text method : List ℕ) (ps : Option Json) → slice_get (map number_in t.lasts.items) g ≡ Some s → g < length t.lasts.items → z ≡ get_or t.lasts.items g z
+    → message_of text ≡ notification method ps → bytes_eq method (codes "$/cancelRequest") ≡ true → ((k : ℕ) → k < 2 ^ 32 → is_written (named_of (codes "id") ps) k ≡ nat_eq k n)
+    → ids.requests ≡ with_cancelled n z.ids.requests → ids.next ≡ z.ids.next → ids.limit ≡ z.ids.limit → IsInOrder ids
+    → u.lasts.items ≡ slice_set t.lasts.items g (record z { ids = ids }) → u.editors ≡ t.editors → u.groups ≡ t.groups → u.time ≡ t.time → u.origins ≡ t.origins → u.requests ≡ t.requests → start ≡ z.life.start → ys ≡ xs ++ ToServer start text ∷ []
+    → Does (λ t events. Stands settings t events) (send (ToServer s text)) base t xs u ys
+cancel_does settings t u xs ys base g s start n z ids text method ps at within read says cancels written put next limit order set es gs now os r is said_so =
+    sent_does settings t u xs ys base g s start z (record z { ids = ids }) text at within read set refl refl es gs now os r is said_so (λ st p h. part st p h)
+  where
+    part : Stands settings t (behind base xs) → (p : Part) → PartStands p t.requests z (behind base xs) → PartStands p t.requests (record z { ids = ids }) (behind base xs ++ said (ToServer z.life.start text) ∷ [])
+    part st of_life h = still_life t.requests (behind base xs) (said (ToServer z.life.start text)) z (record z { ids = ids }) refl refl (ap (requests (codes "shutdown")) says) h
+    part st of_ids h = part_ids t.requests (behind base xs) (said (ToServer z.life.start text)) z (record z { ids = ids }) refl
+        (cancelled_ids t.requests z.life.start z.ids ids (forwarding_of z.life.start (behind base xs)) text method (message_of text) ps n st.range says cancels written put next limit order) h
+
+-- the request `shutdown`
+pub shut_does : (settings : Settings) (t u : Tables) (xs ys : List Out) (base : List Event) (g s start n at_time : ℕ) (z : Start) (life : Standing) (text : List ℕ) (name : Id) (ps : Option Json) → slice_get (map number_in t.lasts.items) g ≡ Some s → g < length t.lasts.items → z ≡ get_or t.lasts.items g z → z.life.stage ≡ Ready
+    → message_of text ≡ request name (codes "shutdown") ps → life ≡ stopped n at_time z.life
+    → u.lasts.items ≡ slice_set t.lasts.items g (record z { life = life }) → u.editors ≡ t.editors → u.groups ≡ t.groups → u.time ≡ t.time → u.origins ≡ t.origins → u.requests ≡ t.requests → start ≡ life.start → ys ≡ xs ++ ToServer start text ∷ []
+    → Does (λ t events. Stands settings t events) (send (ToServer s text)) base t xs u ys
+shut_does settings t u xs ys base g s start n at_time z life text name ps at within read ready says stops set es gs now os r is said_so =
+    let own : life.start ≡ z.life.start = ap (λ (l : Standing). l.start) stops in
+    sent_does settings t u xs ys base g s start z (record z { life = life }) text at within read set own (ap (λ (l : Standing). l.group) stops) es gs now os r (is ∙ own) said_so (λ st p h. part own p h)
+  where
+    part : life.start ≡ z.life.start → (p : Part) → PartStands p t.requests z (behind base xs) → PartStands p t.requests (record z { life = life }) (behind base xs ++ said (ToServer z.life.start text) ∷ [])
+    part own of_life h = part_life t.requests (behind base xs) (said (ToServer z.life.start text)) z (record z { life = life }) own
+        (rw (itself z.life.start) (ap (λ k. record { stage = k; started = z.started }) (rw (ready, says) refl ∙ ap (λ (l : Standing). l.stage) (sym stops)))) h
+    part own of_ids h = still_ids t.requests (behind base xs) (said (ToServer z.life.start text)) z (record z { life = life }) own refl (ap moves_ids says) h
+
+ending : (g : Stage) → (g ≡ Ended → ⊥) → stage_ending g ≡ Ending
+ending Ended h = absurd (h refl)
+ending other h = refl
+
+-- its program is to be ended
+pub end_does : (settings : Settings) (t u : Tables) (xs ys : List Out) (base : List Event) (g s start : ℕ) (z : Start) (life : Standing) → slice_get (map number_in t.lasts.items) g ≡ Some s → g < length t.lasts.items → z ≡ get_or t.lasts.items g z → (z.life.stage ≡ Ended → ⊥) → life ≡ moved Ending z.life
+    → u.lasts.items ≡ slice_set t.lasts.items g (record z { life = life }) → u.editors ≡ t.editors → u.groups ≡ t.groups → u.time ≡ t.time → u.origins ≡ t.origins → u.requests ≡ t.requests → start ≡ life.start → ys ≡ xs ++ EndServer start ∷ []
+    → Does (λ t events. Stands settings t events) (send (EndServer s)) base t xs u ys
+end_does settings t u xs ys base g s start z life at within read runs ends set es gs now os r is said_so =
+    let own : life.start ≡ z.life.start = ap (λ (l : Standing). l.start) ends in
+    ended_with settings t u xs ys base g s start z (record z { life = life }) at within read set own (ap (λ (l : Standing). l.group) ends) es gs now os r (is ∙ own) said_so (λ p h. part own p h)
+  where
+    part : life.start ≡ z.life.start → (p : Part) → PartStands p t.requests z (behind base xs) → PartStands p t.requests (record z { life = life }) (behind base xs ++ said (EndServer z.life.start) ∷ [])
+    part own of_life h = part_life t.requests (behind base xs) (said (EndServer z.life.start)) z (record z { life = life }) own
+        (rw (itself z.life.start) (ap (λ k. record { stage = k; started = z.started }) (ending z.life.stage runs ∙ ap (λ (l : Standing). l.stage) (sym ends)))) h
+    part own of_ids h = still_ids t.requests (behind base xs) (said (EndServer z.life.start)) z (record z { life = life }) own refl refl h

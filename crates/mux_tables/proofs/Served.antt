@@ -1,0 +1,138 @@
+-- What the tables do when a cause about a start comes, as the code has it.
+use Rattle.std.proofs.Common.{◌≡◌, ℕ, ◌<◌, ◌^◌, Bool, true, false, ◌&&◌, List, [], ◌∷◌, ◌++◌, map, length, get_or, refl, ap, sym, subst, ◌∙◌}
+use Rattle.std.specs.Prelude.{Option, Some, None, MatchOption, slice_get, slice_set, find, option_map}
+use Rattle.mux_history.specs.declared.cause.Cause.TheVariants.{FromServer, Started}
+use Rattle.rpc_message.specs.Message.{Message, request, notification, result, error, not_json, not_message, message_of}
+use Rattle.event_model.specs.declared.stage.Stage.{Stage}
+use Rattle.event_model.specs.declared.stage.Stage.TheVariants.{Unspawned, Spawning, Initializing, Ready, Stopping, Ending, Ended}
+use Rattle.event_model.specs.Event.{Event, took}
+use Rattle.event_model.specs.Requests.{answered_id}
+use Rattle.event_model.specs.Settings.{Settings}
+use Rattle.event_model.specs.Stages.{Life, is_first_result, life_of, stage_hears, stage_started}
+use Rattle.event_model.proofs.Frames.{never}
+use Rattle.event_model.proofs.Places.{same_item}
+use Rattle.group_words.specs.Houses.{is_first_error, is_initializing}
+use Rattle.id_rewrite.specs.declared.pending.Pending.{Pending}
+use Rattle.id_rewrite.specs.declared.pending.Numbered.{Numbered}
+use Rattle.id_rewrite.specs.Tables.{Table, IsInOrder, pending_of, without}
+use Rattle.restart_replay.specs.Standings.{Standing, moved}
+use Rattle.mux_tables.specs.declared.tables.Start.{Start}
+use Rattle.mux_tables.specs.declared.tables.Tables.{Tables}
+use Rattle.mux_tables.specs.Forwarded.{Forwarding, forwarding_behind, forwarding_of, is_under}
+use Rattle.mux_tables.specs.Stands.{IdsAt, NamesAt, Part, of_life, of_ids, PartStands, Stands, begun_at, forwarded_as, number_in}
+use Rattle.mux_tables.proofs.Frames.{itself, groups_stand}
+use Rattle.mux_tables.proofs.IdMoves.{answered_ids, unanswered_ids, found_seen}
+use Rattle.mux_tables.proofs.Starts.{not_refused, part_ids, part_life, read_here, start_at_place, start_moves, still_ids}
+
+-- the program runs
+begun_start : (g : Stage) (l : Standing) → (begun_at g l).start ≡ l.start
+begun_start Spawning l = refl
+begun_start other l = refl
+
+begun_group : (g : Stage) (l : Standing) → (begun_at g l).group ≡ l.group
+begun_group Spawning l = refl
+begun_group other l = refl
+
+begun_stage : (g : Stage) (l : Standing) → l.stage ≡ g → stage_started g ≡ (begun_at g l).stage
+begun_stage Spawning l h = refl
+begun_stage Unspawned l h = sym h
+begun_stage Initializing l h = sym h
+begun_stage Ready l h = sym h
+begun_stage Stopping l h = sym h
+begun_stage Ending l h = sym h
+begun_stage Ended l h = sym h
+
+pub started_moves : (settings : Settings) (t u : Tables) (events : List Event) (g s : ℕ) (z : Start) (life : Standing) → slice_get (map number_in t.lasts.items) g ≡ Some s → g < length t.lasts.items → z ≡ get_or t.lasts.items g z → life ≡ begun_at z.life.stage z.life
+    → u.lasts.items ≡ slice_set t.lasts.items g (record z { life = life; started = true }) → u.editors ≡ t.editors → u.groups ≡ t.groups → u.time ≡ t.time → u.origins ≡ t.origins → u.requests ≡ t.requests
+    → Stands settings t events → Stands settings u (events ++ took (Started s) not_message ∷ [])
+started_moves settings t u events g s z life at within read is set es gs now os r =
+    let y : Start = record z { life = life; started = true } in
+    let own : life.start ≡ z.life.start = ap (λ (l : Standing). l.start) is ∙ begun_start z.life.stage z.life in
+    start_moves settings t u events (λ n. took (Started n) not_message) g s z y at within read set own (ap (λ (l : Standing). l.group) is ∙ begun_group z.life.stage z.life) es gs now os r (λ n. refl) (λ n. refl) (λ n. refl) (λ n m. refl)
+    (λ n _ h. groups_stand settings t.groups events (took (Started n) not_message) refl h) (part own)
+  where
+    part : life.start ≡ z.life.start → (p : Part) → PartStands p t.requests z events → PartStands p t.requests (record z { life = life; started = true }) (events ++ took (Started z.life.start) not_message ∷ [])
+    part own of_life h = part_life t.requests events (took (Started z.life.start) not_message) z (record z { life = life; started = true }) own
+        (rw (itself z.life.start) (ap (λ k. record { stage = k; started = true }) (begun_stage z.life.stage z.life refl ∙ ap (λ (l : Standing). l.stage) (sym is)))) h
+    part own of_ids h = still_ids t.requests events (took (Started z.life.start) not_message) z (record z { life = life; started = true }) own refl refl h
+
+-- the start answers a request, or none
+same_table : (limit : ℕ) (x : Forwarding) (t u : Table) → u.requests ≡ t.requests → u.next ≡ t.next → u.limit ≡ t.limit → (IsInOrder t → IsInOrder u) → IdsAt limit x t → IdsAt limit x u
+same_table limit x t u r n l o i = record { next = i.next ∙ sym n; open_requests = i.open_requests ∙ ap (map _) (sym r); ends = l ∙ i.ends; order = o i.order }
+
+answered_any : (limit s : ℕ) (t u : Table) (x : Forwarding) (body : List ℕ) (m : Message) (n : Option ℕ) → limit < 2 ^ 32 → NamesAt (answered_id m) n → MatchOption n (u.requests ≡ t.requests) (λ k. u.requests ≡ without k t.requests) → u.next ≡ t.next → u.limit ≡ t.limit → (IsInOrder t → IsInOrder u)
+    → IdsAt limit x t → IdsAt limit (forwarding_behind s x (took (FromServer s body) m)) u
+answered_any limit s t u x body m None h named taken next same order i = same_table limit (forwarding_behind s x (took (FromServer s body) m)) t u taken next same order (unanswered_ids limit s t x body m h named i)
+answered_any limit s t u x body m (Some k) h named taken next same order i = answered_ids limit s t u x body m k h named taken next same (order i.order) i.order i
+
+hears_answer : (g : Stage) (m : Message) → (is_first_result m && is_initializing g) ≡ false → stage_hears g m ≡ g
+hears_answer Initializing m h = rw (left (is_first_result m) h) refl
+  where
+    left : (a : Bool) → (a && true) ≡ false → a ≡ false
+    left true h = h
+    left false h = refl
+hears_answer other m h = refl
+
+stage_seen : (settings : Settings) (t : Tables) (events : List Event) (g n : ℕ) (z : Start) → Stands settings t events → slice_get t.lasts.items g ≡ Some z → n ≡ z.life.start → (life_of n events).stage ≡ z.life.stage
+stage_seen settings t events g n z st here e = ap (λ k. (life_of k events).stage) e ∙ ap (λ (l : Life). l.stage) ((st.lasts.each g z here).parts of_life)
+
+module _ (settings : Settings) (t u : Tables) (events : List Event) (g s : ℕ) (z : Start) (body : List ℕ) (n : Option ℕ) (life : Standing) (ids : Table) (at : slice_get (map number_in t.lasts.items) g ≡ Some s) (within : g < length t.lasts.items) (read : z ≡ get_or t.lasts.items g z)
+    (own : life.start ≡ z.life.start) (group : life.group ≡ z.life.group) (hears : stage_hears z.life.stage (message_of body) ≡ life.stage) (refuses : (is_first_error (message_of body) && is_initializing z.life.stage) ≡ false) (named : NamesAt (answered_id (message_of body)) n)
+    (taken : MatchOption n (ids.requests ≡ z.ids.requests) (λ k. ids.requests ≡ without k z.ids.requests)) (next : ids.next ≡ z.ids.next) (limit : ids.limit ≡ z.ids.limit) (order : IsInOrder z.ids → IsInOrder ids)
+    (set : u.lasts.items ≡ slice_set t.lasts.items g (record z { life = life; ids = ids })) (es : u.editors ≡ t.editors) (gs : u.groups ≡ t.groups) (now : u.time ≡ t.time) (os : u.origins ≡ t.origins) (r : u.requests ≡ t.requests) where
+  pub server_moves : Stands settings t events → Stands settings u (events ++ took (FromServer s body) (message_of body) ∷ [])
+  server_moves st = start_moves settings t u events (λ k. took (FromServer k body) (message_of body)) g s z y at within read set own group es gs now os r (λ k. refl) (λ k. refl) (λ k. refl) (λ k m. refl)
+      (λ k e h. not_refused settings t.groups events k body (message_of body) (ap (λ a. is_first_error (message_of body) && is_initializing a) (stage_seen settings t events g k z st here (e ∙ sym (start_at_place t.lasts.items g s z here at))) ∙ refuses) h) (part st) st
+    where
+      y : Start
+      y = record z { life = life; ids = ids }
+
+      here : slice_get t.lasts.items g ≡ Some z
+      here = read_here t.lasts.items g z within read
+
+      part : Stands settings t events → (p : Part) → PartStands p t.requests z events → PartStands p t.requests y (events ++ took (FromServer z.life.start body) (message_of body) ∷ [])
+      part st of_life h = part_life t.requests events (took (FromServer z.life.start body) (message_of body)) z y own (rw (itself z.life.start) (ap (λ k. record { stage = k; started = z.started }) hears)) h
+      part st of_ids h = part_ids t.requests events (took (FromServer z.life.start body) (message_of body)) z y own
+          (answered_any t.requests z.life.start z.ids ids (forwarding_of z.life.start events) body (message_of body) n st.range named taken next limit order) h
+
+-- S5, and all else that isn't the answer to `initialize`
+pub answer_moves : (settings : Settings) (t u : Tables) (events : List Event) (g s : ℕ) (x z : Start) (body : List ℕ) (n : Option ℕ) (ids : Table) → slice_get t.lasts.items g ≡ Some x → slice_get (map number_in t.lasts.items) g ≡ Some s → g < length t.lasts.items → z ≡ get_or t.lasts.items g z
+    → (is_first_result (message_of body) && is_initializing x.life.stage) ≡ false → (is_first_error (message_of body) && is_initializing x.life.stage) ≡ false → NamesAt (answered_id (message_of body)) n
+    → MatchOption n (ids.requests ≡ z.ids.requests) (λ k. ids.requests ≡ without k z.ids.requests) → ids.next ≡ z.ids.next → ids.limit ≡ z.ids.limit → (IsInOrder z.ids → IsInOrder ids)
+    → u.lasts.items ≡ slice_set t.lasts.items g (record z { ids = ids }) → u.editors ≡ t.editors → u.groups ≡ t.groups → u.time ≡ t.time → u.origins ≡ t.origins → u.requests ≡ t.requests
+    → Stands settings t events → Stands settings u (events ++ took (FromServer s body) (message_of body) ∷ [])
+answer_moves settings t u events g s x z body n ids is at within read no_result no_failure named taken next limit order set es gs now os r =
+    let same : x ≡ z = same_item (sym is ∙ read_here t.lasts.items g z within read) in
+    server_moves settings t u events g s z body n z.life ids at within read refl refl
+    (hears_answer z.life.stage (message_of body) (ap (λ (w : Start). is_first_result (message_of body) && is_initializing w.life.stage) (sym same) ∙ no_result))
+    (ap (λ (w : Start). is_first_error (message_of body) && is_initializing w.life.stage) (sym same) ∙ no_failure) named taken next limit order set es gs now os r
+
+no_error : (m : Message) → is_first_result m ≡ true → (b : Bool) → (is_first_error m && b) ≡ false
+no_error m h b = ap (λ a. a && b) (only m h)
+  where
+    only : (m : Message) → is_first_result m ≡ true → is_first_error m ≡ false
+    only (result id r) h = refl
+    only (error id e) h = never (sym h)
+    only (request id method ps) h = refl
+    only (notification method ps) h = refl
+    only not_json h = refl
+    only not_message h = refl
+
+-- S2
+pub result_moves : (settings : Settings) (t u : Tables) (events : List Event) (g s : ℕ) (z : Start) (body : List ℕ) (n : Option ℕ) (life : Standing) (ids : Table) → slice_get (map number_in t.lasts.items) g ≡ Some s → g < length t.lasts.items → z ≡ get_or t.lasts.items g z
+    → z.life.stage ≡ Initializing → is_first_result (message_of body) ≡ true → NamesAt (answered_id (message_of body)) n → life ≡ moved Ready z.life
+    → MatchOption n (ids.requests ≡ z.ids.requests) (λ k. ids.requests ≡ without k z.ids.requests) → ids.next ≡ z.ids.next → ids.limit ≡ z.ids.limit → (IsInOrder z.ids → IsInOrder ids)
+    → u.lasts.items ≡ slice_set t.lasts.items g (record z { life = life; ids = ids }) → u.editors ≡ t.editors → u.groups ≡ t.groups → u.time ≡ t.time → u.origins ≡ t.origins → u.requests ≡ t.requests
+    → Stands settings t events → Stands settings u (events ++ took (FromServer s body) (message_of body) ∷ [])
+result_moves settings t u events g s z body n life ids at within read stage first named is taken next limit order set es gs now os r =
+    server_moves settings t u events g s z body n life ids at within read (ap (λ (l : Standing). l.start) is) (ap (λ (l : Standing). l.group) is)
+    (rw (stage, first) refl ∙ ap (λ (l : Standing). l.stage) (sym is)) (no_error (message_of body) first (is_initializing z.life.stage)) named taken next limit order set es gs now os r
+
+pub answer_found : (settings : Settings) (t : Tables) (events : List Event) (g s k : ℕ) (z : Start) (o : Option Pending) → slice_get (map number_in t.lasts.items) g ≡ Some s → g < length t.lasts.items → z ≡ get_or t.lasts.items g z → o ≡ pending_of k z.ids.requests
+    → Stands settings t events → find (is_under k) (forwarding_of s events).open_requests ≡ option_map (forwarded_as k) o
+answer_found settings t events g s k z o at within read is st =
+    let here = read_here t.lasts.items g z within read in
+    subst (λ n. find (is_under k) (forwarding_of n events).open_requests ≡ option_map (forwarded_as k) o) (start_at_place t.lasts.items g s z here at) (found_seen t.requests z.life.start z.ids events k o is ((st.lasts.each g z here).parts of_ids))
+
+pub found_of : (n : Option ℕ) (k : ℕ) (o : Option Pending) (rs : List Numbered) → n ≡ Some k → MatchOption n (o ≡ None) (λ j. o ≡ pending_of j rs) → o ≡ pending_of k rs
+found_of n k o rs is h = subst (λ (m : Option ℕ). MatchOption m (o ≡ None) (λ j. o ≡ pending_of j rs)) is h

@@ -1,0 +1,158 @@
+-- A start is spawned: for a new group, or for one whose last start ended.
+use Rattle.std.proofs.Common.{◌≡◌, ℕ, ◌+◌, ◌<◌, ◌≤◌, List, [], ◌∷◌, ◌++◌, map, length, refl, ap, sym, subst, ◌∙◌, arith, nat_eq, false, inl, inr, if◌then◌else◌}
+use Rattle.std.specs.Prelude.{Option, Some, None, slice_get, slice_set}
+use Rattle.std.proofs.lemmas.Bool.{ne_eqb}
+use Rattle.std.proofs.lemmas.List.{length-set, length-append}
+use Rattle.std.proofs.lemmas.Option.{slice_get_within}
+use Rattle.mux_history.specs.declared.out.Out.{Out}
+use Rattle.mux_history.specs.declared.out.Out.TheVariants.{Spawn}
+use Rattle.rpc_message.specs.Message.{not_message}
+use Rattle.event_model.specs.declared.stage.Stage.TheVariants.{Ended}
+use Rattle.event_model.specs.Does.{Does}
+use Rattle.event_model.specs.Each.{Each}
+use Rattle.event_model.specs.Event.{Event, behind, did}
+use Rattle.event_model.specs.Row.{send}
+use Rattle.event_model.specs.Settings.{Settings}
+use Rattle.event_model.specs.Spawns.{starts_behind, starts_of, start_behind, start_of, group_behind, group_of}
+use Rattle.event_model.specs.Stages.{Life, life_behind, life_of}
+use Rattle.event_model.proofs.Frames.{one_more}
+use Rattle.event_model.proofs.Places.{Same, same, other, compare, get_push_same, get_push_other, each_set, each_push}
+use Rattle.event_model.proofs.Turns.{does_look}
+use Rattle.group_words.specs.Rows.{spawn}
+use Rattle.id_rewrite.specs.Tables.{IsInOrder}
+use Rattle.restart_replay.specs.Standings.{spawned}
+use Rattle.mux_tables.specs.declared.tables.Start.{Start}
+use Rattle.mux_tables.specs.declared.tables.Tables.{Tables}
+use Rattle.mux_tables.specs.Forwarded.{forwarding_behind}
+use Rattle.mux_tables.specs.Stands.{OriginsStand, IdsAt, IdsStand, Part, of_life, of_ids, PartStands, blank, LastStands, LastsStand, Stands}
+use Rattle.mux_tables.proofs.Frames.{groups_stand, itself, last_stands, life_alone, part_apart}
+use Rattle.mux_tables.proofs.Lasts.{Last, known, same_place}
+use Rattle.mux_tables.proofs.Moves.{house_stands}
+use Rattle.mux_tables.proofs.Said.{does_send}
+
+spawned_origins : (origins after : List ℕ) (events : List Event) (n g : ℕ) → n ≡ length origins → after ≡ origins ++ g ∷ [] → OriginsStand origins events → OriginsStand after (events ++ did (Spawn n g) not_message ∷ [])
+spawned_origins origins after events n g last is s = record {
+  count = one_more starts_behind _ _ events (did (Spawn n g) not_message) s.count ∙ (sym (length-append origins (g ∷ [])) ∙ ap length (sym is));
+  group = λ m. one_more (group_behind m) _ _ events (did (Spawn n g) not_message) (s.group m)
+      ∙ (subst (λ k. group_behind m (slice_get origins m) (did (Spawn k g) not_message) ≡ slice_get (origins ++ g ∷ []) m) (sym last) (go m (compare (length origins) m)) ∙ ap (λ xs. slice_get xs m) (sym is));
+}
+  where
+    go : (m : ℕ) → Same (length origins) m → group_behind m (slice_get origins m) (did (Spawn (length origins) g) not_message) ≡ slice_get (origins ++ g ∷ []) m
+    go _ same = rw (itself (length origins), get_push_same origins g) refl
+    go m (other h) = rw (ne_eqb (length origins) m (λ q. h (sym q)), get_push_other origins g m h) refl
+
+-- the tables of a start that was just spawned
+abbrev pub IsFresh : ℕ → ℕ → ℕ → Start → Type 0
+IsFresh limit n g y = (y.life ≡ spawned n g) × (y.started ≡ false) × (y.ids.requests ≡ []) × (y.ids.next ≡ 2) × (y.ids.limit ≡ limit) × IsInOrder y.ids
+
+spawned_last : (limit : ℕ) (events : List Event) (n g : ℕ) (y : Start) → ((p : Part) → PartStands p limit (blank limit n) events) → IsFresh limit n g y → LastStands limit (events ++ did (Spawn n g) not_message ∷ []) g y
+spawned_last limit events n g y f new =
+    let ev : Event = did (Spawn n g) not_message in
+    let at : y.life.start ≡ n = ap (λ l. l.start) new.0 in
+    record {
+      start = one_more (start_behind g) _ _ events ev refl ∙ rw (itself g) (ap (λ m. Some m) (sym at));
+      home = subst (λ m. group_of m (events ++ ev ∷ []) ≡ Some g) (sym at) (one_more (group_behind n) _ _ events ev refl ∙ rw (itself n) refl);
+      own = ap (λ l. l.group) new.0;
+      parts = λ p. part p;
+    }
+  where
+    part : (p : Part) → PartStands p limit y (events ++ did (Spawn n g) not_message ∷ [])
+    part of_life = subst (λ m. life_of m (events ++ did (Spawn n g) not_message ∷ []) ≡ record { stage = y.life.stage; started = y.started }) (sym (ap (λ l. l.start) new.0))
+        (one_more (life_behind n) _ _ events (did (Spawn n g) not_message) refl ∙ rw (itself n) (rw (new.1) (ap (λ l. record { stage = l.stage; started = false }) (sym new.0))))
+    part of_ids = subst (λ m. IdsStand limit m y.ids (events ++ did (Spawn n g) not_message ∷ [])) (sym (ap (λ l. l.start) new.0)) (subst (λ a. IdsAt limit a y.ids) (sym (one_more (forwarding_behind n) _ _ events (did (Spawn n g) not_message) refl)) (record {
+      next = (f of_ids).next ∙ sym new.3;
+      open_requests = (f of_ids).open_requests ∙ sym (ap (map _) new.2);
+      ends = new.4;
+      order = new.5;
+    }))
+
+-- the other groups
+untouched : (limit : ℕ) (origins : List ℕ) (events : List Event) (n g j : ℕ) (z : Start) → n ≡ length origins → OriginsStand origins events → (j ≡ g → ⊥) → LastStands limit events j z → LastStands limit (events ++ did (Spawn n g) not_message ∷ []) j z
+untouched limit origins events n g j z last st h s =
+    let k : z.life.start < starts_of events = known limit origins events j z st s in
+    let e : starts_of events ≡ n = st.count ∙ sym last in
+    last_stands limit events (did (Spawn n g) not_message) j z (ne_eqb n z.life.start (λ q. absurd (omega (arith, e, k, q)))) (λ o. rw (ne_eqb g j (λ q. h (sym q))) refl) s
+
+module _ (limit : ℕ) (origins : List ℕ) (lasts after : List Start) (events : List Event) (n g : ℕ) (last : n ≡ length origins) (st : OriginsStand origins events) (s : LastsStand limit lasts events) where
+  abbrev ev : Event
+  ev = did (Spawn n g) not_message
+
+  spawned_lasts : length lasts ≤ length after → g < length after → Each (LastStands limit (events ++ ev ∷ [])) after → ((m : ℕ) → start_of g events ≡ Some m → (life_of m events).stage ≡ Ended) → LastsStand limit after (events ++ ev ∷ [])
+  spawned_lasts long inside all ended = record {
+    none = λ j l. one_more (start_behind j) _ _ events ev (s.none j (omega (arith, long, l))) ∙ rw (ne_eqb g j (λ q. absurd (omega (arith, inside, l, q)))) refl;
+    each = all;
+    fresh = λ m l p.
+        let e : starts_of (events ++ ev ∷ []) ≡ n + 1 = one_more starts_behind _ _ events ev (st.count ∙ sym last) in
+        let c : starts_of events ≡ n = st.count ∙ sym last in
+        part_apart p limit (blank limit m) events ev (ne_eqb n m (λ q. absurd (omega (arith, e, l, q)))) (s.fresh m (omega (arith, e, c, l)) p);
+    old = λ m h w. go m h (compare n m) w;
+  }
+    where
+      before : (m h : ℕ) → (m ≡ n → ⊥) → group_of m (events ++ ev ∷ []) ≡ Some h → group_of m events ≡ Some h
+      before m h d w = sym (one_more (group_behind m) _ _ events ev refl ∙ rw (ne_eqb n m (λ q. d (sym q))) refl) ∙ w
+
+      dead : (m : ℕ) → (m ≡ n → ⊥) → (life_of m events).stage ≡ Ended → (life_of m (events ++ ev ∷ [])).stage ≡ Ended
+      dead m d q = ap (λ (l : Life). l.stage) (one_more (life_behind m) _ _ events ev refl ∙ life_alone m _ ev (ne_eqb n m (λ z. d (sym z)))) ∙ q
+
+      kept : (m h : ℕ) → (m ≡ n → ⊥) → Same g h → Last events m h → Last (events ++ ev ∷ []) m h
+      kept m _ d same (inl q) = inr (dead m d (ended m q))
+      kept m h d (other k) (inl q) = inl (one_more (start_behind h) _ _ events ev q ∙ rw (ne_eqb g h (λ z. k (sym z))) refl)
+      kept m h d k (inr q) = inr (dead m d q)
+
+      go : (m h : ℕ) → Same n m → group_of m (events ++ ev ∷ []) ≡ Some h → Last (events ++ ev ∷ []) m h
+      go _ h same w =
+          let e : g ≡ h = same_place (sym (one_more (group_behind n) _ _ events ev refl ∙ rw (itself n) refl) ∙ w) in
+          inl (one_more (start_behind h) _ _ events ev refl ∙ subst (λ k. (if nat_eq g k then Some n else start_of h events) ≡ Some n) e (rw (itself g) refl))
+      go m h (other d) w = kept m h d (compare g h) (s.old m h (before m h d w))
+
+module _ (settings : Settings) (t u : Tables) (events : List Event) (n g : ℕ) (y : Start) (last : n ≡ length t.origins.items) (es : u.editors ≡ t.editors) (gs : u.groups ≡ t.groups) (now : u.time ≡ t.time) (os : u.origins.items ≡ t.origins.items ++ g ∷ []) (r : u.requests ≡ t.requests) (new : IsFresh t.requests n g y) where
+  fresh_parts : Stands settings t events → (p : Part) → PartStands p t.requests (blank t.requests n) events
+  fresh_parts s p = s.lasts.fresh n (subst (λ k. k ≤ n) (sym s.origins.count) (omega (arith, last))) p
+
+  all_stand : LastsStand t.requests u.lasts.items (events ++ did (Spawn n g) not_message ∷ []) → Stands settings t events → Stands settings u (events ++ did (Spawn n g) not_message ∷ [])
+  all_stand lasts s = record {
+    house = house_stands settings t u events (did (Spawn n g) not_message) refl (groups_stand settings t.groups events (did (Spawn n g) not_message) refl) refl es gs now s.house;
+    origins = spawned_origins t.origins.items u.origins.items events n g last os s.origins;
+    lasts = subst (λ k. LastsStand k u.lasts.items (events ++ did (Spawn n g) not_message ∷ [])) (sym r) lasts;
+    requests = s.requests ∙ sym r;
+    range = rw r s.range;
+  }
+
+  -- for a new group
+  found_moves : g ≡ length t.lasts.items → u.lasts.items ≡ t.lasts.items ++ y ∷ [] → Stands settings t events → Stands settings u (events ++ did (Spawn n g) not_message ∷ [])
+  found_moves place ls s =
+      let here = spawned_last t.requests events n g y (fresh_parts s) new in
+      let long : length u.lasts.items ≡ length t.lasts.items + 1 = ap length ls ∙ length-append t.lasts.items (y ∷ []) in
+      all_stand (spawned_lasts t.requests t.origins.items t.lasts.items u.lasts.items events n g last s.origins s.lasts (omega (arith, long)) (omega (arith, long, place))
+      (each_push (LastStands t.requests events) (LastStands t.requests (events ++ did (Spawn n g) not_message ∷ [])) t.lasts.items u.lasts.items y ls s.lasts.each (subst (λ k. LastStands t.requests (events ++ did (Spawn n g) not_message ∷ []) k y) place here)
+      (λ j z w q. untouched t.requests t.origins.items events n g j z last s.origins (λ e. absurd (omega (arith, w, e, place))) q))
+      (λ m e. absurd (clash (sym (s.lasts.none g (omega (arith, place))) ∙ e)))) s
+    where
+      clash : {m : ℕ} → ◌≡◌ {A = Option ℕ} None (Some m) → ⊥
+      clash e = cc
+
+  -- for a group whose last start ended
+  respawn_moves : (x : Start) → slice_get t.lasts.items g ≡ Some x → x.life.stage ≡ Ended → u.lasts.items ≡ slice_set t.lasts.items g y → Stands settings t events → Stands settings u (events ++ did (Spawn n g) not_message ∷ [])
+  respawn_moves x at ended ls s =
+      let here = spawned_last t.requests events n g y (fresh_parts s) new in
+      let was = s.lasts.each g x at in
+      let within = slice_get_within t.lasts.items g x at in
+      let long : length u.lasts.items ≡ length t.lasts.items = ap length ls ∙ length-set t.lasts.items g y in
+      all_stand (spawned_lasts t.requests t.origins.items t.lasts.items u.lasts.items events n g last s.origins s.lasts (omega (arith, long)) (omega (arith, long, within))
+      (each_set (LastStands t.requests events) (LastStands t.requests (events ++ did (Spawn n g) not_message ∷ [])) t.lasts.items u.lasts.items g x y at ls s.lasts.each (λ _. here) (λ j z w _ q. untouched t.requests t.origins.items events n g j z last s.origins w q))
+      (λ m e. subst (λ k. (life_of k events).stage ≡ Ended) (same_place (sym was.start ∙ e)) (ap (λ (l : Life). l.stage) (was.parts of_life) ∙ ended))) s
+
+-- the number is the next one
+spawn_does : (settings : Settings) (t u : Tables) (xs ys : List Out) (base : List Event) (n g : ℕ) → n ≡ length t.origins.items → ys ≡ xs ++ Spawn n g ∷ [] → (Stands settings t (behind base xs) → Stands settings u (behind base xs ++ did (Spawn n g) not_message ∷ [])) → Does (λ t events. Stands settings t events) (spawn g) base t xs u ys
+spawn_does settings t u xs ys base n g last is go =
+    does_look {Stands = λ t events. Stands settings t events} {f = λ events. send (Spawn (starts_of events) g)} (λ s. ap (λ k. send (Spawn k g)) (s.origins.count ∙ sym last)) (does_send settings (Spawn n g) base t u xs ys is go)
+
+pub found_gives : (settings : Settings) (t u : Tables) (xs ys : List Out) (base : List Event) (n g : ℕ) (y : Start) → n ≡ length t.origins.items → g ≡ length t.lasts.items → u.editors ≡ t.editors → u.groups ≡ t.groups → u.time ≡ t.time → u.origins.items ≡ t.origins.items ++ g ∷ [] → u.lasts.items ≡ t.lasts.items ++ y ∷ [] → u.requests ≡ t.requests
+    → y.life ≡ spawned n g → y.started ≡ false → y.ids.requests ≡ [] → y.ids.next ≡ 2 → y.ids.limit ≡ t.requests → IsInOrder y.ids → ys ≡ xs ++ Spawn n g ∷ [] → Does (λ t events. Stands settings t events) (spawn (length t.lasts.items)) base t xs u ys
+found_gives settings t u xs ys base n g y last place es gs now os ls r life started requests next ends order is = subst (λ h. Does (λ t events. Stands settings t events) (spawn h) base t xs u ys) place
+    (spawn_does settings t u xs ys base n g last is (found_moves settings t u (behind base xs) n g y last es gs now os r (life, started, requests, next, ends, order) place ls))
+
+pub respawn_gives : (settings : Settings) (t u : Tables) (xs ys : List Out) (base : List Event) (n g : ℕ) (x y : Start) → n ≡ length t.origins.items → slice_get t.lasts.items g ≡ Some x → x.life.stage ≡ Ended → u.editors ≡ t.editors → u.groups ≡ t.groups → u.time ≡ t.time → u.origins.items ≡ t.origins.items ++ g ∷ [] → u.lasts.items ≡ slice_set t.lasts.items g y → u.requests ≡ t.requests
+    → y.life ≡ spawned n g → y.started ≡ false → y.ids.requests ≡ [] → y.ids.next ≡ 2 → y.ids.limit ≡ t.requests → IsInOrder y.ids → ys ≡ xs ++ Spawn n g ∷ [] → Does (λ t events. Stands settings t events) (spawn g) base t xs u ys
+respawn_gives settings t u xs ys base n g x y last at ended es gs now os ls r life started requests next ends order is =
+    spawn_does settings t u xs ys base n g last is (respawn_moves settings t u (behind base xs) n g y last es gs now os r (life, started, requests, next, ends, order) x at ended ls)

@@ -1,0 +1,79 @@
+-- The last start of one group moves, as the code has it.
+use Rattle.std.proofs.Common.{◌≡◌, ℕ, zero, suc, ◌<◌, false, List, [], ◌∷◌, ◌++◌, map, length, get_or, refl, ap, sym, subst, ◌∙◌, arith, nat_eq, ◌&&◌}
+use Rattle.std.specs.Prelude.{Option, Some, None, slice_get, slice_set}
+use Rattle.std.proofs.lemmas.Option.{slice_get_read}
+use Rattle.mux_history.specs.declared.cause.Cause.TheVariants.{FromServer}
+use Rattle.rpc_message.specs.Message.{Message}
+use Rattle.event_model.specs.Event.{Event, took}
+use Rattle.event_model.specs.Settings.{Settings}
+use Rattle.event_model.specs.Stages.{life_behind, life_of}
+use Rattle.event_model.proofs.Frames.{one_more}
+use Rattle.event_model.proofs.Places.{same_item}
+use Rattle.group_words.specs.Houses.{is_first_error, is_initializing}
+use Rattle.group_words.proofs.Frames.{groups_more}
+use Rattle.group_table.specs.Tables as group_tables
+use Rattle.restart_replay.specs.Standings.{Standing}
+use Rattle.mux_tables.specs.declared.tables.Start.{Start}
+use Rattle.mux_tables.specs.declared.tables.Tables.{Tables}
+use Rattle.mux_tables.specs.Forwarded.{forwarding_behind, forwarding_of}
+use Rattle.mux_tables.specs.Stands.{GroupsStand, IdsAt, IdsStand, Part, of_life, of_ids, PartStands, Stands, number_in}
+use Rattle.mux_tables.proofs.Frames.{names_start, names_editor, spawns, ticks, touches, part_quiet}
+use Rattle.mux_tables.proofs.IdMoves.{ids_more}
+use Rattle.mux_tables.proofs.Moves.{parts_move}
+
+pub read_here : (xs : List Start) (g : ℕ) (z : Start) → g < length xs → z ≡ get_or xs g z → slice_get xs g ≡ Some z
+read_here xs g z within read = slice_get_read xs (length xs) g z refl within read
+
+pub start_at_place : (xs : List Start) (g s : ℕ) (z : Start) → slice_get xs g ≡ Some z → slice_get (map number_in xs) g ≡ Some s → z.life.start ≡ s
+start_at_place [] g s z h k = absurd (none z h)
+  where
+    none : (z : Start) → ◌≡◌ {A = Option Start} None (Some z) → ⊥
+    none z h = cc
+start_at_place (x ∷ xs) zero s z h k = ap number_in (sym (same_item h)) ∙ same_item k
+start_at_place (x ∷ xs) (suc g) s z h k = start_at_place xs g s z h k
+
+pub start_there : (xs : List Start) (g : ℕ) → g < length xs → (s : ℕ) × (slice_get (map number_in xs) g ≡ Some s)
+start_there [] g h = absurd (omega arith)
+start_there (x ∷ xs) zero h = (x.life.start, refl)
+start_there (x ∷ xs) (suc g) h = start_there xs g (omega arith)
+
+pub starts_stay : (xs : List Start) (g : ℕ) (z y : Start) → g < length xs → z ≡ get_or xs g z → y.life.start ≡ z.life.start → map number_in (slice_set xs g y) ≡ map number_in xs
+starts_stay [] g z y h e k = absurd (omega arith)
+starts_stay (x ∷ xs) zero z y h e k = ap (λ n. n ∷ map number_in xs) (k ∙ ap number_in e)
+starts_stay (x ∷ xs) (suc g) z y h e k = ap (λ ns. x.life.start ∷ ns) (starts_stay xs g z y (omega arith) e k)
+
+-- its stage goes on
+pub part_life : (limit : ℕ) (events : List Event) (ev : Event) (x y : Start) → y.life.start ≡ x.life.start → life_behind x.life.start (record { stage = x.life.stage; started = x.started }) ev ≡ record { stage = y.life.stage; started = y.started }
+    → PartStands of_life limit x events → PartStands of_life limit y (events ++ ev ∷ [])
+part_life limit events ev x y own step s = subst (λ n. life_of n (events ++ ev ∷ []) ≡ record { stage = y.life.stage; started = y.started }) (sym own) (one_more (life_behind x.life.start) _ _ events ev s ∙ step)
+
+-- its open requests go on
+pub part_ids : (limit : ℕ) (events : List Event) (ev : Event) (x y : Start) → y.life.start ≡ x.life.start → (IdsAt limit (forwarding_of x.life.start events) x.ids → IdsAt limit (forwarding_behind x.life.start (forwarding_of x.life.start events) ev) y.ids)
+    → PartStands of_ids limit x events → PartStands of_ids limit y (events ++ ev ∷ [])
+part_ids limit events ev x y own go s = subst (λ n. IdsStand limit n y.ids (events ++ ev ∷ [])) (sym own) (ids_more limit x.life.start x.ids y.ids events ev go s)
+
+-- a part that the event doesn't touch, where the table keeps it
+pub still_life : (limit : ℕ) (events : List Event) (ev : Event) (x y : Start) → y.life ≡ x.life → y.started ≡ x.started → touches of_life ev ≡ false → PartStands of_life limit x events → PartStands of_life limit y (events ++ ev ∷ [])
+still_life limit events ev x y l b q s =
+    subst (λ c. life_of y.life.start (events ++ ev ∷ []) ≡ record { stage = y.life.stage; started = c }) (sym b)
+    (subst (λ (z : Standing). life_of z.start (events ++ ev ∷ []) ≡ record { stage = z.stage; started = x.started }) (sym l) (part_quiet of_life limit x events ev q s))
+
+pub still_ids : (limit : ℕ) (events : List Event) (ev : Event) (x y : Start) → y.life.start ≡ x.life.start → y.ids ≡ x.ids → touches of_ids ev ≡ false → PartStands of_ids limit x events → PartStands of_ids limit y (events ++ ev ∷ [])
+still_ids limit events ev x y own i q s =
+    subst (λ n. IdsStand limit n y.ids (events ++ ev ∷ [])) (sym own) (subst (λ ids. IdsStand limit x.life.start ids (events ++ ev ∷ [])) (sym i) (part_quiet of_ids limit x events ev q s))
+
+-- the event `ev n` names start n alone, and start s is the last one of group g, which goes from z to y
+module _ (settings : Settings) (t u : Tables) (events : List Event) (ev : ℕ → Event) (g s : ℕ) (z y : Start) (at : slice_get (map number_in t.lasts.items) g ≡ Some s) (within : g < length t.lasts.items) (read : z ≡ get_or t.lasts.items g z)
+    (set : u.lasts.items ≡ slice_set t.lasts.items g y) (own : y.life.start ≡ z.life.start) (group : y.life.group ≡ z.life.group) (es : u.editors ≡ t.editors) (gs : u.groups ≡ t.groups) (now : u.time ≡ t.time) (os : u.origins ≡ t.origins) (r : u.requests ≡ t.requests)
+    (e : (n : ℕ) → names_editor (ev n) ≡ false) (w : (n : ℕ) → ticks (ev n) ≡ false) (k : (n : ℕ) → spawns (ev n) ≡ false) (one : (n m : ℕ) → names_start m (ev n) ≡ nat_eq n m) where
+  pub start_moves : ((n : ℕ) → n ≡ s → GroupsStand settings t.groups events → GroupsStand settings t.groups (events ++ ev n ∷ [])) → ((p : Part) → PartStands p t.requests z events → PartStands p t.requests y (events ++ ev z.life.start ∷ []))
+      → Stands settings t events → Stands settings u (events ++ ev s ∷ [])
+  start_moves groups parts st =
+      let here : slice_get t.lasts.items g ≡ Some z = read_here t.lasts.items g z within read in
+      let is : z.life.start ≡ s = start_at_place t.lasts.items g s z here at in
+      subst (λ n. Stands settings u (events ++ ev n ∷ [])) is
+      (parts_move settings t u events (ev z.life.start) g z (e z.life.start) (groups z.life.start is) (w z.life.start) (k z.life.start) (one z.life.start) here es gs now (ap (λ v. v.items) os) r y own group set parts st)
+
+-- what a start says doesn't end its group, where it isn't answering its `initialize`
+pub not_refused : (settings : Settings) (t : group_tables.Table) (events : List Event) (n : ℕ) (body : List ℕ) (m : Message) → (is_first_error m && is_initializing (life_of n events).stage) ≡ false → GroupsStand settings t events → GroupsStand settings t (events ++ took (FromServer n body) m ∷ [])
+not_refused settings t events n body m stays s = record { groups = groups_more settings events (took (FromServer n body) m) ∙ (rw stays refl ∙ s.groups); limit = s.limit; idle = s.idle }

@@ -1,0 +1,13 @@
+-- A request is cancelled.
+use Rattle.std.proofs.Common.{refl}
+use Rattle.mux_tables.proofs.Starts.{starts_stay}
+use Rattle.mux_tables.proofs.Sent.{cancel_does}
+use Rattle.mux_tables.proofs.tables.Tables.cancel.Goals as goal
+
+pub returns-clause-starts : goal.returns-clause-starts
+returns-clause-starts c = starts_stay c.args.self.now.lasts.items c.args.g c.index_mut-last.result.now (record c.index_mut-last.result.now { ids = c.mark.new.ids }) c.requires c.index_mut-last.ensures.value refl
+
+pub returns-clause-does : goal.returns-clause-does
+returns-clause-does c = λ settings base s method ps at says cancels written.
+    cancel_does settings c.args.self.now _ c.args.outs.now c.push.new.self base c.args.g s c.start.result c.args.n c.index_mut-last.result.now c.mark.new.ids c.args.text method ps at c.requires c.index_mut-last.ensures.value says cancels written
+    c.mark.ensures.requests c.mark.ensures.next c.mark.ensures.limit c.mark.ensures.order refl refl refl refl refl refl c.start.ensures c.in_ok-push.ensures.ok

@@ -1,0 +1,14 @@
+-- An editor is placed.
+use Rattle.std.proofs.Common.{refl}
+use Rattle.group_words.specs.Houses.{declared_for}
+use Rattle.mux_tables.proofs.Heard.{initialized_moves}
+use Rattle.mux_tables.proofs.Seated.{joined_inside}
+use Rattle.mux_tables.proofs.tables.Tables.hear_initialize.Goals as goal
+
+pub returns-clause-moves : goal.returns-clause-moves
+returns-clause-moves c = λ settings before x body st at new first k d.
+    let given = declared_for settings before c.args.e body in
+    initialized_moves settings before c.args.e body c.args.self.now _ c.place.new.self x c.in_ok-placed.placed c.args.key given first at new k refl (c.in_ok-placed.ensures.placed given d) (c.in_ok-placed.ensures.ok given d) c.join.ensures (c.seat.ensures x at) refl refl refl refl st
+
+pub returns-clause-inside : goal.returns-clause-inside
+returns-clause-inside c = joined_inside c.in_ok-placed.placed c.place.new.self c.join.new.groups c.join.ensures c.in_ok-placed.ensures.inside

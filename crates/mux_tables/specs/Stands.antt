@@ -1,0 +1,154 @@
+-- When the tables stand for events: one record for each table.
+use Rattle.std.specs.Prelude.{◌≡◌, ℕ, ◌<◌, ◌≤◌, ◌^◌, nat_eq, ◌⊎◌, Bool, false, ◌&&◌, List, [], ◌∷◌, ◌++◌, map, length, nat_lt}
+use Rattle.std.specs.List.{filter, range_with_len}
+use Rattle.std.specs.Prelude.{Option, Some, None, slice_get}
+use Rattle.rpc_message.specs.Message.{Id}
+use Rattle.event_model.specs.declared.phase.Phase.{Phase}
+use Rattle.event_model.specs.declared.phase.Phase.TheVariants.{Absent, Answered}
+use Rattle.event_model.specs.declared.stage.Stage.{Stage}
+use Rattle.event_model.specs.declared.stage.Stage.TheVariants.{Unspawned, Spawning, Initializing, Ended}
+use Rattle.event_model.specs.Each.{Each}
+use Rattle.event_model.specs.Event.{Event, said}
+use Rattle.mux_history.specs.declared.out.Out.TheVariants.{ToEditor}
+use Rattle.event_model.specs.Phases.{desk_of, editors_of}
+use Rattle.event_model.specs.Settings.{Settings}
+use Rattle.event_model.specs.Spawns.{starts_of, start_of, group_of}
+use Rattle.event_model.specs.Stages.{life_of}
+use Rattle.editor_session.specs.declared.session.Session.{Session}
+use Rattle.editor_session.specs.Sessions.{is_of, numbers_of}
+use Rattle.group_table.specs.Tables as group_tables
+use Rattle.group_words.specs.declared.kept.Kept.{Kept}
+use Rattle.group_words.specs.Placing.{changed, ended}
+use Rattle.group_words.specs.Houses.{is_home, groups_of, home_of, time_of}
+use Rattle.id_rewrite.specs.declared.pending.Numbered.{Numbered}
+use Rattle.id_rewrite.specs.declared.pending.Pending.{Pending}
+use Rattle.id_rewrite.specs.Tables.{Table, IsInOrder}
+use Rattle.restart_replay.specs.Standings.{Standing, moved}
+use Rattle.mux_tables.specs.declared.tables.Start.{Start}
+use Rattle.mux_tables.specs.declared.tables.Tables.{Tables}
+use Rattle.mux_tables.specs.Forwarded.{Forwarded, Forwarding, forwarding_of, names}
+
+-- the editors: how many joined, and of each its phase and its group
+abbrev pub phase_in : Option Session → Phase
+phase_in None = Absent
+phase_in (Some s) = s.phase
+
+abbrev pub group_in : Option Session → Option ℕ
+group_in None = None
+group_in (Some s) = s.group
+
+pub record EditorsStand (settings : Settings) (sessions : List Session) (events : List Event) : Type 0 where
+  pub count : editors_of events ≡ length sessions
+  pub phase : (e : ℕ) → (desk_of e events).phase ≡ phase_in (slice_get sessions e)
+  pub home : (e : ℕ) → home_of settings e events ≡ group_in (slice_get sessions e)
+
+-- the groups: the list itself, and its limits
+pub record GroupsStand (settings : Settings) (table : group_tables.Table) (events : List Event) : Type 0 where
+  pub groups : groups_of settings events ≡ table.groups
+  pub limit : settings.limits.groups ≡ table.limit
+  pub idle : settings.limits.idle ≡ table.idle
+
+-- the starts, by the numbers of their groups
+pub record OriginsStand (origins : List ℕ) (events : List Event) : Type 0 where
+  pub count : starts_of events ≡ length origins
+  pub group : (s : ℕ) → group_of s events ≡ slice_get origins s
+
+-- the open requests at a start
+abbrev pub forwarded_of : Numbered → Forwarded
+forwarded_of r = record { number = r.number; editor = r.pending.editor; id = r.pending.id; cancelled = r.pending.cancelled }
+
+-- the request of this number
+abbrev pub forwarded_as : ℕ → Pending → Forwarded
+forwarded_as n p = forwarded_of (record { number = n; pending = p })
+
+pub record IdsAt (limit : ℕ) (x : Forwarding) (ids : Table) : Type 0 where
+  pub next : x.next ≡ ids.next
+  pub open_requests : x.open_requests ≡ map forwarded_of ids.requests
+  pub ends : ids.limit ≡ limit
+  pub order : IsInOrder ids
+
+abbrev pub IdsStand : ℕ → ℕ → Table → List Event → Type 0
+IdsStand limit s ids events = IdsAt limit (forwarding_of s events) ids
+
+-- the tables of one start; a further one is a name here, and a clause
+pub data Part : Type 0 where
+  of_life of_ids : Part
+
+abbrev pub PartStands : Part → ℕ → Start → List Event → Type 0
+PartStands of_life limit x events = life_of x.life.start events ≡ record { stage = x.life.stage; started = x.started }
+PartStands of_ids limit x events = IdsStand limit x.life.start x.ids events
+
+-- what is kept of one group's last start stands for what the events say of it
+pub record LastStands (limit : ℕ) (events : List Event) (g : ℕ) (x : Start) : Type 0 where
+  pub start : start_of g events ≡ Some x.life.start
+  pub home : group_of x.life.start events ≡ Some g
+  pub own : x.life.group ≡ g
+  pub parts : (p : Part) → PartStands p limit x events
+
+-- the tables of a start that wasn't spawned
+abbrev pub blank : ℕ → ℕ → Start
+blank limit s = record { life = record { start = s; group = 0; stage = Unspawned; stopping = None }; started = false; ids = record { requests = []; next = 2; limit = limit; spare = 0 } }
+
+-- its number
+abbrev pub number_in : Start → ℕ
+number_in x = x.life.start
+
+pub record LastsStand (limit : ℕ) (lasts : List Start) (events : List Event) : Type 0 where
+  pub none : (g : ℕ) → length lasts ≤ g → start_of g events ≡ None
+  pub each : Each (LastStands limit events) lasts
+  pub fresh : (s : ℕ) → starts_of events ≤ s → (p : Part) → PartStands p limit (blank limit s) events
+  pub old : (s g : ℕ) → group_of s events ≡ Some g → (start_of g events ≡ Some s) ⊎ ((life_of s events).stage ≡ Ended)
+
+-- the editors and their groups, and the time
+pub record HouseStands (settings : Settings) (t : Tables) (events : List Event) : Type 0 where
+  pub editors : EditorsStand settings t.editors events
+  pub groups : GroupsStand settings t.groups events
+  pub now : time_of events ≡ t.time
+
+pub record Stands (settings : Settings) (t : Tables) (events : List Event) : Type 0 where
+  pub house : HouseStands settings t events
+  pub origins : OriginsStand t.origins.items events
+  pub lasts : LastsStand t.requests t.lasts.items events
+  pub requests : settings.limits.requests ≡ t.requests
+  pub range : t.requests < 2 ^ 32
+
+-- the group of this number still has an editor
+abbrev pub stays_in : List Session → ℕ → Bool
+stays_in sessions g = nat_lt 0 (length (numbers_of (λ s. is_of g s) sessions))
+
+-- these end, one after the other
+abbrev pub ends : List ℕ → List Kept → List Kept
+ends [] xs = xs
+ends (g ∷ gs) xs = ends gs (changed g ended xs)
+
+-- the editors of a group in such a phase
+abbrev pub those_in : (Phase → Bool) → List Session → ℕ → List ℕ
+those_in test sessions g = filter (λ e. test (phase_in (slice_get sessions e)) && is_home g (group_in (slice_get sessions e))) (range_with_len 0 (length sessions))
+
+abbrev pub any_in : (Phase → Bool) → List Session → ℕ → Bool
+any_in test sessions g = nat_lt 0 (length (those_in test sessions g))
+
+-- what the id of a response writes, where it is a number of 32 bits
+abbrev pub Names : Option Id → ℕ → Type 0
+Names id k = (n : ℕ) → n < 2 ^ 32 → names id n ≡ nat_eq n k
+
+abbrev pub NamesAt : Option Id → Option ℕ → Type 0
+NamesAt id None = (n : ℕ) → n < 2 ^ 32 → names id n ≡ false
+NamesAt id (Some k) = Names id k
+
+-- its program runs from now on
+abbrev pub begun_at : Stage → Standing → Standing
+begun_at Spawning life = moved Initializing life
+begun_at other life = life
+
+-- this body leaves the editor in its phase
+abbrev pub Keeps : ℕ → List ℕ → List Event → Type 0
+Keeps e body events = (desk_of e (events ++ said (ToEditor e body) ∷ [])).phase ≡ (desk_of e events).phase
+
+-- this body answers its `initialize`
+abbrev pub Welcomes : ℕ → List ℕ → List Event → Type 0
+Welcomes e body events = (desk_of e (events ++ said (ToEditor e body) ∷ [])).phase ≡ Answered
+
+-- e's request under this id is at work, and goes to start s
+abbrev pub Sends : ℕ → ℕ → List ℕ → List Event → Type 0
+Sends s e id events = (forwarding_of s events).sender ≡ Some (record { editor = e; id = id })

@@ -1,0 +1,124 @@
+// What each cause about an editor, and the time, does to the tables.
+ghost use Rattle.std.specs.Prelude.{◌≡◌, ◌≢◌, ◌<◌, ◌≤◌, ◌^◌, ◌++◌, ◌∷◌, [], ℕ, List, Some, false, true, length, IfOk, OnOk, MatchOption, option_copied, codes, slice_get};
+ghost use Rattle.editor_session.specs.declared.session.Session.{Session};
+ghost use Rattle.event_model.specs.declared.phase.Phase.TheVariants.{Absent, New};
+ghost use Rattle.event_model.specs.Event.{Event, heard, requests};
+ghost use Rattle.event_model.specs.Phases.{desk_of};
+ghost use Rattle.event_model.specs.Settings.{Settings};
+ghost use Rattle.group_table.specs.Tables.{Inside, declared_text, with_groups};
+ghost use Rattle.group_words.specs.Houses.{declared_for, emptied, groups_of, key_for, placed_for, places, stops};
+ghost use Rattle.mux_history.specs.declared.cause.Cause.TheVariants.{EditorGone, FromEditor, Joined, Tick};
+ghost use Rattle.mux_history.specs.declared.cause.Why.{Why};
+ghost use Rattle.rpc_message.specs.Message.{message_of};
+ghost use Rattle.mux_tables.specs.Stands.{Stands, stays_in};
+
+use crate::seats::{end_all, idle_at, is_begun, join, later, seat};
+use crate::tables::Tables;
+use capability_meet::CapFault;
+use event_model::Phase;
+use group_words::{Key, Placed};
+use message_body::{Body, Memory};
+
+impl Tables {
+    /// J1: the editor of the next number joined.
+    pub fn hear_joined(&mut self, e: u64) -> Result<(), Memory>
+        requires next { e ≡ length self.old.editors }
+        requires room { e < 2 ^ 63 }
+        ensures { (settings : Settings) (events : List Event) → Stands settings self.old events → OnOk result (Stands settings self.new (events ++ heard (Joined e) ∷ [])) }
+    {
+        self.editors.join(e)?;
+        Ok(())
+    }
+
+    /// A body came from the editor that places it in no group and doesn't stop all; behind it the editor is in this phase.
+    pub fn hear_editor(&mut self, e: u64, phase: Phase)
+        requires editor { e < length self.old.editors }
+        requires joined { phase ≢ Absent }
+        ensures { (settings : Settings) (events : List Event) (body : List ℕ) → Stands settings self.old events → places (desk_of e events).phase (message_of body) ≡ false → stops events e (message_of body) ≡ false
+            → (desk_of e (events ++ heard (FromEditor e body) ∷ [])).phase ≡ phase → Stands settings self.new (events ++ heard (FromEditor e body) ∷ []) }
+    {
+        self.editors.set(e, phase);
+    }
+
+    /// E7: an editor's `initialize` places it. Where the answer is an error, the groups and the editors may be ahead of the
+    /// history, and the tables stand for nothing any more.
+    pub fn hear_initialize(
+        &mut self,
+        e: u64,
+        id: Body,
+        key: Key,
+        capabilities: &[u8],
+        ceiling: Option<&[u8]>,
+    ) -> Result<Placed, CapFault>
+        requires editor { e < length self.old.editors }
+        requires capabilities { length capabilities.now ≤ 268435456 }
+        requires ceiling { MatchOption ceiling (Unit {0}) (λ c. length c.now ≤ 268435456) }
+        ensures inside { IfOk result (λ p. Inside p (length self.new.groups.groups)) }
+        ensures moves { (settings : Settings) (before : List Event) (x : Session) (body : List ℕ) → Stands settings self.old before → slice_get self.old.editors e ≡ Some x → x.phase ≡ New → requests (codes "initialize") (message_of body) ≡ true
+            → key ≡ key_for settings before e body → declared_text capabilities.now (option_copied ceiling.entry) ≡ Some (declared_for settings before e body)
+            → IfOk result (λ p. (p ≡ placed_for settings before e body (groups_of settings before)) × Stands settings self.new (before ++ heard (FromEditor e body) ∷ [])) }
+    {
+        let placed = self.groups.place(key, capabilities, ceiling)?;
+        join(&mut self.groups, placed);
+        seat(&mut self.editors, e, id, placed);
+        Ok(placed)
+    }
+
+    // A group that lost its last editor is idle from now on.
+    fn empty_group(&mut self, g: u64, was: bool) -> Result<(), Memory>
+        ensures editors { self.new.editors ≡ self.old.editors }
+        ensures time { self.new.time ≡ self.old.time }
+        ensures lasts { self.new.lasts ≡ self.old.lasts }
+        ensures origins { self.new.origins ≡ self.old.origins }
+        ensures requests { self.new.requests ≡ self.old.requests }
+        ensures groups { OnOk result (self.new.groups ≡ with_groups (emptied (Some g) was (stays_in self.old.editors) self.old.time self.old.groups.groups) self.old.groups) }
+    {
+        if !was {
+            return Ok(());
+        }
+        let left = self.editors.of_group(g)?;
+        if left.len() > 0 {
+            return Ok(());
+        }
+        idle_at(&mut self.groups, g, self.time);
+        Ok(())
+    }
+
+    // The same of a group that an editor may have been placed in.
+    pub fn empty(&mut self, home: Option<u64>, was: bool) -> Result<(), Memory>
+        ensures editors { self.new.editors ≡ self.old.editors }
+        ensures time { self.new.time ≡ self.old.time }
+        ensures lasts { self.new.lasts ≡ self.old.lasts }
+        ensures origins { self.new.origins ≡ self.old.origins }
+        ensures requests { self.new.requests ≡ self.old.requests }
+        ensures groups { OnOk result (self.new.groups ≡ with_groups (emptied home was (stays_in self.old.editors) self.old.time self.old.groups.groups) self.old.groups) }
+    {
+        match home {
+            None => Ok(()),
+            Some(g) => self.empty_group(g, was),
+        }
+    }
+
+    /// X5: the editor's link is gone. Its group may be idle from now on.
+    pub fn hear_gone(&mut self, e: u64) -> Result<(), Memory>
+        requires { e < length self.old.editors }
+        ensures { (settings : Settings) (events : List Event) (why : Why) → Stands settings self.old events → OnOk result (Stands settings self.new (events ++ heard (EditorGone e why) ∷ [])) }
+    {
+        let phase = self.editors.phase(e);
+        let home = self.editors.group(e);
+        self.editors.set(e, Phase::Gone);
+        self.empty(home, is_begun(phase))?;
+        Ok(())
+    }
+
+    /// X7: the time is this many seconds: the groups that end by now, rising.
+    pub fn hear_tick(&mut self, now: u64) -> Result<Vec<u64>, Memory>
+        ensures { (settings : Settings) (events : List Event) → Stands settings self.old events → OnOk result (Stands settings self.new (events ++ heard (Tick now) ∷ [])) }
+    {
+        let now = later(self.time, now);
+        let due = self.groups.due(now)?;
+        end_all(&mut self.groups, &due);
+        self.time = now;
+        Ok(due)
+    }
+}

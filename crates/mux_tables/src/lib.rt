@@ -1,0 +1,11 @@
+//! The tables of editors, groups and starts, and what each event does to them.
+#![tactic(auto)]
+
+mod hears;
+mod requests;
+mod says;
+mod seats;
+mod serves;
+mod tables;
+
+pub use tables::{Start, Tables};

@@ -1,0 +1,192 @@
+// What each out does to the tables.
+ghost use Rattle.std.specs.Prelude.{◌≡◌, ◌≢◌, ◌<◌, ◌≤◌, ◌^◌, ◌++◌, ◌∷◌, [], ℕ, List, map, Option, Some, false, true, length, OnOk, codes, bytes_eq, slice_get, nat_eq};
+ghost use Rattle.event_model.specs.declared.stage.Stage.TheVariants.{Ended, Ready};
+ghost use Rattle.event_model.specs.Does.{Does};
+ghost use Rattle.event_model.specs.Event.{Event, behind, requests};
+ghost use Rattle.event_model.specs.Phases.{phase_closed};
+ghost use Rattle.event_model.specs.Requests.{is_own};
+ghost use Rattle.event_model.specs.Row.{send};
+ghost use Rattle.event_model.specs.Settings.{Settings};
+ghost use Rattle.group_words.specs.Rows.{spawn};
+ghost use Rattle.json_text.specs.Json.{Json};
+ghost use Rattle.mux_history.specs.declared.out.Out.TheVariants.{CloseEditor, EndServer, ToEditor, ToServer};
+ghost use Rattle.mux_model.specs.Members.{named_of};
+ghost use Rattle.rpc_message.specs.Message as message;
+ghost use Rattle.rpc_message.specs.Message.{Id, message_of};
+ghost use Rattle.mux_tables.specs.declared.tables.Start.{Start};
+ghost use Rattle.mux_tables.specs.Forwarded.{is_written, moves_ids};
+ghost use Rattle.mux_tables.specs.Stands.{Keeps, Sends, Stands, Welcomes, number_in};
+
+use crate::requests::{keep, mark};
+use crate::seats::is_begun;
+use crate::tables::{Start, Tables};
+use event_model::Phase;
+use id_rewrite::{IdTable, Pending};
+use message_body::{Body, Memory};
+use mux_history::{Out, Outs};
+use restart_replay::Life;
+use std::alloc::Global;
+
+// The phase of an editor whose link is to be ended.
+fn closed(phase: Phase) -> Phase
+    ensures { result ≡ phase_closed phase }
+{
+    match phase {
+        Phase::Gone => Phase::Gone,
+        _ => Phase::Closed,
+    }
+}
+
+impl Tables {
+    /// A body goes to an editor, which it leaves in its phase.
+    #[tactic(auto, using(crate::proofs::Said::told_does))]
+    pub fn tell(&self, outs: &mut Outs, e: u64, body: Body) -> Result<(), Memory>
+        ensures { (settings : Settings) (base : List Event) → Keeps e body (behind base outs.old) → OnOk result (Does (λ t events. Stands settings t events) (send (ToEditor e body)) base self.now outs.old self.now outs.new) }
+    {
+        outs.push(Out::ToEditor(e, body))?;
+        Ok(())
+    }
+
+    /// The result of its `initialize` goes to an editor that waits.
+    pub fn welcome(&mut self, outs: &mut Outs, e: u64, body: Body) -> Result<(), Memory>
+        requires { e < length self.old.editors }
+        ensures { (settings : Settings) (base : List Event) → Welcomes e body (behind base outs.old) → OnOk result (Does (λ t events. Stands settings t events) (send (ToEditor e body)) base self.old outs.old self.new outs.new) }
+    {
+        self.editors.set(e, Phase::Answered);
+        outs.push(Out::ToEditor(e, body))?;
+        Ok(())
+    }
+
+    /// An editor's link is to be ended; its group may be idle from now on.
+    pub fn close(&mut self, outs: &mut Outs, e: u64) -> Result<(), Memory>
+        requires { e < length self.old.editors }
+        ensures lasts { self.new.lasts ≡ self.old.lasts }
+        ensures does { (settings : Settings) (base : List Event) → OnOk result (Does (λ t events. Stands settings t events) (send (CloseEditor e)) base self.old outs.old self.new outs.new) }
+    {
+        let phase = self.editors.phase(e);
+        let home = self.editors.group(e);
+        self.editors.set(e, closed(phase));
+        self.empty(home, is_begun(phase))?;
+        outs.push(Out::CloseEditor(e))?;
+        Ok(())
+    }
+
+    /// A body that is no editor's request, no `$/cancelRequest` and no `shutdown` goes to the group's last start.
+    pub fn notify(&self, outs: &mut Outs, g: usize, text: Body) -> Result<(), Memory>
+        requires { g < length self.now.lasts.items }
+        ensures { (settings : Settings) (base : List Event) (s : ℕ) → slice_get (map number_in self.now.lasts.items) g ≡ Some s → requests (codes "shutdown") (message_of text) ≡ false → moves_ids (message_of text) ≡ false
+            → OnOk result (Does (λ t events. Stands settings t events) (send (ToServer s text)) base self.now outs.old self.now outs.new) }
+    {
+        outs.push(Out::ToServer(self.lasts[g].life.start(), text))?;
+        Ok(())
+    }
+
+    /// An editor's request goes to the group's last start under the next number: `text` is its body under that number, and `id`
+    /// what the editor called it.
+    pub fn forward(
+        &mut self,
+        outs: &mut Outs,
+        g: usize,
+        e: u64,
+        id: Body,
+        text: Body,
+    ) -> Result<(), Memory>
+        requires group { g < length self.old.lasts.items }
+        requires left { (x : Start) → slice_get self.old.lasts.items g ≡ Some x → x.ids.next < x.ids.limit }
+        ensures starts { OnOk result (map number_in self.new.lasts.items ≡ map number_in self.old.lasts.items) }
+        ensures does { (settings : Settings) (base : List Event) (s : ℕ) (name : Id) (method : List ℕ) (ps : Option Json) → slice_get (map number_in self.old.lasts.items) g ≡ Some s → message_of text ≡ message.request name method ps → is_own method ≡ false → Sends s e id (behind base outs.old)
+            → OnOk result (Does (λ t events. Stands settings t events) (send (ToServer s text)) base self.old outs.old self.new outs.new) }
+    {
+        let last = &mut self.lasts[g];
+        let pending = Pending {
+            editor: e,
+            id,
+            work: None,
+            partial: None,
+            cancelled: false,
+        };
+        keep(&mut last.ids, pending)?;
+        outs.push(Out::ToServer(last.life.start(), text))?;
+        Ok(())
+    }
+
+    /// The request of a number is cancelled at the group's last start: `text` is the notification `$/cancelRequest` that names it.
+    pub fn cancel(&mut self, outs: &mut Outs, g: usize, n: u32, text: Body) -> Result<(), Memory>
+        requires { g < length self.old.lasts.items }
+        ensures starts { OnOk result (map number_in self.new.lasts.items ≡ map number_in self.old.lasts.items) }
+        ensures does { (settings : Settings) (base : List Event) (s : ℕ) (method : List ℕ) (ps : Option Json) → slice_get (map number_in self.old.lasts.items) g ≡ Some s → message_of text ≡ message.notification method ps → bytes_eq method (codes "$/cancelRequest") ≡ true
+            → ((k : ℕ) → k < 2 ^ 32 → is_written (named_of (codes "id") ps) k ≡ nat_eq k n) → OnOk result (Does (λ t events. Stands settings t events) (send (ToServer s text)) base self.old outs.old self.new outs.new) }
+    {
+        let last = &mut self.lasts[g];
+        mark(&mut last.ids, n);
+        outs.push(Out::ToServer(last.life.start(), text))?;
+        Ok(())
+    }
+
+    /// The group's last start is sent `shutdown` under this number.
+    pub fn shut(&mut self, outs: &mut Outs, g: usize, n: u32, text: Body) -> Result<(), Memory>
+        requires group { g < length self.old.lasts.items }
+        requires ready { (x : Start) → slice_get self.old.lasts.items g ≡ Some x → x.life.stage ≡ Ready }
+        ensures starts { OnOk result (map number_in self.new.lasts.items ≡ map number_in self.old.lasts.items) }
+        ensures does { (settings : Settings) (base : List Event) (s : ℕ) (name : Id) (ps : Option Json) → slice_get (map number_in self.old.lasts.items) g ≡ Some s → message_of text ≡ message.request name (codes "shutdown") ps
+            → OnOk result (Does (λ t events. Stands settings t events) (send (ToServer s text)) base self.old outs.old self.new outs.new) }
+    {
+        let now = self.time;
+        let last = &mut self.lasts[g];
+        last.life.stop(n, now);
+        outs.push(Out::ToServer(last.life.start(), text))?;
+        Ok(())
+    }
+
+    /// The program of the group's last start is to be ended.
+    pub fn end(&mut self, outs: &mut Outs, g: usize) -> Result<(), Memory>
+        requires group { g < length self.old.lasts.items }
+        requires runs { (x : Start) → slice_get self.old.lasts.items g ≡ Some x → x.life.stage ≢ Ended }
+        ensures starts { OnOk result (map number_in self.new.lasts.items ≡ map number_in self.old.lasts.items) }
+        ensures does { (settings : Settings) (base : List Event) (s : ℕ) → slice_get (map number_in self.old.lasts.items) g ≡ Some s → OnOk result (Does (λ t events. Stands settings t events) (send (EndServer s)) base self.old outs.old self.new outs.new) }
+    {
+        let last = &mut self.lasts[g];
+        last.life.end();
+        outs.push(Out::EndServer(last.life.start()))?;
+        Ok(())
+    }
+
+    /// A start is spawned for a new group: the next one.
+    pub fn found(&mut self, alloc: Global, outs: &mut Outs) -> Result<(), Memory>
+        requires { 2 ≤ self.old.requests }
+        ensures { (settings : Settings) (base : List Event) → OnOk result (Does (λ t events. Stands settings t events) (spawn (length self.old.lasts.items)) base self.old outs.old self.new outs.new) }
+    {
+        let s = self.origins.len() as u64;
+        let g = self.lasts.len() as u64;
+        let life = Life::new(s, g);
+        let ids = IdTable::new(alloc, self.requests);
+        self.origins.push(g)?;
+        self.lasts.push(Start {
+            life,
+            started: false,
+            ids,
+        })?;
+        outs.push(Out::Spawn(s, g))?;
+        Ok(())
+    }
+
+    /// A start is spawned for a group whose last one ended.
+    pub fn respawn(&mut self, alloc: Global, outs: &mut Outs, g: usize) -> Result<(), Memory>
+        requires limit { 2 ≤ self.old.requests }
+        requires group { g < length self.old.lasts.items }
+        requires ended { (x : Start) → slice_get self.old.lasts.items g ≡ Some x → x.life.stage ≡ Ended }
+        ensures { (settings : Settings) (base : List Event) → OnOk result (Does (λ t events. Stands settings t events) (spawn g) base self.old outs.old self.new outs.new) }
+    {
+        let s = self.origins.len() as u64;
+        let life = Life::new(s, g as u64);
+        let ids = IdTable::new(alloc, self.requests);
+        self.origins.push(g as u64)?;
+        self.lasts[g] = Start {
+            life,
+            started: false,
+            ids,
+        };
+        outs.push(Out::Spawn(s, g as u64))?;
+        Ok(())
+    }
+}

@@ -1,0 +1,90 @@
+// Editors and groups, where an editor is placed, and where groups become idle or end.
+ghost use Rattle.std.specs.Prelude.{◌≡◌, ◌<◌, Some, length, max, slice_get, slice_set};
+ghost use Rattle.editor_session.specs.declared.session.Session.{Session};
+ghost use Rattle.event_model.specs.declared.phase.Phase.TheVariants.{Waiting};
+ghost use Rattle.group_table.specs.Tables.{Inside, with_groups};
+ghost use Rattle.group_words.specs.Houses as houses;
+ghost use Rattle.group_words.specs.Houses.{idle_if_live};
+ghost use Rattle.group_words.specs.Placing.{changed, ended, home_by, joined};
+ghost use Rattle.mux_tables.specs.Stands.{ends};
+
+use editor_session::Editors;
+use event_model::Phase;
+use group_table::Groups;
+use group_words::Placed;
+use message_body::Body;
+
+// An editor waits, in the group in which it is placed.
+pub fn seat(editors: &mut Editors, e: u64, id: Body, placed: Placed)
+    requires { e < length editors.old }
+    ensures { (x : Session) → slice_get editors.old e ≡ Some x → (y : Session) × (editors.new ≡ slice_set editors.old e y) × (y.phase ≡ Waiting) × (y.group ≡ home_by placed x.group) }
+{
+    editors.set(e, Phase::Waiting);
+    match placed {
+        Placed::Joins(g) => editors.place(e, g, id),
+        Placed::New(g) => editors.place(e, g, id),
+        Placed::Evicts(_, g) => editors.place(e, g, id),
+        Placed::TooMany => {}
+    }
+}
+
+// The group that it joins isn't idle any more.
+pub fn join(groups: &mut Groups, placed: Placed)
+    requires { Inside placed (length groups.old.groups) }
+    ensures { groups.new ≡ with_groups (joined placed groups.old.groups) groups.old }
+{
+    match placed {
+        Placed::Joins(g) => groups.busy(g),
+        Placed::New(_) => {}
+        Placed::Evicts(_, _) => {}
+        Placed::TooMany => {}
+    }
+}
+
+// It is idle from now on, if it lives.
+pub fn idle_at(groups: &mut Groups, g: u64, now: u64)
+    ensures { groups.new ≡ with_groups (changed g (idle_if_live now) groups.old.groups) groups.old }
+{
+    if g >= groups.count() {
+        return;
+    }
+    if groups.is_live(g) {
+        groups.idle(g, now);
+    }
+}
+
+// It ends, if there is one of this number.
+pub fn end_at(groups: &mut Groups, g: u64)
+    ensures { groups.new ≡ with_groups (changed g ended groups.old.groups) groups.old }
+{
+    if g >= groups.count() {
+        return;
+    }
+    groups.end(g);
+}
+
+// These end, one after the other.
+pub fn end_all(groups: &mut Groups, numbers: &[u64])
+    ensures { groups.new ≡ with_groups (ends numbers.now groups.old.groups) groups.old }
+{
+    for g in numbers {
+        end_at(groups, *g);
+    }
+}
+
+// The later of two moments.
+pub fn later(a: u64, b: u64) -> u64
+    ensures { result ≡ max a b }
+{
+    if a < b { b } else { a }
+}
+
+// Whether it is an editor of its group.
+pub fn is_begun(phase: Phase) -> bool
+    ensures { result ≡ houses.is_begun phase }
+{
+    matches!(
+        phase,
+        Phase::Waiting | Phase::Answered | Phase::Running | Phase::Down
+    )
+}

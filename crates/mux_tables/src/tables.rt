@@ -1,0 +1,55 @@
+// What the multiplexer keeps.
+ghost use Rattle.std.specs.Prelude.{◌≡◌, ◌≤◌, []};
+ghost use Rattle.event_model.specs.Settings.{Settings};
+ghost use Rattle.mux_tables.specs.Stands.{Stands};
+
+use editor_session::Editors;
+use group_table::Groups;
+use id_rewrite::IdTable;
+use restart_replay::Life;
+use std::alloc::Global;
+
+/// What is kept of the last start of one group: where it stands, whether its program ever ran, and the requests that it has to
+/// answer.
+#[derive(Drop)]
+pub struct Start {
+    pub life: Life,
+    pub started: bool,
+    pub ids: IdTable,
+}
+
+/// The tables.
+#[derive(Drop)]
+pub struct Tables {
+    /// The editors, by number.
+    pub editors: Editors,
+    /// The groups, by number.
+    pub groups: Groups,
+    /// The greatest tick so far, in seconds.
+    pub time: u64,
+    /// The last start of each group, by the group's number.
+    pub lasts: Vec<Start>,
+    /// The group of each start, by the start's number.
+    pub origins: Vec<u64>,
+    /// The number at which requests end.
+    pub requests: u32,
+}
+
+impl Tables {
+    /// Nothing was heard: at most `groups` groups live at once, each idle one for `idle` seconds, and the numbers of requests end
+    /// below `requests`.
+    #[tactic(auto, using(crate::proofs::Begins::begins))]
+    pub fn new(alloc: Global, groups: u32, idle: u64, requests: u32) -> Tables
+        requires { 2 ≤ requests }
+        ensures { (settings : Settings) → settings.limits.groups ≡ groups → settings.limits.idle ≡ idle → settings.limits.requests ≡ requests → Stands settings result [] }
+    {
+        Tables {
+            editors: Editors::new(alloc),
+            groups: Groups::new(alloc, groups, idle),
+            time: 0,
+            lasts: Vec::new(alloc),
+            origins: Vec::new(alloc),
+            requests,
+        }
+    }
+}
