@@ -3,8 +3,8 @@ use Rattle.std.specs.Prelude.{◌≡◌, ℕ, Bool, true, false, ◌&&◌, nat_e
 use Rattle.std.specs.Prelude.{Option, Some, None}
 use Rattle.std.specs.List.{All, filter, range_with_len}
 use Rattle.event_model.specs.declared.phase.Phase.{Phase}
-use Rattle.event_model.specs.declared.phase.Phase.TheVariants.{Absent, New, Waiting, Answered, Running, Down}
-use Rattle.event_model.specs.Phases.{is_there}
+use Rattle.event_model.specs.declared.phase.Phase.TheVariants.{Absent, New}
+use Rattle.event_model.specs.Phases.{is_begun, is_running, is_there, needs_server}
 use Rattle.editor_session.specs.declared.session.Session.{Session}
 use Rattle.editor_session.specs.declared.session.Wanted.{Wanted}
 use Rattle.editor_session.specs.declared.session.Wanted.TheVariants as wanted
@@ -34,19 +34,6 @@ abbrev pub is_in : ℕ → Option ℕ → Bool
 is_in group None = false
 is_in group (Some placed) = nat_eq placed group
 
--- it runs
-abbrev pub runs : Phase → Bool
-runs Running = true
-runs _ = false
-
--- its `initialize` came, and its link isn't to be ended
-abbrev pub is_begun : Phase → Bool
-is_begun Waiting = true
-is_begun Answered = true
-is_begun Running = true
-is_begun Down = true
-is_begun _ = false
-
 -- it joined
 abbrev pub is_joined : Phase → Bool
 is_joined Absent = false
@@ -55,13 +42,17 @@ is_joined _ = true
 abbrev pub AllJoined : List Session → Type 0
 AllJoined sessions = All (λ s. is_joined s.phase ≡ true) sessions
 
-abbrev pub is_running : ℕ → Session → Bool
-is_running group session = runs session.phase && is_in group session.group
+abbrev pub runs_in : ℕ → Session → Bool
+runs_in group session = is_running session.phase && is_in group session.group
 
 abbrev pub is_of : ℕ → Session → Bool
 is_of group session = is_begun session.phase && is_in group session.group
 
+abbrev pub needs_in : ℕ → Session → Bool
+needs_in group session = needs_server session.phase && is_in group session.group
+
 abbrev pub is_wanted : Wanted → Session → Bool
-is_wanted (wanted.Running group) session = is_running group session
+is_wanted (wanted.Running group) session = runs_in group session
+is_wanted (wanted.Needing group) session = needs_in group session
 is_wanted (wanted.OfGroup group) session = is_of group session
 is_wanted wanted.There session = is_there session.phase

@@ -2,7 +2,7 @@
 ghost use Rattle.std.specs.Prelude.{◌≡◌, ◌≢◌, ◌+◌, ◌-◌, ◌^◌, ◌<◌, ◌≤◌, [], ◌∷◌, ◌++◌, length, true, IfOk, OnOk, OnErr, option_copied, Some};
 ghost use Rattle.event_model.specs.declared.phase.Phase.TheVariants.{Absent};
 ghost use Rattle.event_model.specs.Phases.{is_there};
-ghost use Rattle.editor_session.specs.Sessions.{is_joined, is_of, is_running, is_wanted, joined, numbers_of, session_of, with_session};
+ghost use Rattle.editor_session.specs.Sessions.{is_joined, is_of, is_wanted, joined, needs_in, numbers_of, runs_in, session_of, with_session};
 
 use crate::session::{Session, Wanted};
 use event_model::Phase;
@@ -149,7 +149,7 @@ impl Editors {
 
     /// The numbers, rising, of the editors of this group that run.
     pub fn running(&self, group: u64) -> Result<Vec<u64>, Memory>
-        ensures { IfOk result (λ numbers. numbers.items ≡ numbers_of (λ s. is_running group s) self.now) }
+        ensures { IfOk result (λ numbers. numbers.items ≡ numbers_of (λ s. runs_in group s) self.now) }
     {
         self.numbers(Wanted::Running(group))
     }
@@ -159,6 +159,14 @@ impl Editors {
         ensures { IfOk result (λ numbers. numbers.items ≡ numbers_of (λ s. is_of group s) self.now) }
     {
         self.numbers(Wanted::OfGroup(group))
+    }
+
+    /// The numbers, rising, of the editors of this group for which a server that exits is started again: those whose
+    /// `initialize` came, and neither `shutdown` nor an end.
+    pub fn needing(&self, group: u64) -> Result<Vec<u64>, Memory>
+        ensures { IfOk result (λ numbers. numbers.items ≡ numbers_of (λ s. needs_in group s) self.now) }
+    {
+        self.numbers(Wanted::Needing(group))
     }
 
     /// The numbers, rising, of the editors whose link stands and isn't to be ended.

@@ -1,7 +1,7 @@
 // One editor.
 ghost use Rattle.std.specs.Prelude.{◌≡◌};
 ghost use Rattle.event_model.specs.Phases.{is_there};
-ghost use Rattle.editor_session.specs.Sessions.{is_in, is_of, is_running, is_wanted, joined};
+ghost use Rattle.editor_session.specs.Sessions.{is_in, is_of, is_wanted, joined, needs_in, runs_in};
 
 use event_model::Phase;
 use message_body::Body;
@@ -28,6 +28,8 @@ pub enum Wanted {
     Running(u64),
     /// Those of this group whose `initialize` came and whose link isn't to be ended.
     OfGroup(u64),
+    /// Those of this group for which a server that exits is started again.
+    Needing(u64),
     /// Those whose link isn't to be ended.
     There,
 }
@@ -55,19 +57,23 @@ impl Session {
 
     // Whether it is of this group and runs.
     fn is_running(&self, group: u64) -> bool
-        ensures { result ≡ is_running group self.now }
+        ensures { result ≡ runs_in group self.now }
     {
-        matches!(self.phase, Phase::Running) && self.is_in(group)
+        self.phase.is_running() && self.is_in(group)
     }
 
     // Whether it is of this group, from its `initialize` until its link is to be ended.
     fn is_of(&self, group: u64) -> bool
         ensures { result ≡ is_of group self.now }
     {
-        matches!(
-            self.phase,
-            Phase::Waiting | Phase::Answered | Phase::Running | Phase::Down
-        ) && self.is_in(group)
+        self.phase.is_begun() && self.is_in(group)
+    }
+
+    // Whether it is of this group, and a server that exits is started again for it.
+    fn needs_server(&self, group: u64) -> bool
+        ensures { result ≡ needs_in group self.now }
+    {
+        self.phase.needs_server() && self.is_in(group)
     }
 
     // Whether its link stands and isn't to be ended.
@@ -84,6 +90,7 @@ impl Session {
         match wanted {
             Wanted::Running(group) => self.is_running(group),
             Wanted::OfGroup(group) => self.is_of(group),
+            Wanted::Needing(group) => self.needs_server(group),
             Wanted::There => self.is_there(),
         }
     }

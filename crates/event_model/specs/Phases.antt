@@ -70,6 +70,31 @@ abbrev pub is_waiting : Phase → Bool
 is_waiting Waiting = true
 is_waiting _ = false
 
+-- its `initialize` didn't come yet
+abbrev pub is_new : Phase → Bool
+is_new New = true
+is_new _ = false
+
+-- it sent a message behind the answer to its `initialize`
+abbrev pub is_running : Phase → Bool
+is_running Running = true
+is_running _ = false
+
+-- its `initialize` came, and its link isn't to be ended: it is an editor of its group
+abbrev pub is_begun : Phase → Bool
+is_begun Waiting = true
+is_begun Answered = true
+is_begun Running = true
+is_begun Down = true
+is_begun _ = false
+
+-- for such an editor its server is started again
+abbrev pub needs_server : Phase → Bool
+needs_server Waiting = true
+needs_server Answered = true
+needs_server Running = true
+needs_server _ = false
+
 -- its notifications are accepted: from the answer to its `initialize` until its `shutdown`, or the end of its link
 abbrev pub is_served : Phase → Bool
 is_served Answered = true

@@ -69,6 +69,14 @@ may_start life = may_begin life.stage && not life.started
 abbrev pub runs : Life → Bool
 runs life = life.started && not (is_ended life.stage)
 
+abbrev pub is_spawning : Stage → Bool
+is_spawning Spawning = true
+is_spawning _ = false
+
+abbrev pub is_initializing : Stage → Bool
+is_initializing Initializing = true
+is_initializing _ = false
+
 abbrev pub is_ready : Stage → Bool
 is_ready Ready = true
 is_ready _ = false

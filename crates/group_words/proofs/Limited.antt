@@ -7,14 +7,14 @@ use Rattle.event_model.specs.Event.{Event, took, did}
 use Rattle.event_model.specs.Phases.{desk_of}
 use Rattle.event_model.specs.Settings.{Settings}
 use Rattle.event_model.specs.Spawns.{group_of}
-use Rattle.event_model.specs.Stages.{life_of}
+use Rattle.event_model.specs.Stages.{life_of, is_initializing}
 use Rattle.group_words.specs.declared.idle.Idle.{Idle}
 use Rattle.group_words.specs.declared.kept.Kept.{Kept}
 use Rattle.group_words.specs.declared.placed.Placed.TheVariants.{New}
 use Rattle.group_words.specs.Keys.{Common}
 use Rattle.group_words.specs.Past.{past}
 use Rattle.group_words.specs.Placing.{busy, changed, end_where, ended, evicting, exited, first_from, founded, founding, idle_from, idle_since, idlest_from, is_live, joining, live_count, longer, placed_in, takes, with_editor}
-use Rattle.group_words.specs.Houses.{House, at_group, emptied, exit_of, groups_next, groups_of, house_next, idle_if_live, is_first_error, is_initializing, no_house, places, stops}
+use Rattle.group_words.specs.Houses.{House, at_group, emptied, exit_of, groups_next, groups_of, house_next, idle_if_live, is_first_error, no_house, places, stops}
 use Rattle.group_words.proofs.Longest.{nat_lt_so}
 
 one : Bool → ℕ

@@ -10,16 +10,13 @@ use Rattle.capability_meet.specs.declared.spot.Spot.TheVariants.{Top}
 use Rattle.capability_meet.specs.Meet.{meet_of}
 use Rattle.event_model.specs.declared.settings.Server.{Server}
 use Rattle.event_model.specs.declared.phase.Phase.{Phase}
-use Rattle.event_model.specs.declared.phase.Phase.TheVariants.{New, Waiting, Answered, Running, Down}
-use Rattle.event_model.specs.declared.stage.Stage.{Stage}
-use Rattle.event_model.specs.declared.stage.Stage.TheVariants.{Initializing}
 use Rattle.event_model.specs.Event.{Event, took, did, requests}
 use Rattle.mux_model.specs.Members.{params_of, named_of, string_of, listed, options_of, bytes_if}
-use Rattle.event_model.specs.Phases.{desk_of, editors_of, is_there}
+use Rattle.event_model.specs.Phases.{desk_of, editors_of, is_begun, is_new, is_there, needs_server}
 use Rattle.event_model.specs.Requests.{open_of, is_open}
 use Rattle.event_model.specs.Settings.{Settings}
 use Rattle.event_model.specs.Spawns.{group_of}
-use Rattle.event_model.specs.Stages.{life_of}
+use Rattle.event_model.specs.Stages.{is_initializing, life_of}
 use Rattle.group_words.specs.declared.kept.Kept.{Kept}
 use Rattle.group_words.specs.declared.placed.Placed.{Placed}
 use Rattle.group_words.specs.Keys.{Common}
@@ -118,25 +115,6 @@ pub record House : Type 0 where
   pub home : ℕ → Option ℕ
   pub groups : List Kept
 
-abbrev pub is_new : Phase → Bool
-is_new New = true
-is_new _ = false
-
--- an editor of a group
-abbrev pub is_begun : Phase → Bool
-is_begun Waiting = true
-is_begun Answered = true
-is_begun Running = true
-is_begun Down = true
-is_begun _ = false
-
--- for such a one its server is started again
-abbrev pub needs_server : Phase → Bool
-needs_server Waiting = true
-needs_server Answered = true
-needs_server Running = true
-needs_server _ = false
-
 abbrev pub is_home : ℕ → Option ℕ → Bool
 is_home g None = false
 is_home g (Some h) = nat_eq h g
@@ -189,10 +167,6 @@ at_group (Some g) f groups = changed g (f g) groups
 
 abbrev pub groups_lose : Settings → List Event → ℕ → House → List Kept
 groups_lose settings before s x = at_group (group_of s before) (λ g. exit_of settings.limits.restarts (has_editor needs_server g x.home before)) x.groups
-
-abbrev pub is_initializing : Stage → Bool
-is_initializing Initializing = true
-is_initializing _ = false
 
 abbrev pub is_first_error : Message → Bool
 is_first_error (error (Some (integer n)) e) = bytes_eq n (codes "1")

@@ -7,15 +7,15 @@ use Rattle.event_model.specs.Event.{Event, took}
 use Rattle.event_model.specs.Settings.{Settings}
 use Rattle.event_model.specs.Spawns.{group_of}
 use Rattle.group_words.specs.Placing.{all_from, changed, end_where, ended, is_live}
-use Rattle.group_words.specs.Houses.{House, at_group, exit_of, groups_lose, groups_next, groups_of, has_editor, house_of, is_first_error, is_initializing, needs_server, places, stops, time_behind}
+use Rattle.group_words.specs.Houses.{House, at_group, exit_of, groups_lose, groups_next, groups_of, has_editor, house_of, is_first_error, places, stops, time_behind}
 use Rattle.group_words.proofs.Frames.{groups_more}
 use Rattle.mux_tables.specs.declared.tables.Tables.{Tables}
 use Rattle.mux_tables.specs.Stands.{EditorsStand, GroupsStand, HouseStands, any_in, ends}
 use Rattle.event_model.proofs.Frames.{one_more}
 use Rattle.mux_tables.proofs.Frames.{editors_stand, names_editor, ticks, time_alone}
 use Rattle.group_table.specs.Tables.{Table}
-use Rattle.event_model.specs.Phases.{desk_of}
-use Rattle.event_model.specs.Stages.{life_of}
+use Rattle.event_model.specs.Phases.{desk_of, needs_server}
+use Rattle.event_model.specs.Stages.{life_of, is_initializing}
 use Rattle.mux_tables.proofs.Ends.{ends_all}
 use Rattle.mux_tables.proofs.Lists.{editors_for}
 

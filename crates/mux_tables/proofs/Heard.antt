@@ -11,7 +11,7 @@ use Rattle.event_model.specs.declared.phase.Phase.{Phase}
 use Rattle.event_model.specs.declared.phase.Phase.TheVariants.{Absent, New, Waiting}
 use Rattle.event_model.specs.declared.phase.Phase.TheVariants as phase
 use Rattle.event_model.specs.Event.{Event, heard, took, requests}
-use Rattle.event_model.specs.Phases.{Desk, desk_of, desk_behind, editors_behind}
+use Rattle.event_model.specs.Phases.{Desk, desk_of, desk_behind, editors_behind, is_begun}
 use Rattle.event_model.specs.Settings.{Settings}
 use Rattle.event_model.proofs.Frames.{one_more}
 use Rattle.event_model.proofs.Places.{Same, same, other, compare, get_set_same, get_set_other, get_push_same, get_push_other}
@@ -22,7 +22,7 @@ use Rattle.group_words.specs.Keys.{Common}
 use Rattle.group_words.specs.Placing as placing
 use Rattle.group_words.specs.Placing.{all_from, home_by, is_due}
 use Rattle.group_words.specs.declared.placed.Placed.{Placed}
-use Rattle.group_words.specs.Houses.{declared_for, emptied, groups_of, is_begun, key_for, placed_for, places, stops, time_behind}
+use Rattle.group_words.specs.Houses.{declared_for, emptied, groups_of, key_for, placed_for, places, stops, time_behind}
 use Rattle.group_words.proofs.Frames.{groups_more, home_more}
 use Rattle.mux_tables.specs.declared.tables.Tables.{Tables}
 use Rattle.mux_tables.specs.Stands.{EditorsStand, GroupsStand, Stands, ends, phase_in, group_in, stays_in}

@@ -11,14 +11,14 @@ use Rattle.rpc_message.specs.Message.{Message}
 use Rattle.event_model.specs.declared.phase.Phase.{Phase}
 use Rattle.event_model.specs.declared.phase.Phase.TheVariants.{Gone}
 use Rattle.event_model.specs.Event.{Event, took, did}
-use Rattle.event_model.specs.Phases.{Desk, desk_of, desk_behind, editors_behind, phase_closed}
+use Rattle.event_model.specs.Phases.{Desk, desk_of, desk_behind, editors_behind, phase_closed, is_begun}
 use Rattle.event_model.specs.Settings.{Settings}
 use Rattle.editor_session.specs.declared.session.Session.{Session}
 use Rattle.editor_session.specs.Sessions.{session_of, with_session}
 use Rattle.event_model.proofs.Places.{Same, same, other, compare, get_set_same, get_set_other}
 use Rattle.group_words.specs.declared.kept.Kept.{Kept}
 use Rattle.group_words.specs.Placing.{changed}
-use Rattle.group_words.specs.Houses.{House, groups_of, home_of, house_of, groups_next, groups_left, emptied, has_editor, idle_if_live, is_begun, time_behind, time_of}
+use Rattle.group_words.specs.Houses.{House, groups_of, home_of, house_of, groups_next, groups_left, emptied, has_editor, idle_if_live, time_behind, time_of}
 use Rattle.group_words.proofs.Frames.{itself, groups_more, home_stays, names_home}
 use Rattle.group_table.specs.Tables.{Table, with_groups}
 use Rattle.mux_tables.specs.declared.tables.Tables.{Tables}

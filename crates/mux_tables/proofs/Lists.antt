@@ -3,26 +3,17 @@ use Rattle.std.proofs.Common.{◌≡◌, ℕ, zero, suc, Bool, ◌&&◌, List, [
 use Rattle.std.specs.Prelude.{Option, Some, None, slice_get}
 use Rattle.std.specs.List.{filter, range_with_len}
 use Rattle.event_model.specs.declared.phase.Phase.{Phase}
-use Rattle.event_model.specs.declared.phase.Phase.TheVariants.{Waiting, Answered, Running, Down}
 use Rattle.event_model.specs.Event.{Event}
-use Rattle.event_model.specs.Phases.{desk_of, editors_of}
+use Rattle.event_model.specs.Phases.{desk_of, editors_of, is_begun, needs_server}
 use Rattle.event_model.specs.Settings.{Settings}
 use Rattle.editor_session.specs.declared.session.Session.{Session}
-use Rattle.editor_session.specs.Sessions as sessions
-use Rattle.editor_session.specs.Sessions.{joined, session_of, numbers_of, is_of, is_in}
-use Rattle.group_words.specs.Houses.{home_of, is_begun, is_home, editors_in}
+use Rattle.editor_session.specs.Sessions.{joined, session_of, numbers_of, is_of, is_in, needs_in}
+use Rattle.group_words.specs.Houses.{home_of, is_home, editors_in}
 use Rattle.mux_tables.specs.Stands.{EditorsStand, phase_in, group_in, those_in}
 
 filter_same : (p q : ℕ → Bool) → ((n : ℕ) → p n ≡ q n) → (xs : List ℕ) → filter p xs ≡ filter q xs
 filter_same p q h [] = refl
 filter_same p q h (x ∷ xs) = ap (λ b. if b then x ∷ filter p xs else filter p xs) (h x) ∙ ap (λ ys. if q x then x ∷ ys else ys) (filter_same p q h xs)
-
-begun_same : (p : Phase) → is_begun p ≡ sessions.is_begun p
-begun_same Waiting = refl
-begun_same Answered = refl
-begun_same Running = refl
-begun_same Down = refl
-begun_same other = refl
 
 home_same : (g : ℕ) (o : Option ℕ) → is_home g o ≡ is_in g o
 home_same g None = refl
@@ -31,7 +22,7 @@ home_same g (Some h) = refl
 -- past the end too
 test_so : (g : ℕ) (xs : List Session) (e : ℕ) → (is_begun (phase_in (slice_get xs e)) && is_home g (group_in (slice_get xs e))) ≡ is_of g (session_of xs e)
 test_so g [] e = refl
-test_so g (x ∷ xs) zero = ap (λ b. b && is_home g x.group) (begun_same x.phase) ∙ ap (λ b. sessions.is_begun x.phase && b) (home_same g x.group)
+test_so g (x ∷ xs) zero = ap (λ b. is_begun x.phase && b) (home_same g x.group)
 test_so g (x ∷ xs) (suc e) = test_so g xs e
 
 pub editors_by : (home : ℕ → Option ℕ) (xs : List Session) (events : List Event) (g : ℕ) → editors_of events ≡ length xs → ((e : ℕ) → (desk_of e events).phase ≡ phase_in (slice_get xs e)) → ((e : ℕ) → home e ≡ group_in (slice_get xs e))
@@ -49,3 +40,12 @@ pub editors_for : (test : Phase → Bool) (home : ℕ → Option ℕ) (xs : List
 editors_for test home xs events g count phase homes =
     filter_same _ _ (λ e. ap (λ p. test p && is_home g (home e)) (phase e) ∙ ap (λ o. test (phase_in (slice_get xs e)) && is_home g o) (homes e)) (range_with_len 0 (editors_of events))
     ∙ ap (λ n. filter (λ e. test (phase_in (slice_get xs e)) && is_home g (group_in (slice_get xs e))) (range_with_len 0 n)) count
+
+-- those for which a server is started again
+needs_so : (g : ℕ) (xs : List Session) (e : ℕ) → (needs_server (phase_in (slice_get xs e)) && is_home g (group_in (slice_get xs e))) ≡ needs_in g (session_of xs e)
+needs_so g [] e = refl
+needs_so g (x ∷ xs) zero = ap (λ b. needs_server x.phase && b) (home_same g x.group)
+needs_so g (x ∷ xs) (suc e) = needs_so g xs e
+
+pub needing_so : (xs : List Session) (g : ℕ) → those_in needs_server xs g ≡ numbers_of (λ s. needs_in g s) xs
+needing_so xs g = filter_same _ _ (needs_so g xs) (range_with_len 0 (length xs))

@@ -15,17 +15,17 @@ use Rattle.mux_tables.proofs.Lasts.{lasts_stand, one_last}
 
 module _ (settings : Settings) where
   -- an event that editors, groups and the time don't speak of
-  pub house_stands : (t u : Tables) (events : List Event) (ev : Event) → names_editor ev ≡ false → (GroupsStand settings t.groups events → GroupsStand settings t.groups (events ++ ev ∷ [])) → ticks ev ≡ false → u.editors ≡ t.editors → u.groups ≡ t.groups → u.time ≡ t.time → HouseStands settings t events → HouseStands settings u (events ++ ev ∷ [])
-  house_stands t u events ev e g w es gs now s = record {
+  pub house_stands : (t u : Tables) (events : List Event) (ev : Event) → names_editor ev ≡ false → (GroupsStand settings t.groups events → GroupsStand settings u.groups (events ++ ev ∷ [])) → ticks ev ≡ false → u.editors ≡ t.editors → u.time ≡ t.time → HouseStands settings t events → HouseStands settings u (events ++ ev ∷ [])
+  house_stands t u events ev e g w es now s = record {
     editors = subst (λ xs. EditorsStand settings xs (events ++ ev ∷ [])) (sym es) (editors_stand settings t.editors events ev e s.editors);
-    groups = subst (λ xs. GroupsStand settings xs (events ++ ev ∷ [])) (sym gs) (g s.groups);
+    groups = g s.groups;
     now = one_more time_behind _ _ events ev s.now ∙ (time_alone _ ev w ∙ sym now);
   }
 
   -- an event that no table speaks of
   pub quiet_moves : (t : Tables) (events : List Event) (ev : Event) → names_editor ev ≡ false → touches_groups ev ≡ false → ticks ev ≡ false → ((n : ℕ) → names_start n ev ≡ false) → spawns ev ≡ false → Stands settings t events → Stands settings t (events ++ ev ∷ [])
   quiet_moves t events ev e g w n k s = record {
-    house = house_stands t t events ev e (groups_stand settings t.groups events ev g) w refl refl refl s.house;
+    house = house_stands t t events ev e (groups_stand settings t.groups events ev g) w refl refl s.house;
     origins = origins_stand t.origins.items events ev k s.origins;
     lasts = lasts_stand t.requests t.lasts.items events ev n k s.lasts;
     requests = s.requests;
@@ -44,11 +44,11 @@ module _ (settings : Settings) where
   }
 
   -- what moves is the last start of one group
-  module _ (t u : Tables) (events : List Event) (ev : Event) (i : ℕ) (x : Start) (e : names_editor ev ≡ false) (g : GroupsStand settings t.groups events → GroupsStand settings t.groups (events ++ ev ∷ [])) (w : ticks ev ≡ false) (k : spawns ev ≡ false) (n : (m : ℕ) → names_start m ev ≡ nat_eq x.life.start m)
-      (at : slice_get t.lasts.items i ≡ Some x) (es : u.editors ≡ t.editors) (gs : u.groups ≡ t.groups) (now : u.time ≡ t.time) (os : u.origins.items ≡ t.origins.items) (r : u.requests ≡ t.requests) where
+  module _ (t u : Tables) (events : List Event) (ev : Event) (i : ℕ) (x : Start) (e : names_editor ev ≡ false) (g : GroupsStand settings t.groups events → GroupsStand settings u.groups (events ++ ev ∷ [])) (w : ticks ev ≡ false) (k : spawns ev ≡ false) (n : (m : ℕ) → names_start m ev ≡ nat_eq x.life.start m)
+      (at : slice_get t.lasts.items i ≡ Some x) (es : u.editors ≡ t.editors) (now : u.time ≡ t.time) (os : u.origins.items ≡ t.origins.items) (r : u.requests ≡ t.requests) where
     last_moves : (y : Start) → u.lasts.items ≡ slice_set t.lasts.items i y → (LastStands t.requests events i x → LastStands t.requests (events ++ ev ∷ []) i y) → Stands settings t events → Stands settings u (events ++ ev ∷ [])
     last_moves y is go s = record {
-      house = house_stands t u events ev e g w es gs now s.house;
+      house = house_stands t u events ev e g w es now s.house;
       origins = subst (λ xs. OriginsStand xs (events ++ ev ∷ [])) (sym os) (origins_stand t.origins.items events ev k s.origins);
       lasts = subst (λ m. LastsStand m u.lasts.items (events ++ ev ∷ [])) (sym r) (one_last t.requests t.origins.items t.lasts.items u.lasts.items events ev i x y n k at is s.origins go s.lasts);
       requests = s.requests ∙ sym r;

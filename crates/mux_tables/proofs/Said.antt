@@ -10,7 +10,7 @@ use Rattle.rpc_message.specs.Message.{message_of, not_message}
 use Rattle.event_model.specs.declared.phase.Phase.{Phase}
 use Rattle.event_model.specs.Does.{Does}
 use Rattle.event_model.specs.Event.{Event, behind, did, said}
-use Rattle.event_model.specs.Phases.{Desk, desk_of, desk_behind, editors_behind, phase_closed}
+use Rattle.event_model.specs.Phases.{Desk, desk_of, desk_behind, editors_behind, phase_closed, is_begun}
 use Rattle.event_model.specs.Row.{send}
 use Rattle.event_model.specs.Settings.{Settings}
 use Rattle.event_model.proofs.Frames.{one_more}
@@ -19,7 +19,7 @@ use Rattle.event_model.proofs.Turns.{behind_more}
 use Rattle.editor_session.specs.declared.session.Session.{Session}
 use Rattle.editor_session.specs.Sessions.{absent, session_of, with_session}
 use Rattle.group_table.specs.Tables.{with_groups}
-use Rattle.group_words.specs.Houses.{emptied, is_begun, time_behind}
+use Rattle.group_words.specs.Houses.{emptied, time_behind}
 use Rattle.group_words.proofs.Frames.{home_stays}
 use Rattle.mux_tables.specs.declared.tables.Tables.{Tables}
 use Rattle.mux_tables.specs.Stands.{EditorsStand, GroupsStand, HouseStands, Keeps, Stands, phase_in, group_in, stays_in}

@@ -27,7 +27,7 @@ use Rattle.mux_tables.specs.Stands.{Part, of_life, of_ids, PartStands, Sends, St
 use Rattle.mux_tables.proofs.Frames.{groups_stand, itself, part_quiet}
 use Rattle.mux_tables.proofs.IdMoves.{cancelled_ids, sent_as, sent_ids}
 use Rattle.mux_tables.proofs.Said.{does_send}
-use Rattle.mux_tables.proofs.Starts.{part_ids, part_life, read_here, start_at_place, start_moves, still_ids, still_life}
+use Rattle.mux_tables.proofs.Starts.{groups_kept, part_ids, part_life, read_here, start_at_place, start_moves, still_ids, still_life}
 
 same_set : (xs : List Start) (g : ℕ) (z : Start) → slice_get xs g ≡ Some z → slice_set xs g z ≡ xs
 same_set [] g z h = refl
@@ -42,8 +42,8 @@ module _ (settings : Settings) (t u : Tables) (xs ys : List Out) (base : List Ev
   sent_does parts =
       let here : z.life.start ≡ s = start_at_place t.lasts.items g s z (read_here t.lasts.items g z within read) at in
       does_send settings (ToServer s text) base t u xs ys (said_so ∙ ap (λ n. xs ++ ToServer n text ∷ []) (is ∙ here))
-      (λ st. start_moves settings t u (behind base xs) (λ n. did (ToServer n text) (message_of text)) g s z y at within read set own group es gs now os r (λ n. refl) (λ n. refl) (λ n. refl) (λ n m. refl)
-      (λ n _ h. groups_stand settings t.groups (behind base xs) (did (ToServer n text) (message_of text)) refl h) (parts st) st)
+      (λ st. start_moves settings t u (behind base xs) (λ n. did (ToServer n text) (message_of text)) g s z y at within read set own group es now os r (λ n. refl) (λ n. refl) (λ n. refl) (λ n m. refl)
+      (λ n _ h. groups_kept settings t.groups u.groups (behind base xs) (did (ToServer n text) (message_of text)) gs (groups_stand settings t.groups (behind base xs) (did (ToServer n text) (message_of text)) refl) h) (parts st) st)
 
 -- its program's end
 module _ (settings : Settings) (t u : Tables) (xs ys : List Out) (base : List Event) (g s start : ℕ) (z y : Start) (at : slice_get (map number_in t.lasts.items) g ≡ Some s) (within : g < length t.lasts.items) (read : z ≡ get_or t.lasts.items g z)
@@ -53,8 +53,8 @@ module _ (settings : Settings) (t u : Tables) (xs ys : List Out) (base : List Ev
   ended_with parts =
       let here : z.life.start ≡ s = start_at_place t.lasts.items g s z (read_here t.lasts.items g z within read) at in
       does_send settings (EndServer s) base t u xs ys (said_so ∙ ap (λ n. xs ++ EndServer n ∷ []) (is ∙ here))
-      (λ st. start_moves settings t u (behind base xs) (λ n. did (EndServer n) not_message) g s z y at within read set own group es gs now os r (λ n. refl) (λ n. refl) (λ n. refl) (λ n m. refl)
-      (λ n _ h. groups_stand settings t.groups (behind base xs) (did (EndServer n) not_message) refl h) parts st)
+      (λ st. start_moves settings t u (behind base xs) (λ n. did (EndServer n) not_message) g s z y at within read set own group es now os r (λ n. refl) (λ n. refl) (λ n. refl) (λ n m. refl)
+      (λ n _ h. groups_kept settings t.groups u.groups (behind base xs) (did (EndServer n) not_message) gs (groups_stand settings t.groups (behind base xs) (did (EndServer n) not_message) refl) h) parts st)
 
 -- one that moves nothing
 pub notify_does : (settings : Settings) (t : Tables) (xs ys : List Out) (base : List Event) (g s start : ℕ) (z : Start) (text : List ℕ) → slice_get (map number_in t.lasts.items) g ≡ Some s → g < length t.lasts.items → z ≡ get_or t.lasts.items g z

@@ -8,10 +8,10 @@ use Rattle.event_model.specs.declared.stage.Stage.TheVariants.{Unspawned, Spawni
 use Rattle.event_model.specs.Event.{Event, took}
 use Rattle.event_model.specs.Requests.{answered_id}
 use Rattle.event_model.specs.Settings.{Settings}
-use Rattle.event_model.specs.Stages.{Life, is_first_result, life_of, stage_hears, stage_started}
+use Rattle.event_model.specs.Stages.{Life, is_first_result, life_of, stage_hears, stage_started, is_initializing}
 use Rattle.event_model.proofs.Frames.{never}
 use Rattle.event_model.proofs.Places.{same_item}
-use Rattle.group_words.specs.Houses.{is_first_error, is_initializing}
+use Rattle.group_words.specs.Houses.{is_first_error}
 use Rattle.id_rewrite.specs.declared.pending.Pending.{Pending}
 use Rattle.id_rewrite.specs.declared.pending.Numbered.{Numbered}
 use Rattle.id_rewrite.specs.Tables.{Table, IsInOrder, pending_of, without}
@@ -22,7 +22,7 @@ use Rattle.mux_tables.specs.Forwarded.{Forwarding, forwarding_behind, forwarding
 use Rattle.mux_tables.specs.Stands.{IdsAt, NamesAt, Part, of_life, of_ids, PartStands, Stands, begun_at, forwarded_as, number_in}
 use Rattle.mux_tables.proofs.Frames.{itself, groups_stand}
 use Rattle.mux_tables.proofs.IdMoves.{answered_ids, unanswered_ids, found_seen}
-use Rattle.mux_tables.proofs.Starts.{not_refused, part_ids, part_life, read_here, start_at_place, start_moves, still_ids}
+use Rattle.mux_tables.proofs.Starts.{groups_kept, not_refused, part_ids, part_life, read_here, start_at_place, start_moves, still_ids}
 
 -- the program runs
 begun_start : (g : Stage) (l : Standing) → (begun_at g l).start ≡ l.start
@@ -48,8 +48,8 @@ pub started_moves : (settings : Settings) (t u : Tables) (events : List Event) (
 started_moves settings t u events g s z life at within read is set es gs now os r =
     let y : Start = record z { life = life; started = true } in
     let own : life.start ≡ z.life.start = ap (λ (l : Standing). l.start) is ∙ begun_start z.life.stage z.life in
-    start_moves settings t u events (λ n. took (Started n) not_message) g s z y at within read set own (ap (λ (l : Standing). l.group) is ∙ begun_group z.life.stage z.life) es gs now os r (λ n. refl) (λ n. refl) (λ n. refl) (λ n m. refl)
-    (λ n _ h. groups_stand settings t.groups events (took (Started n) not_message) refl h) (part own)
+    start_moves settings t u events (λ n. took (Started n) not_message) g s z y at within read set own (ap (λ (l : Standing). l.group) is ∙ begun_group z.life.stage z.life) es now os r (λ n. refl) (λ n. refl) (λ n. refl) (λ n m. refl)
+    (λ n _ h. groups_kept settings t.groups u.groups events (took (Started n) not_message) gs (groups_stand settings t.groups events (took (Started n) not_message) refl) h) (part own)
   where
     part : life.start ≡ z.life.start → (p : Part) → PartStands p t.requests z events → PartStands p t.requests (record z { life = life; started = true }) (events ++ took (Started z.life.start) not_message ∷ [])
     part own of_life h = part_life t.requests events (took (Started z.life.start) not_message) z (record z { life = life; started = true }) own
@@ -81,8 +81,8 @@ module _ (settings : Settings) (t u : Tables) (events : List Event) (g s : ℕ) 
     (taken : MatchOption n (ids.requests ≡ z.ids.requests) (λ k. ids.requests ≡ without k z.ids.requests)) (next : ids.next ≡ z.ids.next) (limit : ids.limit ≡ z.ids.limit) (order : IsInOrder z.ids → IsInOrder ids)
     (set : u.lasts.items ≡ slice_set t.lasts.items g (record z { life = life; ids = ids })) (es : u.editors ≡ t.editors) (gs : u.groups ≡ t.groups) (now : u.time ≡ t.time) (os : u.origins ≡ t.origins) (r : u.requests ≡ t.requests) where
   pub server_moves : Stands settings t events → Stands settings u (events ++ took (FromServer s body) (message_of body) ∷ [])
-  server_moves st = start_moves settings t u events (λ k. took (FromServer k body) (message_of body)) g s z y at within read set own group es gs now os r (λ k. refl) (λ k. refl) (λ k. refl) (λ k m. refl)
-      (λ k e h. not_refused settings t.groups events k body (message_of body) (ap (λ a. is_first_error (message_of body) && is_initializing a) (stage_seen settings t events g k z st here (e ∙ sym (start_at_place t.lasts.items g s z here at))) ∙ refuses) h) (part st) st
+  server_moves st = start_moves settings t u events (λ k. took (FromServer k body) (message_of body)) g s z y at within read set own group es now os r (λ k. refl) (λ k. refl) (λ k. refl) (λ k m. refl)
+      (λ k e h. groups_kept settings t.groups u.groups events (took (FromServer k body) (message_of body)) gs (not_refused settings t.groups events k body (message_of body) (ap (λ a. is_first_error (message_of body) && is_initializing a) (stage_seen settings t events g k z st here (e ∙ sym (start_at_place t.lasts.items g s z here at))) ∙ refuses)) h) (part st) st
     where
       y : Start
       y = record z { life = life; ids = ids }

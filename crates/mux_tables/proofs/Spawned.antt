@@ -29,6 +29,7 @@ use Rattle.mux_tables.proofs.Frames.{groups_stand, itself, last_stands, life_alo
 use Rattle.mux_tables.proofs.Lasts.{Last, known, same_place}
 use Rattle.mux_tables.proofs.Moves.{house_stands}
 use Rattle.mux_tables.proofs.Said.{does_send}
+use Rattle.mux_tables.proofs.Starts.{groups_kept}
 
 spawned_origins : (origins after : List ℕ) (events : List Event) (n g : ℕ) → n ≡ length origins → after ≡ origins ++ g ∷ [] → OriginsStand origins events → OriginsStand after (events ++ did (Spawn n g) not_message ∷ [])
 spawned_origins origins after events n g last is s = record {
@@ -111,7 +112,7 @@ module _ (settings : Settings) (t u : Tables) (events : List Event) (n g : ℕ) 
 
   all_stand : LastsStand t.requests u.lasts.items (events ++ did (Spawn n g) not_message ∷ []) → Stands settings t events → Stands settings u (events ++ did (Spawn n g) not_message ∷ [])
   all_stand lasts s = record {
-    house = house_stands settings t u events (did (Spawn n g) not_message) refl (groups_stand settings t.groups events (did (Spawn n g) not_message) refl) refl es gs now s.house;
+    house = house_stands settings t u events (did (Spawn n g) not_message) refl (groups_kept settings t.groups u.groups events (did (Spawn n g) not_message) gs (groups_stand settings t.groups events (did (Spawn n g) not_message) refl)) refl es now s.house;
     origins = spawned_origins t.origins.items u.origins.items events n g last os s.origins;
     lasts = subst (λ k. LastsStand k u.lasts.items (events ++ did (Spawn n g) not_message ∷ [])) (sym r) lasts;
     requests = s.requests ∙ sym r;

@@ -6,10 +6,10 @@ use Rattle.mux_history.specs.declared.cause.Cause.TheVariants.{FromServer}
 use Rattle.rpc_message.specs.Message.{Message}
 use Rattle.event_model.specs.Event.{Event, took}
 use Rattle.event_model.specs.Settings.{Settings}
-use Rattle.event_model.specs.Stages.{life_behind, life_of}
+use Rattle.event_model.specs.Stages.{life_behind, life_of, is_initializing}
 use Rattle.event_model.proofs.Frames.{one_more}
 use Rattle.event_model.proofs.Places.{same_item}
-use Rattle.group_words.specs.Houses.{is_first_error, is_initializing}
+use Rattle.group_words.specs.Houses.{is_first_error}
 use Rattle.group_words.proofs.Frames.{groups_more}
 use Rattle.group_table.specs.Tables as group_tables
 use Rattle.restart_replay.specs.Standings.{Standing}
@@ -64,16 +64,20 @@ still_ids limit events ev x y own i q s =
 
 -- the event `ev n` names start n alone, and start s is the last one of group g, which goes from z to y
 module _ (settings : Settings) (t u : Tables) (events : List Event) (ev : ℕ → Event) (g s : ℕ) (z y : Start) (at : slice_get (map number_in t.lasts.items) g ≡ Some s) (within : g < length t.lasts.items) (read : z ≡ get_or t.lasts.items g z)
-    (set : u.lasts.items ≡ slice_set t.lasts.items g y) (own : y.life.start ≡ z.life.start) (group : y.life.group ≡ z.life.group) (es : u.editors ≡ t.editors) (gs : u.groups ≡ t.groups) (now : u.time ≡ t.time) (os : u.origins ≡ t.origins) (r : u.requests ≡ t.requests)
+    (set : u.lasts.items ≡ slice_set t.lasts.items g y) (own : y.life.start ≡ z.life.start) (group : y.life.group ≡ z.life.group) (es : u.editors ≡ t.editors) (now : u.time ≡ t.time) (os : u.origins ≡ t.origins) (r : u.requests ≡ t.requests)
     (e : (n : ℕ) → names_editor (ev n) ≡ false) (w : (n : ℕ) → ticks (ev n) ≡ false) (k : (n : ℕ) → spawns (ev n) ≡ false) (one : (n m : ℕ) → names_start m (ev n) ≡ nat_eq n m) where
-  pub start_moves : ((n : ℕ) → n ≡ s → GroupsStand settings t.groups events → GroupsStand settings t.groups (events ++ ev n ∷ [])) → ((p : Part) → PartStands p t.requests z events → PartStands p t.requests y (events ++ ev z.life.start ∷ []))
+  pub start_moves : ((n : ℕ) → n ≡ s → GroupsStand settings t.groups events → GroupsStand settings u.groups (events ++ ev n ∷ [])) → ((p : Part) → PartStands p t.requests z events → PartStands p t.requests y (events ++ ev z.life.start ∷ []))
       → Stands settings t events → Stands settings u (events ++ ev s ∷ [])
   start_moves groups parts st =
       let here : slice_get t.lasts.items g ≡ Some z = read_here t.lasts.items g z within read in
       let is : z.life.start ≡ s = start_at_place t.lasts.items g s z here at in
       subst (λ n. Stands settings u (events ++ ev n ∷ [])) is
-      (parts_move settings t u events (ev z.life.start) g z (e z.life.start) (groups z.life.start is) (w z.life.start) (k z.life.start) (one z.life.start) here es gs now (ap (λ v. v.items) os) r y own group set parts st)
+      (parts_move settings t u events (ev z.life.start) g z (e z.life.start) (groups z.life.start is) (w z.life.start) (k z.life.start) (one z.life.start) here es now (ap (λ v. v.items) os) r y own group set parts st)
 
 -- what a start says doesn't end its group, where it isn't answering its `initialize`
 pub not_refused : (settings : Settings) (t : group_tables.Table) (events : List Event) (n : ℕ) (body : List ℕ) (m : Message) → (is_first_error m && is_initializing (life_of n events).stage) ≡ false → GroupsStand settings t events → GroupsStand settings t (events ++ took (FromServer n body) m ∷ [])
 not_refused settings t events n body m stays s = record { groups = groups_more settings events (took (FromServer n body) m) ∙ (rw stays refl ∙ s.groups); limit = s.limit; idle = s.idle }
+
+-- groups that stay, where the event doesn't speak of them
+pub groups_kept : (settings : Settings) (t u : group_tables.Table) (events : List Event) (ev : Event) → u ≡ t → (GroupsStand settings t events → GroupsStand settings t (events ++ ev ∷ [])) → GroupsStand settings t events → GroupsStand settings u (events ++ ev ∷ [])
+groups_kept settings t u events ev e go s = subst (λ g. GroupsStand settings g (events ++ ev ∷ [])) (sym e) (go s)

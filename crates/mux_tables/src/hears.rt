@@ -12,7 +12,7 @@ ghost use Rattle.mux_history.specs.declared.cause.Why.{Why};
 ghost use Rattle.rpc_message.specs.Message.{message_of};
 ghost use Rattle.mux_tables.specs.Stands.{Stands, stays_in};
 
-use crate::seats::{end_all, idle_at, is_begun, join, later, seat};
+use crate::seats::{end_all, idle_at, join, later, seat};
 use crate::tables::Tables;
 use capability_meet::CapFault;
 use event_model::Phase;
@@ -107,7 +107,7 @@ impl Tables {
         let phase = self.editors.phase(e);
         let home = self.editors.group(e);
         self.editors.set(e, Phase::Gone);
-        self.empty(home, is_begun(phase))?;
+        self.empty(home, phase.is_begun())?;
         Ok(())
     }
 

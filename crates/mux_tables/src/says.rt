@@ -18,7 +18,6 @@ ghost use Rattle.mux_tables.specs.Forwarded.{is_written, moves_ids};
 ghost use Rattle.mux_tables.specs.Stands.{Keeps, Sends, Stands, Welcomes, number_in};
 
 use crate::requests::{keep, mark};
-use crate::seats::is_begun;
 use crate::tables::{Start, Tables};
 use event_model::Phase;
 use id_rewrite::{IdTable, Pending};
@@ -66,7 +65,7 @@ impl Tables {
         let phase = self.editors.phase(e);
         let home = self.editors.group(e);
         self.editors.set(e, closed(phase));
-        self.empty(home, is_begun(phase))?;
+        self.empty(home, phase.is_begun())?;
         outs.push(Out::CloseEditor(e))?;
         Ok(())
     }

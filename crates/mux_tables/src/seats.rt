@@ -3,7 +3,6 @@ ghost use Rattle.std.specs.Prelude.{◌≡◌, ◌<◌, Some, length, max, slice
 ghost use Rattle.editor_session.specs.declared.session.Session.{Session};
 ghost use Rattle.event_model.specs.declared.phase.Phase.TheVariants.{Waiting};
 ghost use Rattle.group_table.specs.Tables.{Inside, with_groups};
-ghost use Rattle.group_words.specs.Houses as houses;
 ghost use Rattle.group_words.specs.Houses.{idle_if_live};
 ghost use Rattle.group_words.specs.Placing.{changed, ended, home_by, joined};
 ghost use Rattle.mux_tables.specs.Stands.{ends};
@@ -77,14 +76,4 @@ pub fn later(a: u64, b: u64) -> u64
     ensures { result ≡ max a b }
 {
     if a < b { b } else { a }
-}
-
-// Whether it is an editor of its group.
-pub fn is_begun(phase: Phase) -> bool
-    ensures { result ≡ houses.is_begun phase }
-{
-    matches!(
-        phase,
-        Phase::Waiting | Phase::Answered | Phase::Running | Phase::Down
-    )
 }

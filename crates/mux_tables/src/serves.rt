@@ -4,8 +4,8 @@ ghost use Rattle.event_model.specs.declared.stage.Stage.TheVariants.{Initializin
 ghost use Rattle.event_model.specs.Event.{Event, heard};
 ghost use Rattle.event_model.specs.Requests.{answered_id};
 ghost use Rattle.event_model.specs.Settings.{Settings};
-ghost use Rattle.event_model.specs.Stages.{is_first_result};
-ghost use Rattle.group_words.specs.Houses.{is_first_error, is_initializing};
+ghost use Rattle.event_model.specs.Stages.{is_first_result, is_initializing};
+ghost use Rattle.group_words.specs.Houses.{is_first_error};
 ghost use Rattle.mux_history.specs.declared.cause.Cause.TheVariants.{FromServer, Started};
 ghost use Rattle.rpc_message.specs.Message.{message_of};
 ghost use Rattle.mux_tables.specs.declared.tables.Start.{Start};

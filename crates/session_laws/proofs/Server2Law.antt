@@ -8,12 +8,12 @@ use Rattle.event_model.specs.declared.stage.Stage.{Stage}
 use Rattle.event_model.specs.declared.stage.Stage.TheVariants.{Unspawned, Spawning, Initializing, Ready, Stopping, Ending, Ended}
 use Rattle.event_model.specs.Event.{Event, took, did, requests, heard, said, behind, with_cause}
 use Rattle.event_model.specs.Settings.{Settings}
-use Rattle.event_model.specs.Stages.{stage_started, stage_hears, stage_told, is_first_result, Life, life_of, life_behind}
+use Rattle.event_model.specs.Stages.{stage_started, stage_hears, stage_told, is_first_result, Life, life_of, life_behind, is_spawning, is_initializing}
 use Rattle.document_model.specs.Sayings.{saying_of, speaks}
 use Rattle.document_model.proofs.Written.{Spoken, spoken}
 use Rattle.session_laws.specs.Ranges.{InRange}
 use Rattle.session_laws.specs.ServerRules.{Handshake, silent, asked, answered, open_to_all, handshake_behind, allows, ServerRule2, handshake_of, KeepsServer2}
-use Rattle.session_laws.proofs.Why.{is_spawning, is_initializing, WhyToServer, moves, begins, greets, forwarded, tells}
+use Rattle.session_laws.proofs.Why.{WhyToServer, moves, begins, greets, forwarded, tells}
 use Rattle.session_laws.proofs.PartLaws.{is_to_server}
 use Rattle.std.proofs.lemmas.Bool.{and_parts}
 use Rattle.std.proofs.lemmas.List.Sums.{fold-append}

@@ -16,7 +16,7 @@ use Rattle.event_model.specs.Event.{Event, heard, with_cause}
 use Rattle.event_model.specs.Phases.{desk_of, is_there, is_malformed}
 use Rattle.event_model.specs.Requests.{Asked, asking_of, asked_by, answered_id, open_of, is_open, Asker}
 use Rattle.event_model.specs.Settings.{Settings}
-use Rattle.event_model.specs.Stages.{life_of, is_first_result}
+use Rattle.event_model.specs.Stages.{is_first_result, is_initializing, is_spawning, life_of}
 use Rattle.session_laws.specs.Ranges.{InRange}
 use Rattle.session_laws.specs.ServerRules.{is_response, AllowsSaying}
 use Rattle.mux_history.specs.declared.out.Out.{Out}
@@ -32,14 +32,6 @@ is_early Absent = true
 is_early New = true
 is_early Waiting = true
 is_early _ = false
-
-abbrev pub is_spawning : Stage → Bool
-is_spawning Spawning = true
-is_spawning _ = false
-
-abbrev pub is_initializing : Stage → Bool
-is_initializing Initializing = true
-is_initializing _ = false
 
 -- a start's program runs now, or answered the daemon's `initialize`
 abbrev pub moves_on : List Event → Cause → Bool
