@@ -1,6 +1,6 @@
 // The groups, by their numbers.
 ghost use Rattle.std.specs.Prelude.{◌≡◌, ◌+◌, ◌^◌, None, IsErr, IsErrOf, ◌<◌, ◌≤◌, ℕ, List, length, IfOk, OnOk, OnErr, MatchOption, option_map, option_copied, ◌++◌, ◌∷◌, [], Some};
-ghost use Rattle.group_words.specs.Placing.{all_from, changed, ended, exited, busy, idle_from, is_due, first_from, founded, idlest_from, founding, live_count, takes, placed_in, with_placed};
+ghost use Rattle.group_words.specs.Placing.{all_from, changed, ended, exited, busy, idle_from, is_due, is_live, first_from, founded, idlest_from, founding, live_count, takes, placed_in, with_placed};
 ghost use Rattle.std.specs.List.{slice_get};
 ghost use Rattle.capability_meet.specs.declared.fault.CapFault.TheVariants.{NotJson};
 ghost use Rattle.group_words.specs.declared.kept.Kept.{Kept};
@@ -244,6 +244,19 @@ impl Groups {
             }
         }
         Ok(due)
+    }
+
+    /// The numbers, rising, of the live groups.
+    pub fn live_groups(&self) -> Result<Vec<u64>, Memory>
+        ensures { IfOk result (λ live. live.items ≡ all_from 0 is_live self.now.groups) }
+    {
+        let mut live = Vec::new(self.alloc);
+        for i in 0..self.groups.len() {
+            if self.groups[i].live {
+                live.push(i as u64)?;
+            }
+        }
+        Ok(live)
     }
 
     /// Whether the group takes editors.

@@ -1,45 +1,33 @@
 -- A start of a group ends, or refuses; all groups end.
-use Rattle.std.proofs.Common.{◌≡◌, ℕ, true, false, List, [], ◌∷◌, ◌++◌, length, nat_lt, refl, ap, sym, subst, ◌∙◌}
-use Rattle.std.specs.Prelude.{Some}
-use Rattle.mux_history.specs.declared.cause.Cause.TheVariants.{FromEditor, FromServer, ServerGone}
+use Rattle.std.proofs.Common.{◌≡◌, ℕ, zero, suc, ◌+◌, Bool, true, false, ◌&&◌, List, [], ◌∷◌, ◌++◌, length, nat_lt, refl, ap, sym, ◌∙◌}
+use Rattle.std.specs.Prelude.{Some, nat_le, slice_get}
+use Rattle.mux_history.specs.declared.cause.Cause.TheVariants.{FromEditor, FromServer}
 use Rattle.rpc_message.specs.Message.{Message}
 use Rattle.event_model.specs.Event.{Event, took}
 use Rattle.event_model.specs.Settings.{Settings}
 use Rattle.event_model.specs.Spawns.{group_of}
-use Rattle.group_words.specs.Placing.{all_from, changed, end_where, ended, is_live}
-use Rattle.group_words.specs.Houses.{House, at_group, exit_of, groups_lose, groups_next, groups_of, has_editor, house_of, is_first_error, places, stops, time_behind}
+use Rattle.group_words.specs.declared.kept.Kept.{Kept}
+use Rattle.group_words.specs.Placing.{all_from, changed, end_where, ended, exited, is_live}
+use Rattle.group_words.specs.Houses.{House, at_group, exit_of, groups_lose, groups_next, groups_of, has_editor, house_of, is_first_error, places, stops}
 use Rattle.group_words.proofs.Frames.{groups_more}
-use Rattle.mux_tables.specs.declared.tables.Tables.{Tables}
-use Rattle.mux_tables.specs.Stands.{EditorsStand, GroupsStand, HouseStands, any_in, ends}
-use Rattle.event_model.proofs.Frames.{one_more}
-use Rattle.mux_tables.proofs.Frames.{editors_stand, names_editor, ticks, time_alone}
-use Rattle.group_table.specs.Tables.{Table}
+use Rattle.mux_tables.specs.Stands.{EditorsStand, GroupsStand, any_in, ends}
+use Rattle.editor_session.specs.declared.session.Session.{Session}
+use Rattle.group_table.specs.Tables.{Table, with_groups}
 use Rattle.event_model.specs.Phases.{desk_of, needs_server}
 use Rattle.event_model.specs.Stages.{life_of, is_initializing}
 use Rattle.mux_tables.proofs.Ends.{ends_all}
 use Rattle.mux_tables.proofs.Lists.{editors_for}
 
-module _ (settings : Settings) (events : List Event) (ev : Event) (s g : ℕ) (loses : (x : House) → groups_next settings events x ev ≡ groups_lose settings events s x) (editors : names_editor ev ≡ false) (time : ticks ev ≡ false) where
-  lost_moves : (t u : Tables) → group_of s events ≡ Some g → u.editors ≡ t.editors → u.time ≡ t.time → u.groups.limit ≡ t.groups.limit → u.groups.idle ≡ t.groups.idle
-      → u.groups.groups ≡ changed g (exit_of settings.limits.restarts (any_in needs_server t.editors g)) t.groups.groups
-      → HouseStands settings t events → HouseStands settings u (events ++ ev ∷ [])
-  lost_moves t u at es k l i gs st = record {
-    editors = subst (λ xs. EditorsStand settings xs (events ++ ev ∷ [])) (sym es) (editors_stand settings t.editors events ev editors st.editors);
-    groups = record {
-      groups = groups_more settings events ev ∙ (loses (house_of settings events)
-          ∙ (ap (λ o. at_group o (λ n. exit_of settings.limits.restarts (has_editor needs_server n (house_of settings events).home events)) (groups_of settings events)) at
-          ∙ (ap (λ ns. changed g (exit_of settings.limits.restarts (nat_lt 0 (length ns))) (groups_of settings events)) (editors_for needs_server (house_of settings events).home t.editors events g st.editors.count st.editors.phase st.editors.home)
-          ∙ (ap (changed g (exit_of settings.limits.restarts (any_in needs_server t.editors g))) st.groups.groups ∙ sym gs))));
-      limit = st.groups.limit ∙ sym l;
-      idle = st.groups.idle ∙ sym i;
-    };
-    now = one_more time_behind _ _ events ev st.now ∙ (time_alone _ ev time ∙ sym k);
-  }
-
-pub exit_moves : (settings : Settings) (events : List Event) (m : Message) (s g : ℕ) (t u : Tables) → group_of s events ≡ Some g → u.editors ≡ t.editors → u.time ≡ t.time → u.groups.limit ≡ t.groups.limit → u.groups.idle ≡ t.groups.idle
-    → u.groups.groups ≡ changed g (exit_of settings.limits.restarts (any_in needs_server t.editors g)) t.groups.groups
-    → HouseStands settings t events → HouseStands settings u (events ++ took (ServerGone s) m ∷ [])
-exit_moves settings events m s g t u at es k l i gs st = lost_moves settings events (took (ServerGone s) m) s g (λ x. refl) refl refl t u at es k l i gs st
+pub lost_groups : (settings : Settings) (events : List Event) (ev : Event) (s g : ℕ) → ((x : House) → groups_next settings events x ev ≡ groups_lose settings events s x) → (t u : Table) (editors : List Session) → group_of s events ≡ Some g → EditorsStand settings editors events
+    → u ≡ with_groups (changed g (exit_of settings.limits.restarts (any_in needs_server editors g)) t.groups) t → GroupsStand settings t events → GroupsStand settings u (events ++ ev ∷ [])
+lost_groups settings events ev s g loses t u editors at stand is st = record {
+  groups = groups_more settings events ev ∙ (loses (house_of settings events)
+      ∙ (ap (λ o. at_group o (λ n. exit_of settings.limits.restarts (has_editor needs_server n (house_of settings events).home events)) (groups_of settings events)) at
+      ∙ (ap (λ ns. changed g (exit_of settings.limits.restarts (nat_lt 0 (length ns))) (groups_of settings events)) (editors_for needs_server (house_of settings events).home editors events g stand.count stand.phase stand.home)
+      ∙ (ap (changed g (exit_of settings.limits.restarts (any_in needs_server editors g))) st.groups ∙ ap (λ (w : Table). w.groups) (sym is)))));
+  limit = st.limit ∙ ap (λ (w : Table). w.limit) (sym is);
+  idle = st.idle ∙ ap (λ (w : Table). w.idle) (sym is);
+}
 
 -- E6: all that live end
 pub stop_groups : (settings : Settings) (events : List Event) (e : ℕ) (body : List ℕ) (m : Message) (t u : Table) → places (desk_of e events).phase m ≡ false → stops events e m ≡ true → u.limit ≡ t.limit → u.idle ≡ t.idle
@@ -58,3 +46,31 @@ refused_groups settings events s g body m t u first stage at l i gs st = record 
   limit = st.limit ∙ sym l;
   idle = st.idle ∙ sym i;
 }
+
+-- a group that is changed
+same_change : (f h : Kept → Kept) (xs : List Kept) (g : ℕ) → ((x : Kept) → slice_get xs g ≡ Some x → f x ≡ h x) → changed g f xs ≡ changed g h xs
+same_change f h [] g e = refl
+same_change f h (x ∷ xs) zero e = ap (λ y. y ∷ xs) (e x refl)
+same_change f h (x ∷ xs) (suc g) e = ap (λ ys. x ∷ ys) (same_change f h xs g e)
+
+no_change : (f : Kept → Kept) (xs : List Kept) (g : ℕ) → ((x : Kept) → slice_get xs g ≡ Some x → f x ≡ x) → changed g f xs ≡ xs
+no_change f [] g e = refl
+no_change f (x ∷ xs) zero e = ap (λ y. y ∷ xs) (e x refl)
+no_change f (x ∷ xs) (suc g) e = ap (λ ys. x ∷ ys) (no_change f xs g e)
+
+twice : (f h : Kept → Kept) (xs : List Kept) (g : ℕ) → changed g f (changed g h xs) ≡ changed g (λ x. f (h x)) xs
+twice f h [] g = refl
+twice f h (x ∷ xs) zero = refl
+twice f h (x ∷ xs) (suc g) = ap (λ ys. x ∷ ys) (twice f h xs g)
+
+pub lose_dead : (restarts : ℕ) (wanted live : Bool) (t : Table) (g : ℕ) → ((x : Kept) → slice_get t.groups g ≡ Some x → live ≡ x.live) → live ≡ false → t ≡ with_groups (changed g (exit_of restarts wanted) t.groups) t
+lose_dead restarts wanted live t g is dead = ap (λ gs. with_groups gs t) (sym (no_change (exit_of restarts wanted) t.groups g (λ x at. let e : x.live ≡ false = sym (is x at) ∙ dead in rw e refl)))
+
+module _ (restarts exits : ℕ) (wanted live : Bool) (t : Table) (g : ℕ) (is : (x : Kept) → slice_get t.groups g ≡ Some x → live ≡ x.live) (lives : live ≡ true) (counts : (x : Kept) → slice_get t.groups g ≡ Some x → exits ≡ x.exits + 1) where
+  pub lose_stays : (u : Table) → (wanted && nat_le exits restarts) ≡ true → u ≡ with_groups (changed g exited t.groups) t → u ≡ with_groups (changed g (exit_of restarts wanted) t.groups) t
+  lose_stays u stays e = e ∙ ap (λ gs. with_groups gs t) (same_change exited (exit_of restarts wanted) t.groups g
+      (λ x at. let l : x.live ≡ true = sym (is x at) ∙ lives in let n : x.exits + 1 ≡ exits = sym (counts x at) in rw (l, n, stays) refl))
+
+  pub lose_ends : (u v : Table) → (wanted && nat_le exits restarts) ≡ false → u ≡ with_groups (changed g exited t.groups) t → v ≡ with_groups (changed g ended u.groups) u → v ≡ with_groups (changed g (exit_of restarts wanted) t.groups) t
+  lose_ends u v ends e f = f ∙ (ap (λ (w : Table). with_groups (changed g ended w.groups) w) e ∙ ap (λ gs. with_groups gs t) (twice ended exited t.groups g ∙ same_change (λ x. ended (exited x)) (exit_of restarts wanted) t.groups g
+      (λ x at. let l : x.live ≡ true = sym (is x at) ∙ lives in let n : x.exits + 1 ≡ exits = sym (counts x at) in rw (l, n, ends) refl)))

@@ -20,13 +20,14 @@ use Rattle.editor_session.specs.Sessions.{absent, joined, session_of, with_sessi
 use Rattle.group_table.specs.Tables.{Table, after_place, place_in, with_groups}
 use Rattle.group_words.specs.Keys.{Common}
 use Rattle.group_words.specs.Placing as placing
-use Rattle.group_words.specs.Placing.{all_from, home_by, is_due}
+use Rattle.group_words.specs.Placing.{all_from, home_by, is_due, is_live}
 use Rattle.group_words.specs.declared.placed.Placed.{Placed}
 use Rattle.group_words.specs.Houses.{declared_for, emptied, groups_of, key_for, placed_for, places, stops, time_behind}
 use Rattle.group_words.proofs.Frames.{groups_more, home_more}
 use Rattle.mux_tables.specs.declared.tables.Tables.{Tables}
 use Rattle.mux_tables.specs.Stands.{EditorsStand, GroupsStand, Stands, ends, phase_in, group_in, stays_in}
 use Rattle.mux_tables.proofs.Ends.{tick_heard}
+use Rattle.mux_tables.proofs.Exits.{stop_groups}
 use Rattle.mux_tables.proofs.Frames.{itself, groups_stand}
 use Rattle.mux_tables.proofs.Leaves.{gone_by}
 use Rattle.mux_tables.proofs.Moves.{house_moves}
@@ -67,8 +68,8 @@ joined_moves settings t u events e last is gs now ls os r s = house_moves settin
 
 -- a message that places nobody, and stops nothing
 module _ (settings : Settings) (t u : Tables) (events : List Event) (e : ℕ) (body : List ℕ) (p : Phase) (l : e < length t.editors) (is : u.editors ≡ with_session t.editors e (record (session_of t.editors e) { phase = p }))
-    (gs : u.groups ≡ t.groups) (now : u.time ≡ t.time) (ls : u.lasts ≡ t.lasts) (os : u.origins ≡ t.origins) (r : u.requests ≡ t.requests)
-    (stays : places (desk_of e events).phase (message_of body) ≡ false) (goes : stops events e (message_of body) ≡ false) (step : (desk_of e (events ++ heard (FromEditor e body) ∷ [])).phase ≡ p) where
+    (now : u.time ≡ t.time) (ls : u.lasts ≡ t.lasts) (os : u.origins ≡ t.origins) (r : u.requests ≡ t.requests)
+    (stays : places (desk_of e events).phase (message_of body) ≡ false) (step : (desk_of e (events ++ heard (FromEditor e body) ∷ [])).phase ≡ p) where
   abbrev ev : Event
   ev = took (FromEditor e body) (message_of body)
 
@@ -96,12 +97,19 @@ module _ (settings : Settings) (t u : Tables) (events : List Event) (e : ℕ) (b
       home_at _ same = ap group_in (slice_get-get_or t.editors e absent l) ∙ ap group_in (sym here)
       home_at n (other h) = ap group_in (sym (get_set_other t.editors e n y h))
 
-  pub heard_moves : Stands settings t events → Stands settings u (events ++ ev ∷ [])
-  heard_moves = house_moves settings t u events ev (λ n. refl) refl (ap (λ v. v.items) ls) (ap (λ v. v.items) os) r (λ h. record {
+  all_heard : (GroupsStand settings t.groups events → GroupsStand settings u.groups (events ++ ev ∷ [])) → Stands settings t events → Stands settings u (events ++ ev ∷ [])
+  all_heard go = house_moves settings t u events ev (λ n. refl) refl (ap (λ v. v.items) ls) (ap (λ v. v.items) os) r (λ h. record {
     editors = heard_editors h.editors;
-    groups = subst (λ g. GroupsStand settings g (events ++ ev ∷ [])) (sym gs) (record { groups = groups_more settings events ev ∙ (rw (stays, goes) refl ∙ h.groups.groups); limit = h.groups.limit; idle = h.groups.idle });
+    groups = go h.groups;
     now = one_more time_behind _ _ events ev h.now ∙ sym now;
   })
+
+  pub heard_moves : u.groups ≡ t.groups → stops events e (message_of body) ≡ false → Stands settings t events → Stands settings u (events ++ ev ∷ [])
+  heard_moves gs goes = all_heard (λ h. subst (λ g. GroupsStand settings g (events ++ ev ∷ [])) (sym gs) (record { groups = groups_more settings events ev ∙ (rw (stays, goes) refl ∙ h.groups); limit = h.limit; idle = h.idle }))
+
+  -- E6
+  pub stopped_moves : (ns : List ℕ) → ns ≡ all_from 0 is_live t.groups.groups → u.groups ≡ with_groups (ends ns t.groups.groups) t.groups → stops events e (message_of body) ≡ true → Stands settings t events → Stands settings u (events ++ ev ∷ [])
+  stopped_moves ns all gs stop = all_heard (λ h. stop_groups settings events e body (message_of body) t.groups u.groups stays stop (ap (λ (w : Table). w.limit) gs) (ap (λ (w : Table). w.idle) gs) (ap (λ (w : Table). w.groups) gs ∙ ap (λ ms. ends ms t.groups.groups) all) h)
 
 -- X5
 pub gone_heard : (settings : Settings) (t u : Tables) (events : List Event) (e : ℕ) (why : Why) (mid : List Session) (p : Phase) (home : Option ℕ) (was : Bool) → e < length t.editors

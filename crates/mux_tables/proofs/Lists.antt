@@ -7,7 +7,7 @@ use Rattle.event_model.specs.Event.{Event}
 use Rattle.event_model.specs.Phases.{desk_of, editors_of, is_begun, needs_server}
 use Rattle.event_model.specs.Settings.{Settings}
 use Rattle.editor_session.specs.declared.session.Session.{Session}
-use Rattle.editor_session.specs.Sessions.{joined, session_of, numbers_of, is_of, is_in, needs_in}
+use Rattle.editor_session.specs.Sessions.{session_of, numbers_of, is_of, is_in, needs_in}
 use Rattle.group_words.specs.Houses.{home_of, is_home, editors_in}
 use Rattle.mux_tables.specs.Stands.{EditorsStand, phase_in, group_in, those_in}
 

@@ -1,17 +1,20 @@
 -- What the tables do when a cause about a start comes, as the code has it.
-use Rattle.std.proofs.Common.{◌≡◌, ℕ, ◌<◌, ◌^◌, Bool, true, false, ◌&&◌, List, [], ◌∷◌, ◌++◌, map, length, get_or, refl, ap, sym, subst, ◌∙◌}
+use Rattle.std.proofs.Common.{◌≡◌, ℕ, ◌<◌, ◌^◌, Bool, true, false, ◌&&◌, List, [], ◌∷◌, ◌++◌, map, length, get_or, refl, ap, sym, subst, ◌∙◌, nat_eq}
 use Rattle.std.specs.Prelude.{Option, Some, None, MatchOption, slice_get, slice_set, find, option_map}
-use Rattle.mux_history.specs.declared.cause.Cause.TheVariants.{FromServer, Started}
+use Rattle.mux_history.specs.declared.cause.Cause.TheVariants.{FromServer, ServerGone, StartFailed, Started}
 use Rattle.rpc_message.specs.Message.{Message, request, notification, result, error, not_json, not_message, message_of}
 use Rattle.event_model.specs.declared.stage.Stage.{Stage}
 use Rattle.event_model.specs.declared.stage.Stage.TheVariants.{Unspawned, Spawning, Initializing, Ready, Stopping, Ending, Ended}
 use Rattle.event_model.specs.Event.{Event, took}
 use Rattle.event_model.specs.Requests.{answered_id}
 use Rattle.event_model.specs.Settings.{Settings}
-use Rattle.event_model.specs.Stages.{Life, is_first_result, life_of, stage_hears, stage_started, is_initializing}
+use Rattle.event_model.specs.Spawns.{group_of}
+use Rattle.event_model.specs.Stages.{Life, life_behind, is_first_result, life_of, stage_hears, stage_started, is_initializing}
 use Rattle.event_model.proofs.Frames.{never}
-use Rattle.event_model.proofs.Places.{same_item}
-use Rattle.group_words.specs.Houses.{is_first_error}
+use Rattle.event_model.proofs.Places.{item_at, same_item}
+use Rattle.group_table.specs.Tables.{with_groups}
+use Rattle.group_words.specs.Placing.{changed, ended}
+use Rattle.group_words.specs.Houses.{House, groups_lose, groups_next, is_first_error}
 use Rattle.id_rewrite.specs.declared.pending.Pending.{Pending}
 use Rattle.id_rewrite.specs.declared.pending.Numbered.{Numbered}
 use Rattle.id_rewrite.specs.Tables.{Table, IsInOrder, pending_of, without}
@@ -19,10 +22,11 @@ use Rattle.restart_replay.specs.Standings.{Standing, moved}
 use Rattle.mux_tables.specs.declared.tables.Start.{Start}
 use Rattle.mux_tables.specs.declared.tables.Tables.{Tables}
 use Rattle.mux_tables.specs.Forwarded.{Forwarding, forwarding_behind, forwarding_of, is_under}
-use Rattle.mux_tables.specs.Stands.{IdsAt, NamesAt, Part, of_life, of_ids, PartStands, Stands, begun_at, forwarded_as, number_in}
-use Rattle.mux_tables.proofs.Frames.{itself, groups_stand}
-use Rattle.mux_tables.proofs.IdMoves.{answered_ids, unanswered_ids, found_seen}
-use Rattle.mux_tables.proofs.Starts.{groups_kept, not_refused, part_ids, part_life, read_here, start_at_place, start_moves, still_ids}
+use Rattle.mux_tables.specs.Stands.{Exits, IdsAt, NamesAt, Part, of_life, of_ids, PartStands, Stands, begun_at, forwarded_as, number_in}
+use Rattle.mux_tables.proofs.Exits.{lost_groups, refused_groups}
+use Rattle.mux_tables.proofs.Frames.{itself, groups_stand, names_editor, names_start, spawns, ticks}
+use Rattle.mux_tables.proofs.IdMoves.{answered_ids, ended_ids, failed_ids, unanswered_ids, found_seen}
+use Rattle.mux_tables.proofs.Starts.{groups_kept, not_refused, part_ids, part_life, read_back, read_here, start_at_place, start_moves, still_ids}
 
 -- the program runs
 begun_start : (g : Stage) (l : Standing) → (begun_at g l).start ≡ l.start
@@ -136,3 +140,75 @@ answer_found settings t events g s k z o at within read is st =
 
 pub found_of : (n : Option ℕ) (k : ℕ) (o : Option Pending) (rs : List Numbered) → n ≡ Some k → MatchOption n (o ≡ None) (λ j. o ≡ pending_of j rs) → o ≡ pending_of k rs
 found_of n k o rs is h = subst (λ (m : Option ℕ). MatchOption m (o ≡ None) (λ j. o ≡ pending_of j rs)) is h
+
+-- S3
+pub refusal_moves : (settings : Settings) (t u : Tables) (events : List Event) (g s : ℕ) (z : Start) (body : List ℕ) (n : Option ℕ) (ids : Table) → slice_get (map number_in t.lasts.items) g ≡ Some s → g < length t.lasts.items → z ≡ get_or t.lasts.items g z
+    → z.life.stage ≡ Initializing → is_first_error (message_of body) ≡ true → NamesAt (answered_id (message_of body)) n
+    → MatchOption n (ids.requests ≡ z.ids.requests) (λ k. ids.requests ≡ without k z.ids.requests) → ids.next ≡ z.ids.next → ids.limit ≡ z.ids.limit → (IsInOrder z.ids → IsInOrder ids)
+    → u.lasts.items ≡ slice_set t.lasts.items g (record z { ids = ids }) → u.editors ≡ t.editors → u.groups ≡ with_groups (changed g ended t.groups.groups) t.groups → u.time ≡ t.time → u.origins ≡ t.origins → u.requests ≡ t.requests
+    → Stands settings t events → Stands settings u (events ++ took (FromServer s body) (message_of body) ∷ [])
+refusal_moves settings t u events g s z body n ids at within read stage refuses named taken next limit order set es gs now os r st =
+    start_moves settings t u events (λ k. took (FromServer k body) (message_of body)) g s z y at within read set refl refl es now os r (λ k. refl) (λ k. refl) (λ k. refl) (λ k m. refl)
+    (λ k e h. refused_groups settings events k g body (message_of body) t.groups u.groups refuses (ap is_initializing (stage_seen settings t events g k z st here (e ∙ sym is)) ∙ ap is_initializing stage) (subst (λ m. group_of m events ≡ Some g) (is ∙ sym e) (st.lasts.each g z here).home)
+    (ap (λ w. w.limit) gs) (ap (λ w. w.idle) gs) (ap (λ w. w.groups) gs) h) part st
+  where
+    y : Start
+    y = record z { ids = ids }
+
+    here : slice_get t.lasts.items g ≡ Some z
+    here = read_here t.lasts.items g z within read
+
+    is : z.life.start ≡ s
+    is = start_at_place t.lasts.items g s z here at
+
+    no_result : (m : Message) → is_first_error m ≡ true → (b : Bool) → (is_first_result m && b) ≡ false
+    no_result (error id x) h b = refl
+    no_result (result id x) h b = never (sym h)
+    no_result (request id method ps) h b = refl
+    no_result (notification method ps) h b = refl
+    no_result not_json h b = refl
+    no_result not_message h b = refl
+
+    part : (p : Part) → PartStands p t.requests z events → PartStands p t.requests y (events ++ took (FromServer z.life.start body) (message_of body) ∷ [])
+    part of_life h = part_life t.requests events (took (FromServer z.life.start body) (message_of body)) z y refl (rw (itself z.life.start) (ap (λ k. record { stage = k; started = z.started }) (hears_answer z.life.stage (message_of body) (no_result (message_of body) refuses (is_initializing z.life.stage))))) h
+    part of_ids h = part_ids t.requests events (took (FromServer z.life.start body) (message_of body)) z y refl
+        (answered_any t.requests z.life.start z.ids ids (forwarding_of z.life.start events) body (message_of body) n st.range named taken next limit order) h
+
+-- X1 to X3
+module _ (settings : Settings) (t u : Tables) (events : List Event) (g s : ℕ) (z : Start) (ev : ℕ → Event) (at : slice_get (map number_in t.lasts.items) g ≡ Some s) (within : g < length t.lasts.items) (here : slice_get t.lasts.items g ≡ Some z) (x : Exits settings.limits.restarts t g z u)
+    (one : (n m : ℕ) → names_start m (ev n) ≡ nat_eq n m) (editor : (n : ℕ) → names_editor (ev n) ≡ false) (time : (n : ℕ) → ticks (ev n) ≡ false) (spawn : (n : ℕ) → spawns (ev n) ≡ false)
+    (loses : (n : ℕ) (h : House) → groups_next settings events h (ev n) ≡ groups_lose settings events n h)
+    (over : (n : ℕ) (l : Life) → life_behind n l (ev n) ≡ record { stage = Ended; started = l.started })
+    (clears : (n : ℕ) (f : Forwarding) → IdsAt t.requests (forwarding_behind n f (ev n)) x.start.ids) where
+  pub over_moves : Stands settings t events → Stands settings u (events ++ ev s ∷ [])
+  over_moves st =
+      let own : x.start.life.start ≡ z.life.start = ap (λ (l : Standing). l.start) x.life in
+      start_moves settings t u events ev g s z x.start at within (read_back t.lasts.items g z here) x.lasts own (ap (λ (l : Standing). l.group) x.life) x.editors x.time x.origins x.requests editor time spawn one
+      (λ n e h. lost_groups settings events (ev n) n g (loses n) (t.groups) u.groups t.editors (subst (λ m. group_of m events ≡ Some g) (start_at_place t.lasts.items g s z here at ∙ sym e) (st.lasts.each g z here).home) st.house.editors x.groups h) (part own) st
+    where
+      part : x.start.life.start ≡ z.life.start → (p : Part) → PartStands p t.requests z events → PartStands p t.requests x.start (events ++ ev z.life.start ∷ [])
+      part own of_life h = part_life t.requests events (ev z.life.start) z x.start own (over z.life.start (record { stage = z.life.stage; started = z.started })
+          ∙ (ap (λ k. record { stage = k; started = z.started }) (ap (λ (l : Standing). l.stage) (sym x.life)) ∙ ap (λ b. record { stage = x.start.life.stage; started = b }) (sym x.started))) h
+      part own of_ids h = part_ids t.requests events (ev z.life.start) z x.start own (λ _. clears z.life.start (forwarding_of z.life.start events)) h
+
+gone_clears : (limit n : ℕ) (f : Forwarding) (ids : Table) → ids.requests ≡ [] → ids.next ≡ 2 → ids.limit ≡ limit → IsInOrder ids → IdsAt limit (forwarding_behind n f (took (ServerGone n) not_message)) ids
+gone_clears limit n f ids r k l o = ended_ids limit n ids f not_message (r, k, l, o)
+
+failed_clears : (limit n : ℕ) (f : Forwarding) (ids : Table) → ids.requests ≡ [] → ids.next ≡ 2 → ids.limit ≡ limit → IsInOrder ids → IdsAt limit (forwarding_behind n f (took (StartFailed n) not_message)) ids
+failed_clears limit n f ids r k l o = failed_ids limit n ids f not_message (r, k, l, o)
+
+pub exit_heard : (settings : Settings) (t u : Tables) (events : List Event) (g s restarts : ℕ) → settings.limits.restarts ≡ restarts → slice_get (map number_in t.lasts.items) g ≡ Some s → g < length t.lasts.items → ((z : Start) → slice_get t.lasts.items g ≡ Some z → Exits restarts t g z u)
+    → Stands settings t events → Stands settings u (events ++ took (ServerGone s) not_message ∷ [])
+exit_heard settings t u events g s restarts e at within f =
+    let z = item_at t.lasts.items g within in
+    let x : Exits settings.limits.restarts t g z.0 u = subst (λ n. Exits n t g z.0 u) (sym e) (f z.0 z.1) in
+    over_moves settings t u events g s z.0 (λ n. took (ServerGone n) not_message) at within z.1 x (λ n m. refl) (λ n. refl) (λ n. refl) (λ n. refl) (λ n h. refl) (λ n l. rw (itself n) refl)
+    (λ n h. gone_clears t.requests n h x.start.ids x.requests_gone x.next x.limit x.order)
+
+pub failure_heard : (settings : Settings) (t u : Tables) (events : List Event) (g s restarts : ℕ) → settings.limits.restarts ≡ restarts → slice_get (map number_in t.lasts.items) g ≡ Some s → g < length t.lasts.items → ((z : Start) → slice_get t.lasts.items g ≡ Some z → Exits restarts t g z u)
+    → Stands settings t events → Stands settings u (events ++ took (StartFailed s) not_message ∷ [])
+failure_heard settings t u events g s restarts e at within f =
+    let z = item_at t.lasts.items g within in
+    let x : Exits settings.limits.restarts t g z.0 u = subst (λ n. Exits n t g z.0 u) (sym e) (f z.0 z.1) in
+    over_moves settings t u events g s z.0 (λ n. took (StartFailed n) not_message) at within z.1 x (λ n m. refl) (λ n. refl) (λ n. refl) (λ n. refl) (λ n h. refl) (λ n l. rw (itself n) refl)
+    (λ n h. failed_clears t.requests n h x.start.ids x.requests_gone x.next x.limit x.order)

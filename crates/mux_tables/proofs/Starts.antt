@@ -24,6 +24,14 @@ use Rattle.mux_tables.proofs.Moves.{parts_move}
 pub read_here : (xs : List Start) (g : ℕ) (z : Start) → g < length xs → z ≡ get_or xs g z → slice_get xs g ≡ Some z
 read_here xs g z within read = slice_get_read xs (length xs) g z refl within read
 
+pub read_back : (xs : List Start) (g : ℕ) (z : Start) → slice_get xs g ≡ Some z → z ≡ get_or xs g z
+read_back [] g z h = refl
+read_back (x ∷ xs) zero z h = sym (same_item h)
+read_back (x ∷ xs) (suc g) z h = read_back xs g z h
+
+pub read_same : (xs : List Start) (g : ℕ) (z x : Start) → g < length xs → z ≡ get_or xs g z → slice_get xs g ≡ Some x → z ≡ x
+read_same xs g z x within read at = same_item (sym (read_here xs g z within read) ∙ at)
+
 pub start_at_place : (xs : List Start) (g s : ℕ) (z : Start) → slice_get xs g ≡ Some z → slice_get (map number_in xs) g ≡ Some s → z.life.start ≡ s
 start_at_place [] g s z h k = absurd (none z h)
   where

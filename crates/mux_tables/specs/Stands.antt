@@ -1,7 +1,7 @@
 -- When the tables stand for events: one record for each table.
 use Rattle.std.specs.Prelude.{◌≡◌, ℕ, ◌<◌, ◌≤◌, ◌^◌, nat_eq, ◌⊎◌, Bool, false, ◌&&◌, List, [], ◌∷◌, ◌++◌, map, length, nat_lt}
 use Rattle.std.specs.List.{filter, range_with_len}
-use Rattle.std.specs.Prelude.{Option, Some, None, slice_get}
+use Rattle.std.specs.Prelude.{Option, Some, None, slice_get, slice_set}
 use Rattle.rpc_message.specs.Message.{Id}
 use Rattle.event_model.specs.declared.phase.Phase.{Phase}
 use Rattle.event_model.specs.declared.phase.Phase.TheVariants.{Absent, Answered}
@@ -10,7 +10,7 @@ use Rattle.event_model.specs.declared.stage.Stage.TheVariants.{Unspawned, Spawni
 use Rattle.event_model.specs.Each.{Each}
 use Rattle.event_model.specs.Event.{Event, said}
 use Rattle.mux_history.specs.declared.out.Out.TheVariants.{ToEditor}
-use Rattle.event_model.specs.Phases.{desk_of, editors_of}
+use Rattle.event_model.specs.Phases.{desk_of, editors_of, needs_server}
 use Rattle.event_model.specs.Settings.{Settings}
 use Rattle.event_model.specs.Spawns.{starts_of, start_of, group_of}
 use Rattle.event_model.specs.Stages.{life_of}
@@ -19,7 +19,7 @@ use Rattle.editor_session.specs.Sessions.{is_of, numbers_of}
 use Rattle.group_table.specs.Tables as group_tables
 use Rattle.group_words.specs.declared.kept.Kept.{Kept}
 use Rattle.group_words.specs.Placing.{changed, ended}
-use Rattle.group_words.specs.Houses.{is_home, groups_of, home_of, time_of}
+use Rattle.group_words.specs.Houses.{exit_of, is_home, groups_of, home_of, time_of}
 use Rattle.id_rewrite.specs.declared.pending.Numbered.{Numbered}
 use Rattle.id_rewrite.specs.declared.pending.Pending.{Pending}
 use Rattle.id_rewrite.specs.Tables.{Table, IsInOrder}
@@ -152,3 +152,19 @@ Welcomes e body events = (desk_of e (events ++ said (ToEditor e body) ∷ [])).p
 -- e's request under this id is at work, and goes to start s
 abbrev pub Sends : ℕ → ℕ → List ℕ → List Event → Type 0
 Sends s e id events = (forwarding_of s events).sender ≡ Some (record { editor = e; id = id })
+
+-- the last start of a group ended: it is over and has nothing to answer, and the group counts an exit, or ends
+pub record Exits (restarts : ℕ) (t : Tables) (g : ℕ) (z : Start) (u : Tables) : Type 0 where
+  pub groups : u.groups ≡ group_tables.with_groups (changed g (exit_of restarts (any_in needs_server t.editors g)) t.groups.groups) t.groups
+  pub start : Start
+  pub lasts : u.lasts.items ≡ slice_set t.lasts.items g start
+  pub life : start.life ≡ moved Ended z.life
+  pub started : start.started ≡ z.started
+  pub requests_gone : start.ids.requests ≡ []
+  pub next : start.ids.next ≡ 2
+  pub limit : start.ids.limit ≡ t.requests
+  pub order : IsInOrder start.ids
+  pub editors : u.editors ≡ t.editors
+  pub time : u.time ≡ t.time
+  pub origins : u.origins ≡ t.origins
+  pub requests : u.requests ≡ t.requests

@@ -111,6 +111,19 @@ impl Tables {
         Ok(())
     }
 
+    /// E6: the editor stops all: the numbers, rising, of the groups that end; behind it the editor is in this phase.
+    pub fn hear_stop(&mut self, e: u64, phase: Phase) -> Result<Vec<u64>, Memory>
+        requires editor { e < length self.old.editors }
+        requires joined { phase ≢ Absent }
+        ensures { (settings : Settings) (events : List Event) (body : List ℕ) → Stands settings self.old events → places (desk_of e events).phase (message_of body) ≡ false → stops events e (message_of body) ≡ true
+            → (desk_of e (events ++ heard (FromEditor e body) ∷ [])).phase ≡ phase → OnOk result (Stands settings self.new (events ++ heard (FromEditor e body) ∷ [])) }
+    {
+        let live = self.groups.live_groups()?;
+        end_all(&mut self.groups, &live);
+        self.editors.set(e, phase);
+        Ok(live)
+    }
+
     /// X7: the time is this many seconds: the groups that end by now, rising.
     pub fn hear_tick(&mut self, now: u64) -> Result<Vec<u64>, Memory>
         ensures { (settings : Settings) (events : List Event) → Stands settings self.old events → OnOk result (Stands settings self.new (events ++ heard (Tick now) ∷ [])) }

@@ -1,9 +1,10 @@
 // Editors and groups, where an editor is placed, and where groups become idle or end.
-ghost use Rattle.std.specs.Prelude.{◌≡◌, ◌<◌, Some, length, max, slice_get, slice_set};
+ghost use Rattle.std.specs.Prelude.{◌≡◌, ◌<◌, ◌^◌, ◌&&◌, Some, length, max, nat_le, slice_get, slice_set};
 ghost use Rattle.editor_session.specs.declared.session.Session.{Session};
 ghost use Rattle.event_model.specs.declared.phase.Phase.TheVariants.{Waiting};
 ghost use Rattle.group_table.specs.Tables.{Inside, with_groups};
-ghost use Rattle.group_words.specs.Houses.{idle_if_live};
+ghost use Rattle.group_words.specs.declared.kept.Kept.{Kept};
+ghost use Rattle.group_words.specs.Houses.{exit_of, idle_if_live};
 ghost use Rattle.group_words.specs.Placing.{changed, ended, home_by, joined};
 ghost use Rattle.mux_tables.specs.Stands.{ends};
 
@@ -69,6 +70,31 @@ pub fn end_all(groups: &mut Groups, numbers: &[u64])
     for g in numbers {
         end_at(groups, *g);
     }
+}
+
+// A group goes on: it is wanted, and few enough of its starts ended.
+fn goes_on(wanted: bool, exits: u64, restarts: u64) -> bool
+    ensures { result ≡ (wanted && nat_le exits restarts) }
+{
+    wanted && exits <= restarts
+}
+
+// One of its starts ended: it ends with it, unless one is wanted and at most so many ended, this one included.
+pub fn lose(groups: &mut Groups, g: u64, wanted: bool, restarts: u64)
+    requires { (x : Kept) → slice_get groups.old.groups g ≡ Some x → x.exits < 2 ^ 63 }
+    ensures { groups.new ≡ with_groups (changed g (exit_of restarts wanted) groups.old.groups) groups.old }
+{
+    if g >= groups.count() {
+        return;
+    }
+    if !groups.is_live(g) {
+        return;
+    }
+    let exits = groups.exits(g);
+    if goes_on(wanted, exits, restarts) {
+        return;
+    }
+    end_at(groups, g);
 }
 
 // The later of two moments.

@@ -1,22 +1,34 @@
 // What each cause about a start does to the tables.
-ghost use Rattle.std.specs.Prelude.{◌≡◌, ◌≢◌, ◌<◌, ◌^◌, ◌++◌, ◌∷◌, [], ℕ, List, map, Some, false, true, length, option_map, slice_get, find, MatchOption, ◌&&◌};
-ghost use Rattle.event_model.specs.declared.stage.Stage.TheVariants.{Initializing};
+ghost use Rattle.std.specs.Prelude.{◌≡◌, ◌≢◌, ◌<◌, ◌≤◌, ◌^◌, IfOk, OnOk, ◌++◌, ◌∷◌, [], ℕ, List, map, Some, false, true, length, nat_lt, option_map, slice_get, find, MatchOption, ◌&&◌};
+ghost use Rattle.event_model.specs.declared.stage.Stage.TheVariants.{Ended, Initializing};
 ghost use Rattle.event_model.specs.Event.{Event, heard};
+ghost use Rattle.event_model.specs.Phases.{needs_server};
 ghost use Rattle.event_model.specs.Requests.{answered_id};
+ghost use Rattle.group_words.specs.declared.kept.Kept.{Kept};
 ghost use Rattle.event_model.specs.Settings.{Settings};
 ghost use Rattle.event_model.specs.Stages.{is_first_result, is_initializing};
 ghost use Rattle.group_words.specs.Houses.{is_first_error};
-ghost use Rattle.mux_history.specs.declared.cause.Cause.TheVariants.{FromServer, Started};
+ghost use Rattle.mux_history.specs.declared.cause.Cause.TheVariants.{FromServer, ServerGone, StartFailed, Started};
 ghost use Rattle.rpc_message.specs.Message.{message_of};
 ghost use Rattle.mux_tables.specs.declared.tables.Start.{Start};
 ghost use Rattle.mux_tables.specs.Forwarded.{forwarding_of, is_under};
-ghost use Rattle.mux_tables.specs.Stands.{NamesAt, Stands, begun_at, forwarded_as, number_in};
+ghost use Rattle.mux_tables.specs.Stands.{Exits, NamesAt, Stands, any_in, begun_at, forwarded_as, number_in};
 
 use crate::requests::{answer, forget};
+use crate::seats::{end_at, lose};
 use crate::tables::Tables;
 use event_model::Stage;
-use id_rewrite::Pending;
+use id_rewrite::{IdTable, Pending};
+use message_body::Memory;
 use restart_replay::Life;
+use std::alloc::Global;
+
+// There is one.
+fn is_any(numbers: &[u64]) -> bool
+    ensures { result ≡ nat_lt 0 (length numbers.now) }
+{
+    !numbers.is_empty()
+}
 
 // The program of a start runs.
 fn begin(life: &mut Life)
@@ -48,6 +60,68 @@ impl Tables {
         let last = &mut self.lasts[g];
         last.life.result();
         forget(&mut last.ids, n);
+    }
+
+    /// S3: the group's last start refuses its `initialize`; the group ends. `n` is the number that its id writes.
+    pub fn hear_refusal(&mut self, g: usize, n: Option<u32>)
+        requires group { g < length self.old.lasts.items }
+        requires stage { (x : Start) → slice_get self.old.lasts.items g ≡ Some x → x.life.stage ≡ Initializing }
+        ensures { (settings : Settings) (events : List Event) (s : ℕ) (body : List ℕ) → slice_get (map number_in self.old.lasts.items) g ≡ Some s → is_first_error (message_of body) ≡ true → NamesAt (answered_id (message_of body)) n
+            → Stands settings self.old events → Stands settings self.new (events ++ heard (FromServer s body) ∷ []) }
+    {
+        end_at(&mut self.groups, g as u64);
+        let last = &mut self.lasts[g];
+        forget(&mut last.ids, n);
+    }
+
+    // An editor of the group needs a server.
+    fn needs_server(&self, g: u64) -> Result<bool, Memory>
+        ensures { IfOk result (λ b. b ≡ any_in needs_server self.now.editors g) }
+    {
+        let needing = self.editors.needing(g)?;
+        Ok(is_any(&needing))
+    }
+
+    // The program of the group's last start doesn't run any more, and has nothing to answer.
+    fn exit(&mut self, alloc: Global, restarts: u64, g: usize) -> Result<(), Memory>
+        requires limit { 2 ≤ self.old.requests }
+        requires group { g < length self.old.lasts.items }
+        requires runs { (x : Start) → slice_get self.old.lasts.items g ≡ Some x → x.life.stage ≢ Ended }
+        requires room { (x : Kept) → slice_get self.old.groups.groups g ≡ Some x → x.exits < 2 ^ 63 }
+        ensures { (z : Start) → slice_get self.old.lasts.items g ≡ Some z → OnOk result (Exits restarts self.old g z self.new) }
+    {
+        let wanted = self.needs_server(g as u64)?;
+        lose(&mut self.groups, g as u64, wanted, restarts);
+        let last = &mut self.lasts[g];
+        last.life.over();
+        last.ids = IdTable::new(alloc, self.requests);
+        Ok(())
+    }
+
+    /// X1 to X3: the program of the group's last start ended. Its open requests are gone. The group ends, unless an editor of it
+    /// needs a server and at most `restarts` of its starts ended, this one included. Where the answer is an error the tables stand
+    /// for nothing any more.
+    pub fn hear_exit(&mut self, alloc: Global, restarts: u64, g: usize) -> Result<(), Memory>
+        requires limit { 2 ≤ self.old.requests }
+        requires group { g < length self.old.lasts.items }
+        requires runs { (x : Start) → slice_get self.old.lasts.items g ≡ Some x → x.life.stage ≢ Ended }
+        requires room { (x : Kept) → slice_get self.old.groups.groups g ≡ Some x → x.exits < 2 ^ 63 }
+        ensures { (settings : Settings) (events : List Event) (s : ℕ) → settings.limits.restarts ≡ restarts → slice_get (map number_in self.old.lasts.items) g ≡ Some s → Stands settings self.old events → OnOk result (Stands settings self.new (events ++ heard (ServerGone s) ∷ [])) }
+    {
+        self.exit(alloc, restarts, g)?;
+        Ok(())
+    }
+
+    /// The same where it couldn't be run.
+    pub fn hear_failure(&mut self, alloc: Global, restarts: u64, g: usize) -> Result<(), Memory>
+        requires limit { 2 ≤ self.old.requests }
+        requires group { g < length self.old.lasts.items }
+        requires runs { (x : Start) → slice_get self.old.lasts.items g ≡ Some x → x.life.stage ≢ Ended }
+        requires room { (x : Kept) → slice_get self.old.groups.groups g ≡ Some x → x.exits < 2 ^ 63 }
+        ensures { (settings : Settings) (events : List Event) (s : ℕ) → settings.limits.restarts ≡ restarts → slice_get (map number_in self.old.lasts.items) g ≡ Some s → Stands settings self.old events → OnOk result (Stands settings self.new (events ++ heard (StartFailed s) ∷ [])) }
+    {
+        self.exit(alloc, restarts, g)?;
+        Ok(())
     }
 
     /// A message came from the group's last start that doesn't answer its `initialize`: what was kept of the request that it

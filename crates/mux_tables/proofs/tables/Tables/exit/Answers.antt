@@ -1,0 +1,31 @@
+-- A start is over.
+use Rattle.std.proofs.Common.{refl, ap, ◌∙◌}
+use Rattle.group_words.specs.Houses.{exit_of}
+use Rattle.group_words.specs.Placing.{changed}
+use Rattle.group_table.specs.Tables.{with_groups}
+use Rattle.restart_replay.specs.Standings.{moved}
+use Rattle.event_model.specs.declared.stage.Stage.TheVariants.{Ended}
+use Rattle.mux_tables.proofs.Starts.{read_here, read_same}
+use Rattle.mux_tables.proofs.tables.Tables.exit.Goals as goal
+
+pub over-requires : goal.over-requires
+over-requires c = c.requires.runs c.index_mut-last.result.now (read_here c.args.self.now.lasts.items c.args.g c.index_mut-last.result.now c.requires.group c.index_mut-last.ensures.value)
+
+pub returns : goal.returns
+returns c = λ z at.
+    let e = read_same c.args.self.now.lasts.items c.args.g c.index_mut-last.result.now z c.requires.group c.index_mut-last.ensures.value at in
+    record {
+      groups = c.lose.ensures ∙ ap (λ b. with_groups (changed c.args.g (exit_of c.args.restarts b) c.args.self.now.groups.groups) c.args.self.now.groups) c.in_ok-wanted.ensures;
+      start = record { life = c.over.new.self; started = c.index_mut-last.result.now.started; ids = c.new.result };
+      lasts = refl;
+      life = c.over.ensures ∙ ap (λ w. moved Ended w.life) e;
+      started = ap (λ w. w.started) e;
+      requests_gone = c.new.ensures.requests;
+      next = c.new.ensures.next;
+      limit = c.new.ensures.limit;
+      order = c.new.ensures.order;
+      editors = refl;
+      time = refl;
+      origins = refl;
+      requests = refl;
+    }
