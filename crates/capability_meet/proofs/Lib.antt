@@ -1,4 +1,7 @@
+pub mod Bares
 pub mod BelowLaws
+pub mod Compacts
+pub mod Declares
 pub mod Induction
 pub mod Letters
 pub mod MemberBelow
@@ -7,6 +10,7 @@ pub mod MeetSays
 pub mod Meets
 pub mod Names
 pub mod Pairs
+pub mod Passes
 pub mod Pieces
 pub mod Reading
 pub mod SameLaws

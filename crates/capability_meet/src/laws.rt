@@ -4,9 +4,8 @@ ghost use Rattle.json_text.specs.declared.span.Span.{Span};
 ghost use Rattle.json_text.specs.Json.{Json, Members, object};
 ghost use Rattle.json_text.specs.Named.{named};
 ghost use Rattle.json_text.specs.Tree.{tree_of};
-ghost use Rattle.capability_meet.specs.declared.spot.Spot.TheVariants as spot;
-ghost use Rattle.capability_meet.specs.Meet.{meet_of, meets};
-ghost use Rattle.capability_meet.specs.MeetTree.{SaysTree, meet_tree};
+ghost use Rattle.capability_meet.specs.Meet.{meets};
+ghost use Rattle.capability_meet.specs.MeetTree.{SaysTree, meet_of, meet_tree};
 ghost use Rattle.capability_meet.specs.Order.{below, below_given, is_least};
 
 /// A law: each value is below itself.
@@ -38,5 +37,5 @@ pub fn meet_is_greatest()
 
 /// A law: where the values of two texts have something in common, the text that `meet` is of them says just that.
 pub fn meet_says()
-    ensures { (a b : List ℕ) (j k : Json) → tree_of a ≡ Some j → tree_of b ≡ Some k → meets j k ≡ true → (text : List ℕ) × (meet_of spot.Elsewhere a b ≡ Some text) × SaysTree text (meet_tree j k) }
+    ensures { (a b : List ℕ) (j k : Json) → tree_of a ≡ Some j → tree_of b ≡ Some k → meets j k ≡ true → (text : List ℕ) × (meet_of a b ≡ Some text) × SaysTree text (meet_tree j k) }
 {}

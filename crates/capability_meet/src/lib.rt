@@ -2,6 +2,7 @@
 //! Initialize Request).
 #![tactic(auto)]
 
+mod compact;
 mod fault;
 mod kinds;
 mod laws;
