@@ -3,7 +3,7 @@ use Rattle.std.proofs.Common.{◌≡◌, ℕ, Bool, true, false, List, refl, sym
 use Rattle.std.specs.Prelude.{Option, Some, None, bytes_eq, if◌then◌else◌}
 use Rattle.std.specs.Option.{is_some, option_map}
 use Rattle.std.proofs.lemmas.Slice.Eq.{bytes_eq-Decides}
-use Rattle.json_text.specs.Bare.{bare, nowhere}
+use Rattle.json_text.specs.Bare.{bare, bare_members, nowhere}
 use Rattle.json_text.specs.declared.kind.Word.TheVariants as word_of
 use Rattle.json_text.specs.declared.span.Span.{Span}
 use Rattle.json_text.specs.Json.{Json, word, number, string, array, object, Members, no_members, member}
@@ -11,13 +11,13 @@ use Rattle.json_text.specs.Named.{if_named, named, named_in, or_else}
 use Rattle.json_text.proofs.Put.{named_bare}
 use Rattle.json_nodes.specs.Same.{has_name}
 use Rattle.json_nodes.proofs.Spelling.{named_member, named_none}
-use Rattle.capability_meet.specs.Bounds.{IsGreatest, IsGreatestDeclared, offers_no}
+use Rattle.capability_meet.specs.Bounds.{HasRequired, IsGreatest, IsGreatestDeclared, offers_no}
 use Rattle.capability_meet.specs.DeclaredTree.{declared_tree, left_out, members_and, members_changed, members_with, members_without, on_members, put_back, with_cancel, with_support}
 use Rattle.capability_meet.specs.Meet.{meets}
 use Rattle.capability_meet.specs.MeetTree.{meet_tree}
 use Rattle.capability_meet.specs.Order.{below, below_given, is_least}
 use Rattle.capability_meet.proofs.Bares.{Alike, alike_bares, alike_self, alike_through}
-use Rattle.capability_meet.proofs.BelowLaws.{below_self, below_through, least_below, members_complete, members_sound}
+use Rattle.capability_meet.proofs.BelowLaws.{below_self, below_through, least_below, members_complete, members_sound, same_bytes}
 use Rattle.capability_meet.proofs.MeetLaws.{meet_below, meet_greatest}
 
 -- members by their names
@@ -273,3 +273,77 @@ met_greatest j k m h e =
       second = below_through m (meet_tree j k) k a.down b.1;
       greatest = λ x f g. below_through x (meet_tree j k) m (under_met x j k (is_least x) refl f g) a.up;
     }
+
+-- what is required is there
+
+with_has : (name : List ℕ) (ms : Members) → has_name name (members_with name ms) ≡ true
+with_has name ms = go (has_name name ms) refl
+  where
+    go : (b : Bool) → has_name name ms ≡ b → has_name name (if b then ms else members_and name ms) ≡ true
+    go true e = e
+    go false e = ap is_some (named_and name name ms ∙ ap (λ b. if b then Some (word nowhere word_of.False) else named name ms) (same_bytes name))
+
+some_map : (o : Option Json) → is_some (option_map bare o) ≡ is_some o
+some_map None = refl
+some_map (Some j) = refl
+
+has_bares : (name : List ℕ) (ms ns : Members) → bare_members ms ≡ bare_members ns → has_name name ms ≡ has_name name ns
+has_bares name ms ns e = sym (some_map (named name ms)) ∙ ap is_some (sym (named_bare name ms)) ∙ ap (λ z. is_some (named name z)) e ∙ ap is_some (named_bare name ns) ∙ some_map (named name ns)
+
+bared_members : (s r : Span) (ms ns : Members) → bare (object s ms) ≡ bare (object r ns) → bare_members ms ≡ bare_members ns
+bared_members s r ms ns e = cc
+
+abbrev filled : List ℕ → Json → Json
+filled name k = on_members (λ ns. members_with name ns) k
+
+abbrev Required : List ℕ → List ℕ → Json → Json
+Required inner name j = on_members (λ ms. members_changed inner (λ k. filled name k) ms) j
+
+filled_has : (name : List ℕ) (s : Span) (ms : Members) (u : Json) → bare (object s ms) ≡ bare (filled name u) → has_name name ms ≡ true
+filled_has name s ms (object r us) e = has_bares name ms (members_with name us) (bared_members s r ms (members_with name us) e) ∙ with_has name us
+filled_has name s ms (word r w) e = absurd (cc)
+filled_has name s ms (number r ds) e = absurd (cc)
+filled_has name s ms (string r cs) e = absurd (cc)
+filled_has name s ms (array r js) e = absurd (cc)
+
+found_has : (name : List ℕ) (s : Span) (ms : Members) (o : Option Json) → Some (bare (object s ms)) ≡ option_map bare (option_map (λ k. filled name k) o) → has_name name ms ≡ true
+found_has name s ms None e = absurd (cc)
+found_has name s ms (Some u) e = let is : bare (object s ms) ≡ bare (filled name u) = cc in filled_has name s ms u is
+
+inner_named : (inner name : List ℕ) (vs : Members) → named inner (members_changed inner (λ k. filled name k) vs) ≡ option_map (λ k. filled name k) (named inner vs)
+inner_named inner name vs = named_changed inner inner (λ k. filled name k) vs ∙ ap (λ b. if b then option_map (λ k. filled name k) (named inner vs) else named inner vs) (same_bytes inner)
+
+none_found : (s : Span) (ms : Members) (name : List ℕ) → Some (bare (object s ms)) ≡ option_map bare None → has_name name ms ≡ true
+none_found s ms name e = absurd (cc)
+
+inner_has : (inner name : List ℕ) (w v : Json) (s : Span) (ms : Members) → bare w ≡ bare (Required inner name v) → named_in inner w ≡ Some (object s ms) → has_name name ms ≡ true
+inner_has inner name w (object r vs) s ms e h = found_has name s ms (named inner vs) (sym (ap (λ o. option_map bare o) h) ∙ named_bares inner w (Required inner name (object r vs)) e ∙ ap (λ o. option_map bare o) (inner_named inner name vs))
+inner_has inner name w (word r x) s ms e h = none_found s ms name (sym (ap (λ o. option_map bare o) h) ∙ named_bares inner w (word r x) e)
+inner_has inner name w (number r ds) s ms e h = none_found s ms name (sym (ap (λ o. option_map bare o) h) ∙ named_bares inner w (number r ds) e)
+inner_has inner name w (string r cs) s ms e h = none_found s ms name (sym (ap (λ o. option_map bare o) h) ∙ named_bares inner w (string r cs) e)
+inner_has inner name w (array r js) s ms e h = none_found s ms name (sym (ap (λ o. option_map bare o) h) ∙ named_bares inner w (array r js) e)
+
+outer_has : (inner name : List ℕ) (w : Json) (o : Option Json) (s : Span) (ms : Members) → Some (bare w) ≡ option_map bare (option_map (λ k. Required inner name k) o) → named_in inner w ≡ Some (object s ms) → has_name name ms ≡ true
+outer_has inner name w None s ms e h = absurd (cc)
+outer_has inner name w (Some v) s ms e h = let is : bare w ≡ bare (Required inner name v) = cc in inner_has inner name w v s ms is h
+
+window_named : (ms : Members) → named (codes "window") (members_changed (codes "general") (λ k. with_cancel k) (members_changed (codes "window") (λ k. with_support k) ms)) ≡ option_map (λ k. with_support k) (named (codes "window") ms)
+window_named ms = named_changed (codes "general") (codes "window") (λ k. with_cancel k) (members_changed (codes "window") (λ k. with_support k) ms) ∙ named_changed (codes "window") (codes "window") (λ k. with_support k) ms
+
+general_named : (ms : Members) → named (codes "general") (members_changed (codes "general") (λ k. with_cancel k) (members_changed (codes "window") (λ k. with_support k) ms)) ≡ option_map (λ k. with_cancel k) (named (codes "general") ms)
+general_named ms = named_changed (codes "general") (codes "general") (λ k. with_cancel k) (members_changed (codes "window") (λ k. with_support k) ms) ∙ ap (λ o. option_map (λ k. with_cancel k) o) (named_changed (codes "window") (codes "general") (λ k. with_support k) ms)
+
+back_named : (outer : List ℕ) (f : Json → Json) → ((ms : Members) → named outer (members_changed (codes "general") (λ k. with_cancel k) (members_changed (codes "window") (λ k. with_support k) ms)) ≡ option_map f (named outer ms)) → (j : Json) → named_in outer (put_back j) ≡ option_map f (named_in outer j)
+back_named outer f g (object s ms) = g ms
+back_named outer f g (word s w) = refl
+back_named outer f g (number s ds) = refl
+back_named outer f g (string s cs) = refl
+back_named outer f g (array s js) = refl
+
+pub declared_required : (j k m : Json) → bare m ≡ bare (declared_tree j k) → HasRequired m
+declared_required j k m e = record {
+  support = λ w s ms h g. outer_has (codes "showDocument") (codes "support") w (named_in (codes "window") (left_out (meet_tree j k))) s ms
+      (sym (ap (λ o. option_map bare o) h) ∙ named_bares (codes "window") m (declared_tree j k) e ∙ ap (λ o. option_map bare o) (back_named (codes "window") (λ l. with_support l) window_named (left_out (meet_tree j k)))) g;
+  cancel = λ w s ms h g. outer_has (codes "staleRequestSupport") (codes "cancel") w (named_in (codes "general") (left_out (meet_tree j k))) s ms
+      (sym (ap (λ o. option_map bare o) h) ∙ named_bares (codes "general") m (declared_tree j k) e ∙ ap (λ o. option_map bare o) (back_named (codes "general") (λ l. with_cancel l) general_named (left_out (meet_tree j k)))) g;
+}

@@ -17,4 +17,5 @@ pub mod SameLaws
 pub mod SameTurned
 pub mod Shows
 pub mod Spots
+pub mod TextLaws
 pub mod Walks

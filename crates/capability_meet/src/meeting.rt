@@ -36,7 +36,7 @@ pub fn meet(alloc: Global, a: &[u8], b: &[u8]) -> Result<Body, CapFault>
 /// level; then with what the standard requires put back: an object `window.showDocument` without `support` gets
 /// `"support":false` at its end, and an object `general.staleRequestSupport` without `cancel` gets `"cancel":false`.
 ///
-/// It is the greatest of what is below both and has neither of the two members that are left out (`declared_is_greatest`):
+/// It is the greatest of what is below both and has neither of the two members that are left out (`declared_text_is_greatest`):
 /// what is put back is least, so the order doesn't see it. The three steps are taken in one pass; the cost is that of `meet`.
 pub fn declared(
     alloc: Global,
