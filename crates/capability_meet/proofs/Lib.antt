@@ -19,3 +19,4 @@ pub mod Shows
 pub mod Spots
 pub mod TextLaws
 pub mod Walks
+pub mod Worked
