@@ -1,5 +1,5 @@
 -- Two objects walked side by side.
-use Rattle.std.proofs.Common.{◌≡◌, ℕ, suc, ◌+◌, ◌<◌, Bool, true, false, not, ◌&&◌, List, length, refl, sym, ◌∙◌, ap, subst, add-one, arith}
+use Rattle.std.proofs.Common.{◌≡◌, ℕ, suc, ◌+◌, ◌<◌, Bool, true, false, not, ◌&&◌, ◌||◌, List, length, refl, sym, ◌∙◌, ap, subst, add-one, arith}
 use Rattle.std.specs.Prelude.{Option, Some, None, bytes_eq, MatchOption}
 use Rattle.std.specs.List.{slice_get}
 use Rattle.std.specs.Option.{is_none, is_some}
@@ -10,7 +10,7 @@ use Rattle.json_text.specs.Named.{named, if_named, or_else}
 use Rattle.json_nodes.specs.At.{At, ChildAt, FoundChild}
 use Rattle.json_nodes.specs.Doc.{Doc}
 use Rattle.json_nodes.specs.InStep.{has_none, in_step, same_names}
-use Rattle.json_nodes.specs.Same.{drop_members, has_name}
+use Rattle.json_nodes.specs.Same.{drop_members, has_name, if_some, names_within, same, same_members}
 use Rattle.json_nodes.specs.Texts.{member_names}
 use Rattle.json_nodes.proofs.Members.{Follows, Inside, found_child_is, inside_more, no_child}
 use Rattle.json_nodes.proofs.Spelling.{IsMember, is_member, members_end, named_member}
@@ -181,3 +181,54 @@ last_beside all ms ns r cs ds k f is names h =
     last None true e g = refl
     last None false e g = absurd (cc)
     last (Some z) b e g = absurd (cc)
+
+-- objects that say the same
+
+within_all : (ns all : Members) → ((cs : List ℕ) → has_name cs ns ≡ true → has_name cs all ≡ true) → names_within ns all ≡ true
+within_all no_members all f = refl
+within_all (member r ds k ns) all f = both_true (has_name ds all) (names_within ns all) (f ds (mine (named ds ns) (bytes_eq ds ds) ((bytes_eq-Decides ds ds).1 refl)))
+    (within_all ns all (λ cs h. f cs (ap is_some (named_member cs ds r k ns) ∙ has (named cs ns) (bytes_eq cs ds) h)))
+  where
+    both_true : (a b : Bool) → a ≡ true → b ≡ true → (a && b) ≡ true
+    both_true a b h g = rw (h, g) refl
+    has : (o : Option Json) (b : Bool) → is_some o ≡ true → is_some (or_else o (if_named b k)) ≡ true
+    has None b e = absurd (cc)
+    has (Some z) b e = refl
+    mine : (o : Option Json) (b : Bool) → b ≡ true → has_name ds (member r ds k ns) ≡ true
+    mine o b e = ap is_some (named_member ds ds r k ns) ∙ ap (λ c. is_some (or_else (named ds ns) (if_named c k))) ((bytes_eq-Decides ds ds).1 refl) ∙ either (named ds ns)
+      where
+        either : (p : Option Json) → is_some (or_else p (Some k)) ≡ true
+        either None = refl
+        either (Some z) = refl
+
+names_are_within : (ms ns : Members) → same_names ms ns ≡ true → names_within ns ms ≡ true
+names_are_within ms ns h = within_all ns ms (λ cs g. names_has cs ms ns h ∙ g)
+
+-- one pair: where a later member has its name it doesn't count
+pair_steps : (test : Json → Json → Bool) (j k : Json) (o : Option Json) (b : Bool) → (b ≡ false → o ≡ Some k) → (b || if_some o (λ z. test j z)) ≡ (test j k || b)
+pair_steps test j k o true f = by_test (test j k)
+  where
+    by_test : (c : Bool) → true ≡ (c || true)
+    by_test true = refl
+    by_test false = refl
+pair_steps test j k o false f = ap (λ p. if_some p (λ z. test j z)) (f refl) ∙ by_test (test j k)
+  where
+    by_test : (c : Bool) → c ≡ (c || false)
+    by_test true = refl
+    by_test false = refl
+
+members_step : (all ms ns : Members) → Decides all ns → same_names ms ns ≡ true → same_members ms all ≡ in_step same ms ns
+members_step all no_members ns f h = refl
+members_step all (member s cs j ms) no_members f h = absurd (cc)
+members_step all (member s cs j ms) (member r ds k ns) f h =
+    let is : cs ≡ ds = (bytes_eq-Decides cs ds).0 (and_first (bytes_eq cs ds) (same_names ms ns) h) in
+    let rest : same_names ms ns ≡ true = and_second (bytes_eq cs ds) (same_names ms ns) h in
+    ap (λ b. b && same_members ms all) (pair_steps (λ x y. same x y) j k (named cs all) (has_name cs ms) (λ e. last_beside all ms ns r cs ds k f is rest e))
+    ∙ ap (λ b. (same j k || has_name cs ms) && b) (members_step all ms ns (decides_rest all ns r ds k f) rest)
+
+pub objects_step : (s r : Span) (ms ns : Members) → same_names ms ns ≡ true → in_step same ms ns ≡ same (object s ms) (object r ns)
+objects_step s r ms ns h = sym (members_step ns ms ns (decides_all ns) h) ∙ by_within (same_members ms ns) (names_within ns ms) (names_are_within ms ns h)
+  where
+    by_within : (a b : Bool) → b ≡ true → a ≡ (a && b)
+    by_within true b e = sym e
+    by_within false b e = refl
