@@ -1,5 +1,6 @@
 pub mod Bares
 pub mod BelowLaws
+pub mod BelowStep
 pub mod Compacts
 pub mod Declares
 pub mod Induction
