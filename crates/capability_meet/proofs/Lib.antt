@@ -3,6 +3,7 @@ pub mod BelowLaws
 pub mod BelowStep
 pub mod Compacts
 pub mod Declares
+pub mod Equals
 pub mod Induction
 pub mod Letters
 pub mod MemberBelow

@@ -1,6 +1,7 @@
 // The order of capabilities.
-ghost use Rattle.std.specs.Prelude.{◌≡◌, ◌+◌, ◌<◌, ◌||◌, ℕ, List, length, MatchOption, Some};
+ghost use Rattle.std.specs.Prelude.{◌≡◌, ◌+◌, ◌<◌, ◌||◌, ℕ, List, length, true, MatchOption, Some};
 ghost use Rattle.std.specs.List.{slice_get};
+ghost use Rattle.json_text.specs.Bare.{bare};
 ghost use Rattle.json_text.specs.declared.span.Span.{Span};
 ghost use Rattle.json_text.specs.Json.{Items, Json, Members, array, object};
 ghost use Rattle.json_text.specs.Named.{named};
@@ -14,7 +15,7 @@ ghost use Rattle.capability_meet.specs.Values.{doc_of};
 use crate::kinds::{Pair, pair_of};
 use crate::values::{Values, values_of};
 use json_nodes::{
-    first_in, is_named_again, kind_in, last_spelled, name_in, next_in, same_in, same_names_in,
+    bytes_in, first_in, is_named_again, kind_in, last_spelled, name_in, next_in, same_in, same_names_in,
 };
 use json_span::Tape;
 use json_text::Kind;
@@ -33,7 +34,18 @@ pub fn below(a: &Tape, x: u32, b: &Tape, y: u32) -> bool
     requires other { y < length b.now.nodes }
     ensures { (t u : Json) → At a.now x t → At b.now y u → result ≡ below t u }
 {
-    values_below(values_of(a), x, values_of(b), y)
+    let left = values_of(a);
+    let right = values_of(b);
+    same_bytes(left, x, right, y) || values_below(left, x, right, y)
+}
+
+// Whether two values are the same bytes, so that they say the same.
+fn same_bytes(left: Values, node: u32, right: Values, other: u32) -> bool
+    requires node { node < length left.nodes.now }
+    requires other { other < length right.nodes.now }
+    ensures { (t u : Json) → At (doc_of left.entry) node t → At (doc_of right.entry) other u → result ≡ true → bare t ≡ bare u }
+{
+    bytes_in(left.bytes, left.nodes, node) == bytes_in(right.bytes, right.nodes, other)
 }
 
 #[cycle(below)]
@@ -64,13 +76,48 @@ fn items_below(left: Values, node: u32, right: Values, other: u32) -> bool
     ensures { (s r : Span) (js ks : Items) → At (doc_of left.entry) node (array s js) → At (doc_of right.entry) other (array r ks) → result ≡ items_below js ks }
 {
     let mut next = first_in(left.nodes, node);
+    let mut beside = first_in(right.nodes, other);
     while let Some(item) = next {
-        if !is_among(left, item, right, other) {
+        if !is_beside_or_among(left, item, right, beside, other) {
             return false;
         }
         next = next_in(left.nodes, item);
+        beside = next_after(right, beside);
     }
     true
+}
+
+// The item that follows, where there is this one.
+fn next_after(values: Values, item: Option<u32>) -> Option<u32>
+    requires { MatchOption item (Unit {0}) (λ m. m < length values.nodes.now) }
+    ensures next { (k n : ℕ) (s : Span) (js : Items) → FoundChild (doc_of values.entry) k (array s js) n item → FoundChild (doc_of values.entry) k (array s js) (n + 1) result }
+    ensures inside { MatchOption result (Unit {0}) (λ m. m < length values.entry.nodes.now) }
+{
+    match item {
+        Some(item) => next_in(values.nodes, item),
+        None => None,
+    }
+}
+
+// Whether a value says the same as this item of an array, or as some item of it.
+fn is_beside_or_among(
+    left: Values,
+    node: u32,
+    right: Values,
+    beside: Option<u32>,
+    other: u32,
+) -> bool
+    requires node { node < length left.nodes.now }
+    requires beside { MatchOption beside (Unit {0}) (λ m. m < length right.nodes.now) }
+    requires other { other < length right.nodes.now }
+    ensures { (t : Json) (r : Span) (ks : Items) (n : ℕ) → At (doc_of left.entry) node t → At (doc_of right.entry) other (array r ks) → FoundChild (doc_of right.entry) other (array r ks) n beside → result ≡ is_among t ks }
+{
+    if let Some(item) = beside {
+        if same_in(left.bytes, left.nodes, node, right.bytes, right.nodes, item) {
+            return true;
+        }
+    }
+    is_among(left, node, right, other)
 }
 
 // Whether a value says the same as some item of an array.
