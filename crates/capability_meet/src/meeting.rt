@@ -23,6 +23,9 @@ use std::alloc::Global;
 /// Objects keep the members whose common part isn't least; of several pairs of a name the last counts, and it stands at its
 /// own place. Arrays keep the first's items that say the same as some item of the second. Values that say the same stay.
 /// All else is least, and a least whole is `{}`.
+///
+/// The time is at worst the product of the numbers of members, or of items and their sizes, for each pair of objects or arrays
+/// that are met. It answers `NotJson` just where one of the two is no JSON text that nests at most 1,024 deep.
 pub fn meet(alloc: Global, a: &[u8], b: &[u8]) -> Result<Body, CapFault>
     requires first { length a.now ≤ 268435456 }
     requires second { length b.now ≤ 268435456 }
