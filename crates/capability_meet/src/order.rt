@@ -15,7 +15,8 @@ ghost use Rattle.capability_meet.specs.Values.{doc_of};
 use crate::kinds::{Pair, pair_of};
 use crate::values::{Values, values_of};
 use json_nodes::{
-    bytes_in, first_in, is_named_again, kind_in, last_spelled, name_in, next_in, same_in, same_names_in,
+    bytes_in, first_in, is_named_again, kind_in, last_spelled, name_in, next_in, same_in,
+    same_names_in,
 };
 use json_span::Tape;
 use json_text::Kind;
@@ -180,13 +181,7 @@ fn members_in_step(left: Values, node: u32, right: Values, other: u32) -> bool
 
 // Whether a member is below a value, or one that follows has its name.
 #[cycle(below)]
-fn below_beside(
-    left: Values,
-    member: u32,
-    following: Option<u32>,
-    right: Values,
-    twin: u32,
-) -> bool
+fn below_beside(left: Values, member: u32, following: Option<u32>, right: Values, twin: u32) -> bool
     requires member { member < length left.nodes.now }
     requires following { MatchOption following (Unit {0}) (λ m. m < length left.nodes.now) }
     requires twin { twin < length right.nodes.now }

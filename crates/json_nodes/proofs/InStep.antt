@@ -165,6 +165,7 @@ decides_rest all ns r ds k f cs h = f cs (ap is_some (named_member cs ds r k ns)
     has : (o : Option Json) → is_some o ≡ true → is_some (or_else o (if_named (bytes_eq cs ds) k)) ≡ true
     has None e = absurd (cc)
     has (Some z) e = refl
+
     keeps : (o : Option Json) → is_some o ≡ true → or_else o (if_named (bytes_eq cs ds) k) ≡ o
     keeps None e = absurd (cc)
     keeps (Some z) e = refl
@@ -191,9 +192,11 @@ within_all (member r ds k ns) all f = both_true (has_name ds all) (names_within 
   where
     both_true : (a b : Bool) → a ≡ true → b ≡ true → (a && b) ≡ true
     both_true a b h g = rw (h, g) refl
+
     has : (o : Option Json) (b : Bool) → is_some o ≡ true → is_some (or_else o (if_named b k)) ≡ true
     has None b e = absurd (cc)
     has (Some z) b e = refl
+
     mine : (o : Option Json) (b : Bool) → b ≡ true → has_name ds (member r ds k ns) ≡ true
     mine o b e = ap is_some (named_member ds ds r k ns) ∙ ap (λ c. is_some (or_else (named ds ns) (if_named c k))) ((bytes_eq-Decides ds ds).1 refl) ∙ either (named ds ns)
       where

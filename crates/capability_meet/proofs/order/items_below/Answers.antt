@@ -15,10 +15,11 @@ returns-then-not-is_beside_or_among c = λ s r js ks a b.
 
 pub loop-next-preserved : goal.loop-next-preserved
 loop-next-preserved c = (
-    items_go (doc_of c.args.left) c.args.node (λ ks. (r : Span) × At (doc_of c.args.right) c.args.other (array r ks)) (λ ks js. items_below js ks) (λ ks js. items_below js ks) (λ ks js. items_below js ks) c.loop-next.next c.next_in-next.result c.in-Some.item c.loop-next.invariant.0 c.in-Some.is
-    (λ k n t u a. c.next_in-next.ensures.next c.args.left.bytes.now k n t u a) c.next_in-next.ensures.inside
-    (λ ks k u rest m. let p = c.loop-next.invariant.1.place k.0 ks k.1 in ap (λ v. v && items_below rest ks) (sym (c.is_beside_or_among.ensures u k.0 ks p.0 m k.1 p.1) ∙ c.if-not-is_beside_or_among.false)),
-    some_next (doc_of c.args.right) c.args.other c.loop-next.beside c.next_after-beside.result c.loop-next.invariant.1 c.next_after-beside.ensures.next c.next_after-beside.ensures.inside)
+  items_go (doc_of c.args.left) c.args.node (λ ks. (r : Span) × At (doc_of c.args.right) c.args.other (array r ks)) (λ ks js. items_below js ks) (λ ks js. items_below js ks) (λ ks js. items_below js ks) c.loop-next.next c.next_in-next.result c.in-Some.item c.loop-next.invariant.0 c.in-Some.is
+      (λ k n t u a. c.next_in-next.ensures.next c.args.left.bytes.now k n t u a) c.next_in-next.ensures.inside
+      (λ ks k u rest m. let p = c.loop-next.invariant.1.place k.0 ks k.1 in ap (λ v. v && items_below rest ks) (sym (c.is_beside_or_among.ensures u k.0 ks p.0 m k.1 p.1) ∙ c.if-not-is_beside_or_among.false)),
+  some_next (doc_of c.args.right) c.args.other c.loop-next.beside c.next_after-beside.result c.loop-next.invariant.1 c.next_after-beside.ensures.next c.next_after-beside.ensures.inside,
+)
 
 pub returns : goal.returns
 returns c = λ s r js ks a b. items_done (doc_of c.args.left) c.args.node (λ ks. (r : Span) × At (doc_of c.args.right) c.args.other (array r ks)) (λ ks js. items_below js ks) (λ ks js. items_below js ks) c.loop-next.next c.loop-next.invariant.0 c.in_default.is ks (r, b) s js a
