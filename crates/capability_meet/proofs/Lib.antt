@@ -1,4 +1,9 @@
+pub mod Bares
 pub mod BelowLaws
+pub mod BelowStep
+pub mod Compacts
+pub mod Declares
+pub mod Equals
 pub mod Induction
 pub mod Letters
 pub mod MemberBelow
@@ -7,10 +12,13 @@ pub mod MeetSays
 pub mod Meets
 pub mod Names
 pub mod Pairs
+pub mod Passes
 pub mod Pieces
 pub mod Reading
 pub mod SameLaws
 pub mod SameTurned
 pub mod Shows
 pub mod Spots
+pub mod TextLaws
 pub mod Walks
+pub mod Worked

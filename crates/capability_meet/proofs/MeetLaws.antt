@@ -10,7 +10,6 @@ use Rattle.json_text.specs.Json.{Json, word, number, string, array, object, Item
 use Rattle.json_text.specs.Named.{named, if_named, or_else}
 use Rattle.json_nodes.specs.Same.{same, is_number, is_string}
 use Rattle.json_nodes.proofs.Spelling.{named_member, named_none}
-use Rattle.capability_meet.specs.declared.spot.Spot.TheVariants as spot
 use Rattle.capability_meet.specs.Meet.{if_meets, meets, twin}
 use Rattle.capability_meet.specs.MeetTree.{common_items, common_members, meet_tree, put_member}
 use Rattle.capability_meet.specs.Order.{below, below_given, is_among, is_least, items_below}
@@ -66,7 +65,7 @@ common_right (item j js) ks = items_kept j ks (common_items js ks) (is_among j k
 -- members by their names
 
 -- what two objects have in common under a name
-abbrev common : Option Json → Option Json → Option Json
+abbrev pub common : Option Json → Option Json → Option Json
 common None q = None
 common (Some j) q = option_map (λ k. meet_tree j k) (if_meets j q)
 
@@ -82,28 +81,28 @@ put_there : (p : Span) (cs ds : List ℕ) (o : Option Json) (rest : Members) →
 put_there p cs ds None rest e = refl
 put_there p cs ds (Some j) rest e = named_member cs ds p j rest ∙ ap (λ b. or_else (named cs rest) (if_named b j)) e ∙ or_none (named cs rest)
 
-same_name : (j : Json) (o q : Option Json) → or_else (common o q) (option_map (λ k. meet_tree j k) (if (is_some o || false) then None else if_meets j q)) ≡ common (or_else o (Some j)) q
+same_name : (j : Json) (o q : Option Json) → or_else (common o q) (option_map (λ k. meet_tree j k) (if (is_some o) then None else if_meets j q)) ≡ common (or_else o (Some j)) q
 same_name j None q = refl
 same_name j (Some i) q = or_none (common (Some i) q)
 
 step_here : (p : Span) (cs ds : List ℕ) (j : Json) (ms ns : Members) → bytes_eq cs ds ≡ true → cs ≡ ds → named cs (common_members ms ns) ≡ common (named cs ms) (named cs ns) → named cs (common_members (member p ds j ms) ns) ≡ common (named cs (member p ds j ms)) (named cs ns)
 step_here p cs ds j ms ns e same h =
-    let put : named cs (common_members (member p ds j ms) ns) ≡ or_else (named cs (common_members ms ns)) (option_map (λ k. meet_tree j k) (twin spot.Elsewhere ds j ms ns)) = put_here p cs ds (option_map (λ k. meet_tree j k) (twin spot.Elsewhere ds j ms ns)) (common_members ms ns) e in
+    let put : named cs (common_members (member p ds j ms) ns) ≡ or_else (named cs (common_members ms ns)) (option_map (λ k. meet_tree j k) (twin ds j ms ns)) = put_here p cs ds (option_map (λ k. meet_tree j k) (twin ds j ms ns)) (common_members ms ns) e in
     let mine : named cs (member p ds j ms) ≡ or_else (named cs ms) (Some j) = named_member cs ds p j ms ∙ ap (λ b. or_else (named cs ms) (if_named b j)) e in
-    put ∙ ap (λ o. or_else o (option_map (λ k. meet_tree j k) (twin spot.Elsewhere ds j ms ns))) h
-    ∙ ap (λ (xs : List ℕ). or_else (common (named cs ms) (named cs ns)) (option_map (λ k. meet_tree j k) (twin spot.Elsewhere xs j ms ns))) (sym same)
+    put ∙ ap (λ o. or_else o (option_map (λ k. meet_tree j k) (twin ds j ms ns))) h
+    ∙ ap (λ (xs : List ℕ). or_else (common (named cs ms) (named cs ns)) (option_map (λ k. meet_tree j k) (twin xs j ms ns))) (sym same)
     ∙ same_name j (named cs ms) (named cs ns) ∙ ap (λ o. common o (named cs ns)) (sym mine)
 
 step_there : (p : Span) (cs ds : List ℕ) (j : Json) (ms ns : Members) → bytes_eq cs ds ≡ false → named cs (common_members ms ns) ≡ common (named cs ms) (named cs ns) → named cs (common_members (member p ds j ms) ns) ≡ common (named cs (member p ds j ms)) (named cs ns)
 step_there p cs ds j ms ns e h =
     let mine : named cs (member p ds j ms) ≡ named cs ms = named_member cs ds p j ms ∙ ap (λ b. or_else (named cs ms) (if_named b j)) e ∙ or_none (named cs ms) in
-    put_there p cs ds (option_map (λ k. meet_tree j k) (twin spot.Elsewhere ds j ms ns)) (common_members ms ns) e ∙ h ∙ ap (λ o. common o (named cs ns)) (sym mine)
+    put_there p cs ds (option_map (λ k. meet_tree j k) (twin ds j ms ns)) (common_members ms ns) e ∙ h ∙ ap (λ o. common o (named cs ns)) (sym mine)
 
 step : (p : Span) (cs ds : List ℕ) (j : Json) (ms ns : Members) (b : Bool) → bytes_eq cs ds ≡ b → named cs (common_members ms ns) ≡ common (named cs ms) (named cs ns) → named cs (common_members (member p ds j ms) ns) ≡ common (named cs (member p ds j ms)) (named cs ns)
 step p cs ds j ms ns true e h = step_here p cs ds j ms ns e ((bytes_eq-Decides cs ds).0 e) h
 step p cs ds j ms ns false e h = step_there p cs ds j ms ns e h
 
-common_named : (cs : List ℕ) (ms ns : Members) → named cs (common_members ms ns) ≡ common (named cs ms) (named cs ns)
+pub common_named : (cs : List ℕ) (ms ns : Members) → named cs (common_members ms ns) ≡ common (named cs ms) (named cs ns)
 common_named cs no_members ns = named_none cs ∙ ap (λ o. common o (named cs ns)) (sym (named_none cs))
 common_named cs (member p ds j ms) ns = step p cs ds j ms ns (bytes_eq cs ds) refl (common_named cs ms ns)
 

@@ -11,7 +11,8 @@ use Rattle.json_nodes.specs.Same.{has_name}
 use Rattle.json_nodes.proofs.Sames.{found_some}
 use Rattle.capability_meet.specs.Answers.{IsRead}
 use Rattle.capability_meet.specs.declared.spot.Spot.{Spot}
-use Rattle.capability_meet.specs.Meet.{if_meets, is_left_out, meet_of, meets, put, twin, whole_text}
+use Rattle.capability_meet.specs.Meet.{if_meets, meets}
+use Rattle.capability_meet.specs.OnePass.{is_left_out, met_at, put, twin_at, whole_at}
 use Rattle.capability_meet.specs.Parts.{comma, listed}
 use Rattle.capability_meet.proofs.Pieces.{piece_put}
 
@@ -32,10 +33,10 @@ none_if e x o h = subst (λ z. Found e (if z then None else o) None) (sym h) tt
 rest_if : (e : Doc) (x : Bool) (o : Option Json) (r : Option ℕ) → x ≡ false → Found e o r → Found e (if x then None else o) r
 rest_if e x o r h f = subst (λ z. Found e (if z then None else o) r) (sym h) f
 
-pub twin_later : (d e : Doc) (s : Spot) (cs : List ℕ) (u : Json) (ms ns : Members) (found : Option ℕ) → Found d (named cs ms) found → is_some found ≡ true → Found e (twin s cs u ms ns) None
+pub twin_later : (d e : Doc) (s : Spot) (cs : List ℕ) (u : Json) (ms ns : Members) (found : Option ℕ) → Found d (named cs ms) found → is_some found ≡ true → Found e (twin_at s cs u ms ns) None
 twin_later d e s cs u ms ns found f h = none_if e (has_name cs ms || is_left_out s cs) (if_meets u (named cs ns)) (ap (λ v. v || is_left_out s cs) (sym (found_some d (named cs ms) found f) ∙ h))
 
-pub twin_left_out : (e : Doc) (s : Spot) (cs : List ℕ) (u : Json) (ms ns : Members) (b : Bool) → b ≡ is_left_out s cs → b ≡ true → Found e (twin s cs u ms ns) None
+pub twin_left_out : (e : Doc) (s : Spot) (cs : List ℕ) (u : Json) (ms ns : Members) (b : Bool) → b ≡ is_left_out s cs → b ≡ true → Found e (twin_at s cs u ms ns) None
 twin_left_out e s cs u ms ns b f h = none_if e (has_name cs ms || is_left_out s cs) (if_meets u (named cs ns)) (or_true (has_name cs ms) (is_left_out s cs) (sym f ∙ h))
 
 no_twin : (e : Doc) (u : Json) (o : Option Json) (r : Option ℕ) → Found e o r → r ≡ None → Found e (if_meets u o) None
@@ -49,11 +50,11 @@ a_twin e u (Some v) r answer n f h g = g v (subst (λ z. Found e (Some v) z) h f
 stays : (d : Doc) (s : Spot) (cs : List ℕ) (ms : Members) (found : Option ℕ) (b : Bool) → Found d (named cs ms) found → is_some found ≡ false → b ≡ is_left_out s cs → b ≡ false → (has_name cs ms || is_left_out s cs) ≡ false
 stays d s cs ms found b f h g k = ap (λ v. v || is_left_out s cs) (sym (found_some d (named cs ms) found f) ∙ h) ∙ sym g ∙ k
 
-pub twin_none : (d e : Doc) (s : Spot) (cs : List ℕ) (u : Json) (ms ns : Members) (found r : Option ℕ) (b : Bool) → Found d (named cs ms) found → is_some found ≡ false → b ≡ is_left_out s cs → b ≡ false → Found e (named cs ns) r → r ≡ None → Found e (twin s cs u ms ns) None
+pub twin_none : (d e : Doc) (s : Spot) (cs : List ℕ) (u : Json) (ms ns : Members) (found r : Option ℕ) (b : Bool) → Found d (named cs ms) found → is_some found ≡ false → b ≡ is_left_out s cs → b ≡ false → Found e (named cs ns) r → r ≡ None → Found e (twin_at s cs u ms ns) None
 twin_none d e s cs u ms ns found r b f h g k t is = rest_if e (has_name cs ms || is_left_out s cs) (if_meets u (named cs ns)) None (stays d s cs ms found b f h g k) (no_twin e u (named cs ns) r t is)
 
 pub twin_some : (d e : Doc) (s : Spot) (cs : List ℕ) (u : Json) (ms ns : Members) (found r answer : Option ℕ) (n : ℕ) (b : Bool) → Found d (named cs ms) found → is_some found ≡ false → b ≡ is_left_out s cs → b ≡ false → Found e (named cs ns) r → r ≡ Some n
-    → ((v : Json) → At e n v → Found e (if_meets u (Some v)) answer) → Found e (twin s cs u ms ns) answer
+    → ((v : Json) → At e n v → Found e (if_meets u (Some v)) answer) → Found e (twin_at s cs u ms ns) answer
 twin_some d e s cs u ms ns found r answer n b f h g k t is m = rest_if e (has_name cs ms || is_left_out s cs) (if_meets u (named cs ns)) answer (stays d s cs ms found b f h g k) (a_twin e u (named cs ns) r answer n t is m)
 
 pub met_so : (e : Doc) (t u : Json) (n : ℕ) (b : Bool) → At e n u → b ≡ meets t u → b ≡ true → Found e (if_meets t (Some u)) (Some n)
@@ -80,7 +81,7 @@ met_of u k (Some v) h = go (meets u v) refl h
     go true e h = let same : v ≡ k = cc in subst (λ (z : Json). meets u z ≡ true) same e
     go false e h = absurd (cc)
 
-pub twin_meets : (s : Spot) (cs : List ℕ) (u k : Json) (ms ns : Members) → twin s cs u ms ns ≡ Some k → meets u k ≡ true
+pub twin_meets : (s : Spot) (cs : List ℕ) (u k : Json) (ms ns : Members) → twin_at s cs u ms ns ≡ Some k → meets u k ≡ true
 twin_meets s cs u k ms ns h = go (has_name cs ms || is_left_out s cs) h
   where
     go : (b : Bool) → (if b then None else if_meets u (named cs ns)) ≡ Some k → meets u k ≡ true
@@ -117,10 +118,10 @@ required_put before middle x started b c e h m = ap (λ z. z ++ x) m ∙ append_
 
 -- of two texts
 pub meet_read : (l r d e : Doc) (a b : List ℕ) (x y : ℕ) (out body : List ℕ) (s : Spot) → IsRead l a → IsRead r b → d ≡ l → e ≡ r → ((j : Json) → Holds l j → At l x j) → ((j : Json) → Holds r j → At r y j)
-    → ((t u : Json) → At d x t → At e y u → out ≡ whole_text d.bytes s t u) → body ≡ out → meet_of s a b ≡ Some body
+    → ((t u : Json) → At d x t → At e y u → out ≡ whole_at d.bytes s t u) → body ≡ out → met_at s a b ≡ Some body
 meet_read l r d e a b x y out body s p q f g first second told is =
     let t : At d x p.tree = subst (λ (z : Doc). At z x p.tree) (sym f) (first p.tree p.holds) in
     let u : At e y q.tree = subst (λ (z : Doc). At z y q.tree) (sym g) (second q.tree q.holds) in
     let same : d.bytes ≡ a = ap (λ (z : Doc). z.bytes) f ∙ p.same in
-    ap (λ o. option_and_then (λ j. option_map (λ k. whole_text a s j k) (tree_of b)) o) p.is ∙ ap (λ o. option_map (λ k. whole_text a s p.tree k) o) q.is
-    ∙ ap (λ z. Some z) (sym (is ∙ told p.tree q.tree t u ∙ ap (λ z. whole_text z s p.tree q.tree) same))
+    ap (λ o. option_and_then (λ j. option_map (λ k. whole_at a s j k) (tree_of b)) o) p.is ∙ ap (λ o. option_map (λ k. whole_at a s p.tree k) o) q.is
+    ∙ ap (λ z. Some z) (sym (is ∙ told p.tree q.tree t u ∙ ap (λ z. whole_at z s p.tree q.tree) same))

@@ -9,8 +9,9 @@ use Rattle.json_nodes.specs.Nodes.{kind_of}
 use Rattle.json_nodes.specs.Same.{same}
 use Rattle.capability_meet.specs.Kinds.{pair_of}
 use Rattle.capability_meet.specs.declared.spot.Spot.{Spot}
-use Rattle.capability_meet.specs.Meet.{meet_text, meets}
-use Rattle.capability_meet.specs.Parts.{own}
+use Rattle.capability_meet.specs.Meet.{meets}
+use Rattle.capability_meet.specs.Compact.{compact}
+use Rattle.capability_meet.specs.OnePass.{text_at}
 use Rattle.capability_meet.specs.Order.{below, is_least, items_below, members_below}
 use Rattle.capability_meet.specs.declared.kinds.Pair.{Pair}
 use Rattle.capability_meet.specs.declared.kinds.Pair.TheVariants as pair
@@ -202,7 +203,7 @@ meets_rest t u b h e = e ∙ meets_others t u h
 
 -- and its text
 
-text_others : (bs : List ℕ) (spot : Spot) (t u : Json) → pair_of (kind_of t) (kind_of u) ≡ pair.Others → meets t u ≡ true → own bs t ≡ meet_text bs spot t u
+text_others : (bs : List ℕ) (spot : Spot) (t u : Json) → pair_of (kind_of t) (kind_of u) ≡ pair.Others → meets t u ≡ true → compact bs t ≡ text_at bs spot t u
 text_others bs spot (word s w) u h m = refl
 text_others bs spot (number s ds) u h m = refl
 text_others bs spot (string s ds) u h m = refl
@@ -217,17 +218,17 @@ text_others bs spot (object s ms) (string r ds) h m = cc
 text_others bs spot (object s ms) (array r ks) h m = cc
 text_others bs spot (object s ms) (object r ns) h m = cc
 
-pub text_rest : (P : List ℕ → Type 0) (bs part : List ℕ) (spot : Spot) (t u : Json) → pair_of (kind_of t) (kind_of u) ≡ pair.Others → meets t u ≡ true → part ≡ own bs t → P part → P (meet_text bs spot t u)
-text_rest P bs part spot t u h m p e = subst P (p ∙ text_others bs spot t u h m) e
+pub text_rest : (P : List ℕ → Type 0) (bs : List ℕ) (spot : Spot) (t u : Json) → pair_of (kind_of t) (kind_of u) ≡ pair.Others → meets t u ≡ true → P (compact bs t) → P (text_at bs spot t u)
+text_rest P bs spot t u h m e = subst P (text_others bs spot t u h m) e
 
-pub text_arrays : (P : List ℕ → Type 0) (bs : List ℕ) (spot : Spot) (t u : Json) → pair_of (kind_of t) (kind_of u) ≡ pair.Arrays → ((s r : Span) (js ks : Items) → t ≡ array s js → u ≡ array r ks → P (meet_text bs spot (array s js) (array r ks))) → P (meet_text bs spot t u)
+pub text_arrays : (P : List ℕ → Type 0) (bs : List ℕ) (spot : Spot) (t u : Json) → pair_of (kind_of t) (kind_of u) ≡ pair.Arrays → ((s r : Span) (js ks : Items) → t ≡ array s js → u ≡ array r ks → P (text_at bs spot (array s js) (array r ks))) → P (text_at bs spot t u)
 text_arrays P bs spot t u h f = let p : (s r : Span) × (js ks : Items) × (t ≡ array s js) × (u ≡ array r ks) = arrays_pair t u h in go p.0 p.1 p.2 p.3 p.4 p.5
   where
-    go : (s r : Span) (js ks : Items) → t ≡ array s js → u ≡ array r ks → P (meet_text bs spot t u)
-    go s r js ks e g = subst (λ (x : Json). P (meet_text bs spot x u)) (sym e) (subst (λ (y : Json). P (meet_text bs spot (array s js) y)) (sym g) (f s r js ks e g))
+    go : (s r : Span) (js ks : Items) → t ≡ array s js → u ≡ array r ks → P (text_at bs spot t u)
+    go s r js ks e g = subst (λ (x : Json). P (text_at bs spot x u)) (sym e) (subst (λ (y : Json). P (text_at bs spot (array s js) y)) (sym g) (f s r js ks e g))
 
-pub text_objects : (P : List ℕ → Type 0) (bs : List ℕ) (spot : Spot) (t u : Json) → pair_of (kind_of t) (kind_of u) ≡ pair.Objects → ((s r : Span) (ms ns : Members) → t ≡ object s ms → u ≡ object r ns → P (meet_text bs spot (object s ms) (object r ns))) → P (meet_text bs spot t u)
+pub text_objects : (P : List ℕ → Type 0) (bs : List ℕ) (spot : Spot) (t u : Json) → pair_of (kind_of t) (kind_of u) ≡ pair.Objects → ((s r : Span) (ms ns : Members) → t ≡ object s ms → u ≡ object r ns → P (text_at bs spot (object s ms) (object r ns))) → P (text_at bs spot t u)
 text_objects P bs spot t u h f = let p : (s r : Span) × (ms ns : Members) × (t ≡ object s ms) × (u ≡ object r ns) = objects_pair t u h in go p.0 p.1 p.2 p.3 p.4 p.5
   where
-    go : (s r : Span) (ms ns : Members) → t ≡ object s ms → u ≡ object r ns → P (meet_text bs spot t u)
-    go s r ms ns e g = subst (λ (x : Json). P (meet_text bs spot x u)) (sym e) (subst (λ (y : Json). P (meet_text bs spot (object s ms) y)) (sym g) (f s r ms ns e g))
+    go : (s r : Span) (ms ns : Members) → t ≡ object s ms → u ≡ object r ns → P (text_at bs spot t u)
+    go s r ms ns e g = subst (λ (x : Json). P (text_at bs spot x u)) (sym e) (subst (λ (y : Json). P (text_at bs spot (object s ms) y)) (sym g) (f s r ms ns e g))

@@ -4,7 +4,7 @@ use Rattle.std.specs.Prelude.{bytes_eq, chars, if◌then◌else◌}
 use Rattle.json_nodes.proofs.Spelling.{named_so}
 use Rattle.capability_meet.specs.declared.spot.Spot.{Spot}
 use Rattle.capability_meet.specs.declared.spot.Spot.TheVariants as spot
-use Rattle.capability_meet.specs.Meet.{is_left_out, spot_of}
+use Rattle.capability_meet.specs.OnePass.{is_left_out, spot_of}
 use Rattle.capability_meet.proofs.Letters.{ascii_chars}
 
 -- the test of a name in ASCII

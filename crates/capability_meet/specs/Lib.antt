@@ -1,7 +1,11 @@
 pub mod Answers
+pub mod Bounds
+pub mod Compact
+pub mod DeclaredTree
 pub mod Kinds
 pub mod Meet
 pub mod MeetTree
+pub mod OnePass
 pub mod Order
 pub mod Parts
 pub mod Shown

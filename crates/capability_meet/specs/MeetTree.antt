@@ -1,14 +1,14 @@
--- What two capabilities have in common (LSP 3.17, ClientCapabilities and ServerCapabilities of the Initialize Request), as a
--- tree, where they have: in the order of the first, with its places.
-use Rattle.std.specs.Prelude.{◌≡◌, ℕ, List, if◌then◌else◌}
+-- What two capabilities have in common (LSP 3.17, ClientCapabilities and ServerCapabilities of the Initialize Request): in the
+-- order of the first, with its places, and as text with its bytes.
+use Rattle.std.specs.Prelude.{◌≡◌, ℕ, List, codes, if◌then◌else◌}
 use Rattle.std.specs.Prelude.{Option, Some, None}
-use Rattle.std.specs.Option.{option_map}
+use Rattle.std.specs.Option.{option_and_then, option_map}
 use Rattle.json_text.specs.declared.span.Span.{Span}
 use Rattle.json_text.specs.Json.{Json, word, number, string, array, object, Items, no_items, item, Members, no_members, member}
 use Rattle.json_text.specs.Bare.{bare}
 use Rattle.json_text.specs.Tree.{tree_of}
-use Rattle.capability_meet.specs.declared.spot.Spot.TheVariants as spot
-use Rattle.capability_meet.specs.Meet.{items_of, twin}
+use Rattle.capability_meet.specs.Compact.{compact}
+use Rattle.capability_meet.specs.Meet.{items_of, meets, twin}
 use Rattle.capability_meet.specs.Order.{is_among}
 use Rattle.capability_meet.specs.Shown.{members_of}
 
@@ -32,7 +32,18 @@ abbrev mutual
   -- each member that has a twin in the other, with what the two have in common
   pub common_members : Members → Members → Members
   common_members no_members ns = no_members
-  common_members (member p name j ms) ns = put_member p name (option_map (λ k. meet_tree j k) (twin spot.Elsewhere name j ms ns)) (common_members ms ns)
+  common_members (member p name j ms) ns = put_member p name (option_map (λ k. meet_tree j k) (twin name j ms ns)) (common_members ms ns)
+
+-- a tree of the two, written with the bytes of the first; where they have nothing in common, an object with no members
+abbrev pub whole_text : (Json → Json → Json) → List ℕ → Json → Json → List ℕ
+whole_text tree bs j k = if meets j k then compact bs (tree j k) else codes "{}"
+
+-- of two texts
+abbrev pub met_text : (Json → Json → Json) → List ℕ → List ℕ → Option (List ℕ)
+met_text tree a b = option_and_then (λ j. option_map (λ k. whole_text tree a j k) (tree_of b)) (tree_of a)
+
+abbrev pub meet_of : List ℕ → List ℕ → Option (List ℕ)
+meet_of a b = met_text (λ j k. meet_tree j k) a b
 
 -- the bytes are a text that says this tree, wherever its values stand
 abbrev pub SaysTree : List ℕ → Json → Type 0

@@ -4,9 +4,10 @@ ghost use Rattle.json_text.specs.declared.span.Span.{Span};
 ghost use Rattle.json_text.specs.Json.{Json, Members, object};
 ghost use Rattle.json_text.specs.Named.{named};
 ghost use Rattle.json_text.specs.Tree.{tree_of};
-ghost use Rattle.capability_meet.specs.declared.spot.Spot.TheVariants as spot;
-ghost use Rattle.capability_meet.specs.Meet.{meet_of, meets};
-ghost use Rattle.capability_meet.specs.MeetTree.{SaysTree, meet_tree};
+ghost use Rattle.capability_meet.specs.Bounds.{HasRequired, IsGreatest, IsGreatestDeclared};
+ghost use Rattle.capability_meet.specs.DeclaredTree.{declared_of, declared_tree};
+ghost use Rattle.capability_meet.specs.Meet.{meets};
+ghost use Rattle.capability_meet.specs.MeetTree.{SaysTree, meet_of, meet_tree};
 ghost use Rattle.capability_meet.specs.Order.{below, below_given, is_least};
 
 /// A law: each value is below itself.
@@ -38,5 +39,24 @@ pub fn meet_is_greatest()
 
 /// A law: where the values of two texts have something in common, the text that `meet` is of them says just that.
 pub fn meet_says()
-    ensures { (a b : List ℕ) (j k : Json) → tree_of a ≡ Some j → tree_of b ≡ Some k → meets j k ≡ true → (text : List ℕ) × (meet_of spot.Elsewhere a b ≡ Some text) × SaysTree text (meet_tree j k) }
+    ensures { (a b : List ℕ) (j k : Json) → tree_of a ≡ Some j → tree_of b ≡ Some k → meets j k ≡ true → (text : List ℕ) × (meet_of a b ≡ Some text) × SaysTree text (meet_tree j k) }
+{}
+
+/// A law: the text that `meet` answers for two values that have something in common, as two objects always have, is a JSON
+/// text, and its value is their greatest lower bound: it is below both, and all that is below both is below it.
+pub fn meet_text_is_greatest()
+    ensures { (a b : List ℕ) (j k : Json) → tree_of a ≡ Some j → tree_of b ≡ Some k → meets j k ≡ true → (text : List ℕ) × (m : Json) × (meet_of a b ≡ Some text) × (tree_of text ≡ Some m) × IsGreatest j k m }
+{}
+
+/// A law: where the values of two texts have something in common, the text that `declared` is of them says just what the
+/// three steps give: what they have in common, without what isn't declared, with what is required put back.
+pub fn declared_says()
+    ensures { (a b : List ℕ) (j k : Json) → tree_of a ≡ Some j → tree_of b ≡ Some k → meets j k ≡ true → (text : List ℕ) × (declared_of a b ≡ Some text) × SaysTree text (declared_tree j k) }
+{}
+
+/// A law: the text that `declared` answers for capabilities and a ceiling that have something in common, as two objects
+/// always have, is a JSON text. Its value is below both, has neither `notebookDocument` nor `offsetEncoding`, and all that is
+/// below both and offers neither of the two is below it. It has the members that the standard requires.
+pub fn declared_text_is_greatest()
+    ensures { (a b : List ℕ) (j k : Json) → tree_of a ≡ Some j → tree_of b ≡ Some k → meets j k ≡ true → (text : List ℕ) × (m : Json) × (declared_of a b ≡ Some text) × (tree_of text ≡ Some m) × IsGreatestDeclared j k m × HasRequired m }
 {}

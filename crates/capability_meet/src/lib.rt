@@ -2,6 +2,7 @@
 //! Initialize Request).
 #![tactic(auto)]
 
+mod compact;
 mod fault;
 mod kinds;
 mod laws;
@@ -18,7 +19,8 @@ mod written;
 
 pub use fault::CapFault;
 pub use laws::{
-    below_members, below_reflexive, below_transitive, meet_is_below, meet_is_greatest, meet_says,
+    below_members, below_reflexive, below_transitive, declared_says, declared_text_is_greatest,
+    meet_is_below, meet_is_greatest, meet_says, meet_text_is_greatest,
 };
 pub use meeting::{declared, meet};
 pub use order::below;

@@ -2,14 +2,13 @@
 ghost use Rattle.std.specs.Prelude.{◌≡◌, ◌<◌, ◌++◌, ℕ, List, length, OnOk, Some};
 ghost use Rattle.json_text.specs.declared.span.Span.{Span};
 ghost use Rattle.json_text.specs.Json.{Json, Members, member, object};
-ghost use Rattle.json_nodes.specs.At.{At, ChildAt};
+ghost use Rattle.json_nodes.specs.At.{ChildAt};
 ghost use Rattle.json_nodes.specs.Same.{drop_members};
 ghost use Rattle.json_nodes.specs.Texts.{between};
-ghost use Rattle.capability_meet.specs.Parts.{comma, own, window};
+ghost use Rattle.capability_meet.specs.Parts.{comma, window};
 ghost use Rattle.capability_meet.specs.Values.{doc_of};
 
 use crate::values::Values;
-use json_nodes::span_in;
 use json_text::{Change, Span};
 use message_body::Memory;
 
@@ -31,15 +30,6 @@ pub fn name_place(values: Values, node: u32) -> Span
         from: name.from as usize,
         to: name.to as usize,
     }
-}
-
-// A value's bytes.
-pub fn own_part<'a>(values: Values<'a>, node: u32) -> &'a [u8]
-    requires { node < length values.nodes.now }
-    ensures { (t : Json) → At (doc_of values.entry) node t → result.now ≡ own (doc_of values.entry).bytes t }
-{
-    let span = span_in(values.nodes, node);
-    part(values.bytes, span.from, span.to)
 }
 
 // Writes bytes behind what was written.

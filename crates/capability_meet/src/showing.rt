@@ -28,7 +28,7 @@ use std::alloc::Global;
 /// `capabilities.notebookDocumentSync` and `capabilities.workspace.workspaceFolders`.
 ///
 /// The last `capabilities` and the last `workspace` count, and all pairs of a name go. An object that loses a member is
-/// written as the bytes of its other pairs, joined with commas, in braces; all else stays as it came.
+/// written as the bytes of its other pairs, joined with commas, in braces; all else stays as it came. The time is linear.
 pub fn shown(alloc: Global, answer: &[u8]) -> Result<Body, CapFault>
     requires { length answer.now ≤ 268435456 }
     ensures { Answers result (option_map (shown_text answer.now) (tree_of answer.now)) }

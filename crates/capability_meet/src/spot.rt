@@ -2,7 +2,7 @@
 ghost use Rattle.std.specs.Prelude.{◌≡◌, ℕ, List, bytes_eq, if◌then◌else◌};
 ghost use Rattle.std.specs.Str.{chars};
 ghost use Rattle.json_text.specs.String.{SpellsCharacters};
-ghost use Rattle.capability_meet.specs.Meet.{is_left_out, spot_of};
+ghost use Rattle.capability_meet.specs.OnePass.{is_left_out, spot_of};
 
 use json_token::spells_text;
 

@@ -8,7 +8,8 @@ ghost use Rattle.json_text.specs.Named.{named_in};
 ghost use Rattle.json_nodes.specs.At.{At, ChildAt, Found, FoundChild};
 ghost use Rattle.json_nodes.specs.Same.{drop_members, if_some};
 ghost use Rattle.json_nodes.specs.Texts.{member_names};
-ghost use Rattle.capability_meet.specs.Meet.{if_meets, meets, twin};
+ghost use Rattle.capability_meet.specs.Meet.{if_meets, meets};
+ghost use Rattle.capability_meet.specs.OnePass.{twin_at};
 ghost use Rattle.capability_meet.specs.Values.{doc_of};
 
 use crate::kinds::{Pair, pair_of};
@@ -49,7 +50,7 @@ pub fn twin_of(
     requires node { node < length left.nodes.now }
     requires following { MatchOption following (Unit {0}) (λ m. m < length left.nodes.now) }
     requires other { other < length right.nodes.now }
-    ensures twin { (k n : ℕ) (s r : Span) (ms ns : Members) (cs : List ℕ) (u : Json) → ChildAt (doc_of left.entry) k (object s ms) n node u → slice_get (member_names ms) n ≡ Some cs → FoundChild (doc_of left.entry) k (object s ms) (n + 1) following → At (doc_of right.entry) other (object r ns) → Found (doc_of right.entry) (twin spot cs u (drop_members (n + 1) ms) ns) result }
+    ensures twin { (k n : ℕ) (s r : Span) (ms ns : Members) (cs : List ℕ) (u : Json) → ChildAt (doc_of left.entry) k (object s ms) n node u → slice_get (member_names ms) n ≡ Some cs → FoundChild (doc_of left.entry) k (object s ms) (n + 1) following → At (doc_of right.entry) other (object r ns) → Found (doc_of right.entry) (twin_at spot cs u (drop_members (n + 1) ms) ns) result }
     ensures inside { MatchOption result (Unit {0}) (λ m. m < length right.entry.nodes.now) }
 {
     let name = name_in(left.bytes, left.nodes, node);

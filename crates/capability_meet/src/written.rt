@@ -6,15 +6,17 @@ ghost use Rattle.json_text.specs.declared.span.Span.{Span};
 ghost use Rattle.json_text.specs.Json.{Items, Json, Members, array, item, member, object};
 ghost use Rattle.json_nodes.specs.At.{At, ChildAt, FoundChild};
 ghost use Rattle.json_nodes.specs.Same.{drop_members};
-ghost use Rattle.json_nodes.specs.Texts.{between, member_names};
+ghost use Rattle.json_nodes.specs.Texts.{member_names};
 ghost use Rattle.capability_meet.specs.declared.spot.Spot.TheVariants as spot;
-ghost use Rattle.capability_meet.specs.Meet.{items_met, lacking, meet_text, meets, named_meets, pairs_met};
+ghost use Rattle.capability_meet.specs.Meet.{meets, named_meets};
+ghost use Rattle.capability_meet.specs.OnePass.{items_met, pairs_at, required, text_at};
 ghost use Rattle.capability_meet.specs.Parts.{listed};
 ghost use Rattle.capability_meet.specs.Values.{doc_of};
 
+use crate::compact::{write_compact, write_name};
 use crate::kinds::{Pair, pair_of};
 use crate::order::is_among;
-use crate::parts::{name_place, own_part, part, write, write_comma};
+use crate::parts::{write, write_comma};
 use crate::spot::{Spot, spot_of};
 use crate::twins::{named_meets, twin_of};
 use crate::values::Values;
@@ -33,13 +35,13 @@ pub fn write_met(
 ) -> Result<(), Memory>
     requires node { node < length left.nodes.now }
     requires other { other < length right.nodes.now }
-    ensures { (t u : Json) → At (doc_of left.entry) node t → At (doc_of right.entry) other u → meets t u ≡ true → OnOk result (out.new.items ≡ out.old.items ++ meet_text (doc_of left.entry).bytes spot t u) }
+    ensures { (t u : Json) → At (doc_of left.entry) node t → At (doc_of right.entry) other u → meets t u ≡ true → OnOk result (out.new.items ≡ out.old.items ++ text_at (doc_of left.entry).bytes spot t u) }
 {
     match pair_of(kind_in(left.nodes, node), kind_in(right.nodes, other)) {
         Pair::Least => Ok(()),
         Pair::Arrays => write_array(out, left, node, right, other),
         Pair::Objects => write_object(out, left, node, right, other, spot),
-        Pair::Others => write(out, own_part(left, node)),
+        Pair::Others => write_compact(out, left, node),
     }
 }
 
@@ -52,7 +54,7 @@ fn write_array(
 ) -> Result<(), Memory>
     requires node { node < length left.nodes.now }
     requires other { other < length right.nodes.now }
-    ensures { (s r : Span) (js ks : Items) → At (doc_of left.entry) node (array s js) → At (doc_of right.entry) other (array r ks) → OnOk result (out.new.items ≡ out.old.items ++ meet_text (doc_of left.entry).bytes spot.Elsewhere (array s js) (array r ks)) }
+    ensures { (s r : Span) (js ks : Items) → At (doc_of left.entry) node (array s js) → At (doc_of right.entry) other (array r ks) → OnOk result (out.new.items ≡ out.old.items ++ text_at (doc_of left.entry).bytes spot.Elsewhere (array s js) (array r ks)) }
 {
     write(out, b"[")?;
     write_items(out, left, node, right, other)?;
@@ -97,7 +99,7 @@ fn write_item(
         return Ok(started);
     }
     write_comma(out, started)?;
-    write(out, own_part(left, node))?;
+    write_compact(out, left, node)?;
     Ok(true)
 }
 
@@ -112,7 +114,7 @@ fn write_object(
 ) -> Result<(), Memory>
     requires node { node < length left.nodes.now }
     requires other { other < length right.nodes.now }
-    ensures { (s r : Span) (ms ns : Members) → At (doc_of left.entry) node (object s ms) → At (doc_of right.entry) other (object r ns) → OnOk result (out.new.items ≡ out.old.items ++ meet_text (doc_of left.entry).bytes spot (object s ms) (object r ns)) }
+    ensures { (s r : Span) (ms ns : Members) → At (doc_of left.entry) node (object s ms) → At (doc_of right.entry) other (object r ns) → OnOk result (out.new.items ≡ out.old.items ++ text_at (doc_of left.entry).bytes spot (object s ms) (object r ns)) }
 {
     write(out, b"{")?;
     let started = write_pairs(out, left, node, right, other, spot)?;
@@ -132,7 +134,7 @@ fn write_pairs(
 ) -> Result<bool, Memory>
     requires node { node < length left.nodes.now }
     requires other { other < length right.nodes.now }
-    ensures { (s r : Span) (ms ns : Members) (more : List (List ℕ)) → At (doc_of left.entry) node (object s ms) → At (doc_of right.entry) other (object r ns) → IfOk result (λ now. out.new.items ++ listed now more ≡ out.old.items ++ listed false (pairs_met (doc_of left.entry).bytes spot ms ns ++ more)) }
+    ensures { (s r : Span) (ms ns : Members) (more : List (List ℕ)) → At (doc_of left.entry) node (object s ms) → At (doc_of right.entry) other (object r ns) → IfOk result (λ now. out.new.items ++ listed now more ≡ out.old.items ++ listed false (pairs_at (doc_of left.entry).bytes spot ms ns ++ more)) }
 {
     let mut started = false;
     let mut next = first_in(left.nodes, node);
@@ -159,7 +161,7 @@ fn write_pair(
     requires node { node < length left.nodes.now }
     requires following { MatchOption following (Unit {0}) (λ m. m < length left.nodes.now) }
     requires other { other < length right.nodes.now }
-    ensures { (k n : ℕ) (s p r : Span) (ms rest ns : Members) (cs : List ℕ) (u : Json) (more : List (List ℕ)) → ChildAt (doc_of left.entry) k (object s ms) n node u → slice_get (member_names ms) n ≡ Some cs → drop_members n ms ≡ member p cs u rest → rest ≡ drop_members (n + 1) ms → FoundChild (doc_of left.entry) k (object s ms) (n + 1) following → At (doc_of right.entry) other (object r ns) → IfOk result (λ now. out.new.items ++ listed now (pairs_met (doc_of left.entry).bytes spot rest ns ++ more) ≡ out.old.items ++ listed started (pairs_met (doc_of left.entry).bytes spot (member p cs u rest) ns ++ more)) }
+    ensures { (k n : ℕ) (s p r : Span) (ms rest ns : Members) (cs : List ℕ) (u : Json) (more : List (List ℕ)) → ChildAt (doc_of left.entry) k (object s ms) n node u → slice_get (member_names ms) n ≡ Some cs → drop_members n ms ≡ member p cs u rest → rest ≡ drop_members (n + 1) ms → FoundChild (doc_of left.entry) k (object s ms) (n + 1) following → At (doc_of right.entry) other (object r ns) → IfOk result (λ now. out.new.items ++ listed now (pairs_at (doc_of left.entry).bytes spot rest ns ++ more) ≡ out.old.items ++ listed started (pairs_at (doc_of left.entry).bytes spot (member p cs u rest) ns ++ more)) }
 {
     let Some(twin) = twin_of(left, node, following, right, other, spot) else {
         return Ok(started)
@@ -169,16 +171,6 @@ fn write_pair(
     let inner = spot_of(spot, name_in(left.bytes, left.nodes, node));
     write_met(out, left, node, right, twin, inner)?;
     Ok(true)
-}
-
-// Writes the name of a member, with its quotation marks, and a colon.
-fn write_name(out: &mut Vec<u8>, values: Values, node: u32) -> Result<(), Memory>
-    requires { node < length values.nodes.now }
-    ensures { (k n : ℕ) (s p : Span) (ms rest : Members) (cs : List ℕ) (u : Json) → ChildAt (doc_of values.entry) k (object s ms) n node u → drop_members n ms ≡ member p cs u rest → OnOk result (out.new.items ≡ (out.old.items ++ between p.from p.to (doc_of values.entry).bytes) ++ 58 ∷ []) }
-{
-    let place = name_place(values, node);
-    write(out, part(values.bytes, place.from, place.to))?;
-    write(out, b":")
 }
 
 // Writes what has to be there and isn't.
@@ -193,7 +185,7 @@ fn write_lacking(
 ) -> Result<(), Memory>
     requires node { node < length left.nodes.now }
     requires other { other < length right.nodes.now }
-    ensures { (s r : Span) (ms ns : Members) → At (doc_of left.entry) node (object s ms) → At (doc_of right.entry) other (object r ns) → OnOk result (out.new.items ≡ out.old.items ++ listed started (lacking spot ms ns)) }
+    ensures { (s r : Span) (ms ns : Members) → At (doc_of left.entry) node (object s ms) → At (doc_of right.entry) other (object r ns) → OnOk result (out.new.items ≡ out.old.items ++ listed started (required spot ms ns)) }
 {
     match spot {
         Spot::ShowDocument => {

@@ -35,7 +35,7 @@ pub enum Wanted {
 }
 
 impl Session {
-    // The editor as it joins.
+    /// The editor as it joins.
     pub fn new() -> Session
         ensures { result ≡ joined }
     {
@@ -83,7 +83,7 @@ impl Session {
         self.phase.is_there()
     }
 
-    // Whether it is one of those that are looked for.
+    /// Whether it is one of those that are looked for.
     pub fn is_wanted(&self, wanted: Wanted) -> bool
         ensures { result ≡ is_wanted wanted self.now }
     {

@@ -32,6 +32,7 @@ impl Model for Helds {
 }
 
 impl Helds {
+    /// Nothing was told yet. It takes no memory.
     pub fn new(alloc: Global) -> Helds
         ensures { result ≡ [] }
     {
@@ -40,6 +41,7 @@ impl Helds {
         }
     }
 
+    /// Forgets all that was told, as for a start that begins anew.
     pub fn clear(&mut self)
         ensures { self.new ≡ [] }
     {
@@ -59,6 +61,7 @@ impl Helds {
         }
     }
 
+    /// Keeps what was told of a document, in place of what was kept of it.
     pub fn put(&mut self, alloc: Global, uri: &[u8], held: Held) -> Result<(), Memory>
         ensures { OnOk result (self.new ≡ put_held uri.now held self.old) }
     {

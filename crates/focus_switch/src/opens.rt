@@ -40,6 +40,7 @@ impl<T: Text> Model for Opens<T> {
 }
 
 impl<T: Text + Drop> Opens<T> {
+    /// Nothing is open. It takes no memory.
     pub fn new(alloc: Global) -> Self
         ensures { result ≡ [] }
     {
@@ -48,12 +49,14 @@ impl<T: Text + Drop> Opens<T> {
         }
     }
 
+    /// How many documents are open, each counted once for each editor at which it is.
     pub fn len(&self) -> usize
         ensures { result ≡ length self.now }
     {
         self.list.len()
     }
 
+    /// The document at this place, counted from 0 in the order of opening; none at the length and behind it.
     pub fn get(&self, i: usize) -> Option<&Opening<T>>
         ensures { option_map (λ o. shown T.bytes o.now) result ≡ slice_get self.now i }
     {

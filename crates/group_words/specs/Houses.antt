@@ -6,8 +6,7 @@ use Rattle.json_text.specs.Json.{Json, object}
 use Rattle.mux_history.specs.declared.cause.Cause.TheVariants.{FromEditor, EditorGone, StartFailed, FromServer, ServerGone, Tick}
 use Rattle.mux_history.specs.declared.out.Out.TheVariants.{CloseEditor}
 use Rattle.rpc_message.specs.Message.{Message, request, error, integer}
-use Rattle.capability_meet.specs.declared.spot.Spot.TheVariants.{Top}
-use Rattle.capability_meet.specs.Meet.{meet_of}
+use Rattle.capability_meet.specs.DeclaredTree.{declared_of}
 use Rattle.event_model.specs.declared.settings.Server.{Server}
 use Rattle.event_model.specs.declared.phase.Phase.{Phase}
 use Rattle.event_model.specs.Event.{Event, took, did, requests}
@@ -108,7 +107,7 @@ ceiling_of None capabilities = capabilities
 ceiling_of (Some server) capabilities = given_or server.ceiling capabilities
 
 abbrev pub declared_for : Settings → List Event → ℕ → List ℕ → List ℕ
-declared_for settings before e body = given_or (meet_of Top (offered body) (ceiling_of (slice_get settings.servers (server_for settings e before)) (offered body))) (codes "{}")
+declared_for settings before e body = given_or (declared_of (offered body) (ceiling_of (slice_get settings.servers (server_for settings e before)) (offered body))) (codes "{}")
 
 -- the groups, and the group of each editor
 pub record House : Type 0 where

@@ -1,4 +1,5 @@
 pub mod Bounds
+pub mod InStep
 pub mod Looks
 pub mod Members
 pub mod Numbers

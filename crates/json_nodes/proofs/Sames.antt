@@ -165,11 +165,11 @@ same_arrays t u b e f g =
     let q : (s : Span) × (js : Items) × (u ≡ array s js) = array_of u f in
     rw (p.2, q.2, g p.0 q.0 p.1 q.1 p.2 q.2) refl
 
-pub same_objects : (t u : Json) (b c : Bool) → kind_of t ≡ kind.Object → kind_of u ≡ kind.Object → ((s r : Span) (ms ns : Members) → t ≡ object s ms → u ≡ object r ns → b ≡ same_members ms ns) → ((s r : Span) (ms ns : Members) → t ≡ object s ms → u ≡ object r ns → c ≡ names_within ns ms) → (b && c) ≡ same t u
-same_objects t u b c e f g h =
+pub same_objects : (t u : Json) (b : Bool) → kind_of t ≡ kind.Object → kind_of u ≡ kind.Object → ((s r : Span) (ms ns : Members) → t ≡ object s ms → u ≡ object r ns → b ≡ same (object s ms) (object r ns)) → b ≡ same t u
+same_objects t u b e f g =
     let p : (s : Span) × (ms : Members) × (t ≡ object s ms) = object_of t e in
     let q : (s : Span) × (ms : Members) × (u ≡ object s ms) = object_of u f in
-    rw (p.2, q.2, g p.0 q.0 p.1 q.1 p.2 q.2, h p.0 q.0 p.1 q.1 p.2 q.2) refl
+    rw (p.2, q.2, g p.0 q.0 p.1 q.1 p.2 q.2) refl
 
 -- two arrays, item by item
 

@@ -12,6 +12,7 @@ pub struct Reading<R: Read> {
 }
 
 impl<R: Read> Reading<R> {
+    /// A source over this reader; no read failed yet.
     pub fn new(inner: R) -> Reading<R>
         ensures { ⟦<Reading<R> as Source>⟧.faults result ≡ 0 }
     {
@@ -45,6 +46,7 @@ pub struct Writing<W: Write> {
 }
 
 impl<W: Write> Writing<W> {
+    /// A sink over this writer; no write failed yet.
     pub fn new(inner: W) -> Writing<W>
         ensures { ⟦<Writing<W> as Sink>⟧.faults result ≡ 0 }
     {

@@ -36,6 +36,7 @@ impl Model for Buffer {
 }
 
 impl Buffer {
+    /// A buffer of 65,536 bytes with nothing pending and nothing used.
     pub fn new(alloc: Global) -> Result<Buffer, Memory>
         ensures { IfOk result (λ buffer. buffer ≡ record { pending = []; used = 0 }) }
     {
@@ -47,6 +48,7 @@ impl Buffer {
         })
     }
 
+    /// Whether no byte is pending.
     pub fn is_empty(&self) -> bool
         ensures { result ≡ nat_eq (length self.now.pending) 0 }
     {
@@ -75,6 +77,7 @@ impl Buffer {
         line_feed(&self.bytes[self.at..self.to])
     }
 
+    /// How many bytes are pending, at most 65,536.
     pub fn len(&self) -> usize
         ensures value { result ≡ length self.now.pending }
         ensures small { result ≤ 65536 }

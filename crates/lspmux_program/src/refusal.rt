@@ -36,7 +36,7 @@ fn body_length(cause: &Cause) -> usize
     }
 }
 
-// Why a cause is refused, if it is.
+/// Why a cause is refused, if it is.
 pub fn refusal_of<J: Journal>(cause: &Cause, hub: &Hub<J>) -> Result<Option<Refusal>, Memory>
     requires ready { hub.now.spent ≡ false }
     ensures refused { (history : List Entry) → HubStands J.told hub.now history → IfOk result (λ refusal. IfSome refusal (λ r. judged history (Some cause.now) ≡ Err r)) }

@@ -18,6 +18,7 @@ pub enum Word {
     Tick,
 }
 
+/// The word that a line begins with, by its letters; none for any other.
 pub fn word_of(text: &[u8]) -> Option<Word>
     ensures { result ≡ word_of text.now }
 {
@@ -44,6 +45,7 @@ pub fn word_of(text: &[u8]) -> Option<Word>
     }
 }
 
+/// Why an editor's link ended, by the word of a `gone` line: `end`, `read`, `write` or `frame`; none for any other.
 pub fn why_of(text: &[u8]) -> Option<Why>
     ensures { result ≡ why_of text.now }
 {

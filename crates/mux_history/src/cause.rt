@@ -42,6 +42,7 @@ pub enum Cause {
 }
 
 impl Cause {
+    /// The same cause, its body copied. The time is linear in the body.
     pub fn copy(&self, alloc: Global) -> Result<Cause, Memory>
         ensures { IfOk result (λ cause. cause ≡ self.now) }
     {

@@ -9,6 +9,7 @@ use crate::journal::{Journal, JournalFault};
 pub struct DropJournal;
 
 impl DropJournal {
+    /// The journal; no append failed yet.
     pub fn new() -> DropJournal
         ensures { ⟦<DropJournal as Journal>⟧.faults result ≡ 0 }
     {

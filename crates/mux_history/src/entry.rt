@@ -14,6 +14,7 @@ pub struct Entry {
 }
 
 impl Entry {
+    /// The same entry, its bodies copied. The time is linear in all of them.
     pub fn copy(&self, alloc: Global) -> Result<Entry, Memory>
         ensures { IfOk result (λ entry. entry ≡ self.now) }
     {

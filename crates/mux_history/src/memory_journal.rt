@@ -16,6 +16,7 @@ pub struct MemJournal {
 }
 
 impl MemJournal {
+    /// A journal without entries. An append fails where its number, counted from 0 over all appends, stands in `fails`.
     pub fn new(alloc: Global, fails: Vec<u64>) -> MemJournal
         ensures told { ⟦<MemJournal as Journal>⟧.told result ≡ Some [] }
         ensures faults { ⟦<MemJournal as Journal>⟧.faults result ≡ 0 }

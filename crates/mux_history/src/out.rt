@@ -20,6 +20,7 @@ pub enum Out {
 }
 
 impl Out {
+    /// The same out, its body copied. The time is linear in the body.
     pub fn copy(&self, alloc: Global) -> Result<Out, Memory>
         ensures { IfOk result (λ out. out ≡ self.now) }
     {

@@ -22,6 +22,7 @@ impl Model for Outs {
 }
 
 impl Outs {
+    /// No outs. It takes no memory.
     pub fn new(alloc: Global) -> Self
         ensures { result ≡ [] }
     {
@@ -30,24 +31,28 @@ impl Outs {
         }
     }
 
+    /// How many outs there are.
     pub fn len(&self) -> usize
         ensures { result ≡ length self.now }
     {
         self.list.len()
     }
 
+    /// Whether there are none.
     pub fn is_empty(&self) -> bool
         ensures { result ≡ nat_eq (length self.now) 0 }
     {
         self.list.is_empty()
     }
 
+    /// The out at this place, counted from 0; none at the length and behind it.
     pub fn get(&self, i: usize) -> Option<&Out>
         ensures { option_copied result ≡ slice_get self.now i }
     {
         self.list.as_slice().get(i)
     }
 
+    /// All outs, in their order.
     pub fn as_slice(&self) -> &[Out]
         ensures { result.now ≡ self.now }
     {
@@ -73,6 +78,7 @@ impl Outs {
         Ok(())
     }
 
+    /// The same list, its bodies copied. The time is linear in all of them.
     pub fn copy(&self, alloc: Global) -> Result<Outs, Memory>
         ensures { IfOk result (λ outs. outs ≡ self.now) }
     {

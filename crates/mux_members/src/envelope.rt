@@ -4,7 +4,7 @@ ghost use Rattle.mux_members.specs.Envelopes.{notification_method, notification_
 
 use rpc_message::{Envelope, Message};
 
-// A request's params, where it has some.
+/// A request's params, where it has some.
 pub fn request_params(m: &Message) -> Option<u32>
     ensures { result ≡ request_params m.now.envelope }
 {
@@ -14,7 +14,7 @@ pub fn request_params(m: &Message) -> Option<u32>
     }
 }
 
-// A request's method.
+/// A request's method.
 pub fn request_method(m: &Message) -> Option<u32>
     ensures { result ≡ request_method m.now.envelope }
 {
@@ -24,7 +24,7 @@ pub fn request_method(m: &Message) -> Option<u32>
     }
 }
 
-// A notification's method.
+/// A notification's method.
 pub fn notification_method(m: &Message) -> Option<u32>
     ensures { result ≡ notification_method m.now.envelope }
 {
@@ -34,7 +34,7 @@ pub fn notification_method(m: &Message) -> Option<u32>
     }
 }
 
-// A notification's params, where it has some.
+/// A notification's params, where it has some.
 pub fn notification_params(m: &Message) -> Option<u32>
     ensures { result ≡ notification_params m.now.envelope }
 {
@@ -44,7 +44,7 @@ pub fn notification_params(m: &Message) -> Option<u32>
     }
 }
 
-// The value of a response with a result, where it has one.
+/// The value of a response with a result, where it has one.
 pub fn outcome_value(m: &Message) -> Option<u32>
     ensures { result ≡ outcome_value m.now.envelope }
 {
@@ -54,7 +54,7 @@ pub fn outcome_value(m: &Message) -> Option<u32>
     }
 }
 
-// The id of a response with a result.
+/// The id of a response with a result.
 pub fn outcome_id(m: &Message) -> Option<u32>
     ensures { result ≡ outcome_id m.now.envelope }
 {

@@ -14,7 +14,7 @@ use json_span::Tape;
 use json_text::Kind;
 use json_token::spells_text;
 
-// The number, where it is that of a value.
+/// The number, where it is that of a value.
 pub fn within(tape: &Tape, node: Option<u32>) -> Option<u32>
     ensures same { (o : Option Json) → Found tape.now o node → result ≡ node }
     ensures inside { MatchOption result (Unit {0}) (λ n. n < length tape.now.nodes) }
@@ -33,7 +33,7 @@ fn kind(tape: &Tape, node: Option<u32>) -> Option<Kind>
     Some(tape.kind(node))
 }
 
-// The value of the last member of this name, where the value is there and an object.
+/// The value of the last member of this name, where the value is there and an object.
 pub fn member(tape: &Tape, node: Option<u32>, name: &str) -> Option<u32>
     ensures { is_ascii name.now ≡ true → (o : Option Json) → Found tape.now o node → Found tape.now (named_of name.now o) result }
 {
@@ -41,7 +41,7 @@ pub fn member(tape: &Tape, node: Option<u32>, name: &str) -> Option<u32>
     tape.member(node, name)
 }
 
-// Whether a string has the characters of a name.
+/// Whether a string has the characters of a name.
 pub fn spells(tape: &Tape, node: Option<u32>, name: &str) -> bool
     ensures { is_ascii name.now ≡ true → (s : Span) (cs : List ℕ) → Found tape.now (Some (string s cs)) node → result ≡ bytes_eq name.now cs }
 {
@@ -51,7 +51,7 @@ pub fn spells(tape: &Tape, node: Option<u32>, name: &str) -> bool
     }
 }
 
-// The bytes of a value, with its quotation marks or brackets.
+/// The bytes of a value, with its quotation marks or brackets.
 pub fn bytes<'a>(tape: &'a Tape, node: Option<u32>) -> &'a [u8]
     ensures { (t : Json) → Found tape.now (Some t) node → value t (span_of t).from result.now }
 {
@@ -61,7 +61,7 @@ pub fn bytes<'a>(tape: &'a Tape, node: Option<u32>) -> &'a [u8]
     }
 }
 
-// Whether a value is there and an integer.
+/// Whether a value is there and an integer.
 pub fn is_integer(tape: &Tape, node: Option<u32>) -> bool
     ensures { (o : Option Json) → Found tape.now o node → result ≡ is_integer_value o }
 {
@@ -74,28 +74,28 @@ pub fn is_integer(tape: &Tape, node: Option<u32>) -> bool
     }
 }
 
-// Whether a value is there and a string.
+/// Whether a value is there and a string.
 pub fn is_text(tape: &Tape, node: Option<u32>) -> bool
     ensures { (o : Option Json) → Found tape.now o node → result ≡ is_string_value o }
 {
     matches!(kind(tape, node), Some(Kind::Text))
 }
 
-// Whether a value is there and an array.
+/// Whether a value is there and an array.
 pub fn is_array(tape: &Tape, node: Option<u32>) -> bool
     ensures { (o : Option Json) → Found tape.now o node → result ≡ is_array_value o }
 {
     matches!(kind(tape, node), Some(Kind::Array))
 }
 
-// Whether a value is there and an object.
+/// Whether a value is there and an object.
 pub fn is_object(tape: &Tape, node: Option<u32>) -> bool
     ensures { (o : Option Json) → Found tape.now o node → result ≡ is_object_value o }
 {
     matches!(kind(tape, node), Some(Kind::Object))
 }
 
-// The first item of an array, or the value of the first member of an object.
+/// The first item of an array, or the value of the first member of an object.
 pub fn first_value(tape: &Tape, node: Option<u32>) -> Option<u32>
     ensures rest { (o : Option Json) → Found tape.now o node → Rest tape.now result (values_of o) }
     ensures inside { MatchOption result (Unit {0}) (λ n. n < length tape.now.nodes) }
@@ -104,7 +104,7 @@ pub fn first_value(tape: &Tape, node: Option<u32>) -> Option<u32>
     tape.first(node)
 }
 
-// The first item of an array.
+/// The first item of an array.
 pub fn first_item(tape: &Tape, node: Option<u32>) -> Option<u32>
     ensures rest { (o : Option Json) → Found tape.now o node → Rest tape.now result (listed o) }
     ensures inside { MatchOption result (Unit {0}) (λ n. n < length tape.now.nodes) }
@@ -116,7 +116,7 @@ pub fn first_item(tape: &Tape, node: Option<u32>) -> Option<u32>
     }
 }
 
-// The value that follows this one in its array or its object.
+/// The value that follows this one in its array or its object.
 pub fn next_value(tape: &Tape, node: u32) -> Option<u32>
     ensures rest { (t : Json) (more : List Json) → Rest tape.now (Some node) (t ∷ more) → Rest tape.now result more }
     ensures inside { MatchOption result (Unit {0}) (λ next. (node < next) × (next < length tape.now.nodes)) }

@@ -1,10 +1,13 @@
-use Rattle.std.proofs.Common.{◌+◌, false, ◌&&◌, ◌||◌, sym, ◌∙◌, ap, subst}
+use Rattle.std.proofs.Common.{refl, ◌+◌, false, ◌&&◌, ◌||◌, sym, ◌∙◌, ap, subst}
 use Rattle.json_text.specs.declared.span.Span.{Span}
 use Rattle.json_text.specs.Json.{Json, object}
 use Rattle.json_text.specs.Named.{named}
 use Rattle.json_nodes.specs.At.{At}
 use Rattle.json_nodes.specs.Same.{drop_members, has_name, if_some}
+use Rattle.json_nodes.specs.InStep.{in_step}
+use Rattle.json_nodes.proofs.InStep.{pairs_go, pairs_short, pairs_stop, steps_done}
 use Rattle.json_nodes.proofs.Numbers.{child_at}
+use Rattle.capability_meet.proofs.BelowStep.{below_step}
 use Rattle.capability_meet.specs.Order.{below, is_least, members_below}
 use Rattle.capability_meet.specs.Values.{doc_of}
 use Rattle.capability_meet.proofs.MemberBelow.{member_later, member_first, member_least, member_more, member_twin, member_missing}
@@ -42,20 +45,20 @@ member_below-returns-in-None z c = λ k n s r u ms ns cs m g f a.
     ∙ member_first (doc_of c.args.left) (named cs (drop_members (n + 1) ms)) c.last_spelled.result (is_least u || if_some (named cs ns) (λ v. below u v))
     (c.last_spelled.ensures.named k (n + 1) s ms cs spelled f) (sym c.is_some.ensures ∙ c.if-is_some.false)
 
-pub members_below-returns-then-not-member_below : goal.members_below-returns-then-not-member_below
-members_below-returns-then-not-member_below z c = λ s r ms ns a b.
+pub members_by_name-returns-then-not-member_below : goal.members_by_name-returns-then-not-member_below
+members_by_name-returns-then-not-member_below z c = λ s r ms ns a b.
     members_stop (doc_of c.args.left) c.args.node (λ ns. (r : Span) × At (doc_of c.args.right) c.args.other (object r ns)) (λ ns ms. members_below ms ns) (λ ns ms. members_below ms ns) c.loop-next.next c.in-Some.member false c.loop-next.invariant c.in-Some.is
     (λ ns k s ms p cs u rest w. ap (λ v. v && members_below rest ns) (ap (λ z. has_name cs z || (is_least u || if_some (named cs ns) (λ v. below u v))) w.after ∙ sym (c.member_below.ensures c.args.node w.count s k.0 u ms ns cs w.child w.name (c.next_in-following.ensures.next c.args.left.bytes.now c.args.node w.count (object s ms) u w.child) k.1) ∙ c.if-not-member_below.true))
     ns (r, b) s ms a
 
-pub members_below-loop-next-preserved : goal.members_below-loop-next-preserved
-members_below-loop-next-preserved z c =
+pub members_by_name-loop-next-preserved : goal.members_by_name-loop-next-preserved
+members_by_name-loop-next-preserved z c =
     members_go (doc_of c.args.left) c.args.node (λ ns. (r : Span) × At (doc_of c.args.right) c.args.other (object r ns)) (λ ns ms. members_below ms ns) (λ ns ms. members_below ms ns) (λ ns ms. members_below ms ns) c.loop-next.next c.next_in-following.result c.in-Some.member c.loop-next.invariant c.in-Some.is
     (λ k n t u a. c.next_in-following.ensures.next c.args.left.bytes.now k n t u a) c.next_in-following.ensures.inside
     (λ ns k s ms p cs u rest w. ap (λ v. v && members_below rest ns) (ap (λ z. has_name cs z || (is_least u || if_some (named cs ns) (λ v. below u v))) w.after ∙ sym (c.member_below.ensures c.args.node w.count s k.0 u ms ns cs w.child w.name (c.next_in-following.ensures.next c.args.left.bytes.now c.args.node w.count (object s ms) u w.child) k.1) ∙ c.if-not-member_below.false))
 
-pub members_below-returns : goal.members_below-returns
-members_below-returns z c = λ s r ms ns a b. members_done (doc_of c.args.left) c.args.node (λ ns. (r : Span) × At (doc_of c.args.right) c.args.other (object r ns)) (λ ns ms. members_below ms ns) (λ ns ms. members_below ms ns) c.loop-next.next c.loop-next.invariant c.in_default.is ns (r, b) s ms a
+pub members_by_name-returns : goal.members_by_name-returns
+members_by_name-returns z c = λ s r ms ns a b. members_done (doc_of c.args.left) c.args.node (λ ns. (r : Span) × At (doc_of c.args.right) c.args.other (object r ns)) (λ ns ms. members_below ms ns) (λ ns ms. members_below ms ns) c.loop-next.next c.loop-next.invariant c.in_default.is ns (r, b) s ms a
 
 pub values_below-returns-in-Least : goal.values_below-returns-in-Least
 values_below-returns-in-Least z c = λ t u a b.
@@ -74,3 +77,34 @@ values_below-returns-in-Objects z c = λ t u a b.
 pub values_below-returns-in-Others : goal.values_below-returns-in-Others
 values_below-returns-in-Others z c = λ t u a b.
     below_others t u c.same_in.result (pair_kinds c.kind_in.result c.kind_in-2.result t u c.pair_of.result pair.Others (record { first = c.kind_in.ensures c.args.left.bytes.now t a; second = c.kind_in-2.ensures c.args.right.bytes.now u b }) c.pair_of.ensures c.in-Others.is) (c.same_in.ensures.test t u a b)
+
+pub members_below-returns-then-same_names_in : goal.members_below-returns-then-same_names_in
+members_below-returns-then-same_names_in z c = λ s r ms ns a b. c.members_in_step.ensures s r ms ns a b ∙ below_step ms ns (sym (c.same_names_in.ensures s r ms ns a b) ∙ c.if-same_names_in.true)
+
+pub members_in_step-returns-in_default-beside : goal.members_in_step-returns-in_default-beside
+members_in_step-returns-in_default-beside z c =
+    pairs_short (doc_of c.args.left) (doc_of c.args.right) c.args.node c.args.other (in_step below) c.loop-next.next c.loop-next.beside c.in-Some.member false c.loop-next.invariant c.in-Some.is c.in_default-beside.is (λ p cs t rest. refl)
+
+pub members_in_step-returns-then-not-below_beside : goal.members_in_step-returns-then-not-below_beside
+members_in_step-returns-then-not-below_beside z c =
+    pairs_stop (doc_of c.args.left) (doc_of c.args.right) c.args.node c.args.other (in_step below) c.loop-next.next c.loop-next.beside c.in-Some.member c.in-Some-beside.twin false c.loop-next.invariant c.in-Some.is c.in-Some-beside.is
+    (λ s r p q ms ns cs ds t u rest others a b w. ap (λ v. v && in_step below rest others)
+    (ap (λ z. below t u || has_name cs z) w.after ∙ sym (c.below_beside.ensures c.args.node w.count s t u ms cs w.first w.name (c.next_in-following.ensures.next c.args.left.bytes.now c.args.node w.count (object s ms) t w.first) (child_at w.second)) ∙ c.if-not-below_beside.true))
+
+pub members_in_step-loop-next-preserved : goal.members_in_step-loop-next-preserved
+members_in_step-loop-next-preserved z c =
+    pairs_go (doc_of c.args.left) (doc_of c.args.right) c.args.node c.args.other (in_step below) c.loop-next.next c.loop-next.beside c.next_in-following.result c.next_in-beside.result c.in-Some.member c.in-Some-beside.twin c.loop-next.invariant c.in-Some.is c.in-Some-beside.is
+    (λ s r p q ms ns cs ds t u rest others a b w. ap (λ v. v && in_step below rest others)
+    (ap (λ z. below t u || has_name cs z) w.after ∙ sym (c.below_beside.ensures c.args.node w.count s t u ms cs w.first w.name (c.next_in-following.ensures.next c.args.left.bytes.now c.args.node w.count (object s ms) t w.first) (child_at w.second)) ∙ c.if-not-below_beside.false))
+    (λ k n t u a. c.next_in-following.ensures.next c.args.left.bytes.now k n t u a) c.next_in-following.ensures.inside
+    (λ k n t u a. c.next_in-beside.ensures.next c.args.right.bytes.now k n t u a) c.next_in-beside.ensures.inside
+
+pub members_in_step-returns : goal.members_in_step-returns
+members_in_step-returns z c = steps_done (doc_of c.args.left) (doc_of c.args.right) c.args.node c.args.other below c.loop-next.next c.loop-next.beside c.loop-next.invariant c.in_default.is
+
+pub below_beside-returns-then-values_below : goal.below_beside-returns-then-values_below
+below_beside-returns-then-values_below z c = λ k n s u v ms cs m g f b. c.if-values_below.true ∙ ap (λ x. x || has_name cs (drop_members (n + 1) ms)) (sym c.if-values_below.true ∙ c.values_below.ensures u v (child_at m) b)
+
+pub below_beside-returns-else-values_below : goal.below_beside-returns-else-values_below
+below_beside-returns-else-values_below z c = λ k n s u v ms cs m g f b.
+    c.is_named_again.ensures k n s u ms cs m g f ∙ ap (λ x. x || has_name cs (drop_members (n + 1) ms)) (sym c.if-values_below.false ∙ c.values_below.ensures u v (child_at m) b)

@@ -3,7 +3,7 @@ use Rattle.json_text.specs.declared.span.Span.{Span}
 use Rattle.json_text.specs.Json.{object}
 use Rattle.json_nodes.specs.At.{At}
 use Rattle.json_nodes.proofs.Members.{left}
-use Rattle.capability_meet.specs.Meet.{pairs_met}
+use Rattle.capability_meet.specs.OnePass.{pairs_at}
 use Rattle.capability_meet.specs.Parts.{listed}
 use Rattle.capability_meet.specs.Values.{doc_of}
 use Rattle.capability_meet.proofs.Meets.{Beside}
@@ -23,7 +23,7 @@ abbrev pub decreases-write_pair : goal.decreases-write_pair
 decreases-write_pair l = 4 * (length l.left.nodes.now - l.node) + 3
 
 abbrev pub invariant-write_pairs-loop-next : goal.invariant-write_pairs-loop-next
-invariant-write_pairs-loop-next l = MembersWalk (doc_of l.left) l.node (λ (b : Beside). (r : Span) × At (doc_of l.right) l.other (object r b.others)) (λ b ms. l.initial.out.items ++ listed false (pairs_met (doc_of l.left).bytes l.spot ms b.others ++ b.more)) (λ b ms. l.out.items ++ listed l.started (pairs_met (doc_of l.left).bytes l.spot ms b.others ++ b.more)) l.next
+invariant-write_pairs-loop-next l = MembersWalk (doc_of l.left) l.node (λ (b : Beside). (r : Span) × At (doc_of l.right) l.other (object r b.others)) (λ b ms. l.initial.out.items ++ listed false (pairs_at (doc_of l.left).bytes l.spot ms b.others ++ b.more)) (λ b ms. l.out.items ++ listed l.started (pairs_at (doc_of l.left).bytes l.spot ms b.others ++ b.more)) l.next
 
 abbrev pub decreases-write_pairs-loop-next : goal.decreases-write_pairs-loop-next
 decreases-write_pairs-loop-next l = left (length l.left.nodes.now) l.next

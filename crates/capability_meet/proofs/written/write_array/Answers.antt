@@ -1,6 +1,6 @@
 use Rattle.std.proofs.Common.{◌≡◌, ℕ, List, false, subst}
 use Rattle.std.specs.Prelude.{OnOk}
-use Rattle.capability_meet.specs.Meet.{items_met}
+use Rattle.capability_meet.specs.OnePass.{items_met}
 use Rattle.capability_meet.specs.Parts.{listed}
 use Rattle.capability_meet.proofs.Meets.{wrapped}
 use Rattle.capability_meet.proofs.written.write_array.Goals as goal

@@ -2,7 +2,7 @@ use Rattle.std.proofs.Common.{◌++◌, sym, ◌∙◌, append-nil, false}
 use Rattle.json_text.specs.declared.span.Span.{Span}
 use Rattle.json_text.specs.Json.{array}
 use Rattle.json_nodes.specs.At.{At}
-use Rattle.capability_meet.specs.Meet.{items_met}
+use Rattle.capability_meet.specs.OnePass.{items_met}
 use Rattle.capability_meet.specs.Parts.{listed}
 use Rattle.capability_meet.specs.Values.{doc_of}
 use Rattle.capability_meet.proofs.Walks.{items_go, items_done}

@@ -1,4 +1,4 @@
-use Rattle.std.proofs.Common.{refl, sym, ◌+◌, ◌≡◌, ◌∙◌, ap, subst, ◌&&◌}
+use Rattle.std.proofs.Common.{false, ◌||◌, refl, sym, ◌+◌, ◌≡◌, ◌∙◌, ap, subst, ◌&&◌}
 use Rattle.json_text.specs.declared.kind.Kind.{Kind}
 use Rattle.json_text.specs.declared.kind.Kind.TheVariants as kind
 use Rattle.json_text.specs.Json.{Json, object, number}
@@ -6,9 +6,11 @@ use Rattle.json_text.specs.Named.{named}
 use Rattle.json_nodes.specs.At.{At}
 use Rattle.json_nodes.specs.Doc.{Doc}
 use Rattle.json_nodes.specs.Nodes.{kind_of}
-use Rattle.json_nodes.specs.Same.{same_members, drop_members}
+use Rattle.json_nodes.specs.InStep.{in_step}
+use Rattle.json_nodes.specs.Same.{drop_members, has_name, names_within, same, same_members}
 use Rattle.json_nodes.proofs.Numbers.{child_at}
-use Rattle.json_nodes.proofs.Sames.{none_answer, same_words, objects_differ, comparing_on, comparing_differs, comparing_longer, comparing_ends, walk_on, walk_fails, walk_holds, members_by, members_first, member_later, member_last, member_missing, other_kind, second_kind, same_numbers, same_strings, same_arrays, same_objects}
+use Rattle.json_nodes.proofs.Sames.{none_answer, same_words, comparing_on, comparing_differs, comparing_longer, comparing_ends, walk_on, walk_fails, walk_holds, members_by, members_first, member_later, member_last, member_missing, other_kind, second_kind, same_numbers, same_strings, same_arrays, same_objects}
+use Rattle.json_nodes.proofs.InStep.{objects_step, pairs_go, pairs_short, pairs_stop, steps_done}
 use Rattle.json_nodes.proofs.Spelling.{decided}
 use Rattle.json_nodes.proofs.same.+same.Goals as goal
 
@@ -119,21 +121,48 @@ same_values-returns-in-Array z c = λ t u a b.
     same_arrays t u c.same_items.result first second
     (λ s r js ks p q. c.same_items.ensures s r js ks (subst (λ (v : Json). At d c.args.node v) p a) (subst (λ (v : Json). At e c.args.other v) q b))
 
-pub same_values-returns-then-same_members : goal.same_values-returns-then-same_members
-same_values-returns-then-same_members z c = λ t u a b.
-    let d : Doc = record { bytes = c.args.left.bytes.now; nodes = c.args.left.nodes.now } in
-    let e : Doc = record { bytes = c.args.right.bytes.now; nodes = c.args.right.nodes.now } in
-    let first : kind_of t ≡ kind.Object = sym (c.kind_in-kind.ensures c.args.left.bytes.now t a) ∙ c.in-Object.is in
-    let second : kind_of u ≡ kind.Object = second_kind c.kind_in-kind.result c.kind_in.result u (c.kind_in.ensures c.args.right.bytes.now u b) (sym c.same_kind.ensures ∙ c.if-not-same_kind.false) kind.Object c.in-Object.is in
-    ap (λ v. v && c.names_within.result) (sym c.if-same_members.true) ∙ same_objects t u c.same_members.result c.names_within.result first second
-    (λ s r ms ns p q. c.same_members.ensures s r ms ns (subst (λ (v : Json). At d c.args.node v) p a) (subst (λ (v : Json). At e c.args.other v) q b))
-    (λ s r ms ns p q. c.names_within.ensures r s ns ms (subst (λ (v : Json). At e c.args.other v) q b) (subst (λ (v : Json). At d c.args.node v) p a))
+pub same_in_step-returns-in_default-beside : goal.same_in_step-returns-in_default-beside
+same_in_step-returns-in_default-beside t c =
+    pairs_short (record { bytes = c.args.left.bytes.now; nodes = c.args.left.nodes.now }) (record { bytes = c.args.right.bytes.now; nodes = c.args.right.nodes.now }) c.args.node c.args.other (in_step same) c.loop-next.next c.loop-next.beside c.in-Some.member false c.loop-next.invariant c.in-Some.is c.in_default-beside.is (λ p cs t rest. refl)
 
-pub same_values-returns-else-same_members : goal.same_values-returns-else-same_members
-same_values-returns-else-same_members z c = λ t u a b.
+pub same_in_step-returns : goal.same_in_step-returns
+same_in_step-returns t c = steps_done (record { bytes = c.args.left.bytes.now; nodes = c.args.left.nodes.now }) (record { bytes = c.args.right.bytes.now; nodes = c.args.right.nodes.now }) c.args.node c.args.other same c.loop-next.next c.loop-next.beside c.loop-next.invariant c.in_default.is
+
+pub same_values-returns-in-Object : goal.same_values-returns-in-Object
+same_values-returns-in-Object z c = λ t u a b.
     let d : Doc = record { bytes = c.args.left.bytes.now; nodes = c.args.left.nodes.now } in
     let e : Doc = record { bytes = c.args.right.bytes.now; nodes = c.args.right.nodes.now } in
     let first : kind_of t ≡ kind.Object = sym (c.kind_in-kind.ensures c.args.left.bytes.now t a) ∙ c.in-Object.is in
     let second : kind_of u ≡ kind.Object = second_kind c.kind_in-kind.result c.kind_in.result u (c.kind_in.ensures c.args.right.bytes.now u b) (sym c.same_kind.ensures ∙ c.if-not-same_kind.false) kind.Object c.in-Object.is in
-    c.if-same_members.false ∙ objects_differ t u c.same_members.result first second c.if-same_members.false
-    (λ s r ms ns p q. c.same_members.ensures s r ms ns (subst (λ (v : Json). At d c.args.node v) p a) (subst (λ (v : Json). At e c.args.other v) q b))
+    same_objects t u c.same_objects.result first second
+    (λ s r ms ns p q. c.same_objects.ensures s r ms ns (subst (λ (v : Json). At d c.args.node v) p a) (subst (λ (v : Json). At e c.args.other v) q b))
+
+pub same_objects-returns-then-same_names_in : goal.same_objects-returns-then-same_names_in
+same_objects-returns-then-same_names_in z c = λ s r ms ns a b. c.same_in_step.ensures s r ms ns a b ∙ objects_step s r ms ns (sym (c.same_names_in.ensures s r ms ns a b) ∙ c.if-same_names_in.true)
+
+pub same_in_step-returns-then-not-same_beside : goal.same_in_step-returns-then-not-same_beside
+same_in_step-returns-then-not-same_beside z c =
+    pairs_stop (record { bytes = c.args.left.bytes.now; nodes = c.args.left.nodes.now }) (record { bytes = c.args.right.bytes.now; nodes = c.args.right.nodes.now }) c.args.node c.args.other (in_step same) c.loop-next.next c.loop-next.beside c.in-Some.member c.in-Some-beside.twin false c.loop-next.invariant c.in-Some.is c.in-Some-beside.is
+    (λ s r p q ms ns cs ds t u rest others a b w. ap (λ v. v && in_step same rest others)
+    (ap (λ z. same t u || has_name cs z) w.after ∙ sym (c.same_beside.ensures c.args.node w.count s t u ms cs w.first w.name (c.next_in-following.ensures.next c.args.left.bytes.now c.args.node w.count (object s ms) t w.first) (child_at w.second)) ∙ c.if-not-same_beside.true))
+
+pub same_in_step-loop-next-preserved : goal.same_in_step-loop-next-preserved
+same_in_step-loop-next-preserved z c =
+    pairs_go (record { bytes = c.args.left.bytes.now; nodes = c.args.left.nodes.now }) (record { bytes = c.args.right.bytes.now; nodes = c.args.right.nodes.now }) c.args.node c.args.other (in_step same) c.loop-next.next c.loop-next.beside c.next_in-following.result c.next_in-beside.result c.in-Some.member c.in-Some-beside.twin c.loop-next.invariant c.in-Some.is c.in-Some-beside.is
+    (λ s r p q ms ns cs ds t u rest others a b w. ap (λ v. v && in_step same rest others)
+    (ap (λ z. same t u || has_name cs z) w.after ∙ sym (c.same_beside.ensures c.args.node w.count s t u ms cs w.first w.name (c.next_in-following.ensures.next c.args.left.bytes.now c.args.node w.count (object s ms) t w.first) (child_at w.second)) ∙ c.if-not-same_beside.false))
+    (λ k n t u a. c.next_in-following.ensures.next c.args.left.bytes.now k n t u a) c.next_in-following.ensures.inside
+    (λ k n t u a. c.next_in-beside.ensures.next c.args.right.bytes.now k n t u a) c.next_in-beside.ensures.inside
+
+pub same_beside-returns-then-same_values : goal.same_beside-returns-then-same_values
+same_beside-returns-then-same_values z c = λ k n s u v ms cs m g f b. c.if-same_values.true ∙ ap (λ x. x || has_name cs (drop_members (n + 1) ms)) (sym c.if-same_values.true ∙ c.same_values.ensures u v (child_at m) b)
+
+pub same_beside-returns-else-same_values : goal.same_beside-returns-else-same_values
+same_beside-returns-else-same_values z c = λ k n s u v ms cs m g f b.
+    c.is_named_again.ensures k n s u ms cs m g f ∙ ap (λ x. x || has_name cs (drop_members (n + 1) ms)) (sym c.if-same_values.false ∙ c.same_values.ensures u v (child_at m) b)
+
+pub same_objects-returns-then-same_members : goal.same_objects-returns-then-same_members
+same_objects-returns-then-same_members z c = λ s r ms ns a b. c.names_within.ensures r s ns ms b a ∙ ap (λ x. x && names_within ns ms) (sym c.if-same_members.true ∙ c.same_members.ensures s r ms ns a b)
+
+pub same_objects-returns-else-same_members : goal.same_objects-returns-else-same_members
+same_objects-returns-else-same_members z c = λ s r ms ns a b. c.if-same_members.false ∙ ap (λ x. x && names_within ns ms) (sym c.if-same_members.false ∙ c.same_members.ensures s r ms ns a b)

@@ -1,0 +1,69 @@
+-- Values that are the same bytes, and items beside each other.
+use Rattle.std.proofs.Common.{◌≡◌, ℕ, zero, suc, ◌+◌, ◌≤◌, ◌<◌, Bool, true, List, [], ◌∷◌, length, refl, sym, ◌∙◌, ap, subst, arith, add-one}
+use Rattle.std.specs.Prelude.{Option, Some, None, bytes_eq, MatchOption}
+use Rattle.std.specs.List.{slice_get}
+use Rattle.std.proofs.lemmas.Slice.Eq.{bytes_eq-Decides}
+use Rattle.json_text.specs.Bare.{bare}
+use Rattle.json_text.specs.declared.span.Span.{Span}
+use Rattle.json_text.specs.Json.{Json, array, Items, value, depth}
+use Rattle.json_text.specs.Named.{items_list}
+use Rattle.json_text.proofs.Compact.{bare_text}
+use Rattle.json_text.proofs.Forms.{says_of}
+use Rattle.json_text.proofs.Laws.{one_tree}
+use Rattle.json_text.proofs.Moves.{PlacedText, placed_text}
+use Rattle.json_nodes.specs.At.{At, ChildAt, FoundChild, found_child}
+use Rattle.json_nodes.specs.Doc.{Doc}
+use Rattle.json_nodes.specs.Same.{same}
+use Rattle.json_nodes.proofs.Members.{Follows, found_child_is, inside_more, no_child}
+use Rattle.json_nodes.proofs.Numbers.{child_at}
+use Rattle.capability_meet.specs.Order.{below, is_among}
+use Rattle.capability_meet.proofs.Bares.{alike_bares}
+use Rattle.capability_meet.proofs.BelowLaws.{among_at}
+
+one_meaning : (xs : List ℕ) (i k : ℕ) (t u : Json) → value t i xs → value u k xs → depth t ≤ 1024 → depth u ≤ 1024 → bare t ≡ bare u
+one_meaning xs i k t u h g d e =
+    let p : PlacedText t xs = placed_text t xs (bare_text t xs (says_of t i xs h)) in
+    let q : PlacedText u xs = placed_text u xs (bare_text u xs (says_of u k xs g)) in
+    sym p.same ∙ ap bare (one_tree xs p.tree q.tree p.text (omega (arith, p.deep, d)) q.text (omega (arith, q.deep, e))) ∙ q.same
+
+pub bytes_meaning : (xs ys : List ℕ) (i k : ℕ) (t u : Json) → value t i xs → value u k ys → depth t ≤ 1024 → depth u ≤ 1024 → bytes_eq xs ys ≡ true → bare t ≡ bare u
+bytes_meaning xs ys i k t u h g d e f = one_meaning xs i k t u h (subst (λ (zs : List ℕ). value u k zs) (sym ((bytes_eq-Decides xs ys).0 f)) g) d e
+
+pub bares_below : (t u : Json) (b : Bool) → bare t ≡ bare u → b ≡ true → b ≡ below t u
+bares_below t u b e h = h ∙ sym (alike_bares t u e).down
+
+-- a number beside in an array
+
+pub record SomeItem (e : Doc) (y : ℕ) (beside : Option ℕ) : Type 0 where
+  pub inside : MatchOption beside (Unit {0}) (λ m. m < length e.nodes)
+  pub place : (r : Span) (ks : Items) → At e y (array r ks) → (n : ℕ) × FoundChild e y (array r ks) n beside
+
+pub some_first : (e : Doc) (y : ℕ) (beside : Option ℕ) → ((t : Json) → At e y t → FoundChild e y t 0 beside) → MatchOption beside (Unit {0}) (λ m. (y < m) × (m < length e.nodes)) → SomeItem e y beside
+some_first e y beside first later = record { inside = inside_more (length e.nodes) y beside later; place = λ r ks a. (0, first (array r ks) a) }
+
+pub some_next : (e : Doc) (y : ℕ) (here beside : Option ℕ) → SomeItem e y here → ((k n : ℕ) (s : Span) (js : Items) → FoundChild e k (array s js) n here → FoundChild e k (array s js) (n + 1) beside) → MatchOption beside (Unit {0}) (λ m. m < length e.nodes) → SomeItem e y beside
+some_next e y here beside w next inside = record { inside = inside; place = λ r ks a. let p : (n : ℕ) × FoundChild e y (array r ks) n here = w.place r ks a in (p.0 + 1, next y p.0 r ks p.1) }
+
+none_after : (js : Items) (n : ℕ) → slice_get (items_list js) n ≡ None → slice_get (items_list js) (suc n) ≡ None
+none_after js n h = go (items_list js) n h
+  where
+    go : (xs : List Json) (n : ℕ) → slice_get xs n ≡ None → slice_get xs (suc n) ≡ None
+    go [] n h = refl
+    go (x ∷ xs) zero h = absurd (cc)
+    go (x ∷ xs) (suc n) h = go xs n h
+
+pub after_none : (e : Doc) (k n : ℕ) (s : Span) (js : Items) (here : Option ℕ) → here ≡ None → FoundChild e k (array s js) n here → FoundChild e k (array s js) (n + 1) None
+after_none e k n s js here is h =
+    let none : slice_get (items_list js) n ≡ None = no_child e k n (array s js) (subst (λ o. FoundChild e k (array s js) n o) is h) in
+    let none_next : slice_get (items_list js) (n + 1) ≡ None = ap (λ i. slice_get (items_list js) i) (add-one n) ∙ none_after js n none in
+    subst (λ o. found_child e k (array s js) (n + 1) o None) (sym none_next) tt
+
+pub after_some : (e : Doc) (k n m : ℕ) (s : Span) (js : Items) (here next : Option ℕ) → here ≡ Some m → Follows e m next → FoundChild e k (array s js) n here → FoundChild e k (array s js) (n + 1) next
+after_some e k n m s js here next is f h =
+    let c : (u : Json) × ChildAt e k (array s js) n m u = found_child_is e k n m (array s js) (subst (λ o. FoundChild e k (array s js) n o) is h) in
+    f k n (array s js) c.0 c.1
+
+pub beside_among : (e : Doc) (y n m : ℕ) (t : Json) (r : Span) (ks : Items) (here : Option ℕ) (b : Bool) → here ≡ Some m → FoundChild e y (array r ks) n here → ((u : Json) → At e m u → b ≡ same t u) → b ≡ true → true ≡ is_among t ks
+beside_among e y n m t r ks here b is h says holds =
+    let c : (u : Json) × ChildAt e y (array r ks) n m u = found_child_is e y n m (array r ks) (subst (λ o. FoundChild e y (array r ks) n o) is h) in
+    sym (among_at ks n t c.0 c.1.child (sym (says c.0 (child_at c.1)) ∙ holds))
