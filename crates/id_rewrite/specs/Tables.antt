@@ -4,6 +4,7 @@ use Rattle.std.specs.Prelude.{Option, None, option_map}
 use Rattle.std.specs.List.{AllByRecursion, last_or, list_any}
 use Rattle.rpc_message.specs.Message.{Id, same_id}
 use Rattle.rpc_message.specs.ValueTexts.{IsIdText}
+use Rattle.id_rewrite.specs.Forms.{same_form}
 use Rattle.id_rewrite.specs.declared.pending.Pending.{Pending}
 use Rattle.id_rewrite.specs.declared.pending.Numbered.{Numbered}
 
@@ -51,6 +52,14 @@ AreIds meaning requests = AllByRecursion (λ r. IsIdText (meaning r.pending.id) 
 -- the number of the first request of an editor that has the same id
 abbrev pub number_of : (List ℕ → Id) → ℕ → Id → List Numbered → Option ℕ
 number_of meaning editor id requests = option_map (λ r. r.number) (find (λ r. is_of editor r && same_id id (meaning r.pending.id)) requests)
+
+-- a request of an editor, whose id stands for what these bytes do
+abbrev pub is_under : ℕ → List ℕ → Numbered → Bool
+is_under editor id r = is_of editor r && same_form id r.pending.id
+
+-- the number of the first of these
+abbrev pub number_under : ℕ → List ℕ → List Numbered → Option ℕ
+number_under editor id requests = option_map (λ r. r.number) (find (is_under editor id) requests)
 
 abbrev pub numbers_of : ℕ → List Numbered → List ℕ
 numbers_of editor requests = map (λ r. r.number) (filter (is_of editor) requests)

@@ -2,7 +2,9 @@
 //! (JSON-RPC 2.0, section 4).
 #![tactic(auto)]
 
+mod form;
 mod pending;
+mod slots;
 mod table;
 
 pub use pending::{Numbered, NumbersUsed, Pending};

@@ -1,4 +1,8 @@
 // What is kept of an open request.
+ghost use Rattle.std.specs.Prelude.{◌≡◌, ◌&&◌, nat_eq};
+ghost use Rattle.id_rewrite.specs.Forms.{same_form};
+
+use crate::form::same_form;
 use message_body::Body;
 
 /// A request that was sent on and isn't answered.
@@ -14,6 +18,13 @@ pub struct Pending {
     pub partial: Option<Body>,
     /// Whether the editor cancelled it (LSP 3.17, Cancellation Support).
     pub cancelled: bool,
+}
+
+/// Whether a request is of an editor, under an id.
+pub fn is_under(pending: &Pending, editor: u64, id: &[u8]) -> bool
+    ensures { result ≡ (nat_eq pending.now.editor editor && same_form id.now pending.now.id) }
+{
+    pending.editor == editor && same_form(id, pending.id.bytes())
 }
 
 /// An open request, and the number that is its id at the server.

@@ -1,14 +1,15 @@
 //! The table of open requests.
-ghost use Rattle.std.specs.Prelude.{◌≡◌, ℕ, ◌+◌, ◌<◌, ◌≤◌, List, [], ◌∷◌, ◌++◌, true, Some, IfOk, OnOk, OnErr, IfSome, IsSome, MatchOption, MatchResult, option_copied, option_map, ◌&&◌};
-ghost use Rattle.std.specs.List.{position};
-ghost use Rattle.rpc_message.specs.Message.{Id, same_id};
+ghost use Rattle.std.specs.Prelude.{◌≡◌, ℕ, ◌+◌, ◌<◌, ◌≤◌, List, [], ◌∷◌, ◌++◌, true, None, Some, IfOk, IsOk, OnOk, OnErr, IfSome, MatchResult, option_copied, option_map};
+ghost use Rattle.rpc_message.specs.Message.{Id};
 ghost use Rattle.rpc_message.specs.ValueTexts.{IsIdText};
-ghost use Rattle.id_rewrite.specs.Tables.{AreIds, IsInOrder, has_number, is_of, last_editor, number_of, numbers_of, pending_of, with_cancelled, without};
+ghost use Rattle.id_rewrite.specs.Tables.{AreIds, IsInOrder, last_editor, number_of, number_under, numbers_of, pending_of, with_cancelled, without};
 
-use crate::pending::{Numbered, NumbersUsed, Pending};
+use crate::form::fingerprint;
+use crate::pending::{NumbersUsed, Pending, is_under};
+use crate::slots::Slots;
+use indexmap::IndexMap;
 use message_body::Memory;
-use rpc_message::same_id;
-use std::alloc::Global;
+use std::alloc::{AllocFailed, Global};
 use std::marker::Model;
 
 /// The open requests that were sent to one start of a server.
@@ -18,35 +19,32 @@ use std::marker::Model;
 #[derive(Drop)]
 pub struct IdTable {
     alloc: Global,
-    requests: Vec<Numbered>,
-    next: u32,
+    slots: Slots,
+    // The numbers of the open requests by their fingerprints, and whether two of these may have been one.
+    numbers: IndexMap<u64, u32>,
+    doubled: bool,
+    // For how many requests there's room in both.
+    room: u32,
     limit: u32,
 }
 
 impl Model for IdTable {
-    ghost use Rattle.std.specs.Prelude.{◌-◌, vec_len, vec_capacity};
-    ghost use Rattle.id_rewrite.specs.Tables.{IsInOrder, Table};
+    ghost use Rattle.indexmap.specs.IndexMap.{spare};
+    ghost use Rattle.id_rewrite.specs.Tables.{Table};
+    ghost use Rattle.id_rewrite.specs.Slots.{IsKept};
 
     ghost Value = { Table };
 
-    ghost view = { λ t. record { requests = t.requests.items; next = t.next; limit = t.limit; spare = vec_capacity t.requests - vec_len t.requests } };
+    ghost view = { λ t. record { requests = t.slots.requests; next = t.slots.next; limit = t.limit; spare = t.room } };
 
-    ghost invariant = { λ t. IsInOrder (record { requests = t.requests.items; next = t.next; limit = t.limit; spare = vec_capacity t.requests - vec_len t.requests }) };
+    ghost invariant = { λ t. IsKept (record { requests = t.slots.requests; next = t.slots.next; limit = t.limit; spare = t.room }) t.slots.spare (spare t.numbers) t.doubled t.numbers.entries };
 }
 
-// The place of the request of a number.
-fn place(requests: &[Numbered], n: u32) -> Option<usize>
-    ensures { result ≡ position (has_number n) requests.now }
+// Whether a map had no number under a key that was inserted.
+fn is_new(inserted: Result<Option<u32>, AllocFailed<(u64, u32)>>) -> bool
+    ensures { result ≡ true → IfOk inserted (λ old. old ≡ None) × IsOk inserted }
 {
-    requests.iter().position(|request| request.number == n)
-}
-
-// Whether a request is of an editor, under an id.
-fn is_under(request: &Numbered, editor: u64, id: &[u8]) -> bool
-    ensures same { (meaning : List ℕ → Id) (i : Id) → IsIdText i id.now → IsIdText (meaning request.now.pending.id) request.now.pending.id → result ≡ (is_of editor request.now && same_id i (meaning request.now.pending.id)) }
-    ensures own { result ≡ true → request.now.pending.editor ≡ editor }
-{
-    request.pending.editor == editor && same_id(id, request.pending.id.bytes())
+    matches!(inserted, Ok(None))
 }
 
 impl IdTable {
@@ -61,8 +59,10 @@ impl IdTable {
     {
         IdTable {
             alloc,
-            requests: Vec::new(alloc),
-            next: 2,
+            slots: Slots::new(alloc),
+            numbers: IndexMap::new(alloc),
+            doubled: false,
+            room: 0,
             limit,
         }
     }
@@ -72,10 +72,11 @@ impl IdTable {
         ensures next { MatchResult result (λ n. (n ≡ self.now.next) × (n < self.now.limit)) (λ _. self.now.next ≡ self.now.limit) }
         ensures order { IsInOrder self.now }
     {
-        if self.next == self.limit {
+        let next = self.slots.next();
+        if next == self.limit {
             return Err(NumbersUsed);
         }
-        Ok(self.next)
+        Ok(next)
     }
 
     /// Makes room for one more request, so that `put` takes no memory.
@@ -87,7 +88,11 @@ impl IdTable {
         ensures err { OnErr result ((self.old.spare ≡ 0) × (self.new ≡ self.old)) }
         ensures order { IsInOrder self.new }
     {
-        self.requests.reserve(1)?;
+        if self.room == 0 {
+            self.slots.reserve()?;
+            self.numbers.reserve(1)?;
+            self.room = 1;
+        }
         Ok(())
     }
 
@@ -102,92 +107,90 @@ impl IdTable {
         ensures spare { self.new.spare + 1 ≡ self.old.spare }
         ensures order { IsInOrder self.new }
     {
-        let number = self.next;
-        self.requests.push_reserved(Numbered { number, pending });
-        self.next = number + 1;
+        let key = fingerprint(pending.editor, pending.id.bytes());
+        let number = self.slots.push(pending);
+        self.doubled |= !is_new(self.numbers.insert(key, number));
+        self.room -= 1;
         number
     }
 
-    /// Takes the open request of a number out.
-    #[tactic(auto, using(crate::proofs::Rising::removed, crate::proofs::Rising::kept, crate::proofs::Rising::none_kept, crate::proofs::Rising::none_removed, crate::proofs::Rising::rising))]
+    /// Takes the open request of a number out. Its room isn't given back.
     pub fn take(&mut self, n: u32) -> Option<Pending>
         ensures value { result ≡ pending_of n self.old.requests }
         ensures requests { self.new.requests ≡ without n self.old.requests }
         ensures next { self.new.next ≡ self.old.next }
         ensures limit { self.new.limit ≡ self.old.limit }
-        ensures spare { MatchOption result (self.new.spare ≡ self.old.spare) (λ _. self.new.spare ≡ self.old.spare + 1) }
+        ensures spare { self.new.spare ≡ self.old.spare }
         ensures order { IsInOrder self.new }
     {
-        let at = place(&self.requests, n)?;
-        let Numbered { pending, .. } = self.requests.remove(at);
+        let pending = self.slots.take(n)?;
+        let key = fingerprint(pending.editor, pending.id.bytes());
+        self.numbers.swap_remove(&key);
+        self.doubled &= !self.slots.is_empty();
         Some(pending)
     }
 
     /// What is kept of the open request of a number.
-    #[tactic(auto, using(crate::proofs::Rising::kept, crate::proofs::Rising::none_kept))]
     pub fn get(&self, n: u32) -> Option<&Pending>
         ensures value { option_copied result ≡ pending_of n self.now.requests }
         ensures order { IsInOrder self.now }
     {
-        let at = place(&self.requests, n)?;
-        Some(&self.requests[at].pending)
+        self.slots.get(n)
     }
 
     /// The number of the open request of an editor under an id, the lowest where there are more.
     ///
-    /// `id` is the text of an id, as the kept ones are.
-    #[tactic(auto, using(crate::proofs::Finding::found_here, crate::proofs::Finding::found_later, crate::proofs::Finding::found_nowhere, crate::proofs::Finding::each_means, crate::proofs::Rising::is_own))]
+    /// `id` is the text of an id, as the kept ones are. Other bytes that begin with a quotation mark count as a
+    /// string, whose bytes that are no UTF-8 stand for U+FFFD; all others count by themselves. A look-up takes time that
+    /// is linear in `id`; it is a walk over the open requests as long as an editor has two open under one id.
     pub fn find(&self, editor: u64, id: &[u8]) -> Option<u32>
+        ensures exact { result ≡ number_under editor id.now self.now.requests }
         ensures number { (meaning : List ℕ → Id) (i : Id) → IsIdText i id.now → AreIds meaning self.now.requests → result ≡ number_of meaning editor i self.now.requests }
         ensures own { IfSome result (λ n. option_map (λ p. p.editor) (pending_of n self.now.requests) ≡ Some editor) }
     {
-        for request in &self.requests {
-            if is_under(request, editor, id) {
-                return Some(request.number);
-            }
-        }
-        None
+        self.found(editor, id)
     }
 
-    /// Marks the open request of a number as cancelled (LSP 3.17, Cancellation Support).
-    #[tactic(auto, using(crate::proofs::Rising::marked, crate::proofs::Rising::none_marked, crate::proofs::Rising::rising))]
+    // The first open request of an editor under an id.
+    fn found(&self, editor: u64, id: &[u8]) -> Option<u32>
+        ensures exact { result ≡ number_under editor id.now self.now.requests }
+        ensures order { IsInOrder self.now }
+    {
+        if self.doubled {
+            return self.slots.first_under(editor, id);
+        }
+        let number = *self.numbers.get(&fingerprint(editor, id))?;
+        let pending = self.slots.get(number)?;
+        if is_under(pending, editor, id) {
+            Some(number)
+        } else {
+            None
+        }
+    }
+
+    /// Marks the open request of a number as cancelled (LSP 3.17, Cancellation Support), where the number is open.
     pub fn cancel(&mut self, n: u32)
-        requires { IsSome (pending_of n self.old.requests) }
         ensures requests { self.new.requests ≡ with_cancelled n self.old.requests }
         ensures next { self.new.next ≡ self.old.next }
         ensures limit { self.new.limit ≡ self.old.limit }
         ensures spare { self.new.spare ≡ self.old.spare }
         ensures order { IsInOrder self.new }
     {
-        if let Some(at) = place(&self.requests, n) {
-            self.requests[at].pending.cancelled = true;
-        }
+        self.slots.cancel(n);
     }
 
-    /// The numbers of an editor's open requests, rising.
+    /// The numbers of an editor's open requests, rising, by a walk over all open requests.
     pub fn of_editor(&self, editor: u64) -> Result<Vec<u32>, Memory>
         ensures { IfOk result (λ numbers. numbers.items ≡ numbers_of editor self.now.requests) }
     {
-        let numbers = self
-            .requests
-            .iter()
-            .filter(|request| request.pending.editor == editor)
-            .map(|request| request.number)
-            .collect(self.alloc)?;
-        Ok(numbers)
+        self.slots.of_editor(self.alloc, editor)
     }
 
-    /// The editor, among these, of the greatest open number that one of them has.
-    #[tactic(auto, using(crate::proofs::Finding::last_here, crate::proofs::Finding::last_before, crate::proofs::Finding::last_of_all))]
+    /// The editor, among these, of the greatest open number that one of them has. It walks down from the greatest open
+    /// number to that one, and looks through `among` at each.
     pub fn last_editor(&self, among: &[u64]) -> Option<u64>
         ensures { result ≡ last_editor among.now self.now.requests }
     {
-        let mut last = None;
-        for request in &self.requests {
-            if among.contains(&request.pending.editor) {
-                last = Some(request.pending.editor);
-            }
-        }
-        last
+        self.slots.last_editor(among)
     }
 }
