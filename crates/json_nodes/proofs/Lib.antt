@@ -4,9 +4,11 @@ pub mod Members
 pub mod Numbers
 pub mod Parts
 pub mod Places
+pub mod Putting
 pub mod SameLaw
 pub mod Sames
 pub mod Spelled
 pub mod Spelling
+pub mod Swapped
 pub mod Tree
 mod Worked

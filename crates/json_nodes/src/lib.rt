@@ -4,12 +4,14 @@
 mod look;
 mod member;
 mod node;
+mod puts;
 mod same;
 mod steps;
 
 pub use look::{bytes_in, first_in, kind_in, name_in, next_in, span_in, string_in, text_in};
 pub use member::member_in;
 pub use node::{Node, Place};
+pub use puts::{Put, puts_in};
 pub use same::{last_spelled, same_in};
 
 #[cfg(test)]
