@@ -32,7 +32,7 @@ the_put ps i p cs h n = sym (at_drop_more (λ qs. text_for qs cs) ps i p h ∙ t
 
 -- one change after the other
 
-edits_push : (cs : List Change) (c : Change) (es : List Edit) → edits_of (cs ++ c ∷ []) ++ es ≡ edits_of cs ++ (record { span = c.span; text = c.text } ∷ es)
+pub edits_push : (cs : List Change) (c : Change) (es : List Edit) → edits_of (cs ++ c ∷ []) ++ es ≡ edits_of cs ++ (record { span = c.span; text = c.text } ∷ es)
 edits_push [] c es = refl
 edits_push (d ∷ cs) c es = ap (λ z. record { span = d.span; text = d.text } ∷ z) (edits_push cs c es)
 

@@ -38,13 +38,13 @@ put_swaps text new (member s cs j ms) h = swap_case s cs j ms (put_members new m
 
 -- the places of edits don't hang on the bytes that are put there
 
-abbrev zero_text : List ℕ
+abbrev pub zero_text : List ℕ
 zero_text = 48 ∷ []
 
-zero_value : Json
+abbrev pub zero_value : Json
 zero_value = number nowhere zero_text
 
-zero_says : says (number nowhere zero_text) zero_text
+pub zero_says : says (number nowhere zero_text) zero_text
 zero_says = (refl, ([], 48 ∷ [], [], [], inl refl, inl refl, inl refl, inl refl, refl))
 
 zeros_say : (w : Option (List ℕ)) → Says (option_map (λ x. number nowhere zero_text) w) (option_map (λ x. zero_text) w)
