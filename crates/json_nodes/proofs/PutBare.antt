@@ -1,10 +1,11 @@
 -- New values in a tree without places.
-use Rattle.std.proofs.Common.{◌≡◌, ℕ, zero, suc, Bool, true, false, List, [], ◌∷◌, Option, Some, None, option_map, is_some, bytes_eq, if◌then◌else◌, refl, sym, ◌∙◌, ap, ap₂}
+use Rattle.std.proofs.Common.{◌≡◌, ℕ, zero, suc, Bool, true, false, ◌≤◌, max, List, [], ◌∷◌, Option, Some, None, MatchOption, option_map, is_some, bytes_eq, if◌then◌else◌, refl, sym, ◌∙◌, ap, ap₂, arith}
 use Rattle.json_text.specs.declared.span.Span.{Span}
 use Rattle.json_text.specs.Bare.{bare, bare_items, bare_members, nowhere}
-use Rattle.json_text.specs.Json.{Json, word, number, string, array, object, Items, no_items, item, Members, no_members, member}
+use Rattle.json_text.specs.Json.{Json, word, number, string, array, object, Items, no_items, item, Members, no_members, member, depth, members_depth}
 use Rattle.json_text.specs.Named.{named}
-use Rattle.json_text.specs.Paths.{Step, key, index, item_at, step_to, put_named, put_item, put_step, put_at}
+use Rattle.json_text.specs.Paths.{Step, key, index, item_at, step_to, value_at, put_named, put_item, put_step, put_at}
+use Rattle.json_text.proofs.Depths.{put_shallow}
 use Rattle.json_text.proofs.Put.{named_bare}
 use Rattle.json_nodes.specs.Puts.{new_or, put_members}
 
@@ -80,3 +81,16 @@ members_put_bare new (member s cs j ms) h = ap₂ (λ k ks. member nowhere cs k 
     go : (o : Option Json) → option_map bare o ≡ o → bare (new_or o j) ≡ new_or o (bare j)
     go None e = refl
     go (Some u) e = let same : bare u ≡ u = cc in same
+
+flat_new : (o : Option Json) (j : Json) (m n : ℕ) → MatchOption o (Unit {0}) (λ u. depth u ≡ 0) → m ≤ n → max (depth (new_or o j)) m ≤ max (depth j) n
+flat_new None j m n h g = omega arith
+flat_new (Some u) j m n h g = omega (arith, h)
+
+-- values that hold no others deepen nothing
+pub flat_members : (new : List ℕ → Option Json) (ms : Members) → ((cs : List ℕ) → MatchOption (new cs) (Unit {0}) (λ u. depth u ≡ 0)) → members_depth (put_members new ms) ≤ members_depth ms
+flat_members new no_members h = omega arith
+flat_members new (member s cs j ms) h = flat_new (new cs) j (members_depth (put_members new ms)) (members_depth ms) (h cs) (flat_members new ms h)
+
+pub flat_put : (path : List Step) (p : Json) (s : Span) (ms : Members) (new : List ℕ → Option Json) → value_at path p ≡ Some (object s ms) → ((cs : List ℕ) → MatchOption (new cs) (Unit {0}) (λ u. depth u ≡ 0))
+    → depth (put_at path (object nowhere (put_members new ms)) p) ≤ depth p
+flat_put path p s ms new e h = put_shallow path p (object s ms) (object nowhere (put_members new ms)) e (omega (arith, flat_members new ms h))
