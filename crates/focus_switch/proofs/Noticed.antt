@@ -1,26 +1,22 @@
 -- What a didChange says, and its versions.
-use Rattle.std.proofs.Common.{◌≡◌, ℕ, suc, ◌-◌, ◌<◌, Bool, true, false, List, [], ◌∷◌, ◌++◌, length, take, drop, codes, refl, sym, ◌∙◌, ap, ap₂, subst, add-one, append_assoc}
-use Rattle.std.specs.Prelude.{Option, Some, None, Result, IfOk, MatchOption, bytes_eq, if◌then◌else◌}
+use Rattle.std.proofs.Common.{◌≡◌, ℕ, List, codes, refl, sym, ◌∙◌, ap, ap₂, subst}
+use Rattle.std.specs.Prelude.{Option, Some, None, Result, IfOk, bytes_eq, if◌then◌else◌}
 use Rattle.std.specs.Option.{option_and_then}
 use Rattle.std.specs.Str.{chars}
 use Rattle.json_text.specs.declared.span.Span.{Span}
 use Rattle.json_text.specs.declared.kind.Kind.{Kind}
 use Rattle.json_text.specs.declared.kind.Kind.TheVariants as kind
-use Rattle.json_text.specs.Json.{Json, word, number, string, array, object, Members, no_members, value, span_of}
-use Rattle.json_text.specs.Replace.{replace, replace_from}
+use Rattle.json_text.specs.Json.{Json, number, value, span_of}
 use Rattle.json_nodes.specs.declared.node.Node.{Node}
-use Rattle.json_nodes.specs.At.{At, Found, ChildAt, FoundChild}
+use Rattle.json_nodes.specs.At.{At, Found}
 use Rattle.json_nodes.specs.Doc.{Doc}
-use Rattle.json_nodes.specs.Names.{Tests}
 use Rattle.json_nodes.specs.Nodes.{kind_of}
-use Rattle.json_nodes.specs.Same.{drop_members}
-use Rattle.json_nodes.proofs.Members.{Inside, Follows, found_child_is, no_child, inside_more}
-use Rattle.json_nodes.proofs.Sames.{number_of, object_of}
-use Rattle.json_nodes.proofs.Spelling.{IsMember, is_member, members_end}
+use Rattle.json_nodes.specs.Puts.{put_edits}
+use Rattle.json_nodes.proofs.Sames.{number_of}
 use Rattle.rpc_message.specs.Message.{is_integer}
 use Rattle.focus_switch.specs.declared.notice.Change.{Change}
-use Rattle.document_model.specs.Notices.{did_change, did_change_of, integer_text, uri_in, version_in, changes_in, version_edits, edits_in, written_from}
-use Rattle.focus_switch.specs.Noted.{FoundChange, FirstMember, made}
+use Rattle.document_model.specs.Notices.{did_change, did_change_of, integer_text, uri_in, version_in, changes_in, new_version}
+use Rattle.focus_switch.specs.Noted.{FoundChange, made}
 
 pub same_doc : (doc : Doc) (bs : List ℕ) (ns : List Node) → bs ≡ doc.bytes → ns ≡ doc.nodes → ◌≡◌ {A = Doc} (record { bytes = bs; nodes = ns }) doc
 same_doc doc bs ns e f = ap₂ (λ b n. record { bytes = b; nodes = n }) e f
@@ -47,7 +43,7 @@ pub changes_chars : chars (codes "contentChanges") ≡ codes "contentChanges"
 unfolding chars
 changes_chars = refl
 
-found_some : (doc : Doc) (o : Option Json) (k : ℕ) → Found doc o (Some k) → (t : Json) × (o ≡ Some t) × At doc k t
+pub found_some : (doc : Doc) (o : Option Json) (k : ℕ) → Found doc o (Some k) → (t : Json) × (o ≡ Some t) × At doc k t
 found_some doc None k h = absurd h
 found_some doc (Some t) k h = (t, refl, h)
 
@@ -81,9 +77,6 @@ pub change_found : (doc : Doc) (t : Json) (u v : Option (List ℕ)) (k : Option 
 change_found doc t u v k c is e f h = subst (λ z. FoundChange doc (did_change t) z) (sym is) (subst (λ z. FoundChange doc z (made u v k)) (ap₂ (λ a b. did_change_of a b (changes_in t)) e f) (found_parts doc u v (changes_in t) k h))
 
 -- versions
-
-pub version_puts : (text cs : List ℕ) → (if bytes_eq (chars (codes "version")) cs then Some text else None) ≡ new_version text cs
-version_puts text cs = ap (λ z. if bytes_eq z cs then Some text else None) version_chars
 
 pub version_edits : (text : List ℕ) (t : Json) → put_edits (λ cs. if bytes_eq (chars (codes "version")) cs then Some text else None) t ≡ put_edits (new_version text) t
 version_edits text t = ap (λ z. put_edits (λ cs. if bytes_eq z cs then Some text else None) t) version_chars
