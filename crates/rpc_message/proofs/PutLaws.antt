@@ -16,19 +16,23 @@ use Rattle.json_text.proofs.Laws.{tree_sound}
 use Rattle.json_text.proofs.Paths.{path_swaps, named_step}
 use Rattle.json_text.proofs.Put.{named_put, named_put_other, bare_bare, depth_bare}
 use Rattle.json_text.proofs.Swaps.{Swaps, span_is, in_object, Replaced, replaced}
-use Rattle.json_nodes.specs.Puts.{member_edits, put_members}
+use Rattle.json_nodes.specs.At.{At, Found}
+use Rattle.json_nodes.specs.Doc.{Doc, Holds}
+use Rattle.json_nodes.specs.Puts.{member_edits, put_edits, put_members}
 use Rattle.json_nodes.proofs.PutBare.{path_put_bare, members_put_bare}
 use Rattle.json_nodes.proofs.Swapped.{Says, put_swaps, put_rise, rise_in}
 use Rattle.json_nodes.proofs.TwoSwaps.{both}
 use Rattle.rpc_message.specs.Changed.{id_edits, changed_text}
-use Rattle.rpc_message.specs.Envelopes.{by_names}
-use Rattle.rpc_message.specs.Message.{Id, Message, request, notification, result, not_message, no_name_twice, is_two, is_null, is_error, id_of, response_id, are_params, given, result_tree, request_if, notification_if, called, error_if, outcome, response_with, answered, by_method, message_in, message_of}
+use Rattle.rpc_message.specs.Envelopes.{by_names, not_null}
+use Rattle.rpc_message.specs.Message.{Id, Message, request, notification, result, error, not_json, not_message, no_name_twice, is_two, is_null, is_error, id_of, response_id, are_params, given, result_tree, request_if, notification_if, called, error_if, outcome, response_with, answered, by_method, message_in, message_of}
+use Rattle.rpc_message.specs.Parsed.{params_in}
 use Rattle.rpc_message.specs.ValueTexts.{IsIdText, IsResponseIdText, IsValueText, IsOptionText}
 use Rattle.rpc_message.proofs.Beside.{id_rise, id_swaps}
 use Rattle.rpc_message.proofs.Bodies.{has_id, Envelope, envelope, method_names, once_put, put_id}
 use Rattle.rpc_message.proofs.Fixed.{response_flat}
 use Rattle.rpc_message.proofs.Ids.{id_flat, answered_no_call, call_no_result, result_of, IsResultOf}
 use Rattle.rpc_message.proofs.Meaning.{message_says}
+use Rattle.rpc_message.proofs.Reading.{held_tree}
 
 -- new values, and their bytes
 
@@ -104,30 +108,58 @@ at_member cs path r ls o e = go (named cs ls) refl e
 
 -- the edits of an object in a member rise, with that of the id
 
-path_rise : (path : List Step) (j : Json) (s : Span) (ms : Members) (text : List ℕ → Option (List ℕ)) (at : ℕ) (bs : List ℕ) → value_at path j ≡ Some (object s ms) → value j at bs
-    → RiseFrom (span_of j).from (span_of j).to (member_edits text ms)
-path_rise path j s ms text at bs e v =
-    let i : Inside at bs (object s ms) = path_inside path j (object s ms) e at bs v in
+path_rise : (path : List Step) (j o : Json) (text : List ℕ → Option (List ℕ)) (at : ℕ) (bs : List ℕ) → value_at path j ≡ Some o → value j at bs
+    → RiseFrom (span_of j).from (span_of j).to (put_edits text o)
+path_rise path j o text at bs e v =
+    let i : Inside at bs o = path_inside path j o e at bs v in
     let whole : span_of j ≡ between at (length bs) = span_is j at bs v in
-    let part : s ≡ between (at + length i.before) (length i.bytes) = span_is (object s ms) (at + length i.before) i.bytes i.stands in
+    let part : span_of o ≡ between (at + length i.before) (length i.bytes) = span_is o (at + length i.before) i.bytes i.stands in
     let begin : (span_of j).from ≡ at = ap (λ (z : Span). z.from) whole in
     let end : (span_of j).to ≡ at + length bs = ap (λ (z : Span). z.to) whole in
-    let first : s.from ≡ at + length i.before = ap (λ (z : Span). z.from) part in
-    let last : s.to ≡ at + length i.before + length i.bytes = ap (λ (z : Span). z.to) part in
+    let first : (span_of o).from ≡ at + length i.before = ap (λ (z : Span). z.from) part in
+    let last : (span_of o).to ≡ at + length i.before + length i.bytes = ap (λ (z : Span). z.to) part in
     let long : length bs ≡ length i.before + (length i.bytes + length i.after) = ap length i.whole ∙ length-append i.before (i.bytes ++ i.after) ∙ ap (λ n. length i.before + n) (length-append i.bytes i.after) in
-    rise_in (member_edits text ms) (span_of j).from s.from s.to (span_of j).to (omega (arith, begin, first)) (omega (arith, end, last, long)) (put_rise text (object s ms) (at + length i.before) i.bytes i.stands)
+    rise_in (put_edits text o) (span_of j).from (span_of o).from (span_of o).to (span_of j).to (omega (arith, begin, first)) (omega (arith, end, last, long)) (put_rise text o (at + length i.before) i.bytes i.stands)
 
-pub puts_rise : (body w cs : List ℕ) (t : Json) (path : List Step) (s : Span) (ms : Members) (text : List ℕ → Option (List ℕ)) → tree_of body ≡ Some t → value_at (key cs ∷ path) t ≡ Some (object s ms) → bytes_eq cs (codes "id") ≡ false
-    → Rise body (id_edits body w (member_edits text ms))
+pub puts_rise : (body w cs : List ℕ) (t o : Json) (path : List Step) (text : List ℕ → Option (List ℕ)) → tree_of body ≡ Some t → value_at (key cs ∷ path) t ≡ Some o → bytes_eq cs (codes "id") ≡ false
+    → Rise body (id_edits body w (put_edits text o))
 unfolding value_at
-puts_rise body w cs (object r ls) path s ms text e at other =
-    let a : (j : Json) × (named cs ls ≡ Some j) × (value_at path j ≡ Some (object s ms)) = at_member cs path r ls (object s ms) at in
+puts_rise body w cs (object r ls) o path text e at other =
+    let a : (j : Json) × (named cs ls ≡ Some j) × (value_at path j ≡ Some o) = at_member cs path r ls o at in
     let i : InSpan body a.0 = member_in_span body r cs ls a.0 (tree_sound body (object r ls) e).0 a.1 in
-    id_rise body w cs r ls a.0 (member_edits text ms) e a.1 other (path_rise path a.0 s ms text (span_of a.0).from (take ((span_of a.0).to - (span_of a.0).from) (drop (span_of a.0).from body)) a.2 i.stands)
-puts_rise body w cs (word r x) path s ms text e at other = absurd (cc)
-puts_rise body w cs (number r x) path s ms text e at other = absurd (cc)
-puts_rise body w cs (string r x) path s ms text e at other = absurd (cc)
-puts_rise body w cs (array r x) path s ms text e at other = absurd (cc)
+    id_rise body w cs r ls a.0 (put_edits text o) e a.1 other (path_rise path a.0 o text (span_of a.0).from (take ((span_of a.0).to - (span_of a.0).from) (drop (span_of a.0).from body)) a.2 i.stands)
+puts_rise body w cs (word r x) o path text e at other = absurd (cc)
+puts_rise body w cs (number r x) o path text e at other = absurd (cc)
+puts_rise body w cs (string r x) o path text e at other = absurd (cc)
+puts_rise body w cs (array r x) o path text e at other = absurd (cc)
+
+-- and so those of the params that were found
+
+not_null_is : (x : Option Json) (p : Json) → not_null x ≡ Some p → x ≡ Some p
+not_null_is None p e = absurd (cc)
+not_null_is (Some j) p e = go (is_null j) e
+  where
+    go : (b : Bool) → (if b then None else Some j) ≡ Some p → Some j ≡ Some p
+    go true h = absurd (cc)
+    go false h = h
+
+params_named : (m : Message) (t p : Json) → params_in m t ≡ Some p → named_in (codes "params") t ≡ Some p
+params_named (request i n ps) t p e = not_null_is (named_in (codes "params") t) p e
+params_named (notification n ps) t p e = not_null_is (named_in (codes "params") t) p e
+params_named (result i v) t p e = absurd (cc)
+params_named (error i v) t p e = absurd (cc)
+params_named not_json t p e = absurd (cc)
+params_named not_message t p e = absurd (cc)
+
+pub params_rise : (doc : Doc) (m : Message) (t : Json) (n : ℕ) (w : List ℕ) (text : List ℕ → Option (List ℕ)) (es : List Edit) → Holds doc t → Found doc (params_in m t) (Some n) → ((p : Json) → At doc n p → es ≡ put_edits text p)
+    → Rise doc.bytes (id_edits doc.bytes w es)
+unfolding value_at
+params_rise doc m t n w text es h found is = go (params_in m t) refl found
+  where
+    go : (o : Option Json) → params_in m t ≡ o → Found doc o (Some n) → Rise doc.bytes (id_edits doc.bytes w es)
+    go (Some p) e a = subst (λ z. Rise doc.bytes (id_edits doc.bytes w z)) (sym (is p a))
+        (puts_rise doc.bytes w (codes "params") t p [] text (held_tree doc t h) (ap (λ o. option_and_then (λ k. Some k) o) (params_named m t p e)) refl)
+    go None e a = absurd a
 
 -- the message of a body with another id and another value of a member
 module _ (body w cs : List ℕ) (v : Envelope body) (p q u : Json) (es : List Edit) (other : bytes_eq cs (codes "id") ≡ false) (no_version : bytes_eq cs (codes "jsonrpc") ≡ false)
