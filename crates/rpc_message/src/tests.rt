@@ -2,7 +2,6 @@ use crate::{
     ErrorCode, Malformed, Message, Sort, error_answer, error_reply, initialize, initialized,
     notification, ok_reply, request, same_id,
 };
-use json_nodes::Put;
 use json_text::Change;
 use message_body::{Body, Memory};
 use std::alloc::{AllocError, Global};
@@ -211,37 +210,6 @@ fn reads_a_request(rt: HostRuntime) -> Result<(), Memory> {
         sent.bytes(),
         b"{\"jsonrpc\":\"2.0\", \"id\":12, \"method\":\"textDocument\\/hover\", \"params\":{\"x\":1.50 }}".as_slice()
     );
-    Ok(())
-}
-
-// The body with another id, and other tokens in its params.
-fn with_tokens(alloc: Global, body: &[u8]) -> Result<Option<Body>, Memory> {
-    let Ok(message) = Message::read(alloc, body) else { return Ok(None) };
-    let Some(params) = message.params() else { return Ok(None) };
-    let puts = [
-        Put { name: "t", text: b"\"k\"" },
-        Put { name: "u", text: b"5" },
-    ];
-    let changes = message.tape().puts(alloc, params, &puts)?;
-    Ok(Some(message.with_changes(alloc, b"12", changes)?))
-}
-
-#[test]
-fn replaces_by_name(rt: HostRuntime) -> Result<(), Memory> {
-    let bodies: [(&[u8], &[u8]); 2] = [
-        (
-            b"{\"jsonrpc\":\"2.0\",\"method\":\"m\",\"params\":{\"t\":1, \"x\":{\"t\":1},\"u\":0,\"\\u0074\":[2]} ,\"id\":7}",
-            b"{\"jsonrpc\":\"2.0\",\"method\":\"m\",\"params\":{\"t\":\"k\", \"x\":{\"t\":1},\"u\":5,\"\\u0074\":\"k\"} ,\"id\":12}",
-        ),
-        (
-            b"{\"id\":7,\"jsonrpc\":\"2.0\",\"method\":\"m\",\"params\":{\"t\":1}}",
-            b"{\"id\":12,\"jsonrpc\":\"2.0\",\"method\":\"m\",\"params\":{\"t\":\"k\"}}",
-        ),
-    ];
-    for (body, want) in bodies {
-        let made = with_tokens(rt.alloc(), body)?;
-        assert!(rt; matches!(&made, Some(made) if made.bytes() == want));
-    }
     Ok(())
 }
 
