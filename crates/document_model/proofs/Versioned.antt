@@ -14,12 +14,13 @@ use Rattle.json_text.proofs.Laws.{tree_sound}
 use Rattle.json_text.proofs.Paths.{path_swaps}
 use Rattle.json_text.proofs.Put.{named_put, named_put_other, some_put}
 use Rattle.json_text.proofs.Swaps.{Swaps, kept, swapped, in_object, SwapsMembers, no_member_swaps, member_swaps, Replaced, replaced}
+use Rattle.json_nodes.specs.Puts.{edit_if, member_edits}
 use Rattle.rpc_message.specs.Message.{notification, not_message, no_name_twice, is_two, is_integer, are_params, given, notification_if, called, by_method, message_in, message_of}
 use Rattle.std.proofs.lemmas.Slice.Eq.{bytes_eq-Decides}
 use Rattle.rpc_message.proofs.Decimals.{decimal_number, decimal_integer}
 use Rattle.rpc_message.proofs.Meaning.{message_says}
 use Rattle.doc_text.specs.Changes.{string_text}
-use Rattle.document_model.specs.Notices.{integer_text, document_in, uri_in, version_in, changes_in, version_edits, edits_in}
+use Rattle.document_model.specs.Notices.{integer_text, document_in, uri_in, version_in, changes_in, new_version, edits_in}
 use Rattle.document_model.specs.Rows.{versioned_in, versioned}
 use Rattle.document_model.specs.Sayings.{changes, changing, saying_of}
 use Rattle.document_model.proofs.Bares.{Notice, notice, change_notified, notice_saying, notice_said}
@@ -30,15 +31,15 @@ put_versions text no_members = no_members
 put_versions text (member s cs j ms) = member s cs (if bytes_eq (codes "version") cs then number nowhere text else j) (put_versions text ms)
 
 versions_case : (text : List ℕ) (s : Span) (cs : List ℕ) (j : Json) (ms rest : Members) (es : List Edit) (b : Bool) → IsNumber text → SwapsMembers ms es rest
-    → SwapsMembers (member s cs j ms) (if b then record { span = span_of j; text = text } ∷ es else es) (member s cs (if b then number nowhere text else j) rest)
+    → SwapsMembers (member s cs j ms) (edit_if (span_of j) (if b then Some text else None) es) (member s cs (if b then number nowhere text else j) rest)
 versions_case text s cs j ms rest es true n h = member_swaps s cs j (number nowhere text) ms rest (record { span = span_of j; text = text } ∷ []) es (swapped j (number nowhere text) text (refl, n)) h
 versions_case text s cs j ms rest es false n h = member_swaps s cs j j ms rest [] es (kept j) h
 
 -- the edits put those numbers
-versions_swap : (text : List ℕ) (ms : Members) → IsNumber text → SwapsMembers ms (version_edits text ms) (put_versions text ms)
+versions_swap : (text : List ℕ) (ms : Members) → IsNumber text → SwapsMembers ms (member_edits (new_version text) ms) (put_versions text ms)
 unfolding put_versions
 versions_swap text no_members n = no_member_swaps
-versions_swap text (member s cs j ms) n = versions_case text s cs j ms (put_versions text ms) (version_edits text ms) (bytes_eq (codes "version") cs) n (versions_swap text ms n)
+versions_swap text (member s cs j ms) n = versions_case text s cs j ms (put_versions text ms) (member_edits (new_version text) ms) (bytes_eq (codes "version") cs) n (versions_swap text ms n)
 
 version_case : (text : List ℕ) (j x : Json) (o r : Option Json) (b : Bool) → ((k : Json) → o ≡ Some k → r ≡ Some (number nowhere text)) → (o ≡ None → r ≡ None)
     → or_else o (if_named b j) ≡ Some x → or_else r (if_named b (if b then number nowhere text else j)) ≡ Some (number nowhere text)
@@ -199,19 +200,19 @@ module _ (text : List ℕ) (s : Span) (ms : Members) (x : Document ms) where
 
 -- the bytes with other versions are a text of that tree, no deeper
 says_new : (text body : List ℕ) (s : Span) (ms : Members) (x : Document ms) → IsNumber text → tree_of body ≡ Some (object s ms)
-    → message_of (replace body (version_edits text x.members)) ≡ message_in (Some (object s (renewed text ms x)))
+    → message_of (replace body (member_edits (new_version text) x.members)) ≡ message_in (Some (object s (renewed text ms x)))
 says_new text body s ms x n e =
     let sound : IsText body (object s ms) × (depth (object s ms) ≤ 1024) = tree_sound body (object s ms) e in
     let low : depth (object s ms) ≤ 1024 = sound.1 in
     let path : List Step = key (codes "params") ∷ key (codes "textDocument") ∷ [] in
     let d : Json = object x.span (put_versions text x.members) in
-    let swaps : Swaps (object s ms) (version_edits text x.members) (put_at path d (object s ms))
-    = path_swaps path (object s ms) (object x.span x.members) d (version_edits text x.members) (document_there text s ms x)
-    (in_object x.span x.members (put_versions text x.members) (version_edits text x.members) (versions_swap text x.members n)) in
-    let made : Replaced body (version_edits text x.members) (put_at path d (object s ms)) = replaced body (version_edits text x.members) (object s ms) (put_at path d (object s ms)) sound.0 swaps in
+    let swaps : Swaps (object s ms) (member_edits (new_version text) x.members) (put_at path d (object s ms))
+    = path_swaps path (object s ms) (object x.span x.members) d (member_edits (new_version text) x.members) (document_there text s ms x)
+    (in_object x.span x.members (put_versions text x.members) (member_edits (new_version text) x.members) (versions_swap text x.members n)) in
+    let made : Replaced body (member_edits (new_version text) x.members) (put_at path d (object s ms)) = replaced body (member_edits (new_version text) x.members) (object s ms) (put_at path d (object s ms)) sound.0 swaps in
     let shallow : depth (put_at path d (object s ms)) ≤ depth (object s ms)
     = put_shallow path (object s ms) (object x.span x.members) d (document_there text s ms x) (omega (arith, versions_deep text x.members)) in
-    message_says (put_at path d (object s ms)) (replace body (version_edits text x.members)) made.says (omega arith)
+    message_says (put_at path d (object s ms)) (replace body (member_edits (new_version text) x.members)) made.says (omega arith)
     ∙ ap (λ j. message_in (Some j)) (renewed_is text s ms x)
 
 changes_parts : (a b : Option (List ℕ)) (c : Option Json) (u w : List ℕ) (cs : Json) → changing a b c ≡ changes u w cs → (b ≡ Some w) × ((v : List ℕ) → changing a (Some v) c ≡ changes u v cs)
@@ -233,7 +234,7 @@ versioned_says body v u w cs h e =
     let parts : (version_in t ≡ Some w) × ((v : List ℕ) → changing (uri_in t) (Some v) (option_map bare (changes_in t)) ≡ changes u v cs)
     = changes_parts (uri_in t) (version_in t) (option_map bare (changes_in t)) u w cs (sym (notice_said body m.0 n) ∙ ap saying_of (sym m.1) ∙ e) in
     let x : Document n.members = document_of n.span n.members w parts.0 in
-    let bytes : versioned v body ≡ replace body (version_edits (decimal v) x.members)
+    let bytes : versioned v body ≡ replace body (member_edits (new_version (decimal v)) x.members)
     = ap (versioned_in v body) n.tree ∙ ap (λ o. replace body (edits_in (decimal v) o)) (document_old (decimal v) n.span n.members x) in
     ap (λ z. saying_of (message_of z)) bytes
     ∙ ap saying_of (says_new (decimal v) body n.span n.members x (decimal_number v h) n.tree)

@@ -1,11 +1,12 @@
 -- What a didChange says (LSP 3.17, DidChangeTextDocumentParams), and the same with another version.
 -- Where a name stands more than once in an object, its last member counts.
-use Rattle.std.specs.Prelude.{ℕ, List, [], ◌∷◌, codes, bytes_eq, decimal, if◌then◌else◌}
+use Rattle.std.specs.Prelude.{ℕ, List, [], codes, bytes_eq, decimal, if◌then◌else◌}
 use Rattle.std.specs.Prelude.{Option, Some, None}
 use Rattle.std.specs.Option.{option_and_then}
-use Rattle.json_text.specs.Json.{Json, number, object, Members, no_members, member, span_of}
+use Rattle.json_text.specs.Json.{Json, number}
 use Rattle.json_text.specs.Named.{named_in}
-use Rattle.json_text.specs.Replace.{Edit, replace, replace_from}
+use Rattle.json_text.specs.Replace.{Edit, replace}
+use Rattle.json_nodes.specs.Puts.{put_edits}
 use Rattle.rpc_message.specs.Message.{is_integer}
 use Rattle.doc_text.specs.Changes.{string_text}
 
@@ -39,18 +40,14 @@ did_change_of None v cs = None
 abbrev pub did_change : Json → Option DidChange
 did_change t = did_change_of (uri_in t) (version_in t) (changes_in t)
 
+-- these bytes for the name `version`
+abbrev pub new_version : List ℕ → List ℕ → Option (List ℕ)
+new_version text cs = if bytes_eq (codes "version") cs then Some text else None
+
 -- each `version` of the document with another value
-abbrev pub version_edits : List ℕ → Members → List Edit
-version_edits text no_members = []
-version_edits text (member s cs j ms) = if bytes_eq (codes "version") cs then record { span = span_of j; text = text } ∷ version_edits text ms else version_edits text ms
-
--- the bytes from a place on, with those versions written
-abbrev pub written_from : ℕ → List ℕ → List ℕ → Members → List ℕ
-written_from at bytes text ms = replace_from at bytes (version_edits text ms)
-
 abbrev pub edits_in : List ℕ → Option Json → List Edit
-edits_in text (Some (object s ms)) = version_edits text ms
-edits_in text _ = []
+edits_in text (Some j) = put_edits (new_version text) j
+edits_in text None = []
 
 -- the body of this tree, with another version
 abbrev pub with_version : ℕ → List ℕ → Json → List ℕ

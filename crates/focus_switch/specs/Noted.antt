@@ -1,8 +1,7 @@
 -- What is found of a didChange.
 use Rattle.std.specs.Prelude.{◌≡◌, ℕ, List}
 use Rattle.std.specs.Prelude.{Option, Some, None}
-use Rattle.json_text.specs.Json.{Json, object}
-use Rattle.json_nodes.specs.At.{At, FoundChild}
+use Rattle.json_nodes.specs.At.{At}
 use Rattle.json_nodes.specs.Doc.{Doc}
 use Rattle.focus_switch.specs.declared.notice.Change.{Change}
 use Rattle.document_model.specs.Notices.{DidChange}
@@ -13,11 +12,6 @@ FoundChange doc (Some q) (Some c) = (c.uri ≡ q.uri) × (c.version ≡ q.versio
 FoundChange doc None None = Unit {0}
 FoundChange doc (Some q) None = ⊥
 FoundChange doc None (Some c) = ⊥
-
--- the answer is the number of the first member of this value, where it is an object that has one
-abbrev pub FirstMember : Doc → Option Json → Option ℕ → Type 0
-FirstMember doc (Some (object s ms)) first = (k : ℕ) × FoundChild doc k (object s ms) 0 first
-FirstMember doc _ first = first ≡ None
 
 -- what three parts make, where each is there
 abbrev pub made : Option (List ℕ) → Option (List ℕ) → Option ℕ → Option Change

@@ -1,23 +1,20 @@
 //! What a didChange says (LSP 3.17, DidChangeTextDocumentParams), and the same with another version.
-ghost use Rattle.std.specs.Prelude.{◌≡◌, ◌<◌, ◌-◌, ◌++◌, ℕ, suc, List, length, take, drop, codes, IfOk, MatchOption, Option, Some, None, if◌then◌else◌};
+ghost use Rattle.std.specs.Prelude.{◌≡◌, ◌<◌, length, codes, IfOk, MatchOption, Option, Some, None, if◌then◌else◌};
 ghost use Rattle.std.specs.Option.{option_and_then};
 ghost use Rattle.std.specs.Str.{chars};
-ghost use Rattle.json_text.specs.declared.span.Span.{Span};
-ghost use Rattle.json_text.specs.Json.{Json, Members, object};
+ghost use Rattle.json_text.specs.Changes.{edits_of};
+ghost use Rattle.json_text.specs.Json.{Json};
 ghost use Rattle.json_text.specs.Named.{named_in};
-ghost use Rattle.json_text.specs.Replace.{replace};
-ghost use Rattle.json_nodes.specs.At.{At, ChildAt, Found};
-ghost use Rattle.json_nodes.specs.Names.{Tests};
-ghost use Rattle.json_nodes.specs.Same.{drop_members};
+ghost use Rattle.json_text.specs.Replace.{Rise};
+ghost use Rattle.json_nodes.specs.At.{At, Found};
 ghost use Rattle.rpc_message.specs.Message.{is_integer};
 ghost use Rattle.doc_text.specs.Changes.{string_text};
-ghost use Rattle.document_model.specs.Notices.{did_change, document_in, edits_in, integer_text, with_version, written_from};
-ghost use Rattle.focus_switch.specs.Noted.{FirstMember, FoundChange, made};
+ghost use Rattle.document_model.specs.Notices.{did_change, document_in, edits_in, integer_text, with_version};
+ghost use Rattle.focus_switch.specs.Noted.{FoundChange, made};
 
-use json_nodes::{bytes_in, name_in};
+use json_nodes::{Put, bytes_in};
 use json_span::Tape;
-use json_text::Kind;
-use json_token::spells_text;
+use json_text::{Change as BodyChange, Kind, splice};
 use message_body::{Body, Memory};
 use rpc_message::is_integer;
 use std::alloc::Global;
@@ -120,74 +117,6 @@ fn change_of(uri: Option<Body>, version: Option<Body>, changes: Option<u32>) -> 
     }
 }
 
-// Whether the member of this value has this name.
-fn is_named(tape: &Tape, member: u32, name: &str) -> bool
-    requires { member < length tape.now.nodes }
-    ensures { Tests (chars name.now) tape.now member result }
-{
-    spells_text(name_in(tape.bytes(), tape.nodes(), member), name)
-}
-
-// The bytes from one place to another.
-fn part(bytes: &[u8], from: usize, to: usize) -> &[u8]
-    ensures { result.now ≡ take (to - from) (drop from bytes.now) }
-{
-    if from < to && from < bytes.len() {
-        let rest = &bytes[from..];
-        if to - from < rest.len() {
-            &rest[..to - from]
-        } else {
-            rest
-        }
-    } else {
-        &[]
-    }
-}
-
-// The bytes from one place on.
-fn tail(bytes: &[u8], from: usize) -> &[u8]
-    ensures { result.now ≡ drop from bytes.now }
-{
-    if from < bytes.len() {
-        &bytes[from..]
-    } else {
-        &[]
-    }
-}
-
-// The first member of a value that may be there, where it is an object.
-fn first_member(tape: &Tape, node: Option<u32>) -> Option<u32>
-    requires { MatchOption node (Unit {0}) (λ n. n < length tape.now.nodes) }
-    ensures first { (o : Option Json) → Found tape.now o node → FirstMember tape.now o result }
-    ensures inside { MatchOption result (Unit {0}) (λ n. n < length tape.now.nodes) }
-{
-    let node = node?;
-    match tape.kind(node) {
-        Kind::Object => tape.first(node),
-        _ => None,
-    }
-}
-
-// Writes what stands between a place and a member with a version, and the version; gives the place behind.
-fn write_member(
-    tape: &Tape,
-    written: &mut Vec<u8>,
-    at: usize,
-    member: u32,
-    text: &[u8],
-) -> Result<usize, Memory>
-    requires { member < length tape.now.nodes }
-    ensures { (k n : ℕ) (s : Span) (ms : Members) (u : Json) → ChildAt tape.now k (object s ms) n member u → IfOk result (λ to. written.new.items ++ written_from to tape.now.bytes text.now (drop_members (suc n) ms) ≡ written.old.items ++ written_from at tape.now.bytes text.now (drop_members n ms)) }
-{
-    if !is_named(tape, member, "version") {
-        return Ok(at);
-    }
-    let span = tape.span(member);
-    written.extend_from_slice(part(tape.bytes(), at, span.from))?;
-    written.extend_from_slice(text)?;
-    Ok(span.to)
-}
-
 /// The message with another version of its document, and all else as it came.
 pub fn with_version(alloc: Global, tape: &Tape, version: u32) -> Result<Body, Memory>
     ensures { (t : Json) → At tape.now 0 t → IfOk result (λ body. body ≡ with_version version tape.now.bytes t) }
@@ -195,26 +124,24 @@ pub fn with_version(alloc: Global, tape: &Tape, version: u32) -> Result<Body, Me
     let (_, document) = document(tape);
     let mut number = itoa::Buffer::new();
     let text = number.format(version);
-    write_versions(alloc, tape, first_member(tape, document), text.as_bytes())
+    let changes = version_changes(alloc, tape, document, text.as_bytes())?;
+    splice(alloc, tape.bytes(), &changes)
 }
 
-// The bytes with another text of each version, from the first member of the document on.
-fn write_versions(
+// The changes that give each version of a document another text.
+fn version_changes(
     alloc: Global,
     tape: &Tape,
-    first: Option<u32>,
+    document: Option<u32>,
     text: &[u8],
-) -> Result<Body, Memory>
-    requires { MatchOption first (Unit {0}) (λ n. n < length tape.now.nodes) }
-    ensures { (o : Option Json) → FirstMember tape.now o first → IfOk result (λ body. body ≡ replace tape.now.bytes (edits_in text.now o)) }
+) -> Result<Vec<BodyChange>, Memory>
+    requires { MatchOption document (Unit {0}) (λ n. n < length tape.now.nodes) }
+    ensures edits { (o : Option Json) → Found tape.now o document → IfOk result (λ changes. edits_of changes.items ≡ edits_in text.now o) }
+    ensures rise { IfOk result (λ changes. Rise tape.now.bytes (edits_of changes.items)) }
 {
-    let mut written = Vec::new(alloc);
-    let mut at = 0;
-    let mut next = first;
-    while let Some(member) = next {
-        at = write_member(tape, &mut written, at, member, text)?;
-        next = tape.next(member);
+    let name = "version";
+    match document {
+        Some(node) => tape.puts(alloc, node, &[Put { name, text }]),
+        None => Ok(Vec::new(alloc)),
     }
-    written.extend_from_slice(tail(tape.bytes(), at))?;
-    Ok(Body::new(written))
 }

@@ -5,6 +5,7 @@ mod look;
 mod member;
 mod names;
 mod node;
+mod puts;
 mod same;
 mod steps;
 
@@ -12,6 +13,7 @@ pub use look::{bytes_in, first_in, kind_in, name_in, next_in, span_in, string_in
 pub use member::member_in;
 pub use names::same_names_in;
 pub use node::{Node, Place};
+pub use puts::{Put, puts_in};
 pub use same::{is_named_again, last_spelled, same_in};
 
 #[cfg(test)]

@@ -3,11 +3,14 @@ ghost use Rattle.std.specs.Prelude.{◌≡◌, ◌↔◌, ◌+◌, ◌<◌, ℕ,
 ghost use Rattle.std.specs.Str.{chars};
 ghost use Rattle.json_text.specs.declared.span.Span.{Span};
 ghost use Rattle.json_text.specs.Json.{Json, string, IsText, depth, span_of};
+ghost use Rattle.json_text.specs.Changes.{edits_of};
+ghost use Rattle.json_text.specs.Replace.{Rise, RiseFrom};
 ghost use Rattle.json_text.specs.Faults.{IsSyntaxFault, IsDepthFault};
 ghost use Rattle.json_text.specs.Named.{named_in};
 ghost use Rattle.json_nodes.specs.At.{At, ChildAt, Found, FoundChild};
 ghost use Rattle.json_nodes.specs.Doc.{Holds};
 ghost use Rattle.json_nodes.specs.Nodes.{kind_of};
+ghost use Rattle.json_nodes.specs.Puts.{put_edits, text_for};
 ghost use Rattle.json_nodes.specs.Same.{same};
 ghost use Rattle.json_nodes.specs.SameTree.{Same};
 ghost use Rattle.json_nodes.specs.Texts.{IsSpelledAt};
@@ -16,8 +19,10 @@ ghost use Rattle.json_span.specs.Views.{Reads};
 
 use crate::fault::JsonFault;
 use crate::state::Reader;
-use json_nodes::{Node, first_in, kind_in, member_in, next_in, same_in, span_in, text_in};
-use json_text::{Kind, Span};
+use json_nodes::{
+    Node, Put, first_in, kind_in, member_in, next_in, puts_in, same_in, span_in, text_in,
+};
+use json_text::{Change, Kind, Span};
 use message_body::{Body, Memory};
 use std::alloc::Global;
 use std::marker::Model;
@@ -146,6 +151,18 @@ impl<'a> Tape<'a> {
         ensures { (s : Span) (cs : List ℕ) → At self.now node (string s cs) → IfOk result (λ text. text ≡ encode_utf8_all cs) }
     {
         text_in(alloc, self.bytes, self.nodes.as_slice(), node)
+    }
+
+    /// The changes that put other bytes in place of each value of these names in an object, one for each member of such a name,
+    /// however often a name stands there; of two puts of one name the first counts. None where the value is no object. The cost
+    /// is linear in the object's bytes for each put, and in the new bytes.
+    pub fn puts(&self, alloc: Global, node: u32, puts: &[Put]) -> Result<Vec<Change>, Memory>
+        requires { node < length self.now.nodes }
+        ensures edits { (t : Json) → At self.now node t → IfOk result (λ changes. edits_of changes.items ≡ put_edits (text_for puts.now) t) }
+        ensures within { (t : Json) → At self.now node t → IfOk result (λ changes. RiseFrom (span_of t).from (span_of t).to (edits_of changes.items)) }
+        ensures rise { IfOk result (λ changes. Rise self.now.bytes (edits_of changes.items)) }
+    {
+        puts_in(alloc, self.bytes, self.nodes.as_slice(), node, puts)
     }
 }
 

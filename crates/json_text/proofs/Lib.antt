@@ -8,7 +8,7 @@ pub mod Moves
 pub mod Paths
 pub mod Put
 pub mod Swaps
-mod Complete
+pub mod Complete
 mod Front
 pub mod Laws
 mod ListsRead

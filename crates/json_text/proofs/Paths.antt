@@ -36,7 +36,8 @@ named_case s ds j ms rest t u es (Some k) b h f e = member_swaps s ds j j ms res
 named_case s ds j ms rest t u es None true h f e = let same : t ≡ j = cc in first_member s ds j u ms es (subst (λ z. Swaps z es u) same h)
 named_case s ds j ms rest t u es None false h f e = absurd (cc)
 
-named_step : (cs : List ℕ) (ms : Members) (t u : Json) (es : List Edit) → named cs ms ≡ Some t → Swaps t es u → SwapsMembers ms es (put_named cs u ms)
+-- edits of the last member of a name are edits of the members
+pub named_step : (cs : List ℕ) (ms : Members) (t u : Json) (es : List Edit) → named cs ms ≡ Some t → Swaps t es u → SwapsMembers ms es (put_named cs u ms)
 unfolding named put_named
 named_step cs no_members t u es e h = absurd (cc)
 named_step cs (member s ds j ms) t u es e h = named_case s ds j ms (put_named cs u ms) t u es (named cs ms) (bytes_eq cs ds) h (λ d. named_step cs ms t u es d h) e

@@ -73,7 +73,8 @@ envelope body h = go (tree_of body) refl h
     go (Some (array s js)) e h = absurd (cc)
     go None e h = absurd (cc)
 
-once_put : (cs : List ℕ) (ms : Members) (u : Json) → no_name_twice (put_named cs u ms) ≡ no_name_twice ms
+-- no name comes or goes
+pub once_put : (cs : List ℕ) (ms : Members) (u : Json) → no_name_twice (put_named cs u ms) ≡ no_name_twice ms
 unfolding no_name_twice put_named
 once_put cs no_members u = refl
 once_put cs (member s ds j ms) u = go (is_some (named cs ms)) (once_put cs ms u)

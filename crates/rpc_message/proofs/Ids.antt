@@ -47,7 +47,7 @@ module _ (i : Id) (m : List ℕ) (ps : Option Json) where
       go true b e = cc
       go false b e = error_no_call b x f e
 
-  answered_no_call : (t : Json) (f v : Option Json) → answered (Some t) f v ≡ request i m ps → ⊥
+  pub answered_no_call : (t : Json) (f v : Option Json) → answered (Some t) f v ≡ request i m ps → ⊥
   answered_no_call t f v e = go (response_id t) e
     where
       go : (x : Option (Option Id)) → response_with x f v ≡ request i m ps → ⊥
@@ -72,7 +72,7 @@ module _ (i : Id) (m : List ℕ) (ps : Option Json) where
   request_id None p f v t e = absurd (answered_no_call t f v e)
 
 module _ (i : Option Id) (r : Json) where
-  call_no_result : (b : Bool) (a : Option Id) (n : List ℕ) (g : Option Json) → request_if b a n g ≡ result i r → ⊥
+  pub call_no_result : (b : Bool) (a : Option Id) (n : List ℕ) (g : Option Json) → request_if b a n g ≡ result i r → ⊥
   call_no_result true (Some x) n g e = cc
   call_no_result true None n g e = cc
   call_no_result false a n g e = cc
@@ -111,12 +111,12 @@ module _ (i : Option Id) (r : Json) where
       go None d e = absurd (cc)
 
   -- and its envelope
-  record IsResultOf (o p f v : Option Json) (t : Json) : Type 0 where
-    same : response_id t ≡ Some i
-    is : result_tree v ≡ r
-    goes : (u : Json) (k : Option Id) → response_id u ≡ Some k → by_names o (Some u) p f v ≡ result k r
+  pub record IsResultOf (o p f v : Option Json) (t : Json) : Type 0 where
+    pub same : response_id t ≡ Some i
+    pub is : result_tree v ≡ r
+    pub goes : (u : Json) (k : Option Id) → response_id u ≡ Some k → by_names o (Some u) p f v ≡ result k r
 
-  result_of : (o p f v : Option Json) (t : Json) → by_names o (Some t) p f v ≡ result i r → IsResultOf o p f v t
+  pub result_of : (o p f v : Option Json) (t : Json) → by_names o (Some t) p f v ≡ result i r → IsResultOf o p f v t
   result_of (Some (string s n)) p f v t e = absurd (call_no_result (are_params p) (id_of t) n (given p) e)
   result_of (Some (word s w)) p f v t e = absurd (cc)
   result_of (Some (number s ds)) p f v t e = absurd (cc)
@@ -177,10 +177,10 @@ module _ (i : Option Id) (r : Json) where
   error_of (Some (object s ms)) p f v t e = absurd (cc)
   error_of None p f v t e = answered_error t p f v e
 
-place_of : (cs body : List ℕ) (s : Span) (ms : Members) (t : Json) → tree_of body ≡ Some (object s ms) → named cs ms ≡ Some t → place_in cs (tree_of body) ≡ Some (span_of t)
+pub place_of : (cs body : List ℕ) (s : Span) (ms : Members) (t : Json) → tree_of body ≡ Some (object s ms) → named cs ms ≡ Some t → place_in cs (tree_of body) ≡ Some (span_of t)
 place_of cs body s ms t e n = ap (place_in cs) e ∙ rw n refl
 
-no_place : (cs body : List ℕ) (s : Span) (ms : Members) → tree_of body ≡ Some (object s ms) → named cs ms ≡ None → place_in cs (tree_of body) ≡ None
+pub no_place : (cs body : List ℕ) (s : Span) (ms : Members) → tree_of body ≡ Some (object s ms) → named cs ms ≡ None → place_in cs (tree_of body) ≡ None
 no_place cs body s ms e n = ap (place_in cs) e ∙ rw n refl
 
 -- the bytes of a member are its value's text
@@ -214,7 +214,7 @@ renamed body w v u stands flat =
           ∙ put_id v.span v.members v.id u v.test v.named_id;
     }
 
-id_flat : (u : Json) (k : Id) → id_of u ≡ Some k → depth u ≡ 0
+pub id_flat : (u : Json) (k : Id) → id_of u ≡ Some k → depth u ≡ 0
 id_flat u k h = response_flat u (Some k) (response_is_id u k h)
 
 -- a request with another id is the same request under that id

@@ -1,5 +1,7 @@
 mod Worked
+pub mod Beside
 pub mod Bodies
+pub mod Changed
 pub mod Decimals
 pub mod Enveloped
 pub mod Fixed
@@ -8,6 +10,7 @@ pub mod KindTests
 pub mod Meaning
 pub mod NamesMet
 pub mod Opening
+pub mod PutLaws
 pub mod Reading
 pub mod Replies
 pub mod SameIds

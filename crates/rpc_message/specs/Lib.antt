@@ -1,3 +1,4 @@
+pub mod Changed
 pub mod Codes
 pub mod Envelopes
 pub mod Ids

@@ -1,11 +1,17 @@
 //! Laws: what the texts that are written say as messages, and what stays of a body under another id.
-ghost use Rattle.std.specs.Prelude.{◌≡◌, ◌↔◌, ◌≤◌, ◌<◌, ◌^◌, ℕ, ℤ, List, IsUtf8, Option, Some, codes, decimal, true};
+ghost use Rattle.std.specs.Prelude.{◌≡◌, ◌↔◌, ◌≤◌, ◌<◌, ◌^◌, ◌∷◌, ℕ, ℤ, List, IsUtf8, MatchOption, Option, Some, bytes_eq, codes, decimal, false, true};
 ghost use Rattle.std.specs.Int.{w32};
 ghost use Rattle.std.specs.Fmt.{signed_decimal};
 ghost use Rattle.std.specs.Int.RustNames.{FitsSigned};
 ghost use Rattle.std.specs.Str.{chars};
-ghost use Rattle.json_text.specs.Bare.{nowhere};
-ghost use Rattle.json_text.specs.Json.{IsText, Json, depth, no_members, object};
+ghost use Rattle.json_text.specs.Bare.{bare_members, nowhere};
+ghost use Rattle.json_text.specs.Json.{IsText, Json, Members, depth, no_members, object};
+ghost use Rattle.json_text.specs.declared.span.Span.{Span};
+ghost use Rattle.json_text.specs.Paths.{Step, key, put_at, value_at};
+ghost use Rattle.json_text.specs.Replace.{Rise, replace};
+ghost use Rattle.json_text.specs.Tree.{tree_of};
+ghost use Rattle.json_nodes.specs.Puts.{member_edits, put_edits, put_members};
+ghost use Rattle.rpc_message.specs.Changed.{changed_text, id_edits};
 ghost use Rattle.rpc_message.specs.Message.{Id, are_params, error, given, id_bytes, integer, message_of, not_json, notification, request, result as outcome, result_bytes};
 ghost use Rattle.rpc_message.specs.Texts.{Code, error_reply_text, error_text, error_tree, failure_tree, initialize_params, initialize_text, initialized_text, notification_text, ok_text, request_text, with_id_text};
 ghost use Rattle.rpc_message.specs.ValueTexts.{IsIdText, IsOptionText, IsResponseIdText, IsShallowText, IsValueText, option_depth};
@@ -50,4 +56,15 @@ pub fn parts_law()
     ensures failure { (body : List ℕ) (i : Option Id) (r : Json) → message_of body ≡ error i r → IsResponseIdText i (id_bytes body) }
     ensures value { (body : List ℕ) (i : Option Id) (r : Json) → message_of body ≡ outcome i r → IsShallowText 1023 r (result_bytes body) }
     ensures number { (n : ℕ) → n < 2 ^ 64 → IsIdText (integer (decimal n)) (decimal n) }
+{}
+
+/// A body in which values of an object gave way to others by the names of their members (at any depth in its params or its
+/// result), each in every member of its name, and the id to another, says what it said with these values there, under that id.
+/// The places rise, so that `Message::with_changes` takes them, and values that hold no others deepen nothing.
+pub fn puts_law()
+    ensures request { (body w : List ℕ) (p t : Json) (path : List Step) (s : Span) (ms : Members) (text : List ℕ → Option (List ℕ)) (new : List ℕ → Option Json) → tree_of body ≡ Some t → ((name : List ℕ) → IsOptionText (new name) (text name)) → depth (put_at path (object nowhere (put_members new (bare_members ms))) p) ≤ 1023 → (i k : Id) (m : List ℕ) → message_of body ≡ request i m (Some p) → value_at (key (codes "params") ∷ path) t ≡ Some (object s ms) → IsIdText k w → message_of (changed_text body w (member_edits text ms)) ≡ request k m (Some (put_at path (object nowhere (put_members new (bare_members ms))) p)) }
+    ensures outcome { (body w : List ℕ) (p t : Json) (path : List Step) (s : Span) (ms : Members) (text : List ℕ → Option (List ℕ)) (new : List ℕ → Option Json) → tree_of body ≡ Some t → ((name : List ℕ) → IsOptionText (new name) (text name)) → depth (put_at path (object nowhere (put_members new (bare_members ms))) p) ≤ 1023 → (i k : Option Id) → message_of body ≡ outcome i p → value_at (key (codes "result") ∷ path) t ≡ Some (object s ms) → IsResponseIdText k w → message_of (changed_text body w (member_edits text ms)) ≡ outcome k (put_at path (object nowhere (put_members new (bare_members ms))) p) }
+    ensures notification { (body w : List ℕ) (p t : Json) (path : List Step) (s : Span) (ms : Members) (text : List ℕ → Option (List ℕ)) (new : List ℕ → Option Json) → tree_of body ≡ Some t → ((name : List ℕ) → IsOptionText (new name) (text name)) → depth (put_at path (object nowhere (put_members new (bare_members ms))) p) ≤ 1023 → (m : List ℕ) → message_of body ≡ notification m (Some p) → value_at (key (codes "params") ∷ path) t ≡ Some (object s ms) → message_of (replace body (member_edits text ms)) ≡ notification m (Some (put_at path (object nowhere (put_members new (bare_members ms))) p)) }
+    ensures rise { (body w name : List ℕ) (t o : Json) (path : List Step) (text : List ℕ → Option (List ℕ)) → tree_of body ≡ Some t → value_at (key name ∷ path) t ≡ Some o → bytes_eq name (codes "id") ≡ false → Rise body (id_edits body w (put_edits text o)) }
+    ensures shallow { (p : Json) (path : List Step) (s : Span) (ms : Members) (new : List ℕ → Option Json) → value_at path p ≡ Some (object s ms) → ((name : List ℕ) → MatchOption (new name) (Unit {0}) (λ v. depth v ≡ 0)) → depth (put_at path (object nowhere (put_members new ms)) p) ≤ depth p }
 {}

@@ -4,6 +4,7 @@ ghost use Rattle.json_text.specs.Changes.{edits_of};
 ghost use Rattle.json_text.specs.Replace.{replace, Rise};
 ghost use Rattle.json_text.specs.Tree.{tree_of};
 ghost use Rattle.json_nodes.specs.At.{Found};
+ghost use Rattle.rpc_message.specs.Changed.{changed_text, id_edits};
 ghost use Rattle.rpc_message.specs.Envelopes.{Tells};
 ghost use Rattle.rpc_message.specs.Message.{Message as Meaning, id_bytes, message_of, place_in, result_bytes};
 ghost use Rattle.rpc_message.specs.Parsed.{FoundBare, FoundResultOf, IsRead, error_in, error_of, method_of, params_in, params_of, result_in};
@@ -11,7 +12,7 @@ ghost use Rattle.rpc_message.specs.Sorts.{Refuses, sort_of};
 ghost use Rattle.rpc_message.specs.Texts.{with_id_text};
 
 use crate::envelope::{Envelope, envelope_in};
-use crate::parts::{member_bytes, member_span, with_id};
+use crate::parts::{member_bytes, member_span, with_id, with_id_change};
 use crate::sort::{Malformed, Sort};
 use json_nodes::{Node, text_in};
 use json_span::{JsonFault, Tape};
@@ -199,5 +200,16 @@ impl<'a> Message<'a> {
         ensures { (bytes : List ℕ) → IsRead self.now bytes → IfOk result (λ body. body ≡ replace bytes (edits_of changes.now)) }
     {
         splice(alloc, self.tape.bytes(), changes)
+    }
+
+    /// The body with another id and with each change made, and all else as it came; it gets no id where it has none. The places
+    /// rise and don't overlap, and the id stands in front of all of them or behind them. Its cost is linear in the body, the
+    /// number of changes and the new texts.
+    pub fn with_changes(&self, alloc: Global, id: &[u8], changes: Vec<Change>) -> Result<Body, Memory>
+        requires { Rise self.now.doc.bytes (id_edits self.now.doc.bytes id.now (edits_of changes.items)) }
+        ensures { (bytes : List ℕ) → IsRead self.now bytes → IfOk result (λ body. body ≡ changed_text bytes id.now (edits_of changes.items)) }
+    {
+        let changes = with_id_change(alloc, self.id(), id, changes)?;
+        splice(alloc, self.tape.bytes(), &changes)
     }
 }

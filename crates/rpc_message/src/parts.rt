@@ -1,17 +1,19 @@
 //! The parts of a body that are passed on as they came: its id, its result, and the whole under another id.
 ghost use Rattle.std.specs.Prelude.{◌≡◌, ◌<◌, ◌≤◌, ◌-◌, [], ◌∷◌, length, take, drop, IfOk, MatchOption};
 ghost use Rattle.std.specs.Str.{chars};
+ghost use Rattle.json_text.specs.Changes.{edits_of};
 ghost use Rattle.json_text.specs.Json.{Json};
 ghost use Rattle.json_text.specs.Named.{named_in};
 ghost use Rattle.json_text.specs.Replace.{replace};
 ghost use Rattle.json_text.specs.Tree.{tree_of};
 ghost use Rattle.json_nodes.specs.At.{Found};
 ghost use Rattle.json_nodes.specs.Doc.{Holds};
+ghost use Rattle.rpc_message.specs.Changed.{beside, id_edits_at, is_in_front};
 ghost use Rattle.rpc_message.specs.Message.{member_bytes, place_in};
 ghost use Rattle.rpc_message.specs.Texts.{with_id_text};
 
 use json_nodes::{Node, member_in, span_in};
-use json_text::Span;
+use json_text::{Change, Span};
 use message_body::{Body, Memory};
 use std::alloc::Global;
 
@@ -90,5 +92,42 @@ pub fn with_id(alloc: Global, bytes: &[u8], nodes: &[Node], id: &[u8]) -> Result
     match root_member(bytes, nodes, "id") {
         Some(node) => replaced(alloc, bytes, span_in(nodes, node), id),
         None => Ok(Body::new(Vec::from_slice(alloc, bytes)?)),
+    }
+}
+
+// These changes and one more, whose place stands in front of all of theirs or behind them.
+fn beside(change: Change, changes: Vec<Change>) -> Result<Vec<Change>, Memory>
+    ensures { IfOk result (λ all. edits_of all.items ≡ beside (record { span = change.span; text = change.text }) (edits_of changes.items)) }
+{
+    let mut changes = changes;
+    if is_in_front(change.span, &changes) {
+        changes.insert(0, change)?;
+    } else {
+        changes.push(change)?;
+    }
+    Ok(changes)
+}
+
+/// These changes and that of the id, where it has a place.
+pub fn with_id_change(
+    alloc: Global,
+    place: Option<Span>,
+    id: &[u8],
+    changes: Vec<Change>,
+) -> Result<Vec<Change>, Memory>
+    ensures { IfOk result (λ all. edits_of all.items ≡ id_edits_at id.now (edits_of changes.items) place) }
+{
+    let Some(span) = place else { return Ok(changes) };
+    let text = Body::new(Vec::from_slice(alloc, id)?);
+    beside(Change { span, text }, changes)
+}
+
+// Whether a place ends before that of the first change begins.
+fn is_in_front(place: Span, changes: &[Change]) -> bool
+    ensures { result ≡ is_in_front place (edits_of changes.now) }
+{
+    match changes.first() {
+        Some(next) => place.to <= next.span.from,
+        None => true,
     }
 }
