@@ -2,6 +2,7 @@ pub mod Boundaries
 pub mod Cut
 mod Places
 mod Sorts
+pub mod Spots
 mod Starts
 mod Turns
 mod Worked
