@@ -1,5 +1,6 @@
 pub mod Boundaries
 pub mod Cut
+mod Advancing
 mod Places
 mod Sorts
 pub mod Spots

@@ -1,5 +1,5 @@
 -- How far a text was read, and which places are not before that.
-use Rattle.std.specs.Prelude.{◌≡◌, ◌⊎◌, ℕ, ◌+◌, ◌-◌, ◌<◌, ◌≤◌, Bool, true, false, ◌&&◌, ◌||◌, List, [], ◌∷◌, length, take, drop, fold, if◌then◌else◌, ◌==◌, nat_lt, nat_le}
+use Rattle.std.specs.Prelude.{◌≡◌, ◌⊎◌, ℕ, ◌+◌, ◌<◌, Bool, true, false, ◌&&◌, ◌||◌, List, [], ◌∷◌, length, take, drop, fold, if◌then◌else◌, ◌==◌, nat_lt, nat_le, IsUtf8}
 use Rattle.std.specs.Str.{chars, IsCharBoundary}
 use Rattle.position_codec.specs.declared.Encoding.{Encoding}
 use Rattle.position_codec.specs.declared.spot.Spot.{Spot}
@@ -34,6 +34,7 @@ Stops e s line character (c ∷ cs) = ahead (spot_past e s c) line character ≡
 
 -- an advance in a text from a spot on, up to a place at most
 pub record Advances (e : Encoding) (from : Spot) (line character : ℕ) (text : List ℕ) (a : Advance) : Type 0 where
+  pub utf8 : IsUtf8 text
   pub boundary : IsCharBoundary text a.offset
   pub spot : a.spot ≡ spot_behind e from (chars (take a.offset text))
   pub ahead : ahead a.spot line character ≡ true

@@ -10,9 +10,8 @@ mod spot;
 #[cfg(test)]
 mod tests;
 
-pub use spot::{Advance, Spot};
-
 use message_body::Memory;
+pub use spot::{Advance, Spot};
 use std::alloc::Global;
 
 /// How the characters of a line are counted: LSP 3.17, `PositionEncodingKind`.

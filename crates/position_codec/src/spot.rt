@@ -52,6 +52,7 @@ impl Spot {
     // The spot behind one character more; none where a count has no room.
     fn past(self, encoding: Encoding, c: char) -> Option<Spot>
         ensures some { IfSome result (λ s. s ≡ spot_past encoding self c) }
+        ensures few { IfSome result (λ s. s.line + s.column ≤ self.line + self.column + 4) }
         ensures none { IfNone result (2 ^ 64 ≤ self.line + self.column + 4) }
     {
         if self.returned && c == '\n' {
