@@ -176,7 +176,8 @@ walk_stops : (e : Encoding) (s : Spot) (k n : ℕ) (cs : List ℕ) → ahead s k
 walk_stops e s k n [] a st = refl
 walk_stops e s k n (c ∷ cs) a (at_place _ h) = ap (λ o. going_on (len_utf8 c) (λ q. walk e q cs) o) (step_stop e s c k n a h)
 
-all_ahead : (k n : ℕ) → ahead spot_first k n ≡ true
+-- every place is ahead of the first spot
+pub all_ahead : (k n : ℕ) → ahead spot_first k n ≡ true
 all_ahead zero n = grind (arith, nat_tests)
 all_ahead (suc k) n = grind (arith, nat_tests)
 
