@@ -1,3 +1,4 @@
+mod Gaps
 mod Items
 mod Reading
 mod Worked

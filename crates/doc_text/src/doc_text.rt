@@ -1,15 +1,15 @@
 //! A text that is kept whole.
 ghost use Rattle.std.specs.Prelude.{◌≡◌, ◌≤◌, ℕ, List, length, bytes_eq, IsUtf8, IfOk, OnOk, IsOk};
-ghost use Rattle.std.specs.Str.{IsCharBoundary};
-ghost use Rattle.doc_text.specs.Changes.{changed, changed_all, offset_in, place_in};
+ghost use Rattle.doc_text.specs.Changes.{changed_all};
 
-use crate::change::{ContentChange, Extent, Position};
+use crate::change::ContentChange;
 use crate::fault::ChangeFault;
+use crate::gap::Gap;
 use crate::read;
 use crate::text::Text;
 use json_span::Tape;
 use message_body::{Body, Memory};
-use position_codec::{Encoding, offset_of};
+use position_codec::Encoding;
 use std::alloc::Global;
 use std::marker::Model;
 
@@ -39,19 +39,11 @@ impl DocText {
         }
     }
 
-    fn as_str(&self) -> &str
+    /// The text.
+    pub(crate) fn as_str(&self) -> &str
         ensures { result.now ≡ self.now }
     {
         self.text.as_str()
-    }
-
-    // Makes one change.
-    fn change(&mut self, encoding: Encoding, change: &ContentChange) -> Result<(), Memory>
-        ensures { OnOk result (self.new ≡ changed encoding change.now self.old) }
-    {
-        let (from, to) = place(self.text.as_str(), encoding, change.extent);
-        self.text.replace_range(from..to, change.text.as_str())?;
-        Ok(())
     }
 
     // The text with each change made in what the one before left.
@@ -63,37 +55,14 @@ impl DocText {
     ) -> Result<DocText, Memory>
         ensures { IfOk result (λ text. text ≡ changed_all encoding changes.now self.now) }
     {
-        let mut text = self.copy(alloc)?;
+        let mut gap = Gap::new(alloc, encoding, self.as_str())?;
         for change in changes {
-            text.change(encoding, change)?;
+            gap.change(change)?;
         }
-        Ok(text)
+        let mut text = String::with_capacity(alloc, self.text.len())?;
+        gap.add_to(&mut text)?;
+        Ok(DocText { text })
     }
-}
-
-// The offsets, in bytes, from which and to which a change replaces.
-fn place(text: &str, encoding: Encoding, extent: Extent) -> (usize, usize)
-    ensures place { result ≡ place_in encoding extent text.now }
-    ensures rises { result.0 ≤ result.1 }
-    ensures fits { result.1 ≤ length text.now }
-    ensures boundaries { IsCharBoundary text.now result.0 × IsCharBoundary text.now result.1 }
-{
-    match extent {
-        Extent::Whole => (0, text.len()),
-        Extent::Part(range) => {
-            let from = offset(text, encoding, range.start);
-            let to = offset(text, encoding, range.end);
-            (from, if to < from { from } else { to })
-        }
-    }
-}
-
-// The offset, in bytes, of a place in a text.
-fn offset(text: &str, encoding: Encoding, position: Position) -> usize
-    ensures offset { result ≡ offset_in encoding position text.now }
-    ensures boundary { IsCharBoundary text.now result }
-{
-    offset_of(text, encoding, position.line, position.character)
 }
 
 impl Text for DocText {

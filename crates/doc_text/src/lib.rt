@@ -4,6 +4,7 @@
 mod change;
 mod doc_text;
 mod fault;
+mod gap;
 mod number;
 mod read;
 #[cfg(test)]

@@ -1,12 +1,17 @@
 //! Places in a text: from the line and character of LSP 3.17 to the offset in bytes, and the offsets at which lines start.
 #![tactic(auto)]
 
-ghost use Rattle.std.specs.Prelude.{◌≡◌, IfOk};
+ghost use Rattle.std.specs.Prelude.{◌≡◌, ◌≤◌, IfOk};
 ghost use Rattle.std.specs.Str.{chars};
 ghost use Rattle.position_codec.specs.Position.{units, lines, offset_at, starts};
 ghost use Rattle.position_codec.specs.Walk.{past, ends_line, starts_between};
 
+mod spot;
+#[cfg(test)]
+mod tests;
+
 use message_body::Memory;
+pub use spot::{Advance, Spot};
 use std::alloc::Global;
 
 /// How the characters of a line are counted: LSP 3.17, `PositionEncodingKind`.
@@ -114,7 +119,8 @@ impl Place {
 }
 
 fn units(encoding: Encoding, c: char) -> u32
-    ensures { result ≡ units encoding c }
+    ensures units { result ≡ units encoding c }
+    ensures few { result ≤ 4 }
 {
     match encoding {
         Encoding::Utf8 => c.len_utf8() as u32,
@@ -135,6 +141,3 @@ fn starts_between(previous: char, c: char) -> bool
 {
     previous == '\n' || (previous == '\r' && c != '\n')
 }
-
-#[cfg(test)]
-mod tests;
