@@ -1,6 +1,7 @@
 -- When the tables stand for events: one record for each table.
-use Rattle.std.specs.Prelude.{◌≡◌, ℕ, ◌<◌, ◌≤◌, ◌^◌, nat_eq, ◌⊎◌, Bool, false, ◌&&◌, List, [], ◌∷◌, ◌++◌, map, length, nat_lt}
+use Rattle.std.specs.Prelude.{◌≡◌, ℕ, ◌<◌, ◌≤◌, ◌^◌, nat_eq, ◌⊎◌, Bool, true, false, ◌&&◌, List, [], ◌∷◌, ◌++◌, map, length, nat_lt}
 use Rattle.std.specs.List.{filter, range_with_len}
+use Rattle.std.specs.Option.{option_and_then}
 use Rattle.std.specs.Prelude.{Option, Some, None, slice_get, slice_set}
 use Rattle.rpc_message.specs.Message.{Id}
 use Rattle.event_model.specs.declared.phase.Phase.{Phase}
@@ -168,3 +169,13 @@ pub record Exits (restarts : ℕ) (t : Tables) (g : ℕ) (z : Start) (u : Tables
   pub time : u.time ≡ t.time
   pub origins : u.origins ≡ t.origins
   pub requests : u.requests ≡ t.requests
+
+-- no such start was spawned, or its program ended or couldn't be run
+abbrev pub is_over : Stage → Bool
+is_over Unspawned = true
+is_over Ended = true
+is_over _ = false
+
+-- the last start of an editor's group
+abbrev pub start_for : Settings → ℕ → List Event → Option ℕ
+start_for settings e events = option_and_then (λ g. start_of g events) (home_of settings e events)

@@ -2,6 +2,7 @@
 #![tactic(auto)]
 
 mod hears;
+mod looks;
 mod requests;
 mod says;
 mod seats;

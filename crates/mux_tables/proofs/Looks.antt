@@ -1,0 +1,92 @@
+-- What the tables tell of the events, as the code has it.
+use Rattle.std.proofs.Common.{◌≡◌, ℕ, zero, suc, ◌<◌, ◌≤◌, Bool, true, ◌&&◌, List, [], ◌∷◌, map, length, get_or, refl, ap, sym, subst, ◌∙◌, arith, inl, inr, ◌⊎◌, if◌then◌else◌}
+use Rattle.std.specs.Prelude.{Option, Some, None, slice_get}
+use Rattle.std.specs.Option.{option_and_then}
+use Rattle.std.proofs.lemmas.Option.{slice_get-get_or, slice_get_past}
+use Rattle.event_model.specs.declared.phase.Phase.{Phase}
+use Rattle.event_model.specs.declared.phase.Phase.TheVariants.{Absent}
+use Rattle.event_model.specs.declared.stage.Stage.TheVariants.{Ended}
+use Rattle.event_model.specs.Event.{Event}
+use Rattle.event_model.specs.Phases.{desk_of, is_running}
+use Rattle.event_model.specs.Settings.{Settings}
+use Rattle.event_model.specs.Spawns.{start_of}
+use Rattle.event_model.specs.Stages.{Life, life_of}
+use Rattle.event_model.proofs.Places.{same_item}
+use Rattle.editor_session.specs.declared.session.Session.{Session}
+use Rattle.editor_session.specs.Sessions.{absent, numbers_of, runs_in, session_of}
+use Rattle.group_words.specs.Houses.{editors_in, home_of}
+use Rattle.id_rewrite.specs.Tables as tables
+use Rattle.mux_tables.specs.declared.tables.Start.{Start}
+use Rattle.mux_tables.specs.declared.tables.Tables.{Tables}
+use Rattle.mux_tables.specs.Forwarded as forwarded
+use Rattle.mux_tables.specs.Forwarded.{forwarding_of}
+use Rattle.mux_tables.specs.Stands.{Stands, group_in, is_over, number_in, of_ids, of_life, phase_in, start_for, those_in}
+use Rattle.mux_tables.proofs.IdMoves.{numbers_mapped}
+use Rattle.mux_tables.proofs.Lists.{editors_for, runs_so}
+use Rattle.mux_tables.proofs.Starts.{read_here, start_at_place}
+
+-- a start that isn't the last of its group is over
+module _ (settings : Settings) (t : Tables) (events : List Event) (s : ℕ) (st : Stands settings t events) where
+  pub unspawned_over : slice_get t.origins.items s ≡ None → is_over (life_of s events).stage ≡ true
+  unspawned_over h = ap (λ (l : Life). is_over l.stage) (st.lasts.fresh s (subst (λ n. n ≤ s) (sym st.origins.count) (past t.origins.items s h)) of_life)
+    where
+      past : (xs : List ℕ) (i : ℕ) → slice_get xs i ≡ None → length xs ≤ i
+      past [] i h = omega arith
+      past (x ∷ xs) zero h = absurd (some x h)
+        where
+          some : (x : ℕ) → ◌≡◌ {A = Option ℕ} (Some x) None → ⊥
+          some x h = cc
+      past (x ∷ xs) (suc i) h = let r = past xs i h in omega arith
+
+  old_over : (g : ℕ) → slice_get t.origins.items s ≡ Some g → (start_of g events ≡ Some s → ⊥) → is_over (life_of s events).stage ≡ true
+  old_over g h not_it = go (st.lasts.old s g (st.origins.group s ∙ h))
+    where
+      go : (start_of g events ≡ Some s) ⊎ ((life_of s events).stage ≡ Ended) → is_over (life_of s events).stage ≡ true
+      go (inl e) = absurd (not_it e)
+      go (inr e) = ap is_over e
+
+  pub outside_over : (g : ℕ) → slice_get t.origins.items s ≡ Some g → length t.lasts.items ≤ g → is_over (life_of s events).stage ≡ true
+  outside_over g h past = old_over g h (λ e. none (sym (st.lasts.none g past) ∙ e))
+    where
+      none : ◌≡◌ {A = Option ℕ} None (Some s) → ⊥
+      none h = cc
+
+  pub other_over : (g : ℕ) (z : Start) → slice_get t.origins.items s ≡ Some g → g < length t.lasts.items → z ≡ get_or t.lasts.items g z → (z.life.start ≡ s → ⊥) → is_over (life_of s events).stage ≡ true
+  other_over g z h within read not_it = old_over g h (λ e. not_it (same_item (sym (st.lasts.each g z (read_here t.lasts.items g z within read)).start ∙ e)))
+
+pub start_read : (xs : List Start) (g s start : ℕ) (z : Start) → g < length xs → z ≡ get_or xs g z → start ≡ z.life.start → start ≡ s → slice_get (map number_in xs) g ≡ Some s
+start_read [] g s start z h r e f = absurd (omega arith)
+start_read (x ∷ xs) zero s start z h r e f = ap (λ (w : Start). Some w.life.start) (sym r) ∙ ap (λ n. Some n) (sym e ∙ f)
+start_read (x ∷ xs) (suc g) s start z h r e f = start_read xs g s start z (omega arith) r e f
+
+-- the group of an editor
+home_seen : (settings : Settings) (t : Tables) (events : List Event) (e : ℕ) (o : Option ℕ) → Stands settings t events → e < length t.editors → o ≡ (session_of t.editors e).group → start_for settings e events ≡ option_and_then (λ g. start_of g events) o
+home_seen settings t events e o s l is = ap (option_and_then (λ g. start_of g events)) (s.house.editors.home e ∙ (ap group_in (slice_get-get_or t.editors e absent l) ∙ sym is))
+
+pub placed_nowhere : (settings : Settings) (t : Tables) (events : List Event) (e : ℕ) → Stands settings t events → e < length t.editors → ◌≡◌ {A = Option ℕ} None (session_of t.editors e).group → start_for settings e events ≡ None
+placed_nowhere settings t events e s l is = home_seen settings t events e None s l is
+
+pub placed_past : (settings : Settings) (t : Tables) (events : List Event) (e g : ℕ) → Stands settings t events → e < length t.editors → Some g ≡ (session_of t.editors e).group → length t.lasts.items ≤ g → start_for settings e events ≡ None
+placed_past settings t events e g s l is past = home_seen settings t events e (Some g) s l is ∙ s.lasts.none g past
+
+pub placed_here : (settings : Settings) (t : Tables) (events : List Event) (e g : ℕ) (x : Start) → Stands settings t events → e < length t.editors → Some g ≡ (session_of t.editors e).group → slice_get t.lasts.items g ≡ Some x → start_for settings e events ≡ Some x.life.start
+placed_here settings t events e g x s l is at = home_seen settings t events e (Some g) s l is ∙ (s.lasts.each g x at).start
+
+-- where an editor stands
+pub phase_inside : (settings : Settings) (t : Tables) (events : List Event) (e : ℕ) (p : Phase) → Stands settings t events → e < length t.editors → p ≡ (session_of t.editors e).phase → p ≡ (desk_of e events).phase
+phase_inside settings t events e p s l is = is ∙ (ap phase_in (sym (slice_get-get_or t.editors e absent l)) ∙ sym (s.house.editors.phase e))
+
+pub phase_past : (settings : Settings) (t : Tables) (events : List Event) (e : ℕ) → Stands settings t events → length t.editors ≤ e → Absent ≡ (desk_of e events).phase
+phase_past settings t events e s past = ap phase_in (sym (slice_get_past t.editors e past)) ∙ sym (s.house.editors.phase e)
+
+-- the editors of a group that run
+pub running_so : (settings : Settings) (t : Tables) (events : List Event) (g : ℕ) (ns : List ℕ) → Stands settings t events → ns ≡ numbers_of (λ s. runs_in g s) t.editors → ns ≡ editors_in is_running g (λ e. home_of settings e events) events
+running_so settings t events g ns s is = is ∙ (sym (runs_so t.editors g) ∙ sym (editors_for is_running (λ e. home_of settings e events) t.editors events g s.house.editors.count s.house.editors.phase s.house.editors.home))
+
+-- an editor's open requests
+pub requests_so : (settings : Settings) (t : Tables) (events : List Event) (g s e : ℕ) (z : Start) (ns : List ℕ) → slice_get (map number_in t.lasts.items) g ≡ Some s → g < length t.lasts.items → z ≡ get_or t.lasts.items g z → ns ≡ tables.numbers_of e z.ids.requests
+    → Stands settings t events → ns ≡ forwarded.numbers_of e (forwarding_of s events).open_requests
+requests_so settings t events g s e z ns at within read is st =
+    let here = read_here t.lasts.items g z within read in
+    subst (λ n. ns ≡ forwarded.numbers_of e (forwarding_of n events).open_requests) (start_at_place t.lasts.items g s z here at)
+    (is ∙ (sym (numbers_mapped e z.ids.requests) ∙ ap (forwarded.numbers_of e) (sym ((st.lasts.each g z here).parts of_ids).open_requests)))

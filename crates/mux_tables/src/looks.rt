@@ -1,0 +1,93 @@
+// What the tables tell of the events.
+ghost use Rattle.std.specs.Prelude.{◌≡◌, ◌<◌, ◌&&◌, ℕ, List, map, Some, None, true, length, IfNone, IfOk, IfSome, MatchOption, nat_lt, slice_get};
+ghost use Rattle.event_model.specs.Event.{Event};
+ghost use Rattle.event_model.specs.Phases.{desk_of, is_running, is_there};
+ghost use Rattle.event_model.specs.Settings.{Settings};
+ghost use Rattle.event_model.specs.Stages.{is_ready, life_of};
+ghost use Rattle.group_words.specs.Houses.{editors_in, home_of};
+ghost use Rattle.mux_tables.specs.declared.tables.Start.{Start};
+ghost use Rattle.mux_tables.specs.Forwarded.{forwarding_of, numbers_of};
+ghost use Rattle.mux_tables.specs.Stands.{Stands, is_over, number_in, start_for};
+
+use crate::tables::{Start, Tables};
+use event_model::Phase;
+use message_body::Memory;
+
+impl Start {
+    /// It is ready, and a number below the limit is left.
+    pub fn can_ask(&self) -> bool
+        ensures asks { result ≡ (is_ready self.now.life.stage && nat_lt self.now.ids.next self.now.ids.limit) }
+    {
+        self.life.stage().is_ready() && self.ids.next().is_ok()
+    }
+}
+
+impl Tables {
+    // The number of a start's group.
+    fn origin(&self, s: u64) -> Option<u64>
+        ensures { result ≡ slice_get self.now.origins.items s }
+    {
+        self.origins.get(s as usize).copied()
+    }
+
+    /// The place of the group whose last start this is; where there is none, no such start was spawned, or its program ended or
+    /// couldn't be run.
+    #[tactic(auto, using(crate::proofs::Looks::unspawned_over))]
+    pub fn last(&self, s: u64) -> Option<usize>
+        ensures inside { IfSome result (λ g. g < length self.now.lasts.items) }
+        ensures found { IfSome result (λ g. slice_get (map number_in self.now.lasts.items) g ≡ Some s) }
+        ensures none { IfNone result ((settings : Settings) (events : List Event) → Stands settings self.now events → is_over (life_of s events).stage ≡ true) }
+    {
+        let g = self.origin(s)? as usize;
+        if g >= self.lasts.len() {
+            return None;
+        }
+        if self.lasts[g].life.start() != s {
+            return None;
+        }
+        Some(g)
+    }
+
+    /// The place of an editor's group, where it has a start.
+    #[tactic(auto, using(crate::proofs::Looks::placed_nowhere))]
+    pub fn group(&self, e: u64) -> Option<usize>
+        requires { e < length self.now.editors }
+        ensures inside { IfSome result (λ g. g < length self.now.lasts.items) }
+        ensures start { (settings : Settings) (events : List Event) → Stands settings self.now events → MatchOption result (start_for settings e events ≡ None) (λ g. (x : Start) → slice_get self.now.lasts.items g ≡ Some x → start_for settings e events ≡ Some x.life.start) }
+    {
+        let g = self.editors.group(e)? as usize;
+        if g < self.lasts.len() {
+            Some(g)
+        } else {
+            None
+        }
+    }
+
+    /// Where the editor stands; one past the end never joined.
+    #[tactic(auto, using(crate::proofs::Looks::phase_inside, crate::proofs::Looks::phase_past))]
+    pub fn phase(&self, e: u64) -> Phase
+        ensures { (settings : Settings) (events : List Event) → Stands settings self.now events → result ≡ (desk_of e events).phase }
+    {
+        if e >= self.editors.count() {
+            return Phase::Absent;
+        }
+        self.editors.phase(e)
+    }
+
+    /// The numbers, rising, of the editors of this group that run.
+    #[tactic(auto, using(crate::proofs::Looks::running_so))]
+    pub fn running(&self, g: u64) -> Result<Vec<u64>, Memory>
+        ensures { (settings : Settings) (events : List Event) → Stands settings self.now events → IfOk result (λ numbers. numbers.items ≡ editors_in is_running g (λ e. home_of settings e events) events) }
+    {
+        self.editors.running(g)
+    }
+
+    /// The numbers, rising, of an editor's open requests at the group's last start.
+    pub fn requests_of(&self, g: usize, e: u64) -> Result<Vec<u32>, Memory>
+        requires { g < length self.now.lasts.items }
+        ensures { (settings : Settings) (events : List Event) (s : ℕ) → slice_get (map number_in self.now.lasts.items) g ≡ Some s → Stands settings self.now events → IfOk result (λ numbers. numbers.items ≡ numbers_of e (forwarding_of s events).open_requests) }
+    {
+        let numbers = self.lasts[g].ids.of_editor(e)?;
+        Ok(numbers)
+    }
+}
