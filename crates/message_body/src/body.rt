@@ -33,18 +33,21 @@ impl Model for Body {
 }
 
 impl Body {
+    /// A body of these bytes, which it takes over without a copy.
     pub fn new(bytes: Vec<u8>) -> Self
         ensures { result ≡ bytes.items }
     {
         Body { bytes }
     }
 
+    /// The bytes, with no frame around them.
     pub fn bytes(&self) -> &[u8]
         ensures { result.now ≡ self.now }
     {
         self.bytes.as_slice()
     }
 
+    /// The same bytes in a body of its own. The time is linear in them.
     pub fn copy(&self, alloc: Global) -> Result<Body, Memory>
         ensures { IfOk result (λ body. body ≡ self.now) }
     {
