@@ -1,5 +1,5 @@
 -- A run, line by line.
-use Rattle.std.proofs.Common.{◌≡◌, ℕ, suc, ◌+◌, ◌^◌, ◌<◌, ◌≤◌, true, false, nat_lt, List, [], ◌∷◌, ◌++◌, length, take, refl, ap, sym, subst, ◌∙◌, append_assoc, arith, option_map, IfSome}
+use Rattle.std.proofs.Common.{◌≡◌, ◌⊎◌, inl, inr, Bool, ℕ, suc, ◌+◌, ◌^◌, ◌<◌, ◌≤◌, true, false, nat_lt, List, [], ◌∷◌, ◌++◌, length, take, refl, ap, sym, subst, ◌∙◌, append_assoc, arith, option_map, IfSome}
 use Rattle.std.specs.Prelude.{Option, Some, None, Result, Ok, Err}
 use Rattle.std.specs.Io.KnownBytes.{append_known}
 use Rattle.std.proofs.lemmas.Bool.Decides.{nat_tests}
@@ -19,13 +19,14 @@ use Rattle.lspmux_program.specs.declared.step.LineFault.{LineFault}
 use Rattle.lspmux_program.specs.declared.step.LineFault.TheVariants as line_fault
 use Rattle.lspmux_program.specs.declared.stop.Stop.{Stop}
 use Rattle.lspmux_program.specs.declared.stop.Stop.TheVariants as stop
-use Rattle.lspmux_program.specs.Buffers.{BufferView, known_lines, onto_known, FirstPasses, Came, BrokeOff}
+use Rattle.lspmux_program.specs.Buffers.{BufferView, known_lines, onto_known, FirstTooLong, Came, BrokeOff}
 use Rattle.lspmux_program.specs.Faults.{LeavesWritten}
-use Rattle.lspmux_program.specs.Lines.{Line, lines_of}
+use Rattle.lspmux_program.specs.Lines.{Line, lines_of, longest}
 use Rattle.lspmux_program.specs.Outs.{out_lines, outs_text}
 use Rattle.lspmux_program.specs.Runs.{Refused, Outcome, on_reading, reading, reading_bytes, after, drive_from, IsRunOf, TakesFirst, WroteFront}
 use Rattle.lspmux_program.specs.Steps.{IsTaken, LineTaken, LineLeft, untouched, stepped}
 use Rattle.lspmux_program.specs.Stops.{stop_at, fault_at, Consumed, Driving, Gives, StopsAt, Driven}
+use Rattle.lspmux_program.proofs.Longest.{long_bytes}
 use Rattle.lspmux_program.proofs.Consumes.{consumed_none, consumed_more, consumed_read}
 
 -- a line with this reading, and the lines behind it
@@ -63,6 +64,14 @@ reading_near history bytes upto h = let e : nat_lt (2 ^ 40) upto ≡ false = gri
 reading_far : (history : List Entry) (line : Line) → 2 ^ 40 < line.upto → reading history line ≡ Err Form
 reading_far history line h = let e : nat_lt (2 ^ 40) line.upto ≡ true = grind (arith, nat_tests) in rw e refl
 
+reading_long : (history : List Entry) (line : Line) → (2 ^ 40 < line.upto) ⊎ (longest < length line.bytes) → reading history line ≡ Err Form
+reading_long history line (inl h) = reading_far history line h
+reading_long history line (inr h) = choice (nat_lt (2 ^ 40) line.upto) refl
+  where
+    choice : (b : Bool) → nat_lt (2 ^ 40) line.upto ≡ b → reading history line ≡ Err Form
+    choice true e = rw e refl
+    choice false e = rw e (long_bytes history line.bytes h)
+
 -- one more line taken
 regroup : (front : List Line) (line : Line) (rest : Option (List Line)) → option_map (λ ls. front ++ ls) (onto_known line rest) ≡ option_map (λ ls. (front ++ line ∷ []) ++ ls) rest
 regroup front line None = refl
@@ -94,11 +103,11 @@ given_refused settings all (Some ls) history front line refusal e r h =
     (drive_append settings 1 [] history front (line ∷ ls) r ∙ ap (driven_by settings (1 + length front) history ls) h)
 
 given_passed : (settings : Settings) (all now : Option (List Line)) (history : List Entry) (front : List Line) → all ≡ option_map (λ ls. front ++ ls) now
-    → drive_from settings 1 [] front ≡ record { history = history; refused = None } → IfSome now FirstPasses
+    → drive_from settings 1 [] front ≡ record { history = history; refused = None } → IfSome now FirstTooLong
     → Gives settings all (record { history = history; refused = Some (record { line = 1 + length front; refusal = Form }) })
 given_passed settings all None history front e r h = subst (λ a. Gives settings a (record { history = history; refused = Some (record { line = 1 + length front; refusal = Form }) })) (sym e) tt
 given_passed settings all (Some []) history front e r h = absurd h
-given_passed settings all (Some (line ∷ ls)) history front e r h = given_refused settings all (Some ls) history front line Form e r (reading_far history line h)
+given_passed settings all (Some (line ∷ ls)) history front e r h = given_refused settings all (Some ls) history front line Form e r (reading_long history line h)
 
 -- what was written
 pub append_both : (w : Option (List ℕ)) (a b : List ℕ) → append_known (append_known w a) b ≡ append_known w (a ++ b)
@@ -209,7 +218,7 @@ numbered_as settings all history front refusal number taken n t h =
     subst (λ k. Gives settings all (record { history = history; refused = Some (record { line = k; refusal = refusal }) })) e h
 
 stop_says : {J : Type 0} (told : J → Option (List Entry)) (settings : Settings) (input left now_left : Option (List ℕ)) (buffer : BufferView) (taken number : ℕ) (w v : Option (List ℕ)) (hub : HubView J) (s : LineStop)
-    (d : Driving told settings input left buffer taken w v hub) → number ≡ taken + 1 → (s ≡ line_stop.Passed → IfSome (known_lines buffer left) FirstPasses) → (s ≡ line_stop.Input → BrokeOff buffer left now_left)
+    (d : Driving told settings input left buffer taken w v hub) → number ≡ taken + 1 → (s ≡ line_stop.Passed → IfSome (known_lines buffer left) FirstTooLong) → (s ≡ line_stop.Input → BrokeOff buffer left now_left)
     → StopsAt settings input now_left (known_lines buffer left) w v d.history (stop_at number s)
 stop_says told settings input left now_left buffer taken number w v hub line_stop.Memory d n p b = tt
 stop_says told settings input left now_left buffer taken number w v hub line_stop.Input d n p b = (d.wrote, consumed_read settings input left now_left buffer d.run.front d.history d.consumed (b refl) d.run.runs)
@@ -217,7 +226,7 @@ stop_says told settings input left now_left buffer taken number w v hub line_sto
     (d.wrote, numbered_as settings (option_map lines_of input) d.history d.run.front Form number taken n d.count (given_passed settings (option_map lines_of input) (known_lines buffer left) d.history d.run.front d.run.whole d.run.runs (p refl)))
 
 pub stops : {J : Type 0} (told : J → Option (List Entry)) (settings : Settings) (input left now_left : Option (List ℕ)) (buffer : BufferView) (taken number : ℕ) (w v : Option (List ℕ)) (hub : HubView J) (s : LineStop)
-    → Driving told settings input left buffer taken w v hub → number ≡ taken + 1 → (s ≡ line_stop.Passed → IfSome (known_lines buffer left) FirstPasses) → (s ≡ line_stop.Input → BrokeOff buffer left now_left)
+    → Driving told settings input left buffer taken w v hub → number ≡ taken + 1 → (s ≡ line_stop.Passed → IfSome (known_lines buffer left) FirstTooLong) → (s ≡ line_stop.Input → BrokeOff buffer left now_left)
     → Driven told settings input now_left w v hub (Err (stop_at number s))
 stops told settings input left now_left buffer taken number w v hub s d n p b = record {
   history = d.history;

@@ -3,6 +3,7 @@ pub mod Consumes
 pub mod Cuts
 pub mod Driving
 pub mod Ends
+pub mod Longest
 pub mod Reports
 pub mod Steps
 pub mod Windows

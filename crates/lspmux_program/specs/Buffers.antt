@@ -1,8 +1,8 @@
 -- A buffer before a source: the bytes that were read and aren't used, and how many were used.
-use Rattle.std.specs.Prelude.{◌≡◌, ℕ, ◌+◌, ◌^◌, ◌<◌, ◌≤◌, List, [], ◌∷◌, ◌++◌, length, take, drop, nat_eq, position, option_map}
+use Rattle.std.specs.Prelude.{◌≡◌, ◌⊎◌, ℕ, ◌+◌, ◌^◌, ◌<◌, ◌≤◌, List, [], ◌∷◌, ◌++◌, length, take, drop, nat_eq, position, option_map}
 use Rattle.std.specs.Prelude.{Option}
 use Rattle.std.specs.Io.KnownBytes.{prepend_known}
-use Rattle.lspmux_program.specs.Lines.{Line, lines_from, onto_line, NoFeed}
+use Rattle.lspmux_program.specs.Lines.{Line, lines_from, longest, onto_line, NoFeed}
 
 pub record BufferView : Type 0 where
   pub pending : List ℕ
@@ -32,6 +32,11 @@ line_feed bytes = position (λ b. nat_eq b 10) bytes
 abbrev pub FirstPasses : List Line → Type 0
 FirstPasses [] = ⊥
 FirstPasses (line ∷ lines) = 2 ^ 40 < line.upto
+
+-- the first of these lines is too long to be in a form, or in it the input passes 2^40 bytes
+abbrev pub FirstTooLong : List Line → Type 0
+FirstTooLong [] = ⊥
+FirstTooLong (line ∷ lines) = (2 ^ 40 < line.upto) ⊎ (longest < length line.bytes)
 
 -- bytes without a line feed went from the pending ones to a line, and the end behind them was passed over
 pub record Moved (end : List ℕ) (before now : BufferView) (line_before line_now : List ℕ) : Type 0 where

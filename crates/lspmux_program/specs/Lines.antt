@@ -6,6 +6,10 @@ pub record Line : Type 0 where
   pub bytes : List ℕ
   pub upto : ℕ
 
+-- the most bytes of a line in a form: `ed` or `sv`, a number of 20 digits, and a body of 67,108,864 bytes, each written by two
+abbrev pub longest : ℕ
+longest = 134_217_752
+
 -- a byte put before the first line; where there is none, it is a line that ends behind the byte
 abbrev pub onto_first : ℕ → ℕ → List Line → List Line
 onto_first at b [] = record { bytes = b ∷ []; upto = at } ∷ []

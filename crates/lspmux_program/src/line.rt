@@ -1,10 +1,11 @@
 // The lines of a source.
 ghost use Rattle.std.specs.Prelude.{◌≡◌, ℕ, ◌^◌, ◌<◌, ◌≤◌, List, [], ◌∷◌, true, false, IfOk, IfErr, IfSome, IfNone, IsErrOf, Some, None, Option};
 ghost use Rattle.outside_io.specs.Faults.{Rose};
-ghost use Rattle.lspmux_program.specs.Buffers.{BrokeOff, Came, FirstPasses, known_lines, onto_known};
+ghost use Rattle.lspmux_program.specs.Buffers.{BrokeOff, Came, FirstTooLong, known_lines, onto_known};
 ghost use Rattle.lspmux_program.specs.Lines.{Line};
 
 use crate::buffer::{Buffer, Piece, filled, take_piece};
+use crate::refusal::CONTENT;
 use message_body::Memory;
 use outside_io::{ReadFault, Source};
 use std::alloc::Global;
@@ -16,7 +17,7 @@ pub enum LineStop {
     Memory,
     /// A read failed.
     Input,
-    /// In the line the input passes its limit.
+    /// The line is too long to be in a form, or in it the input passes its limit.
     Passed,
 }
 
@@ -42,6 +43,9 @@ impl From<ReadFault> for LineStop {
     }
 }
 
+// The most bytes of a line in a form: two letters, a number of 20 digits, two spaces, and two bytes for each of a body.
+const LONGEST: usize = 24 + 2 * CONTENT;
+
 /// A line of the input, without its line feed.
 #[derive(Debug, Drop)]
 pub struct InputLine {
@@ -66,7 +70,9 @@ fn last_line(bytes: Vec<u8>) -> Option<InputLine>
 }
 
 /// The next line of the input, without its line feed, or none at the end.
-#[tactic(auto, using(crate::proofs::Consumes::came_on, crate::proofs::Consumes::broken_off))]
+///
+/// Of a line that is too long to be in a form no more is kept than a read brings behind that length.
+#[tactic(auto, using(crate::proofs::Consumes::came_on, crate::proofs::Consumes::broken_off, crate::proofs::Longest::long_begun, crate::proofs::Longest::passes_long))]
 pub fn next_line<I: Source>(
     alloc: Global,
     input: &mut I,
@@ -81,7 +87,7 @@ pub fn next_line<I: Source>(
     ensures left { IfOk result (λ r. IfNone r (IfSome (I.left input.new) (λ bytes. bytes ≡ []))) }
     ensures used { IfOk result (λ r. IfSome r (λ line. buffer.old.used < buffer.new.used)) }
     ensures small { IfOk result (λ r. IfSome r (λ line. buffer.new.used ≤ 2 ^ 40)) }
-    ensures passed { IsErrOf result LineStop.Passed → IfSome (known_lines buffer.old (I.left input.old)) FirstPasses }
+    ensures passed { IsErrOf result LineStop.Passed → IfSome (known_lines buffer.old (I.left input.old)) FirstTooLong }
     ensures broke_off { IsErrOf result LineStop.Input → BrokeOff buffer.old (I.left input.old) (I.left input.new) }
     ensures failed { IsErrOf result LineStop.Input → Rose (I.faults input.old) (I.faults input.new) }
     ensures later { I.faults input.old ≤ I.faults input.new }
@@ -96,7 +102,11 @@ pub fn next_line<I: Source>(
                 bytes: line,
                 is_last: false,
             })),
-            Piece::Part => {}
+            Piece::Part => {
+                if line.len() > LONGEST {
+                    return Err(LineStop::Passed);
+                }
+            }
             Piece::Passed => return Err(LineStop::Passed),
         }
     }

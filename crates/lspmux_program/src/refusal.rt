@@ -13,7 +13,7 @@ use mux_hub::Hub;
 use std::alloc::Global;
 
 /// The most bytes of a body.
-const CONTENT: usize = 67_108_864;
+pub const CONTENT: usize = 67_108_864;
 
 /// Why a line is refused.
 #[derive(Clone, Copy, Debug, PartialEq, Eq)]
