@@ -66,7 +66,7 @@ impl FrameReader {
         }
     }
 
-    /// The next piece of the stream. Want of memory changes nothing, nor does a piece behind a fault.
+    /// The next piece of the stream. Running out of memory changes nothing, nor does a piece behind a fault.
     pub fn feed(&mut self, piece: &[u8]) -> Result<(), Memory>
         ensures limit { self.new.limit ≡ self.old.limit }
         ensures fed { OnOk result ((fed : List ℕ) (given : List (List ℕ)) → Stands self.old fed given → Stands self.new (fed ++ piece.now) given) }

@@ -19,7 +19,7 @@ fn skips(rt: &HostRuntime) -> io::Result<bool> {
     }
 }
 
-// The bytes of the contents in pieces of 4,096 bytes; None where memory is wanting.
+// The bytes of the contents in pieces of 4,096 bytes; None where memory runs out.
 fn count_contents(rt: &HostRuntime, bytes: &[u8]) -> Option<u64> {
     let mut reader = FrameReader::new(rt.alloc(), LIMIT);
     let mut count: u64 = 0;

@@ -29,7 +29,7 @@ fn asked(rt: &HostRuntime) -> io::Result<Work> {
     }
 }
 
-// How many values the text has; None where it is none, is too long, or memory is wanting.
+// How many values the text has; None where it is none, is too long, or memory runs out.
 fn count_values(rt: &HostRuntime, bytes: &[u8]) -> Option<usize> {
     if bytes.len() > MOST {
         return None;

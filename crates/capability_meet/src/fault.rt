@@ -11,7 +11,7 @@ use std::alloc::Global;
 pub enum CapFault {
     /// The bytes are no JSON text (RFC 8259) that nests at most 1,024 deep.
     NotJson,
-    /// Want of memory.
+    /// Out of memory.
     Memory,
 }
 

@@ -8,7 +8,7 @@ use Rattle.json_nodes.specs.Doc.{Doc}
 use Rattle.doc_text.specs.declared.fault.ChangeFault.{ChangeFault}
 use Rattle.doc_text.specs.declared.fault.ChangeFault.TheVariants.{BadShape, Memory}
 
--- the answer is what was sought, or a bad shape where there is none; want of memory may come at any time
+-- the answer is what was sought, or a bad shape where there is none; memory may run out at any time
 abbrev pub Gives : {A B : Type 0} → (A → B) → Result A ChangeFault → Option B → Type 0
 Gives view (Ok x) sought = sought ≡ Some (view x)
 Gives view (Err BadShape) sought = sought ≡ None

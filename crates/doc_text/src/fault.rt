@@ -9,7 +9,7 @@ use std::alloc::{AllocError, AllocFailed};
 pub enum ChangeFault {
     /// They are no list of changes (LSP 3.17, TextDocumentContentChangeEvent).
     BadShape,
-    /// Want of memory.
+    /// Out of memory.
     Memory,
 }
 

@@ -48,7 +48,7 @@ impl Editors {
         self.sessions.len() as u64
     }
 
-    /// Takes in the editor of the next number, as new, in no group and with nothing asked or sent. Want of memory leaves the
+    /// Takes in the editor of the next number, as new, in no group and with nothing asked or sent. Running out of memory leaves the
     /// editors as they were.
     pub fn join(&mut self, e: u64) -> Result<(), Memory>
         requires next { e ≡ length self.old }

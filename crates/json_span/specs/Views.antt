@@ -14,7 +14,7 @@ use Rattle.json_span.specs.Machine.{State, state, Fault, syntax, deep, read}
 abbrev pub state_of : Reader → State
 state_of r = state r.mode r.name (reverse r.stack.items) r.nodes.items
 
--- want of memory may come at any time
+-- memory may run out at any time
 abbrev pub Fails : {Y : Type 0} → JsonFault → Result Y Fault → Type 0
 Fails Memory m = Unit {0}
 Fails (Syntax p) m = m ≡ Err (syntax p)

@@ -10,7 +10,7 @@ pub enum JsonFault {
     Syntax(usize),
     /// The bracket at this place would be one too many open at once.
     TooDeep(usize),
-    /// Want of memory.
+    /// Out of memory.
     Memory,
 }
 

@@ -61,7 +61,7 @@ fn read_nodes(alloc: Global, bytes: &[u8]) -> Result<Vec<Node>, JsonFault>
 }
 
 impl<'a> Tape<'a> {
-    /// Reads bytes as a JSON text: it is taken just where it is one and nests at most 1,024 deep, unless memory is wanting.
+    /// Reads bytes as a JSON text: it is taken just where it is one and nests at most 1,024 deep, unless memory runs out.
     pub fn read(alloc: Global, bytes: &'a [u8]) -> Result<Tape<'a>, JsonFault>
         requires { length bytes.now ≤ 268435456 }
         ensures ok { IfOk result (λ tape. (tape.bytes ≡ bytes.now) × ((j : Json) × Holds tape j)) }

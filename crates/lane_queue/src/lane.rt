@@ -94,7 +94,7 @@ impl Lane {
 }
 
 impl LaneIn {
-    /// Puts an item behind those that were posted. Want of memory hands it back and changes nothing.
+    /// Puts an item behind those that were posted. Running out of memory hands it back and changes nothing.
     pub fn push<R: Wait>(&mut self, rt: &R, item: Posted) -> Result<(), Posted>
         ensures queue { self.new.queue ≡ self.old.queue }
         ensures ok { OnOk result (self.new.pushed ≡ self.old.pushed ++ item ∷ []) }
@@ -115,7 +115,7 @@ impl LaneOut {
         self.orders.take(rt)
     }
 
-    /// Puts what became of an order behind those before. Want of memory hands it back and changes nothing.
+    /// Puts what became of an order behind those before. Running out of memory hands it back and changes nothing.
     pub fn push<R: Wait>(&mut self, rt: &R, item: Side) -> Result<(), Side>
         ensures queue { (self.new.sides.queue ≡ self.old.sides.queue) × (self.new.orders ≡ self.old.orders) }
         ensures ok { OnOk result (self.new.sides.pushed ≡ self.old.sides.pushed ++ item ∷ []) }
@@ -148,7 +148,7 @@ impl HubEnds {
         self.sides.take(rt)
     }
 
-    /// Puts an order behind those before. Want of memory hands it back and changes nothing.
+    /// Puts an order behind those before. Running out of memory hands it back and changes nothing.
     pub fn push<R: Wait>(&mut self, rt: &R, order: Order) -> Result<(), Order>
         ensures queue { self.new.orders.queue ≡ self.old.orders.queue }
         ensures others { (self.new.posted ≡ self.old.posted) × (self.new.sides ≡ self.old.sides) }

@@ -163,7 +163,7 @@ pub fn new<T: Drop>(alloc: Global) -> Result<(PutEnd<T>, TakeEnd<T>), Memory>
 }
 
 impl<T: Drop> PutEnd<T> {
-    /// Puts an item at the back. Want of memory hands it back.
+    /// Puts an item at the back. Running out of memory hands it back.
     pub fn push<R: Wait>(&mut self, rt: &R, item: T) -> Result<(), T>
         ensures queue { self.new.0 ≡ self.old.0 }
         ensures ok { OnOk result (self.new.1 ≡ self.old.1 ++ item ∷ []) }

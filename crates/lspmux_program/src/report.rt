@@ -49,7 +49,7 @@ fn write_refused<O: Sink>(alloc: Global, output: &mut O, line: u64, refusal: Ref
     1
 }
 
-/// Writes the fault line of a stop and answers the status: 1 and the number of a refused line, 5 for want of memory,
+/// Writes the fault line of a stop and answers the status: 1 and the number of a refused line, 5 when memory runs out,
 /// 6, 7 and 8 for faults of journal, input and output.
 pub fn report<O: Sink>(alloc: Global, output: &mut O, stop: Stop) -> u8
     ensures reported { Reported result (status_of stop) (O.written output.old) (O.written output.new) (fault_line stop) (Rose (O.faults output.old) (O.faults output.new)) }

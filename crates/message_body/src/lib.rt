@@ -1,4 +1,4 @@
-//! Two plain types that every layer shares: the bytes of one message, and the answer for want of memory.
+//! Two plain types that every layer shares: the bytes of one message, and the answer when memory runs out.
 #![tactic(auto)]
 
 mod body;

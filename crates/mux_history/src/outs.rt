@@ -59,7 +59,7 @@ impl Outs {
         self.list.as_slice()
     }
 
-    /// Puts `out` behind the list. Want of memory leaves the list as it was and drops `out`.
+    /// Puts `out` behind the list. Running out of memory leaves the list as it was and drops `out`.
     pub fn push(&mut self, out: Out) -> Result<(), Memory>
         ensures ok { OnOk result (self.new ≡ self.old ++ out ∷ []) }
         ensures err { OnErr result (self.new ≡ self.old) }
@@ -68,7 +68,7 @@ impl Outs {
         Ok(())
     }
 
-    /// Puts the outs of `more` behind the list. Want of memory leaves the list as it was and drops `more`.
+    /// Puts the outs of `more` behind the list. Running out of memory leaves the list as it was and drops `more`.
     pub fn append(&mut self, more: Outs) -> Result<(), Memory>
         ensures ok { OnOk result (self.new ≡ self.old ++ more) }
         ensures err { OnErr result (self.new ≡ self.old) }

@@ -63,7 +63,7 @@ impl<J: Journal> Model for Hub<J> {
 }
 
 impl<J: Journal> Hub<J> {
-    /// A hub without a history. Want of memory hands the journal back.
+    /// A hub without a history. Running out of memory hands the journal back.
     pub fn new(
         alloc: Global,
         limits: Limits,

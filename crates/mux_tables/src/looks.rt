@@ -56,11 +56,7 @@ impl Tables {
         ensures start { (settings : Settings) (events : List Event) → Stands settings self.now events → MatchOption result (start_for settings e events ≡ None) (λ g. (x : Start) → slice_get self.now.lasts.items g ≡ Some x → start_for settings e events ≡ Some x.life.start) }
     {
         let g = self.editors.group(e)? as usize;
-        if g < self.lasts.len() {
-            Some(g)
-        } else {
-            None
-        }
+        if g < self.lasts.len() { Some(g) } else { None }
     }
 
     /// Where the editor stands; one past the end never joined.

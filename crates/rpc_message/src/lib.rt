@@ -16,7 +16,9 @@ mod texts;
 pub use code::ErrorCode;
 pub use envelope::Envelope;
 pub use id::{is_integer, is_quoted, same_id};
-pub use laws::{answers_law, calls_law, opening_law, parts_law, puts_law, refusals_law, renamed_law};
+pub use laws::{
+    answers_law, calls_law, opening_law, parts_law, puts_law, refusals_law, renamed_law,
+};
 pub use message::Message;
 pub use sort::{Malformed, Sort};
 pub use texts::{

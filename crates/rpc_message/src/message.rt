@@ -58,7 +58,7 @@ fn decoded_method(
 }
 
 impl<'a> Message<'a> {
-    /// Reads a body. It is taken just where it is a message, unless memory is wanting.
+    /// Reads a body. It is taken just where it is a message, unless memory runs out.
     pub fn read(alloc: Global, bytes: &'a [u8]) -> Result<Message<'a>, Malformed>
         requires { length bytes.now ≤ 268435456 }
         ensures ok { IfOk result (λ m. IsRead m bytes.now) }
@@ -205,7 +205,12 @@ impl<'a> Message<'a> {
     /// The body with another id and with each change made, and all else as it came; it gets no id where it has none. The places
     /// rise and don't overlap, and the id stands in front of all of them or behind them. Its cost is linear in the body, the
     /// number of changes and the new texts.
-    pub fn with_changes(&self, alloc: Global, id: &[u8], changes: Vec<Change>) -> Result<Body, Memory>
+    pub fn with_changes(
+        &self,
+        alloc: Global,
+        id: &[u8],
+        changes: Vec<Change>,
+    ) -> Result<Body, Memory>
         requires { Rise self.now.doc.bytes (id_edits self.now.doc.bytes id.now (edits_of changes.items)) }
         ensures { (bytes : List ℕ) → IsRead self.now bytes → IfOk result (λ body. body ≡ changed_text bytes id.now (edits_of changes.items)) }
     {

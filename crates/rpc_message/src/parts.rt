@@ -117,7 +117,9 @@ pub fn with_id_change(
 ) -> Result<Vec<Change>, Memory>
     ensures { IfOk result (λ all. edits_of all.items ≡ id_edits_at id.now (edits_of changes.items) place) }
 {
-    let Some(span) = place else { return Ok(changes) };
+    let Some(span) = place else {
+        return Ok(changes)
+    };
     let text = Body::new(Vec::from_slice(alloc, id)?);
     beside(Change { span, text }, changes)
 }

@@ -16,6 +16,6 @@ pub enum Malformed {
     NotJson,
     /// It is such a text, and no message of the four classes.
     NotMessage,
-    /// Want of memory.
+    /// Out of memory.
     Memory,
 }
