@@ -2,7 +2,7 @@ pub mod Begins
 pub mod Frames
 pub mod IdMoves
 pub mod Lasts
-pub mod Looks
+pub mod Seen
 pub mod Moves
 pub mod Lists
 pub mod Placing

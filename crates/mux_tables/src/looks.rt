@@ -32,7 +32,7 @@ impl Tables {
 
     /// The place of the group whose last start this is; where there is none, no such start was spawned, or its program ended or
     /// couldn't be run.
-    #[tactic(auto, using(crate::proofs::Looks::unspawned_over))]
+    #[tactic(auto, using(crate::proofs::Seen::unspawned_over))]
     pub fn last(&self, s: u64) -> Option<usize>
         ensures inside { IfSome result (λ g. g < length self.now.lasts.items) }
         ensures found { IfSome result (λ g. slice_get (map number_in self.now.lasts.items) g ≡ Some s) }
@@ -49,7 +49,7 @@ impl Tables {
     }
 
     /// The place of an editor's group, where it has a start.
-    #[tactic(auto, using(crate::proofs::Looks::placed_nowhere))]
+    #[tactic(auto, using(crate::proofs::Seen::placed_nowhere))]
     pub fn group(&self, e: u64) -> Option<usize>
         requires { e < length self.now.editors }
         ensures inside { IfSome result (λ g. g < length self.now.lasts.items) }
@@ -60,7 +60,7 @@ impl Tables {
     }
 
     /// Where the editor stands; one past the end never joined.
-    #[tactic(auto, using(crate::proofs::Looks::phase_inside, crate::proofs::Looks::phase_past))]
+    #[tactic(auto, using(crate::proofs::Seen::phase_inside, crate::proofs::Seen::phase_past))]
     pub fn phase(&self, e: u64) -> Phase
         ensures { (settings : Settings) (events : List Event) → Stands settings self.now events → result ≡ (desk_of e events).phase }
     {
@@ -71,11 +71,11 @@ impl Tables {
     }
 
     /// The numbers, rising, of the editors of this group that run.
-    #[tactic(auto, using(crate::proofs::Looks::running_so))]
     pub fn running(&self, g: u64) -> Result<Vec<u64>, Memory>
         ensures { (settings : Settings) (events : List Event) → Stands settings self.now events → IfOk result (λ numbers. numbers.items ≡ editors_in is_running g (λ e. home_of settings e events) events) }
     {
-        self.editors.running(g)
+        let numbers = self.editors.running(g)?;
+        Ok(numbers)
     }
 
     /// The numbers, rising, of an editor's open requests at the group's last start.

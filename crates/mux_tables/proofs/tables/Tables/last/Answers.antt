@@ -1,6 +1,6 @@
 -- The group whose last start this is.
 use Rattle.std.proofs.Common.{sym, ◌∙◌, arith}
-use Rattle.mux_tables.proofs.Looks.{other_over, outside_over, start_read}
+use Rattle.mux_tables.proofs.Seen.{other_over, outside_over, start_read}
 use Rattle.mux_tables.proofs.tables.Tables.last.Goals as goal
 
 pub returns-then-g-len-clause-none : goal.returns-then-g-len-clause-none

@@ -1,5 +1,5 @@
 -- An editor's open requests.
-use Rattle.mux_tables.proofs.Looks.{requests_so}
+use Rattle.mux_tables.proofs.Seen.{requests_so}
 use Rattle.mux_tables.proofs.tables.Tables.requests_of.Goals as goal
 
 pub returns : goal.returns
