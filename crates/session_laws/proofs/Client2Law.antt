@@ -10,16 +10,16 @@ use Rattle.event_model.specs.Requests.{answered_id, open_of, open_behind, is_ope
 use Rattle.event_model.specs.Always.{Always}
 use Rattle.session_laws.specs.ClientRules.{IsAnswer, null_errors_of, null_errors_behind, malformed_of, malformed_behind, ClientRule2, KeepsClient2}
 use Rattle.event_model.specs.Parts.{editor_part, is_of_editor}
-use Rattle.session_laws.proofs.Bodies.{IsResponseTo, is_result, is_error}
-use Rattle.session_laws.proofs.Rules.{rule_more, word_more, word_of_part}
-use Rattle.session_laws.proofs.Words.{number_same}
+use Rattle.mux_facts.proofs.Bodies.{IsResponseTo, is_result, is_error}
+use Rattle.mux_facts.proofs.Rules.{rule_more, word_more, word_of_part}
+use Rattle.mux_facts.proofs.Words.{number_same}
 use Rattle.mux_history.specs.declared.cause.Cause.{Cause}
 use Rattle.mux_history.specs.declared.entry.Entry.{Entry}
 use Rattle.mux_model.specs.Legal.{Legal}
 use Rattle.event_model.specs.Settings.{Settings}
 use Rattle.event_model.specs.Spawns.{starts_of}
-use Rattle.session_laws.proofs.FactLaws.{fact_laws, no_facts}
-use Rattle.session_laws.proofs.Known.{Law, Told, nulls, begun, responds, law_holds}
+use Rattle.mux_facts.proofs.FactLaws.{fact_laws, no_facts}
+use Rattle.mux_facts.proofs.Known.{Law, Told, nulls, begun, responds, law_holds}
 
 -- the rule holds, and no more errors under a null id went to e than malformed bodies came from it
 pub record Here (e : ℕ) (events : List Event) : Type 0 where

@@ -18,21 +18,21 @@ use Rattle.event_model.specs.Requests.{open_of, is_open, asks, without}
 use Rattle.event_model.specs.Always.{Always}
 use Rattle.session_laws.specs.ClientRules.{Opening, opening_hears, opening_told, opening_behind, opening_of, may_hear, ClientRule3, KeepsClient3}
 use Rattle.event_model.specs.Parts.{editor_part, is_of_editor}
-use Rattle.session_laws.proofs.Bodies.{IsResponseTo, is_result, is_error}
-use Rattle.session_laws.proofs.Why.{is_early}
-use Rattle.session_laws.proofs.Folds.{desk_more}
-use Rattle.session_laws.proofs.Late.{error_told}
-use Rattle.session_laws.proofs.Rules.{rule_more, word_more}
-use Rattle.session_laws.proofs.Words.{number_same, same_id_itself}
+use Rattle.mux_facts.proofs.Bodies.{IsResponseTo, is_result, is_error}
+use Rattle.mux_facts.proofs.Why.{is_early}
+use Rattle.mux_facts.proofs.Folds.{desk_more}
+use Rattle.mux_facts.proofs.Late.{error_told}
+use Rattle.mux_facts.proofs.Rules.{rule_more, word_more}
+use Rattle.mux_facts.proofs.Words.{number_same, same_id_itself}
 use Rattle.mux_history.specs.declared.cause.Cause.{Cause}
 use Rattle.mux_history.specs.declared.entry.Entry.{Entry}
 use Rattle.mux_model.specs.Fits.{fits_behind}
 use Rattle.mux_model.specs.Legal.{Legal}
 use Rattle.event_model.specs.Settings.{Settings}
 use Rattle.event_model.specs.Spawns.{starts_of}
-use Rattle.session_laws.proofs.Editors.{Editors}
-use Rattle.session_laws.proofs.FactLaws.{fact_laws, no_facts}
-use Rattle.session_laws.proofs.Known.{Law, Told, nulls, begun, responds, law_holds}
+use Rattle.mux_facts.proofs.Editors.{Editors}
+use Rattle.mux_facts.proofs.FactLaws.{fact_laws, no_facts}
+use Rattle.mux_facts.proofs.Known.{Law, Told, nulls, begun, responds, law_holds}
 
 -- no `initialize` is open, and none got a result
 abbrev Fresh : Opening → Type 0

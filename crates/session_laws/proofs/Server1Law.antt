@@ -8,7 +8,7 @@ use Rattle.event_model.specs.declared.stage.Stage.TheVariants.{Unspawned, Spawni
 use Rattle.event_model.specs.Event.{Event, took, did, requests, heard, said, with_cause}
 use Rattle.event_model.specs.Stages.{stage_started, stage_hears, stage_told, is_first_result, Life, life_of, life_behind}
 use Rattle.session_laws.specs.ServerRules.{Program, program_behind, ServerRule1, program_of, KeepsServer1}
-use Rattle.session_laws.proofs.Why.{WhyToServer, begins, greets, forwarded, tells}
+use Rattle.mux_facts.proofs.Why.{WhyToServer, begins, greets, forwarded, tells}
 use Rattle.session_laws.proofs.PartLaws.{is_to_server, ServerRule, server_history}
 use Rattle.mux_history.specs.declared.cause.Cause.{Cause}
 use Rattle.mux_history.specs.declared.entry.Entry.{Entry}
@@ -16,10 +16,10 @@ use Rattle.mux_model.specs.Legal.{Legal}
 use Rattle.event_model.specs.Settings.{Settings}
 use Rattle.event_model.specs.Spawns.{starts_of}
 use Rattle.event_model.specs.Parts.{server_part, is_of_server}
-use Rattle.session_laws.proofs.Folds.{life_more}
-use Rattle.session_laws.proofs.Known.{Law}
-use Rattle.session_laws.proofs.Rules.{word_more}
-use Rattle.session_laws.proofs.Words.{pick, pick_life, same_number, number_same}
+use Rattle.mux_facts.proofs.Folds.{life_more}
+use Rattle.mux_facts.proofs.Known.{Law}
+use Rattle.mux_facts.proofs.Rules.{word_more}
+use Rattle.mux_facts.proofs.Words.{pick, pick_life, same_number, number_same}
 
 -- it runs and isn't over
 abbrev pub IsUp : Program → Type 0

@@ -11,9 +11,9 @@ use Rattle.event_model.specs.Settings.{Settings}
 use Rattle.event_model.specs.Stages.{stage_started, stage_hears, stage_told, is_first_result, Life, life_of, life_behind, is_spawning, is_initializing}
 use Rattle.document_model.specs.Sayings.{saying_of, speaks}
 use Rattle.document_model.proofs.Written.{Spoken, spoken}
-use Rattle.session_laws.specs.Ranges.{InRange}
+use Rattle.mux_facts.specs.Ranges.{InRange}
 use Rattle.session_laws.specs.ServerRules.{Handshake, silent, asked, answered, open_to_all, handshake_behind, allows, ServerRule2, handshake_of, KeepsServer2}
-use Rattle.session_laws.proofs.Why.{WhyToServer, moves, begins, greets, forwarded, tells}
+use Rattle.mux_facts.proofs.Why.{WhyToServer, moves, begins, greets, forwarded, tells}
 use Rattle.session_laws.proofs.PartLaws.{is_to_server}
 use Rattle.std.proofs.lemmas.Bool.{and_parts}
 use Rattle.std.proofs.lemmas.List.Sums.{fold-append}
@@ -30,12 +30,12 @@ use Rattle.event_model.specs.Spawns.{starts_of}
 use Rattle.mux_model.proofs.Openings.{any_opening_law}
 use Rattle.event_model.specs.Always.{Always}
 use Rattle.event_model.specs.Parts.{server_part, is_of_server}
-use Rattle.session_laws.proofs.Folds.{life_more}
-use Rattle.session_laws.proofs.Keeps.{behind_both}
-use Rattle.session_laws.proofs.Reasons.{Because, by_nothing, by_send, by_then, by_look, reasons_keep}
-use Rattle.session_laws.proofs.RestLaws.{RestLaw, rest_holds}
-use Rattle.session_laws.proofs.Rules.{rule_more, word_more}
-use Rattle.session_laws.proofs.Words.{pick, pick_life, same_number, number_same}
+use Rattle.mux_facts.proofs.Folds.{life_more}
+use Rattle.mux_facts.proofs.Keeps.{behind_both}
+use Rattle.mux_facts.proofs.Reasons.{Because, by_nothing, by_send, by_then, by_look, reasons_keep}
+use Rattle.mux_facts.proofs.RestLaws.{RestLaw, rest_holds}
+use Rattle.mux_facts.proofs.Rules.{rule_more, word_more}
+use Rattle.mux_facts.proofs.Words.{pick, pick_life, same_number, number_same}
 
 abbrev pub Link : Stage → Handshake → Type 0
 Link Unspawned w = w ≡ silent

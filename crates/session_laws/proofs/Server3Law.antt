@@ -10,17 +10,17 @@ use Rattle.event_model.specs.Event.{Event, took, did, heard, with_cause}
 use Rattle.event_model.specs.Requests.{Asking, asking_behind, asking_sends, asking_of, no_asking}
 use Rattle.event_model.specs.Parts.{is_of_server}
 use Rattle.session_laws.specs.ServerRules.{requests_behind, HasNumber, ServerRule3, KeepsServer3}
-use Rattle.session_laws.proofs.Rules.{word_first}
+use Rattle.mux_facts.proofs.Rules.{word_first}
 use Rattle.session_laws.proofs.PartLaws.{is_to_server, No, no_law, ServerRule, server_history}
 use Rattle.mux_history.specs.declared.cause.Cause.{Cause}
 use Rattle.mux_history.specs.declared.entry.Entry.{Entry}
 use Rattle.document_model.proofs.Written.{Spoken, spoken}
 use Rattle.mux_model.specs.Legal.{Legal}
 use Rattle.event_model.specs.Settings.{Settings}
-use Rattle.session_laws.specs.Ranges.{InRange}
-use Rattle.session_laws.proofs.Folds.{asking_more}
-use Rattle.session_laws.proofs.Known.{Facts, is_unbegun}
-use Rattle.session_laws.proofs.Why.{WhyToServer, begins, greets, forwarded, tells}
+use Rattle.mux_facts.specs.Ranges.{InRange}
+use Rattle.mux_facts.proofs.Folds.{asking_more}
+use Rattle.mux_facts.proofs.Known.{Facts, is_unbegun}
+use Rattle.mux_facts.proofs.Why.{WhyToServer, begins, greets, forwarded, tells}
 
 -- before its program runs it was sent no request
 abbrev Link : Stage → ℕ → Type 0

@@ -10,18 +10,19 @@ use Rattle.mux_history.specs.declared.out.Out.TheVariants.{ToEditor, ToServer, S
 use Rattle.mux_model.specs.Documents.{Sent, held_behind, sent_behind}
 use Rattle.event_model.specs.Event.{Event, took, did}
 use Rattle.event_model.specs.Parts.{server_part, is_of_server}
-use Rattle.session_laws.specs.ServerRules.{version_told, version_behind, IsNext, AllowsSaying, ServerRule4, version_of, KeepsServer4}
-use Rattle.session_laws.proofs.Rules.{word_first}
+use Rattle.mux_facts.specs.Allowed.{AllowsSaying, IsNext}
+use Rattle.session_laws.specs.ServerRules.{version_told, version_behind, version_of, ServerRule4, KeepsServer4}
+use Rattle.mux_facts.proofs.Rules.{word_first}
 use Rattle.session_laws.proofs.PartLaws.{is_to_server, No, no_law, ServerRule, server_history}
-use Rattle.session_laws.proofs.Tellings.{versions_at}
+use Rattle.mux_facts.proofs.Tellings.{versions_at}
 use Rattle.mux_history.specs.declared.cause.Cause.{Cause}
 use Rattle.mux_history.specs.declared.entry.Entry.{Entry}
 use Rattle.rpc_message.specs.Message.{message_of}
 use Rattle.mux_model.specs.Legal.{Legal}
 use Rattle.event_model.specs.Requests.{asking_of}
 use Rattle.event_model.specs.Settings.{Settings}
-use Rattle.session_laws.specs.Ranges.{InRange}
-use Rattle.session_laws.proofs.Why.{WhyToServer, begins, greets, forwarded, tells}
+use Rattle.mux_facts.specs.Ranges.{InRange}
+use Rattle.mux_facts.proofs.Why.{WhyToServer, begins, greets, forwarded, tells}
 
 -- the version of each document
 abbrev pub Versions : Type 0

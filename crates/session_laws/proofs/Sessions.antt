@@ -3,7 +3,7 @@ use Rattle.std.specs.Prelude.{List}
 use Rattle.mux_history.specs.declared.entry.Entry.{Entry}
 use Rattle.mux_model.specs.Legal.{Legal}
 use Rattle.event_model.specs.Settings.{Settings}
-use Rattle.session_laws.specs.Ranges.{InRange}
+use Rattle.mux_facts.specs.Ranges.{InRange}
 use Rattle.session_laws.specs.Sessions.{KeepsSessions}
 use Rattle.session_laws.proofs.Client2Law.{client_2_law}
 use Rattle.session_laws.proofs.Client3Law.{client_3_law}

@@ -11,10 +11,10 @@ use Rattle.event_model.specs.Event.{Event, did, heard, said, with_cause, with_en
 use Rattle.event_model.specs.Settings.{Settings}
 use Rattle.event_model.specs.Spawns.{starts_of, starts_behind}
 use Rattle.mux_model.specs.Legal.{Legal}
-use Rattle.session_laws.proofs.FactLaws.{fact_laws, no_facts}
-use Rattle.session_laws.proofs.Folds.{starts_more}
-use Rattle.session_laws.proofs.Known.{Law, law_holds}
-use Rattle.session_laws.proofs.Words.{number_same, other_number}
+use Rattle.mux_facts.proofs.FactLaws.{fact_laws, no_facts}
+use Rattle.mux_facts.proofs.Folds.{starts_more}
+use Rattle.mux_facts.proofs.Known.{Law, law_holds}
+use Rattle.mux_facts.proofs.Words.{number_same, other_number}
 
 -- how often a start was spawned
 abbrev spawned_behind : ℕ → ℕ → Event → ℕ

@@ -1,4 +1,3 @@
 pub mod ClientRules
-pub mod Ranges
 pub mod ServerRules
 pub mod Sessions

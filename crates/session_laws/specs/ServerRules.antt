@@ -1,5 +1,5 @@
 -- What a start of a server may expect of its one client. Each rule speaks of a body to it, behind the events of its part before that body.
-use Rattle.std.specs.Prelude.{◌≡◌, ℕ, ◌+◌, Bool, true, false, not, ◌&&◌, List, fold, bytes_eq, codes, decimal, is_some, IsTrue, if◌then◌else◌}
+use Rattle.std.specs.Prelude.{◌≡◌, ℕ, ◌+◌, Bool, true, false, not, ◌&&◌, List, fold, bytes_eq, codes, decimal, IsTrue, if◌then◌else◌}
 use Rattle.std.specs.Prelude.{Option, Some, None}
 use Rattle.std.specs.Option.{option_map}
 use Rattle.document_model.specs.Helds.{number_of}
@@ -7,11 +7,12 @@ use Rattle.document_model.specs.Sayings.{Saying, opens, changes, closes, misshap
 use Rattle.mux_history.specs.declared.cause.Cause.TheVariants.{Started, FromServer, ServerGone}
 use Rattle.mux_history.specs.declared.entry.Entry.{Entry}
 use Rattle.mux_history.specs.declared.out.Out.TheVariants.{ToServer, EndServer}
-use Rattle.rpc_message.specs.Message.{Message, request, result, error, integer}
+use Rattle.rpc_message.specs.Message.{Message, request, integer}
 use Rattle.event_model.specs.Event.{Event, took, did, events_of, same_id, requests, notifies}
 use Rattle.event_model.specs.Stages.{is_first_result}
 use Rattle.event_model.specs.Always.{Always}
 use Rattle.event_model.specs.Parts.{server_part}
+use Rattle.mux_facts.specs.Allowed.{AllowsSaying, is_response}
 
 -- Rule 1 (LSP 3.17, Lifecycle Messages): bodies go to a program while it runs, and not once it is to be ended.
 pub record Program : Type 0 where
@@ -47,12 +48,6 @@ handshake_behind h other = h
 
 abbrev pub handshake_of : List Event → Handshake
 handshake_of part = fold handshake_behind silent part
-
--- a result or an error
-abbrev pub is_response : Message → Bool
-is_response (result id r) = true
-is_response (error id e) = true
-is_response _ = false
 
 -- of the number 1
 abbrev pub is_first_request : Message → Bool
@@ -103,19 +98,6 @@ version_behind u held other = held
 
 abbrev pub version_of : List ℕ → List Event → Option ℕ
 version_of u part = fold (version_behind u) None part
-
--- the digits of the version behind the held one
-abbrev pub IsNext : Option ℕ → List ℕ → Type 0
-IsNext None v = ⊥
-IsNext (Some n) v = v ≡ decimal (n + 1)
-
--- what may be said where these versions are held
-abbrev pub AllowsSaying : (List ℕ → Option ℕ) → Saying → Type 0
-AllowsSaying held (opens u l v t) = (held u ≡ None) × (v ≡ codes "1")
-AllowsSaying held (changes u v cs) = IsNext (held u) v
-AllowsSaying held (closes u) = is_some (held u) ≡ true
-AllowsSaying held misshapen = ⊥
-AllowsSaying held nothing = Unit {0}
 
 abbrev pub ServerRule4 : List Event → Event → Type 0
 ServerRule4 before (did (ToServer s body) m) = AllowsSaying (λ u. version_of u before) (saying_of m)

@@ -13,9 +13,9 @@ use Rattle.mux_model.specs.Documents.{Sent, sent_behind, sent_of, held_at}
 use Rattle.event_model.specs.Event.{Event, said}
 use Rattle.event_model.specs.Requests.{Asking, asking_of, asking_sends}
 use Rattle.event_model.specs.Stages.{Life, life_of, stage_told}
-use Rattle.session_laws.specs.ServerRules.{AllowsSaying, IsNext}
-use Rattle.session_laws.proofs.Folds.{life_more, asking_more}
-use Rattle.session_laws.proofs.Words.{same_number}
+use Rattle.mux_facts.specs.Allowed.{AllowsSaying, IsNext}
+use Rattle.mux_facts.proofs.Folds.{life_more, asking_more}
+use Rattle.mux_facts.proofs.Words.{same_number}
 use Rattle.json_text.specs.Json.{Json}
 use Rattle.document_model.specs.Opens.{Open}
 use Rattle.document_model.specs.Bodies.{open_text, full_text, close_text}
@@ -27,9 +27,9 @@ use Rattle.mux_history.specs.declared.out.Out.{Out}
 use Rattle.event_model.specs.Row.{send}
 use Rattle.mux_model.specs.Rows.{to_start}
 use Rattle.event_model.specs.Settings.{Settings}
-use Rattle.session_laws.specs.Ranges.{InRange}
-use Rattle.session_laws.proofs.Reasons.{Because, by_nothing, by_send, by_then}
-use Rattle.session_laws.proofs.Why.{Why, moves, tells}
+use Rattle.mux_facts.specs.Ranges.{InRange}
+use Rattle.mux_facts.proofs.Reasons.{Because, by_nothing, by_send, by_then}
+use Rattle.mux_facts.proofs.Why.{Why, moves, tells}
 
 -- what a start has behind one more event
 pub sent_more : (s : ℕ) (u : List ℕ) (events : List Event) (event : Event) → sent_of s u (events ++ event ∷ []) ≡ sent_behind s u (sent_of s u events) event

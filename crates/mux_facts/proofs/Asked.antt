@@ -10,11 +10,11 @@ use Rattle.event_model.specs.declared.phase.Phase.TheVariants.{Absent, New}
 use Rattle.event_model.specs.Event.{Event, took, said, same_id}
 use Rattle.event_model.specs.Phases.{Desk, desk_of, desk_behind, desk_hears, phase_told}
 use Rattle.event_model.specs.Requests.{Asker, Asked, Asking, asking_of, asking_behind, asking_sends, numbered, is_own, answers, answered_id, open_of, open_behind, is_open, asks, without}
-use Rattle.session_laws.proofs.Why.{is_early}
-use Rattle.session_laws.proofs.Folds.{desk_more, opens_more, asking_more}
-use Rattle.session_laws.proofs.Late.{hears_late, told_late}
-use Rattle.session_laws.proofs.Lists.{all_join, all_of, all_filtered}
-use Rattle.session_laws.proofs.Words.{same_number, number_same, open_more, still_open}
+use Rattle.mux_facts.proofs.Why.{is_early}
+use Rattle.mux_facts.proofs.Folds.{desk_more, opens_more, asking_more}
+use Rattle.mux_facts.proofs.Late.{hears_late, told_late}
+use Rattle.mux_facts.proofs.Lists.{all_join, all_of, all_filtered}
+use Rattle.mux_facts.proofs.Words.{same_number, number_same, open_more, still_open}
 
 -- an editor's request that a start is asked
 pub record IsKnown (events : List Event) (a : Asker) : Type 0 where

@@ -16,19 +16,19 @@ use Rattle.event_model.specs.Requests.{Asker, Asking, asking_of, asking_sends, i
 use Rattle.event_model.specs.Settings.{Settings}
 use Rattle.event_model.specs.Spawns.{starts_of}
 use Rattle.event_model.specs.Stages.{Life, life_of, life_behind, no_life, stage_started, stage_hears, stage_told, is_first_result}
-use Rattle.session_laws.proofs.Asked as asked
-use Rattle.session_laws.proofs.Asked.{AllAsked, IsKnown}
-use Rattle.session_laws.proofs.Why.{is_early, WhyToServer, begins, greets, forwarded, tells}
-use Rattle.session_laws.proofs.Editors as editors
-use Rattle.session_laws.proofs.Editors.{Editors}
-use Rattle.session_laws.proofs.Folds.{desk_more, editors_more, life_more, starts_more, asking_more}
-use Rattle.session_laws.proofs.Known.{Facts, FactLaws, Law, Unbegun, is_unbegun, Told, nulls, begun, responds}
-use Rattle.session_laws.proofs.Rules.{unless}
-use Rattle.session_laws.proofs.Starts as starts
-use Rattle.session_laws.proofs.Starts.{Starts}
-use Rattle.session_laws.proofs.Waits as waits
-use Rattle.session_laws.proofs.Waits.{AllWaiting, WaitsIf}
-use Rattle.session_laws.proofs.Words.{same_number, number_same}
+use Rattle.mux_facts.proofs.Asked as asked
+use Rattle.mux_facts.proofs.Asked.{AllAsked, IsKnown}
+use Rattle.mux_facts.proofs.Why.{is_early, WhyToServer, begins, greets, forwarded, tells}
+use Rattle.mux_facts.proofs.Editors as editors
+use Rattle.mux_facts.proofs.Editors.{Editors}
+use Rattle.mux_facts.proofs.Folds.{desk_more, editors_more, life_more, starts_more, asking_more}
+use Rattle.mux_facts.proofs.Known.{Facts, FactLaws, Law, Unbegun, is_unbegun, Told, nulls, begun, responds}
+use Rattle.mux_facts.proofs.Rules.{unless}
+use Rattle.mux_facts.proofs.Starts as starts
+use Rattle.mux_facts.proofs.Starts.{Starts}
+use Rattle.mux_facts.proofs.Waits as waits
+use Rattle.mux_facts.proofs.Waits.{AllWaiting, WaitsIf}
+use Rattle.mux_facts.proofs.Words.{same_number, number_same}
 
 -- A close
 

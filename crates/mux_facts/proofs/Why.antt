@@ -9,7 +9,6 @@ use Rattle.mux_history.specs.declared.cause.Cause.TheVariants.{Started, FromServ
 use Rattle.rpc_message.specs.Message.{request, Id, message_of, id_bytes, notification, result, error, integer, result_bytes}
 use Rattle.event_model.specs.declared.phase.Phase.{Phase}
 use Rattle.event_model.specs.declared.phase.Phase.TheVariants.{Absent, New, Waiting}
-use Rattle.event_model.specs.declared.stage.Stage.{Stage}
 use Rattle.event_model.specs.declared.stage.Stage.TheVariants.{Spawning, Initializing, Ready}
 use Rattle.mux_model.specs.Documents.{held_at}
 use Rattle.event_model.specs.Event.{Event, heard, with_cause}
@@ -17,8 +16,8 @@ use Rattle.event_model.specs.Phases.{desk_of, is_there, is_malformed}
 use Rattle.event_model.specs.Requests.{Asked, asking_of, asked_by, answered_id, open_of, is_open, Asker}
 use Rattle.event_model.specs.Settings.{Settings}
 use Rattle.event_model.specs.Stages.{is_first_result, is_initializing, is_spawning, life_of}
-use Rattle.session_laws.specs.Ranges.{InRange}
-use Rattle.session_laws.specs.ServerRules.{is_response, AllowsSaying}
+use Rattle.mux_facts.specs.Ranges.{InRange}
+use Rattle.mux_facts.specs.Allowed.{is_response, AllowsSaying}
 use Rattle.mux_history.specs.declared.out.Out.{Out}
 use Rattle.mux_history.specs.declared.out.Out.TheVariants.{ToEditor, ToServer, Spawn, CloseEditor, EndServer}
 use Rattle.rpc_message.specs.Texts.{ok_text, with_id_text}

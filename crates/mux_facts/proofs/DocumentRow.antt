@@ -24,11 +24,11 @@ use Rattle.event_model.specs.Event.{Event, heard, with_cause}
 use Rattle.event_model.specs.Requests.{Asking, asker_of}
 use Rattle.mux_model.specs.Rows.{changed_bodies, closed_bodies, document_bodies, to_start, document_row}
 use Rattle.event_model.specs.Settings.{Settings}
-use Rattle.session_laws.proofs.Why.{Why}
-use Rattle.session_laws.proofs.Folds.{life_more, asking_more}
-use Rattle.session_laws.proofs.Reasons.{Because, by_nothing, by_choose, by_on, by_then}
-use Rattle.session_laws.proofs.Opened.{Spelt}
-use Rattle.session_laws.proofs.Tellings.{CanTell, sent_more, open_told, close_told, versioned_told, switched_told, differing_told}
+use Rattle.mux_facts.proofs.Why.{Why}
+use Rattle.mux_facts.proofs.Folds.{life_more, asking_more}
+use Rattle.mux_facts.proofs.Reasons.{Because, by_nothing, by_choose, by_on, by_then}
+use Rattle.mux_facts.proofs.Opened.{Spelt}
+use Rattle.mux_facts.proofs.Tellings.{CanTell, sent_more, open_told, close_told, versioned_told, switched_told, differing_told}
 use Rattle.mux_history.specs.declared.out.Out.{Out}
 
 pub ready_is : (stage : Stage) → is_ready stage ≡ true → stage ≡ Ready

@@ -5,9 +5,9 @@ use Rattle.mux_history.specs.declared.out.Out.{Out}
 use Rattle.event_model.specs.Event.{Event, behind}
 use Rattle.event_model.specs.Row.{Row, outs, each}
 use Rattle.mux_model.specs.Rows.{below}
-use Rattle.session_laws.proofs.Keeps.{behind_both, behind_nothing}
-use Rattle.session_laws.proofs.Reasons.{Reasons, Because, by_nothing, reasons_both}
-use Rattle.session_laws.proofs.Words.{other_number}
+use Rattle.mux_facts.proofs.Keeps.{behind_both, behind_nothing}
+use Rattle.mux_facts.proofs.Reasons.{Reasons, Because, by_nothing, reasons_both}
+use Rattle.mux_facts.proofs.Words.{other_number}
 
 pub outs_each : {A : Type 0} (row : A → Row) (xs ys : List A) (events : List Event) → outs (each row (xs ++ ys)) events ≡ outs (each row xs) events ++ outs (each row ys) (behind events (outs (each row xs) events))
 outs_each row [] ys events = ap (λ z. outs (each row ys) z) (sym (behind_nothing events))

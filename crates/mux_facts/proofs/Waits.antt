@@ -10,12 +10,12 @@ use Rattle.event_model.specs.declared.phase.Phase.TheVariants.{Absent, New, Wait
 use Rattle.event_model.specs.Event.{Event, took, did, said, requests}
 use Rattle.event_model.specs.Phases.{Desk, desk_of, desk_behind, desk_hears, phase_told, makes_running}
 use Rattle.event_model.specs.Requests.{Asked, asking_of, has_number, answered_id, open_of, open_behind, is_open, asks, without}
-use Rattle.session_laws.proofs.Asked.{IsAsked, AllAsked, hears_open}
-use Rattle.session_laws.proofs.Why.{is_early, IsPassedOn}
-use Rattle.session_laws.proofs.Folds.{desk_more, opens_more}
-use Rattle.session_laws.proofs.Late.{error_told}
-use Rattle.session_laws.proofs.Lists.{found_is}
-use Rattle.session_laws.proofs.Words.{number_same, open_last}
+use Rattle.mux_facts.proofs.Asked.{IsAsked, AllAsked, hears_open}
+use Rattle.mux_facts.proofs.Why.{is_early, IsPassedOn}
+use Rattle.mux_facts.proofs.Folds.{desk_more, opens_more}
+use Rattle.mux_facts.proofs.Late.{error_told}
+use Rattle.mux_facts.proofs.Lists.{found_is}
+use Rattle.mux_facts.proofs.Words.{number_same, open_last}
 
 -- a body that is an open request `initialize`
 pub record Waits (initialize : List ℕ) (ids : List Id) : Type 0 where

@@ -12,13 +12,13 @@ use Rattle.event_model.specs.Phases.{desk_of, is_there}
 use Rattle.mux_model.specs.Rows.{outs_of}
 use Rattle.event_model.specs.Settings.{Settings}
 use Rattle.event_model.specs.Spawns.{starts_of}
-use Rattle.session_laws.proofs.FactLaws.{fact_laws, no_facts}
-use Rattle.session_laws.proofs.Keeps.{every_history, EntryKeeps}
-use Rattle.session_laws.proofs.Known.{Facts, Told, told, facts_took, facts_did}
-use Rattle.session_laws.proofs.Opened.{Spelt}
-use Rattle.session_laws.proofs.Reasons.{reasons_keep}
-use Rattle.session_laws.proofs.Why.{Why, WhyToServer}
-use Rattle.session_laws.proofs.Table.{reasons}
+use Rattle.mux_facts.proofs.FactLaws.{fact_laws, no_facts}
+use Rattle.mux_facts.proofs.Keeps.{every_history, EntryKeeps}
+use Rattle.mux_facts.proofs.Known.{Facts, Told, told, facts_took, facts_did}
+use Rattle.mux_facts.proofs.Opened.{Spelt}
+use Rattle.mux_facts.proofs.Reasons.{reasons_keep}
+use Rattle.mux_facts.proofs.Why.{Why, WhyToServer}
+use Rattle.mux_facts.proofs.Table.{reasons}
 
 -- I holds after each entry, M inside of one; `rest` is where the table is asked what the whole entry did
 pub record RestLaw (settings : Settings) (I : List Event → Type 0) (M : List Event → Cause → List Event → Type 0) : Type 0 where

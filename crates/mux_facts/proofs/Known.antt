@@ -20,16 +20,16 @@ use Rattle.mux_model.specs.Rows.{outs_of}
 use Rattle.event_model.specs.Settings.{Settings}
 use Rattle.event_model.specs.Spawns.{starts_of}
 use Rattle.event_model.specs.Stages.{life_of}
-use Rattle.session_laws.proofs.Asked.{AllAsked, IsKnown}
-use Rattle.session_laws.proofs.Bodies.{IsResponseTo, is_error, passed_says, welcome_says}
-use Rattle.session_laws.proofs.Why.{is_early, Why, WhyToServer, WhyToEditor, rejects, refuses, welcomes, passes}
-use Rattle.session_laws.proofs.Editors.{Editors}
-use Rattle.session_laws.proofs.Keeps.{every_history}
-use Rattle.session_laws.proofs.Opened.{Spelt}
-use Rattle.session_laws.proofs.Reasons.{reasons_keep}
-use Rattle.session_laws.proofs.Starts.{Starts}
-use Rattle.session_laws.proofs.Waits.{AllWaiting, Waits, waits_at, asked_is}
-use Rattle.session_laws.proofs.Table.{reasons}
+use Rattle.mux_facts.proofs.Asked.{AllAsked, IsKnown}
+use Rattle.mux_facts.proofs.Bodies.{IsResponseTo, is_error, passed_says, welcome_says}
+use Rattle.mux_facts.proofs.Why.{is_early, Why, WhyToServer, WhyToEditor, rejects, refuses, welcomes, passes}
+use Rattle.mux_facts.proofs.Editors.{Editors}
+use Rattle.mux_facts.proofs.Keeps.{every_history}
+use Rattle.mux_facts.proofs.Opened.{Spelt}
+use Rattle.mux_facts.proofs.Reasons.{reasons_keep}
+use Rattle.mux_facts.proofs.Starts.{Starts}
+use Rattle.mux_facts.proofs.Waits.{AllWaiting, Waits, waits_at, asked_is}
+use Rattle.mux_facts.proofs.Table.{reasons}
 
 -- a start whose program never ran was sent no request
 abbrev pub is_unbegun : Stage → Bool

@@ -16,12 +16,12 @@ use Rattle.mux_model.specs.Rows.{can_ask, answer_error, request_row, served_row,
 use Rattle.event_model.specs.Phases.{is_waiting}
 use Rattle.event_model.specs.Settings.{Settings}
 use Rattle.event_model.specs.Stages.{Life, life_of, is_ready, is_first_result, stage_hears}
-use Rattle.session_laws.specs.ServerRules.{is_response}
-use Rattle.session_laws.proofs.Why.{is_early, IsForward, Why, IsAsking, begins, greets, forwarded, rejects, refuses, welcomes, passes}
-use Rattle.session_laws.proofs.DocumentRow.{ready_is, document_keeps}
-use Rattle.session_laws.proofs.Folds.{desk_more, life_more, opens_more, asking_more}
-use Rattle.session_laws.proofs.Late.{hears_late}
-use Rattle.session_laws.proofs.Words.{same_number, open_last}
+use Rattle.mux_facts.specs.Allowed.{is_response}
+use Rattle.mux_facts.proofs.Why.{is_early, IsForward, Why, IsAsking, begins, greets, forwarded, rejects, refuses, welcomes, passes}
+use Rattle.mux_facts.proofs.DocumentRow.{ready_is, document_keeps}
+use Rattle.mux_facts.proofs.Folds.{desk_more, life_more, opens_more, asking_more}
+use Rattle.mux_facts.proofs.Late.{hears_late}
+use Rattle.mux_facts.proofs.Words.{same_number, open_last}
 use Rattle.std.proofs.lemmas.List.Elements.{filter-append}
 use Rattle.json_text.specs.Bare.{nowhere}
 use Rattle.mux_history.specs.declared.cause.Cause.{Cause}
@@ -35,10 +35,10 @@ use Rattle.event_model.specs.declared.stage.Stage.TheVariants.{Unspawned, Spawni
 use Rattle.event_model.specs.Spawns.{home_of, group_of}
 use Rattle.mux_model.proofs.Openings.{any_opening_law}
 use Rattle.event_model.specs.Parts.{server_part, is_of_server}
-use Rattle.session_laws.proofs.Bodies.{refusal_says, malformed_says}
-use Rattle.session_laws.proofs.Opened.{Spelt}
-use Rattle.session_laws.proofs.Reasons.{Because, by_nothing, by_send, by_then, by_choose, by_look, by_on}
-use Rattle.session_laws.proofs.Rising.{by_rising}
+use Rattle.mux_facts.proofs.Bodies.{refusal_says, malformed_says}
+use Rattle.mux_facts.proofs.Opened.{Spelt}
+use Rattle.mux_facts.proofs.Reasons.{Because, by_nothing, by_send, by_then, by_choose, by_look, by_on}
+use Rattle.mux_facts.proofs.Rising.{by_rising}
 
 -- Behind a request of e
 
