@@ -1,11 +1,12 @@
 -- The phase of an editor, and its initialize (LSP 3.17, Lifecycle Messages).
 use Rattle.std.specs.Prelude.{ℕ, ◌+◌, ◌-◌, Bool, true, false, not, ◌||◌, List, [], length, fold, codes, nat_eq, if◌then◌else◌}
+use Rattle.std.specs.Prelude.{Some}
 use Rattle.mux_history.specs.declared.cause.Cause.TheVariants.{Joined, FromEditor, EditorGone, Drained}
 use Rattle.mux_history.specs.declared.out.Out.TheVariants.{ToEditor, CloseEditor}
-use Rattle.rpc_message.specs.Message.{Message, not_json, not_message, result}
+use Rattle.rpc_message.specs.Message.{Message, not_json, not_message, request, result, Id, message_of}
 use Rattle.event_model.specs.declared.phase.Phase.{Phase}
 use Rattle.event_model.specs.declared.phase.Phase.TheVariants.{Absent, New, Waiting, Answered, Running, Down, Closed, Gone}
-use Rattle.event_model.specs.Event.{Event, took, did, requests, notifies}
+use Rattle.event_model.specs.Event.{Event, took, did, requests, notifies, same_id}
 
 -- where an editor stands, and the body of its initialize, which is empty before it came
 pub record Desk : Type 0 where
@@ -30,10 +31,15 @@ desk_hears Answered initialize body m = record { phase = if requests (codes "shu
 desk_hears Running initialize body m = record { phase = if requests (codes "shutdown") m then Down else Running; initialize = initialize }
 desk_hears other initialize body m = record { phase = other; initialize = initialize }
 
--- the result that a waiting editor is told answers its initialize
-abbrev pub phase_told : Phase → Message → Phase
-phase_told Waiting (result id r) = Answered
-phase_told phase m = phase
+-- a request under this id
+abbrev pub has_id : Id → Message → Bool
+has_id id (request other method params) = same_id id other
+has_id id other = false
+
+-- a result under the id of its own initialize answers a waiting editor
+abbrev pub phase_told : Phase → List ℕ → Message → Phase
+phase_told Waiting initialize (result (Some id) r) = if has_id id (message_of initialize) then Answered else Waiting
+phase_told phase initialize m = phase
 
 abbrev pub phase_closed : Phase → Phase
 phase_closed Gone = Gone
@@ -43,7 +49,7 @@ abbrev pub desk_behind : ℕ → Desk → Event → Desk
 desk_behind e desk (took (Joined n) m) = if nat_eq n e then record { phase = New; initialize = [] } else desk
 desk_behind e desk (took (FromEditor n body) m) = if nat_eq n e then desk_hears desk.phase desk.initialize body m else desk
 desk_behind e desk (took (EditorGone n why) m) = if nat_eq n e then record { phase = Gone; initialize = desk.initialize } else desk
-desk_behind e desk (did (ToEditor n body) m) = if nat_eq n e then record { phase = phase_told desk.phase m; initialize = desk.initialize } else desk
+desk_behind e desk (did (ToEditor n body) m) = if nat_eq n e then record { phase = phase_told desk.phase desk.initialize m; initialize = desk.initialize } else desk
 desk_behind e desk (did (CloseEditor n) m) = if nat_eq n e then record { phase = phase_closed desk.phase; initialize = desk.initialize } else desk
 desk_behind e desk other = desk
 

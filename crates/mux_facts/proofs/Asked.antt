@@ -95,8 +95,8 @@ pub to_editor : (events : List Event) (n : ℕ) (body : List ℕ) → AllAsked e
 to_editor events n body h s = subst (AllByRecursion (IsAsked (events ++ said (ToEditor n body) ∷ []))) (sym (ap (λ (a : Asking). a.open_requests) (asking_more s events (said (ToEditor n body)))))
     (all_filtered (IsAsked events) (IsAsked (events ++ said (ToEditor n body) ∷ [])) (λ asked. not (answers n (answered_id (message_of body)) asked))
     (λ asked other k. known_more events (said (ToEditor n body)) asked.asker k (told_open n (answered_id (message_of body)) asked (open_of asked.asker.editor events) other k.waits)
-    (either_late (nat_eq n asked.asker.editor) (record { phase = phase_told (desk_of asked.asker.editor events).phase (message_of body); initialize = (desk_of asked.asker.editor events).initialize }) (desk_of asked.asker.editor events)
-    (ap is_early (told_late (desk_of asked.asker.editor events).phase (message_of body) k.late) ∙ k.late) k.late))
+    (either_late (nat_eq n asked.asker.editor) (record { phase = phase_told (desk_of asked.asker.editor events).phase (desk_of asked.asker.editor events).initialize (message_of body); initialize = (desk_of asked.asker.editor events).initialize }) (desk_of asked.asker.editor events)
+    (ap is_early (told_late (desk_of asked.asker.editor events).phase (desk_of asked.asker.editor events).initialize (message_of body) k.late) ∙ k.late) k.late))
     (asking_of s events).open_requests (h s))
 
 -- A body to a start

@@ -109,7 +109,7 @@ waiting_is Gone h = absurd (cc)
 
 -- a body to another editor leaves it alone
 pub desk_untold : (e n : ℕ) (body : List ℕ) (desk : Desk) → nat_eq n e ≡ false → desk_behind e desk (said (ToEditor n body)) ≡ desk
-desk_untold e n body desk h = ap (λ b. if b then record { phase = phase_told desk.phase (message_of body); initialize = desk.initialize } else desk) h
+desk_untold e n body desk h = ap (λ b. if b then record { phase = phase_told desk.phase desk.initialize (message_of body); initialize = desk.initialize } else desk) h
 
 abbrev either_desk : Bool → Desk → Desk → Desk
 either_desk b x y = if b then x else y

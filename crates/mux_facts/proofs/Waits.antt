@@ -1,5 +1,5 @@
 -- The initialize of an editor that waits is an open request of it.
-use Rattle.std.proofs.Common.{◌≡◌, ℕ, Bool, true, false, List, [], ◌∷◌, ◌++◌, nat_eq, codes, if◌then◌else◌, Option, None, refl, sym, ◌∙◌, ap, subst, subst₂}
+use Rattle.std.proofs.Common.{◌≡◌, ℕ, Bool, true, false, List, [], ◌∷◌, ◌++◌, nat_eq, codes, if◌then◌else◌, Option, None, Some, refl, sym, ◌∙◌, ap, subst, subst₂}
 use Rattle.std.proofs.lemmas.Slice.Eq.{bytes_eq-Decides}
 use Rattle.json_text.specs.Json.{Json}
 use Rattle.mux_history.specs.declared.cause.Cause.TheVariants.{FromEditor}
@@ -7,15 +7,15 @@ use Rattle.mux_history.specs.declared.out.Out.TheVariants.{ToEditor, ToServer}
 use Rattle.rpc_message.specs.Message.{Message, request, notification, result, error, not_json, not_message, Id, message_of}
 use Rattle.event_model.specs.declared.phase.Phase.{Phase}
 use Rattle.event_model.specs.declared.phase.Phase.TheVariants.{Absent, New, Waiting, Answered, Running, Down, Closed, Gone}
-use Rattle.event_model.specs.Event.{Event, took, did, said, requests}
-use Rattle.event_model.specs.Phases.{Desk, desk_of, desk_behind, desk_hears, phase_told, makes_running}
+use Rattle.event_model.specs.Event.{Event, took, did, said, requests, same_id}
+use Rattle.event_model.specs.Phases.{Desk, desk_of, desk_behind, desk_hears, has_id, phase_told, makes_running}
 use Rattle.event_model.specs.Requests.{Asked, asking_of, has_number, answered_id, open_of, open_behind, is_open, asks, without}
 use Rattle.mux_facts.proofs.Asked.{IsAsked, AllAsked, hears_open}
 use Rattle.mux_facts.proofs.Why.{is_early, IsPassedOn}
 use Rattle.mux_facts.proofs.Folds.{desk_more, opens_more}
 use Rattle.mux_facts.proofs.Late.{error_told}
 use Rattle.mux_facts.proofs.Lists.{found_is}
-use Rattle.mux_facts.proofs.Words.{number_same, open_last}
+use Rattle.mux_facts.proofs.Words.{number_same, open_last, still_open}
 
 -- a body that is an open request `initialize`
 pub record Waits (initialize : List ℕ) (ids : List Id) : Type 0 where
@@ -94,34 +94,42 @@ abbrev pub is_a_result : Message → Bool
 is_a_result (result id r) = true
 is_a_result other = false
 
-answers_it : (m : Message) (initialize : List ℕ) (ids : List Id) → is_a_result m ≡ true → WaitsIf (phase_told Waiting m) initialize ids
-answers_it (result id r) initialize ids h = tt
-answers_it (error id x) initialize ids h = absurd (cc)
-answers_it (request id method params) initialize ids h = absurd (cc)
-answers_it (notification method params) initialize ids h = absurd (cc)
-answers_it not_json initialize ids h = absurd (cc)
-answers_it not_message initialize ids h = absurd (cc)
+answers_it : (m : Message) (initialize : List ℕ) (ids : List Id) → is_a_result m ≡ true → Waits initialize ids → WaitsIf (phase_told Waiting initialize m) initialize (without (answered_id m) ids)
+answers_it (result None r) initialize ids h w = w
+answers_it (result (Some k) r) initialize ids h w = go (same_id k w.id) refl
+  where
+    own : has_id k (message_of initialize) ≡ same_id k w.id
+    own = ap (has_id k) w.asks
 
-told_waits : (phase : Phase) (m : Message) (initialize : List ℕ) (ids : List Id) → (phase ≡ Waiting → is_a_result m ≡ true) → WaitsIf (phase_told phase m) initialize ids
-told_waits Waiting m initialize ids f = answers_it m initialize ids (f refl)
-told_waits Absent m initialize ids f = tt
-told_waits New m initialize ids f = tt
-told_waits Answered m initialize ids f = tt
-told_waits Running m initialize ids f = tt
-told_waits Down m initialize ids f = tt
-told_waits Closed m initialize ids f = tt
-told_waits Gone m initialize ids f = tt
+    go : (b : Bool) → same_id k w.id ≡ b → WaitsIf (if has_id k (message_of initialize) then Answered else Waiting) initialize (without (Some k) ids)
+    go true e = subst (λ c. WaitsIf (if c then Answered else Waiting) initialize (without (Some k) ids)) (sym (own ∙ e)) tt
+    go false e = subst (λ c. WaitsIf (if c then Answered else Waiting) initialize (without (Some k) ids)) (sym (own ∙ e)) (record { id = w.id; params = w.params; asks = w.asks; waits = still_open k w.id ids w.waits e })
+answers_it (error id x) initialize ids h w = absurd (cc)
+answers_it (request id method params) initialize ids h w = absurd (cc)
+answers_it (notification method params) initialize ids h w = absurd (cc)
+answers_it not_json initialize ids h w = absurd (cc)
+answers_it not_message initialize ids h w = absurd (cc)
+
+told_waits : (phase : Phase) (m : Message) (initialize : List ℕ) (ids : List Id) → (phase ≡ Waiting → is_a_result m ≡ true) → WaitsIf phase initialize ids → WaitsIf (phase_told phase initialize m) initialize (without (answered_id m) ids)
+told_waits Waiting m initialize ids f w = answers_it m initialize ids (f refl) w
+told_waits Absent m initialize ids f w = tt
+told_waits New m initialize ids f w = tt
+told_waits Answered m initialize ids f w = tt
+told_waits Running m initialize ids f w = tt
+told_waits Down m initialize ids f w = tt
+told_waits Closed m initialize ids f w = tt
+told_waits Gone m initialize ids f w = tt
 
 pub to_editor : (events : List Event) (n : ℕ) (body : List ℕ) → AllWaiting events → ((desk_of n events).phase ≡ Waiting → is_a_result (message_of body) ≡ true) → AllWaiting (events ++ said (ToEditor n body) ∷ [])
 to_editor events n body h f = more events (said (ToEditor n body)) (λ e. pick (nat_eq n e)
-    (record { phase = phase_told (desk_of e events).phase (message_of body); initialize = (desk_of e events).initialize }) (desk_of e events) (without (answered_id (message_of body)) (open_of e events)) (open_of e events)
-    (λ same. told_waits (desk_of e events).phase (message_of body) (desk_of e events).initialize (without (answered_id (message_of body)) (open_of e events))
-    (λ at. f (ap (λ k. (desk_of k events).phase) (number_same n e same) ∙ at))) (h e))
+    (record { phase = phase_told (desk_of e events).phase (desk_of e events).initialize (message_of body); initialize = (desk_of e events).initialize }) (desk_of e events) (without (answered_id (message_of body)) (open_of e events)) (open_of e events)
+    (λ same. told_waits (desk_of e events).phase (message_of body) (desk_of e events).initialize (open_of e events)
+    (λ at. f (ap (λ k. (desk_of k events).phase) (number_same n e same) ∙ at)) (h e)) (h e))
 
 -- an error under a null id answers none of them
 null_waits : (b : Bool) (desk : Desk) (ids : List Id) (x : Json) → WaitsAt desk ids
-    → WaitsAt (if b then record { phase = phase_told desk.phase (error None x); initialize = desk.initialize } else desk) (if b then without None ids else ids)
-null_waits true desk ids x h = subst (λ p. WaitsIf p desk.initialize ids) (sym (error_told desk.phase None x)) h
+    → WaitsAt (if b then record { phase = phase_told desk.phase desk.initialize (error None x); initialize = desk.initialize } else desk) (if b then without None ids else ids)
+null_waits true desk ids x h = subst (λ p. WaitsIf p desk.initialize ids) (sym (error_told desk.phase desk.initialize None x)) h
 null_waits false desk ids x h = h
 
 pub null_to_editor : (events : List Event) (n : ℕ) (body : List ℕ) (x : Json) → message_of body ≡ error None x → AllWaiting events → AllWaiting (events ++ said (ToEditor n body) ∷ [])

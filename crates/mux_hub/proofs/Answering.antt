@@ -12,7 +12,7 @@ use Rattle.event_model.specs.declared.phase.Phase.TheVariants.{Absent, New, Wait
 use Rattle.event_model.specs.declared.stage.Stage.{Stage}
 use Rattle.event_model.specs.declared.stage.Stage.TheVariants.{Unspawned, Initializing, Ready}
 use Rattle.event_model.specs.Event.{Event, heard, said, with_cause, behind, same_id}
-use Rattle.event_model.specs.Phases.{Desk, desk_of, phase_told, editors_of, is_there}
+use Rattle.event_model.specs.Phases.{Desk, desk_of, has_id, phase_told, editors_of, is_there}
 use Rattle.event_model.specs.Requests.{asking_of, asked_by, answered_id, answers}
 use Rattle.event_model.specs.Row.{outs, each}
 use Rattle.mux_model.specs.Rows.{outs_of, welcome, waiting_for}
@@ -143,7 +143,7 @@ readied_steps settings events t body r ps s g m w p =
     steps_so settings events (FromServer 0 body) (ToServer 0 initialized_text ∷ []) t (at_ready t r) s.initialize s (readied t body r ps events s g m w)
     (sym (first_row settings events body r l m ∙ ap (λ es. ToServer 0 initialized_text ∷ outs (each (welcome body) es) (told_ready events body)) none))
 
-waiting_ties : (t : Kept) (events : List Event) (s : Stands t events) → t.phase ≡ Waiting → (t.pending ≡ []) × MeansId t.id × (t.id ≡ id_bytes s.initialize)
+waiting_ties : (t : Kept) (events : List Event) (s : Stands t events) → t.phase ≡ Waiting → (t.pending ≡ []) × MeansId t.id × (t.id ≡ id_bytes s.initialize) × (has_id (id_meant t.id) (message_of s.initialize) ≡ true)
 waiting_ties t events s e = let P : Phase → Type 0 = λ p. PhaseTies p t.stage t.pending t.id s.initialize in subst P e s.phase_ties
 
 -- the waiting editor is answered
@@ -153,7 +153,7 @@ welcomed t text v events s e late w =
     let ties = waiting_ties t events s e in
     let none : t.pending ≡ [] = ties.0 in
     record {
-      desk = rw (w, e) refl;
+      desk = rw (w, e, ties.3) refl;
       other_desks = λ n h. rw (not_zero n h) refl;
       editors = rw e refl;
       sent = λ n h. more_sent n t.sent (length text) h;
@@ -271,15 +271,15 @@ was_served Down g ps i b k p t e = tt
 was_served Closed g ps i b k p t e = tt
 was_served Gone g ps i b k p t e = tt
 
-told_phase : (q : Phase) (m : Message) → WasServed q → phase_told q m ≡ q
-told_phase Absent m w = absurd w
-told_phase New m w = absurd w
-told_phase Waiting m w = absurd w
-told_phase Answered m w = refl
-told_phase Running m w = refl
-told_phase Down m w = refl
-told_phase Closed m w = refl
-told_phase Gone m w = refl
+told_phase : (q : Phase) (i : List ℕ) (m : Message) → WasServed q → phase_told q i m ≡ q
+told_phase Absent i m w = absurd w
+told_phase New i m w = absurd w
+told_phase Waiting i m w = absurd w
+told_phase Answered i m w = refl
+told_phase Running i m w = refl
+told_phase Down i m w = refl
+told_phase Closed i m w = refl
+told_phase Gone i m w = refl
 
 served_open : (q : Phase) (ps : List Pending) (i : List ℕ) → WasServed q → open_in q ps i ≡ ids_of ps
 served_open Absent ps i w = absurd w
@@ -317,7 +317,7 @@ passed_steps settings events t body text k p s g a e here x w =
     let served : WasServed t.phase = was_served t.phase t.stage t.pending t.id s.initialize k p s.phase_ties e in
     let opens : open_in t.phase t.pending t.id ≡ ids_of t.pending = served_open t.phase t.pending t.id served in
     steps_so settings events (FromServer 0 body) (ToEditor 0 text ∷ []) t (record t { sent = min (t.sent + length text) (2 ^ 64 - 1); pending = remove t.pending k }) s.initialize s (record {
-      desk = ap (λ q. desk_record q s.initialize) (told_phase t.phase (message_of text) served);
+      desk = ap (λ q. desk_record q s.initialize) (told_phase t.phase s.initialize (message_of text) served);
       other_desks = λ n h. rw (not_zero n h) refl;
       editors = refl;
       sent = λ n h. more_sent n t.sent (length text) h;

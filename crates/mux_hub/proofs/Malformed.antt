@@ -85,15 +85,15 @@ no_json = record { malformed = refl; desk = json_desk; stage = json_stage; asks 
 pub no_message : IsNone not_message
 no_message = record { malformed = refl; desk = message_desk; stage = message_stage; asks = λ ids. refl; answers = refl; saying = refl; stays = refl; encoding = refl }
 
-error_told : (p : Phase) (x : Json) → phase_told p (error None x) ≡ p
-error_told Absent x = refl
-error_told New x = refl
-error_told Waiting x = refl
-error_told Answered x = refl
-error_told Running x = refl
-error_told Down x = refl
-error_told Closed x = refl
-error_told Gone x = refl
+error_told : (p : Phase) (i : List ℕ) (x : Json) → phase_told p i (error None x) ≡ p
+error_told Absent i x = refl
+error_told New i x = refl
+error_told Waiting i x = refl
+error_told Answered i x = refl
+error_told Running i x = refl
+error_told Down i x = refl
+error_told Closed i x = refl
+error_told Gone i x = refl
 
 -- an error under a null id answers no request
 none_answered : (xs : List Asked) → filter (λ asked. not (answers 0 None asked)) xs ≡ xs
@@ -129,7 +129,7 @@ module _ (settings : Settings) (events : List Event) (t : Kept) (body : List ℕ
       let text : List ℕ = malformed_text m in
       let told : message_of text ≡ error None (error_tree (malformed_code m)) = error_law None (codes "null") (malformed_code m) null_as_response in
       steps_so settings events (FromEditor 0 body) (ToEditor 0 text ∷ []) t (record t { sent = min (t.sent + length text) (2 ^ 64 - 1) }) s.initialize s (record {
-        desk = ap₂ (λ (d : Desk) k. desk_record d.initialize (phase_told d.phase k)) heard_desk told ∙ ap (desk_record s.initialize) (error_told t.phase (error_tree (malformed_code m)));
+        desk = ap₂ (λ (d : Desk) k. desk_record d.initialize (phase_told d.phase d.initialize k)) heard_desk told ∙ ap (desk_record s.initialize) (error_told t.phase s.initialize (error_tree (malformed_code m)));
         other_desks = λ n h. rw (not_zero n h) refl;
         editors = refl;
         sent = λ n h. more_sent n t.sent (length text) h;

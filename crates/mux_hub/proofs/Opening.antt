@@ -4,13 +4,14 @@ use Rattle.std.specs.Prelude.{Option, Some, codes}
 use Rattle.mux_history.specs.declared.cause.Cause.TheVariants.{Joined, FromEditor, Started}
 use Rattle.mux_history.specs.declared.out.Out.TheVariants.{ToServer, Spawn}
 use Rattle.json_text.specs.Json.{Json}
-use Rattle.rpc_message.specs.Message.{request, not_message, Id, integer, id_bytes, message_of}
+use Rattle.rpc_message.specs.Message.{request, not_message, Id, integer, text, id_bytes, message_of}
 use Rattle.event_model.specs.declared.phase.Phase.{Phase}
 use Rattle.event_model.specs.declared.phase.Phase.TheVariants.{Absent, New, Waiting, Answered, Running, Down, Closed, Gone}
 use Rattle.event_model.specs.declared.stage.Stage.{Stage}
 use Rattle.event_model.specs.declared.stage.Stage.TheVariants.{Unspawned, Spawning, Initializing, Ending}
-use Rattle.event_model.specs.Event.{Event, took, heard, said, requests}
-use Rattle.event_model.specs.Phases.{desk_of}
+use Rattle.std.proofs.lemmas.Slice.Eq.{bytes_eq-Decides}
+use Rattle.event_model.specs.Event.{Event, took, heard, said, requests, same_id}
+use Rattle.event_model.specs.Phases.{desk_of, has_id}
 use Rattle.mux_model.specs.Rows.{initialize_for, founder_body, initialize_in, initialize_by}
 use Rattle.event_model.specs.Stages.{life_of}
 use Rattle.mux_hub.specs.declared.pending.Pending.{Pending}
@@ -73,6 +74,13 @@ joined_steps settings events t s e = steps_so settings events (Joined 0) [] t (r
   documents = documents_stay t (record t { phase = New }) (heard (Joined 0) ∷ []) s.orderly s.spelt (still_joined t.documents.encoding 0 not_message, tt) refl (λ held x. x);
 }) refl
 
+itself : (i k : Id) → k ≡ i → same_id i k ≡ true
+itself i k e = subst (λ z. same_id i z ≡ true) (sym e) (one i)
+  where
+    one : (i : Id) → same_id i i ≡ true
+    one (integer a) = (bytes_eq-Decides a a).1 refl
+    one (text a) = (bytes_eq-Decides a a).1 refl
+
 -- E7: the editor's initialize founds a group
 pub founded_steps : (settings : Settings) (events : List Event) (t : Kept) (body : List ℕ) (id : Id) (ps : Option Json) → Stands t events → t.phase ≡ New
     → message_of body ≡ request id (codes "initialize") ps → id ≡ id_meant (id_bytes body) → MeansId (id_bytes body) → Opens (initialize_for body)
@@ -102,7 +110,7 @@ founded_steps settings events t body id ps s e m i means opens =
       opened = rw (m, e) (ap (λ x. x ∷ []) i);
       ids = s.ids;
       distinct = s.distinct;
-      phase_ties = (none.1, means, refl);
+      phase_ties = (none.1, means, refl, ap (has_id (id_meant (id_bytes body))) m ∙ itself (id_meant (id_bytes body)) id i);
       stage_ties = (unspawned_ties t events s g, refl, opens);
       documents = documents_stay t (record t { phase = Waiting; id = id_bytes body; opening = initialize_for body; stage = Spawning; started = false }) (heard (FromEditor 0 body) ∷ map said (Spawn 0 0 ∷ [])) s.orderly s.spelt
           (still_from_editor t.documents.encoding body (message_of body) (ap saying_of m) (ap (requests (codes "shutdown")) m), (still_spawn t.documents.encoding 0 0 not_message, tt)) refl

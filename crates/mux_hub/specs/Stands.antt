@@ -15,7 +15,7 @@ use Rattle.event_model.specs.declared.stage.Stage.{Stage}
 use Rattle.event_model.specs.declared.stage.Stage.TheVariants.{Unspawned, Spawning, Initializing, Ready, Stopping, Ending, Ended}
 use Rattle.mux_model.specs.Documents.{encoding_of, texts_of, held_at}
 use Rattle.event_model.specs.Event.{Event}
-use Rattle.event_model.specs.Phases.{desk_of, no_desk, editors_of, backlog_of}
+use Rattle.event_model.specs.Phases.{desk_of, no_desk, editors_of, backlog_of, has_id}
 use Rattle.event_model.specs.Requests.{open_of, asking_of, is_open}
 use Rattle.mux_model.specs.Rows.{initialize_for}
 use Rattle.event_model.specs.Spawns.{starts_of, groups_of, start_of, home_of, founding_of, group_of}
@@ -38,7 +38,7 @@ is_early _ = false
 abbrev pub PhaseTies : Phase → Stage → List Pending → List ℕ → List ℕ → Type 0
 PhaseTies Absent stage ps id body = (stage ≡ Unspawned) × (ps ≡ [])
 PhaseTies New stage ps id body = (stage ≡ Unspawned) × (ps ≡ [])
-PhaseTies Waiting stage ps id body = (ps ≡ []) × MeansId id × (id ≡ id_bytes body)
+PhaseTies Waiting stage ps id body = (ps ≡ []) × MeansId id × (id ≡ id_bytes body) × (has_id (id_meant id) (message_of body) ≡ true)
 PhaseTies Answered stage ps id body = is_early stage ≡ false
 PhaseTies Running stage ps id body = is_early stage ≡ false
 PhaseTies other stage ps id body = Unit {0}

@@ -93,3 +93,13 @@ document_path_outs = []
     ∷ (ToServer 0 (codes "{\"jsonrpc\":\"2.0\",\"method\":\"textDocument/didClose\",\"params\":{\"textDocument\":{\"uri\":\"file:///u\"}}}") ∷ [])
     ∷ []
     ∷ []
+
+-- an editor that waits for the answer to its initialize, and is told the result of another request, and then of this one
+abbrev pub waiting_editor : List Event
+waiting_editor = with_cause (with_cause [] (Joined 0)) (FromEditor 0 (codes "{\"jsonrpc\":\"2.0\",\"id\":\"a\",\"method\":\"initialize\",\"params\":{\"rootUri\":null,\"capabilities\":{}}}"))
+
+abbrev pub told_of_another : List Event
+told_of_another = behind waiting_editor (ToEditor 0 (codes "{\"jsonrpc\":\"2.0\",\"id\":\"b\",\"result\":null}") ∷ [])
+
+abbrev pub told_of_its_own : List Event
+told_of_its_own = behind told_of_another (ToEditor 0 (codes "{\"jsonrpc\":\"2.0\",\"id\":\"\\u0061\",\"result\":{\"capabilities\":{}}}") ∷ [])

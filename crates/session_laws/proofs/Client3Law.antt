@@ -13,7 +13,7 @@ use Rattle.event_model.specs.declared.phase.Phase.TheVariants.{Absent, New, Wait
 use Rattle.mux_model.specs.Built.{is_other, built_from_editor, built_behind}
 use Rattle.event_model.specs.Event.{Event, took, said, requests, heard, with_cause}
 use Rattle.mux_model.specs.Members.{has_token}
-use Rattle.event_model.specs.Phases.{Desk, desk_of, desk_behind, desk_hears, phase_told, is_there, makes_running, phase_closed, editors_of}
+use Rattle.event_model.specs.Phases.{Desk, desk_of, desk_behind, desk_hears, has_id, phase_told, is_there, makes_running, phase_closed, editors_of}
 use Rattle.event_model.specs.Requests.{open_of, is_open, asks, without}
 use Rattle.event_model.specs.Always.{Always}
 use Rattle.session_laws.specs.ClientRules.{Opening, opening_hears, opening_told, opening_behind, opening_of, may_hear, ClientRule3, KeepsClient3}
@@ -138,12 +138,13 @@ module _ (i : List ℕ) (o : Opening) (w : Expects i o) (m : Message) (r : Json)
   pub may_welcome : may_hear o m ≡ true
   may_welcome = ap (may_hear o) says ∙ ap (λ b. not (b && is_open w.id o.initializes)) w.not_yet
 
-  pub welcomed : Link (phase_told Waiting m) i (opening_told o m)
-  welcomed = subst (λ z. Link (phase_told Waiting z) i (opening_told o z)) (sym says)
-      (ap (without (Some w.id)) w.only ∙ ap (λ b. cond (not b) (w.id ∷ []) []) (same_id_itself w.id))
+  pub welcomed : Link (phase_told Waiting i m) i (opening_told o m)
+  welcomed = subst (λ z. Link (phase_told Waiting i z) i (opening_told o z)) (sym says)
+      (subst (λ b. Link (if b then Answered else Waiting) i (opening_told o (result (Some w.id) r))) (sym (ap (has_id w.id) w.asks ∙ same_id_itself w.id))
+      (ap (without (Some w.id)) w.only ∙ ap (λ b. cond (not b) (w.id ∷ []) []) (same_id_itself w.id)))
 
 -- to another request
-pub late_told : (phase : Phase) (i : List ℕ) (o : Opening) (id : Id) (m : Message) → IsResponseTo id m → is_early phase ≡ false → Link phase i o → Link (phase_told phase m) i (opening_told o m)
+pub late_told : (phase : Phase) (i : List ℕ) (o : Opening) (id : Id) (m : Message) → IsResponseTo id m → is_early phase ≡ false → Link phase i o → Link (phase_told phase i m) i (opening_told o m)
 late_told Absent i o id m k late h = absurd (cc)
 late_told New i o id m k late h = absurd (cc)
 late_told Waiting i o id m k late h = absurd (cc)
@@ -202,11 +203,11 @@ pick_desk true x y w f g = f refl
 pick_desk false x y w f g = g
 
 pub to_editor : (events : List Event) (n : ℕ) (body : List ℕ) → Everywhere events → may_hear (opening n events) (message_of body) ≡ true
-    → Link (phase_told (desk_of n events).phase (message_of body)) (desk_of n events).initialize (opening_told (opening n events) (message_of body)) → Everywhere (events ++ said (ToEditor n body) ∷ [])
+    → Link (phase_told (desk_of n events).phase (desk_of n events).initialize (message_of body)) (desk_of n events).initialize (opening_told (opening n events) (message_of body)) → Everywhere (events ++ said (ToEditor n body) ∷ [])
 to_editor events n body h may link e = one_more e events (said (ToEditor n body)) (h e) (λ same. subst (λ k. may_hear (opening k events) (message_of body) ≡ true) (number_same n e same) may)
-    (pick (nat_eq n e) (record { phase = phase_told (desk_of e events).phase (message_of body); initialize = (desk_of e events).initialize }) (desk_of e events)
+    (pick (nat_eq n e) (record { phase = phase_told (desk_of e events).phase (desk_of e events).initialize (message_of body); initialize = (desk_of e events).initialize }) (desk_of e events)
     (opening_told (opening e events) (message_of body)) (opening e events)
-    (λ same. subst (λ k. Link (phase_told (desk_of k events).phase (message_of body)) (desk_of k events).initialize (opening_told (opening k events) (message_of body))) (number_same n e same) link) (h e).link)
+    (λ same. subst (λ k. Link (phase_told (desk_of k events).phase (desk_of k events).initialize (message_of body)) (desk_of k events).initialize (opening_told (opening k events) (message_of body))) (number_same n e same) link) (h e).link)
 
 pub to_server : (events : List Event) (n : ℕ) (body : List ℕ) → Everywhere events → Everywhere (events ++ said (ToServer n body) ∷ [])
 to_server events n body h e = one_more e events (said (ToServer n body)) (h e) (λ same. absurd (cc)) (h e).link
@@ -220,8 +221,8 @@ from_editor events n body built h e = one_more e events (took (FromEditor n body
 -- an error under a null id
 pub null_to_editor : (events : List Event) (n : ℕ) (body : List ℕ) (x : Json) → message_of body ≡ error None x → Everywhere events → Everywhere (events ++ said (ToEditor n body) ∷ [])
 null_to_editor events n body x says h = to_editor events n body h (ap (may_hear (opening n events)) says)
-    (subst (λ m. Link (phase_told (desk_of n events).phase m) (desk_of n events).initialize (opening_told (opening n events) m)) (sym says)
-    (subst (λ p. Link p (desk_of n events).initialize (opening n events)) (sym (error_told (desk_of n events).phase None x)) (h n).link))
+    (subst (λ m. Link (phase_told (desk_of n events).phase (desk_of n events).initialize m) (desk_of n events).initialize (opening_told (opening n events) m)) (sym says)
+    (subst (λ p. Link p (desk_of n events).initialize (opening n events)) (sym (error_told (desk_of n events).phase (desk_of n events).initialize None x)) (h n).link))
 
 took_it : (before : List Event) (cause : Cause) → fits_behind before cause ≡ true → built_behind before cause ≡ true → Editors before → Everywhere before → Everywhere (with_cause before cause)
 took_it events (Joined n) fits built none h e = one_more e events (took (Joined n) not_message) (h e) (λ same. tt) (pick_desk (nat_eq n e) (record { phase = New; initialize = [] }) (desk_of e events) (opening e events)
@@ -241,7 +242,7 @@ module _ (before : List Event) (cause : Cause) (events : List Event) (e : ℕ) (
       let w : Expects (desk_of e events).initialize (opening e events) = subst (λ z. Link z (desk_of e events).initialize (opening e events)) at (i e).link in
       let result_is : message_of body ≡ result (Some w.id) r = says ∙ ap (λ z. result (Some z) r) (same_request (sym asked_so ∙ w.asks)) in
       to_editor events e body i (may_welcome (desk_of e events).initialize (opening e events) w (message_of body) r result_is)
-      (subst (λ z. Link (phase_told z (message_of body)) (desk_of e events).initialize (opening_told (opening e events) (message_of body))) (sym at)
+      (subst (λ z. Link (phase_told z (desk_of e events).initialize (message_of body)) (desk_of e events).initialize (opening_told (opening e events) (message_of body))) (sym at)
       (welcomed (desk_of e events).initialize (opening e events) w (message_of body) r result_is)) j
   told_it (responds id there response waiting late) i j = to_editor events e body i
       (may_answer (opening e events) id (message_of body) response (none_open (desk_of e events).phase (desk_of e events).initialize (opening e events) there late (i e).link))
