@@ -2,6 +2,7 @@ pub mod Always
 pub mod Does
 pub mod Each
 pub mod Event
+pub mod Members
 pub mod Parts
 pub mod Phases
 pub mod Requests

@@ -10,7 +10,7 @@ use Rattle.capability_meet.specs.DeclaredTree.{declared_of}
 use Rattle.event_model.specs.declared.settings.Server.{Server}
 use Rattle.event_model.specs.declared.phase.Phase.{Phase}
 use Rattle.event_model.specs.Event.{Event, took, did, requests}
-use Rattle.mux_model.specs.Members.{params_of, named_of, string_of, listed, options_of, bytes_if}
+use Rattle.event_model.specs.Members.{params_of, named_of, string_of, listed, options_of, bytes_if}
 use Rattle.event_model.specs.Phases.{desk_of, editors_of, is_begun, is_new, is_there, needs_server}
 use Rattle.event_model.specs.Requests.{open_of, is_open}
 use Rattle.event_model.specs.Settings.{Settings}

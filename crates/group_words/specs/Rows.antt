@@ -13,7 +13,7 @@ use Rattle.mux_history.specs.declared.out.Out.TheVariants.{ToEditor, ToServer, C
 use Rattle.rpc_message.specs.Message.{message_of, id_bytes, result_bytes}
 use Rattle.rpc_message.specs.Texts.{ok_text, error_text, initialize_text, request_text, request_failed}
 use Rattle.capability_meet.specs.Parts.{bracketed}
-use Rattle.mux_model.specs.Members.{named_of}
+use Rattle.event_model.specs.Members.{named_of}
 use Rattle.group_words.specs.declared.kept.Kept.{Kept}
 use Rattle.capability_meet.specs.Shown.{shown_text}
 use Rattle.event_model.specs.declared.stage.Stage.{Stage}

@@ -7,7 +7,7 @@ use Rattle.std.proofs.lemmas.Bool.Decides.{nat_tests}
 use Rattle.mux_history.specs.declared.cause.Cause.{Cause}
 use Rattle.mux_history.specs.declared.cause.Cause.TheVariants.{Joined, FromEditor, EditorGone, Started, StartFailed, FromServer, ServerGone, Drained, Tick}
 use Rattle.json_text.specs.Json.{Json}
-use Rattle.mux_model.specs.Members.{reads_versions}
+use Rattle.event_model.specs.Members.{reads_versions}
 use Rattle.mux_hub.specs.Turns.{place_of}
 use Rattle.rpc_message.specs.Message.{Message, request, notification, result, error, not_json, not_message, Id, message_of}
 use Rattle.event_model.specs.declared.phase.Phase.TheVariants.{Absent}

@@ -9,7 +9,7 @@ ghost use Rattle.rpc_message.specs.Message as messages;
 ghost use Rattle.rpc_message.specs.Parsed.{IsRead};
 ghost use Rattle.rpc_message.specs.ValueTexts.{IsIdText};
 ghost use Rattle.mux_model.specs.Built.{is_other, built_request, built_response, built_from_editor, built_from_server};
-ghost use Rattle.mux_model.specs.Members.{has_token};
+ghost use Rattle.event_model.specs.Members.{has_token};
 ghost use Rattle.event_model.specs.Requests.{is_open};
 ghost use Rattle.mux_hub.specs.Hubs.{body_length};
 ghost use Rattle.mux_hub.specs.Stands.{MeansId};

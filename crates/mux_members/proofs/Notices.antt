@@ -11,7 +11,7 @@ use Rattle.json_token.proofs.Scalars.{scalar_characters, utf8_characters}
 use Rattle.rpc_message.specs.Message.{is_integer_value, is_string_value}
 use Rattle.document_model.specs.Notices.{integer_text}
 use Rattle.document_model.specs.Sayings.{Saying, nothing, member_of, opening_by, changing_by, closing_by, saying_by}
-use Rattle.mux_model.specs.Members.{named_of}
+use Rattle.event_model.specs.Members.{named_of}
 
 -- a string's characters are a text
 pub text_utf8 : (doc : Doc) (o : Option Json) (place : Option ℕ) (n : ℕ) (text : List ℕ) → Some n ≡ place → is_string_value o ≡ true → ((s : Span) (cs : List ℕ) → At doc n (string s cs) → text ≡ encode_utf8_all cs) → Found doc o place → IsUtf8 text

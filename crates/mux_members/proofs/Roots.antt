@@ -11,7 +11,7 @@ use Rattle.json_nodes.proofs.Spelled.{string_text}
 use Rattle.rpc_message.specs.Parsed.{Parsed, IsRead}
 use Rattle.rpc_message.specs.Texts.{initialize_text}
 use Rattle.rpc_message.proofs.Reading.{held_tree}
-use Rattle.mux_model.specs.Members.{bytes_if, named_of, options_of, or_first, params_of, root_uri, string_of, string_or_null}
+use Rattle.event_model.specs.Members.{bytes_if, named_of, options_of, or_first, params_of, root_uri, string_of, string_or_null}
 use Rattle.mux_model.specs.Rows.{initialize_for}
 use Rattle.mux_members.specs.Finds.{FoundText}
 use Rattle.json_token.proofs.Scalars.{scalar_characters, utf8_characters}

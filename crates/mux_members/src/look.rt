@@ -6,7 +6,7 @@ ghost use Rattle.json_text.specs.Json.{Json, span_of, string, value};
 ghost use Rattle.json_nodes.specs.At.{At, Found};
 ghost use Rattle.json_nodes.specs.Nodes.{kind_of};
 ghost use Rattle.rpc_message.specs.Message.{is_integer_value, is_string_value};
-ghost use Rattle.mux_model.specs.Members.{listed, named_of};
+ghost use Rattle.event_model.specs.Members.{listed, named_of};
 ghost use Rattle.mux_members.specs.Finds.{Rest, is_array_value, is_ascii, is_object_value, values_of};
 
 use json_nodes::{bytes_in, string_in};

@@ -5,7 +5,7 @@ ghost use Rattle.json.specs.Print.{quoted};
 ghost use Rattle.json_text.specs.Json.{Json};
 ghost use Rattle.json_nodes.specs.At.{Found};
 ghost use Rattle.rpc_message.specs.Parsed.{IsRead};
-ghost use Rattle.mux_model.specs.Members.{bytes_if, first_uri, listed, named_of, root_uri, string_of, string_or_null};
+ghost use Rattle.event_model.specs.Members.{bytes_if, first_uri, listed, named_of, root_uri, string_of, string_or_null};
 ghost use Rattle.mux_model.specs.Rows.{initialize_for};
 ghost use Rattle.mux_members.specs.Finds.{FoundText, is_ascii};
 

@@ -7,7 +7,7 @@ ghost use Rattle.rpc_message.specs.Message.{result as outcome_of};
 ghost use Rattle.rpc_message.specs.Parsed.{IsRead};
 ghost use Rattle.mux_model.specs.Built.{is_plain_result};
 ghost use Rattle.mux_model.specs.Documents.{encoding_in};
-ghost use Rattle.mux_model.specs.Members.{has_version, has_versions, listed, reads_versions};
+ghost use Rattle.event_model.specs.Members.{has_version, has_versions, listed, reads_versions};
 ghost use Rattle.event_model.specs.Stages.{is_first_result};
 ghost use Rattle.mux_members.specs.Results.{any_edit_versioned, any_versioned, is_one, is_plain_value, value_encoding, value_reads_versions};
 

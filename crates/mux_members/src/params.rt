@@ -4,7 +4,7 @@ ghost use Rattle.json_text.specs.Json.{Json};
 ghost use Rattle.json_nodes.specs.At.{Found};
 ghost use Rattle.rpc_message.specs.Message.{Id, message_of, request};
 ghost use Rattle.rpc_message.specs.Parsed.{IsRead};
-ghost use Rattle.mux_model.specs.Members.{has_token, is_bare_capabilities, is_token, named_of};
+ghost use Rattle.event_model.specs.Members.{has_token, is_bare_capabilities, is_token, named_of};
 
 use crate::envelope::request_params;
 use crate::look::{first_value, is_integer, is_object, is_text, member};

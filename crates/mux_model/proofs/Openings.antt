@@ -21,7 +21,7 @@ use Rattle.rpc_message.specs.ValueTexts.{IsValueText, IsOptionText, option_depth
 use Rattle.rpc_message.specs.Texts.{initialize_text, initialize_params}
 use Rattle.rpc_message.proofs.Opening.{initialize_law}
 use Rattle.rpc_message.proofs.Standing.{place_named}
-use Rattle.mux_model.specs.Members.{named_of, params_of, string_of, or_first, first_uri, listed, root_uri, string_or_null, bytes_if, options_of}
+use Rattle.event_model.specs.Members.{named_of, params_of, string_of, or_first, first_uri, listed, root_uri, string_or_null, bytes_if, options_of}
 use Rattle.mux_model.specs.Rows.{initialize_for}
 use lib.Utf8.{scalars}
 

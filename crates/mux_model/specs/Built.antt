@@ -17,7 +17,7 @@ use Rattle.event_model.specs.declared.phase.Phase.TheVariants.{New, Answered, Ru
 use Rattle.event_model.specs.declared.stage.Stage.{Stage}
 use Rattle.event_model.specs.declared.stage.Stage.TheVariants.{Initializing, Ready}
 use Rattle.event_model.specs.Event.{Event, events_of, requests, notifies}
-use Rattle.mux_model.specs.Members.{named_of, is_bare_capabilities, has_token, reads_versions}
+use Rattle.event_model.specs.Members.{named_of, is_bare_capabilities, has_token, reads_versions}
 use Rattle.event_model.specs.Phases.{desk_of, is_malformed}
 use Rattle.event_model.specs.Requests.{Asked, open_of, is_open, asking_of, asked_by}
 use Rattle.event_model.specs.Stages.{life_of, is_first_result}

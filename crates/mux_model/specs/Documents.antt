@@ -14,7 +14,7 @@ use Rattle.document_model.specs.Helds.{HeldText, told}
 use Rattle.document_model.specs.Sayings.{saying_of}
 use Rattle.document_model.specs.Texts.{Texts, no_texts, texts_behind}
 use Rattle.event_model.specs.Event.{Event, took, did, requests}
-use Rattle.mux_model.specs.Members.{named_of, string_of}
+use Rattle.event_model.specs.Members.{named_of, string_of}
 use Rattle.event_model.specs.Phases.{desk_of, is_served}
 use Rattle.event_model.specs.Spawns.{start_of, home_of}
 

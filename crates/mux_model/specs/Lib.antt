@@ -3,5 +3,4 @@ pub mod Documents
 pub mod Example
 pub mod Fits
 pub mod Legal
-pub mod Members
 pub mod Rows

@@ -18,7 +18,7 @@ use Rattle.event_model.specs.declared.phase.Phase.TheVariants.{New, Answered, Ru
 use Rattle.event_model.specs.declared.stage.Stage.{Stage}
 use Rattle.event_model.specs.declared.stage.Stage.TheVariants.{Spawning, Initializing, Ready}
 use Rattle.event_model.specs.Event.{Event, events_of, with_cause, requests}
-use Rattle.mux_model.specs.Members.{params_of, root_uri, string_or_null, options_of}
+use Rattle.event_model.specs.Members.{params_of, root_uri, string_or_null, options_of}
 use Rattle.event_model.specs.Phases.{desk_of, editors_of, is_there, is_malformed, is_waiting}
 use Rattle.event_model.specs.Requests.{Asked, asking_of, asked_by, answered_id}
 use Rattle.mux_model.specs.Documents.{start_for, encoding_for, texts_of, held_at}

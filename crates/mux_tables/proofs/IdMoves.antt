@@ -10,7 +10,7 @@ use Rattle.rpc_message.specs.Message.{Message, request, notification, Id}
 use Rattle.event_model.specs.Event.{Event, took, did}
 use Rattle.event_model.specs.Requests.{answered_id, is_own}
 use Rattle.event_model.proofs.Frames.{one_more}
-use Rattle.mux_model.specs.Members.{named_of}
+use Rattle.event_model.specs.Members.{named_of}
 use Rattle.id_rewrite.specs.declared.pending.Pending.{Pending}
 use Rattle.id_rewrite.specs.declared.pending.Numbered.{Numbered}
 use Rattle.id_rewrite.specs.Tables as tables

@@ -18,7 +18,7 @@ use Rattle.event_model.proofs.Frames.{never}
 use Rattle.event_model.proofs.Places.{same_item}
 use Rattle.id_rewrite.specs.declared.pending.Pending.{Pending}
 use Rattle.id_rewrite.specs.Tables.{Table, IsInOrder, with_cancelled}
-use Rattle.mux_model.specs.Members.{named_of}
+use Rattle.event_model.specs.Members.{named_of}
 use Rattle.restart_replay.specs.Standings.{Standing, moved, stopped}
 use Rattle.mux_tables.specs.declared.tables.Start.{Start}
 use Rattle.mux_tables.specs.declared.tables.Tables.{Tables}

@@ -7,7 +7,7 @@ use Rattle.mux_history.specs.declared.out.Out.TheVariants.{ToServer}
 use Rattle.rpc_message.specs.Message.{Message, request, notification, Id, integer, id_bytes}
 use Rattle.event_model.specs.Event.{Event, took, did}
 use Rattle.event_model.specs.Requests.{answered_id, is_own}
-use Rattle.mux_model.specs.Members.{named_of}
+use Rattle.event_model.specs.Members.{named_of}
 
 -- whose request is at work, and the bytes of its id
 pub record Sender : Type 0 where

@@ -10,7 +10,7 @@ ghost use Rattle.event_model.specs.Settings.{Settings};
 ghost use Rattle.group_words.specs.Rows.{spawn};
 ghost use Rattle.json_text.specs.Json.{Json};
 ghost use Rattle.mux_history.specs.declared.out.Out.TheVariants.{CloseEditor, EndServer, ToEditor, ToServer};
-ghost use Rattle.mux_model.specs.Members.{named_of};
+ghost use Rattle.event_model.specs.Members.{named_of};
 ghost use Rattle.rpc_message.specs.Message as message;
 ghost use Rattle.rpc_message.specs.Message.{Id, message_of};
 ghost use Rattle.mux_tables.specs.declared.tables.Start.{Start};

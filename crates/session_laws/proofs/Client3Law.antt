@@ -12,7 +12,7 @@ use Rattle.event_model.specs.declared.phase.Phase.{Phase}
 use Rattle.event_model.specs.declared.phase.Phase.TheVariants.{Absent, New, Waiting, Answered, Running, Down, Closed, Gone}
 use Rattle.mux_model.specs.Built.{is_other, built_from_editor, built_behind}
 use Rattle.event_model.specs.Event.{Event, took, said, requests, heard, with_cause}
-use Rattle.mux_model.specs.Members.{has_token}
+use Rattle.event_model.specs.Members.{has_token}
 use Rattle.event_model.specs.Phases.{Desk, desk_of, desk_behind, desk_hears, has_id, phase_told, is_there, makes_running, phase_closed, editors_of}
 use Rattle.event_model.specs.Requests.{open_of, is_open, asks, without}
 use Rattle.event_model.specs.Always.{Always}

@@ -1,6 +1,6 @@
 use Rattle.std.proofs.Common.{◌∙◌, refl, sym, Some, None, codes}
 use Rattle.json_text.specs.Named.{named_in}
-use Rattle.mux_model.specs.Members.{first_uri, string_of}
+use Rattle.event_model.specs.Members.{first_uri, string_of}
 use Rattle.mux_members.specs.Finds.{FoundText}
 use Rattle.mux_members.proofs.Roots.{first_found, first_passed}
 use Rattle.mux_members.proofs.Walks.{walking_on, walking_here, walking_ends}

@@ -1,6 +1,6 @@
 use Rattle.std.proofs.Common.{length}
 use Rattle.json_nodes.proofs.Members.{left}
-use Rattle.mux_model.specs.Members.{first_uri}
+use Rattle.event_model.specs.Members.{first_uri}
 use Rattle.mux_members.proofs.Walks.{Walking}
 use Rattle.mux_members.proofs.opening.first_uri.Given as goal
 

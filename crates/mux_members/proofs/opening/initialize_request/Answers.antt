@@ -2,7 +2,7 @@ use Rattle.std.proofs.Common.{Option, Some, ◌∙◌, sym, ap, subst, codes, re
 use Rattle.json_text.specs.Json.{Json}
 use Rattle.json_nodes.specs.At.{Found}
 use Rattle.json_nodes.specs.Doc.{Doc, Holds}
-use Rattle.mux_model.specs.Members.{bytes_if, named_of, root_uri}
+use Rattle.event_model.specs.Members.{bytes_if, named_of, root_uri}
 use Rattle.mux_members.proofs.Roots.{opening_is, read_params}
 use Rattle.mux_members.proofs.opening.initialize_request.Goals as goal
 
