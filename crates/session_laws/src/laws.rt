@@ -5,7 +5,7 @@ ghost use Rattle.mux_history.specs.declared.entry.Entry.{Entry};
 ghost use Rattle.mux_model.specs.Legal.{Legal};
 ghost use Rattle.event_model.specs.Settings.{Settings};
 ghost use Rattle.session_laws.specs.ClientRules.{KeepsClient2, KeepsClient3};
-ghost use Rattle.session_laws.specs.Ranges.{InRange};
+ghost use Rattle.mux_facts.specs.Ranges.{InRange};
 ghost use Rattle.session_laws.specs.ServerRules.{KeepsServer1, KeepsServer2, KeepsServer3, KeepsServer4};
 
 /// A law: each response to an editor has the id of an open request of it, which it closes, or answers a body that was
