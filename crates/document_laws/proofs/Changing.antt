@@ -14,7 +14,7 @@ use Rattle.doc_text.specs.Changes.{text_behind}
 use Rattle.focus_switch.specs.declared.telling.Telling.{Telling}
 use Rattle.focus_switch.specs.declared.telling.Telling.TheVariants.{Changes, OpensAnew}
 use Rattle.document_model.specs.Opens.{Open, holder, holds}
-use Rattle.focus_switch.specs.Documents.{Documents, held_of}
+use Rattle.focus_switch.specs.Documents.{Documents, version_held}
 use Rattle.document_model.specs.Notices.{DidChange, did_change, with_version}
 use Rattle.focus_switch.specs.Rows.{Step, nothing, or_nothing, send, touch, switch, had, change_sends, changed_open, change_row}
 use Rattle.document_model.specs.Bodies.{open_text, full_text, close_text}
@@ -39,7 +39,7 @@ use Rattle.document_laws.proofs.Following.{touch_texts, touch_stays, touch_held}
 
 module _ (e : ℕ) (body : List ℕ) (tree : Json) (u w : List ℕ) (cs : Json) (s : Documents) (read : tree_of body ≡ Some tree) (said : saying_of (message_of body) ≡ changes u w cs) where
   abbrev behind : Open → Step
-  behind new = touch new (send new.uri (change_sends new body tree (held_of new.uri s.helds).version s) s)
+  behind new = touch new (send new.uri (change_sends new body tree (version_held new.uri s.helds) s) s)
 
   same_after : (list : Json) (x : List ℕ) (encoding : Option Encoding) → bare list ≡ cs → text_after encoding list x ≡ text_after encoding cs x
   same_after list x None h = refl
@@ -78,21 +78,21 @@ module _ (e : ℕ) (body : List ℕ) (tree : Json) (u w : List ℕ) (cs : Json) 
     where
       go : (o : Option Open) → texts_in (or_nothing o s behind).after ≡ option_map_or (λ o. touched o (texts_in s)) o (texts_in s)
       go None = refl
-      go (Some new) = touch_texts new new.uri (change_sends new body tree (held_of new.uri s.helds).version s) s
+      go (Some new) = touch_texts new new.uri (change_sends new body tree (version_held new.uri s.helds) s) s
 
   pub change_stays : Stays s (change_row e body tree s).after
   change_stays = subst (λ (z : Step). Stays s z.after) (sym change_is) (go (changed s.encoding e u w cs (texts_in s)))
     where
       go : (o : Option Open) → Stays s (or_nothing o s behind).after
       go None = record { start = refl; encoding = refl; versions = refl }
-      go (Some new) = touch_stays new new.uri (change_sends new body tree (held_of new.uri s.helds).version s) s
+      go (Some new) = touch_stays new new.uri (change_sends new body tree (version_held new.uri s.helds) s) s
 
   pub change_silent : s.start ≡ None → (change_row e body tree s).outs ≡ []
   change_silent started = ap (λ (z : Step). z.outs) change_is ∙ go (changed s.encoding e u w cs (texts_in s))
     where
       go : (o : Option Open) → (or_nothing o s behind).outs ≡ []
       go None = refl
-      go (Some new) = send_silent new.uri (change_sends new body tree (held_of new.uri s.helds).version s) s started
+      go (Some new) = send_silent new.uri (change_sends new body tree (version_held new.uri s.helds) s) s started
 
   module _ (old new : Open) (there : found e u (texts_in s) ≡ Some old) (is : ChangedTo s.encoding e u cs s.turn old new) where
     -- what is told of a document that the start has: nothing, the body under the next version, or the whole text
@@ -126,10 +126,10 @@ module _ (e : ℕ) (body : List ℕ) (tree : Json) (u w : List ℕ) (cs : Json) 
 
     outs_so : (n : ℕ) (held : List ℕ → Option HeldText) → s.start ≡ Some n → Held s held → changed s.encoding e u w cs (texts_in s) ≡ Some new
         → (change_row e body tree s).outs ≡ map (λ b. ToServer n b) (sent_change s.versions body old new (held u))
-    outs_so n held started follows h = ap (λ (z : Step). z.outs) (changed_so new h) ∙ send_outs n new.uri (change_sends new body tree (held_of new.uri s.helds).version s) s started
-        ∙ ap (map (λ b. ToServer n b)) (ap (λ z. bodies_of (change_sends new body tree (held_of z s.helds).version s)) is.uri
+    outs_so n held started follows h = ap (λ (z : Step). z.outs) (changed_so new h) ∙ send_outs n new.uri (change_sends new body tree (version_held new.uri s.helds) s) s started
+        ∙ ap (map (λ b. ToServer n b)) (ap (λ z. bodies_of (change_sends new body tree (version_held z s.helds) s)) is.uri
         ∙ by_match (λ v p k. holder u s.opens ≡ p → bodies_of (change_sends new body tree v s) ≡ sent_change s.versions body old new k) (λ d. refl) (λ v p k a b d. sent_so v p k a b d)
-        (held_of u s.helds).version (holder u s.opens) (held u) (follows u) refl)
+        (version_held u s.helds) (holder u s.opens) (held u) (follows u) refl)
 
     chosen_follows : (code : Encoding) (v : ℕ) (p : Open) (h : HeldText) → s.encoding ≡ Some code → s.versions < 2 ^ 32 → IsSpelt new → h.version ≡ v → h.text ≡ p.text
         → Follows s.encoding u (Some new) (Some v) (Some h) (choice (bytes_eq p.text new.text) (nat_lt v s.versions && bytes_eq p.text old.text) v)
@@ -153,9 +153,9 @@ module _ (e : ℕ) (body : List ℕ) (tree : Json) (u w : List ℕ) (cs : Json) 
 
     behind_held : (n : ℕ) (code : Encoding) (held : List ℕ → Option HeldText) → s.start ≡ Some n → s.encoding ≡ Some code → Orderly (texts_in s) → Held s held → s.versions < 2 ^ 32 → IsSpelt new
         → Held (behind new).after (λ w. told_outs s.encoding w (held w) (behind new).outs)
-    behind_held n code held started coded orderly follows small utf8 = touch_held n new (change_sends new body tree (held_of new.uri s.helds).version s) s held started follows is.touch orderly.turns
-        (subst (λ (z : List ℕ). Follows s.encoding z (Some new) (held_of z s.helds).version (held z) (change_sends new body tree (held_of z s.helds).version s)) (sym is.uri)
-        (changed_follows code (held_of u s.helds).version (held u) coded small utf8 (follows u)))
+    behind_held n code held started coded orderly follows small utf8 = touch_held n new (change_sends new body tree (version_held new.uri s.helds) s) s held started follows is.touch orderly.turns
+        (subst (λ (z : List ℕ). Follows s.encoding z (Some new) (version_held z s.helds) (held z) (change_sends new body tree (version_held z s.helds) s)) (sym is.uri)
+        (changed_follows code (version_held u s.helds) (held u) coded small utf8 (follows u)))
 
   pub change_outs : (n : ℕ) (old new : Open) (held : List ℕ → Option HeldText) → s.start ≡ Some n → Held s held → found e u (texts_in s) ≡ Some old → changed s.encoding e u w cs (texts_in s) ≡ Some new
       → (change_row e body tree s).outs ≡ map (λ b. ToServer n b) (sent_change s.versions body old new (held u))

@@ -8,12 +8,12 @@ use Rattle.position_codec.specs.declared.Encoding.{Encoding}
 use Rattle.focus_switch.specs.declared.telling.Telling.{Telling}
 use Rattle.focus_switch.specs.declared.telling.Telling.TheVariants.{Closes}
 use Rattle.document_model.specs.Opens.{Open, is_open_at, put_open, drop_open, holder, holder_beside}
-use Rattle.focus_switch.specs.Documents.{Documents, held_of}
+use Rattle.focus_switch.specs.Documents.{Documents, version_held}
 use Rattle.focus_switch.specs.Rows.{Step, nothing, or_nothing, send, touch, forget, differing, open_sends, open_row, close_sends, close_row}
 use Rattle.document_model.specs.Bodies.{close_text}
 use Rattle.document_laws.specs.Follows.{texts_in}
 use Rattle.document_model.specs.Orderly.{IsSpelt}
-use Rattle.document_model.specs.Texts.{Texts, found, touched, opened}
+use Rattle.document_model.specs.Texts.{found, touched, opened}
 use Rattle.document_model.specs.Helds.{HeldText}
 use Rattle.document_model.specs.Rows.{sent_open, sent_close}
 use Rattle.document_model.specs.Orderly.{Once, Orderly}
@@ -31,54 +31,54 @@ pub touch_stays : (o : Open) (u : List ℕ) (x : Option Telling) (s : Documents)
 touch_stays o u x s = let k : Kept s (send u x s).after = send_keeps u x s in record { start = k.stays.start; encoding = k.stays.encoding; versions = k.stays.versions }
 
 pub touch_held : (n : ℕ) (o : Open) (x : Option Telling) (s : Documents) (held : List ℕ → Option HeldText) → s.start ≡ Some n → Held s held → o.touched ≡ s.turn → AllByRecursion (λ (p : Open). p.touched < s.turn) s.opens
-    → Follows s.encoding o.uri (Some o) (held_of o.uri s.helds).version (held o.uri) x → Held (touch o (send o.uri x s)).after (λ w. told_outs s.encoding w (held w) (touch o (send o.uri x s)).outs)
+    → Follows s.encoding o.uri (Some o) (version_held o.uri s.helds) (held o.uri) x → Held (touch o (send o.uri x s)).after (λ w. told_outs s.encoding w (held w) (touch o (send o.uri x s)).outs)
 touch_held n o x s held started follows turn before f =
     let k : Kept s (send o.uri x s).after = send_keeps o.uri x s in
     let best : holder o.uri (put_open o s.opens) ≡ Some o = holder_put o s.opens (subst (λ z. AllByRecursion (λ (p : Open). p.touched < z) s.opens) (sym turn) before) in
     subst (λ (os : List Open). Held (record (send o.uri x s).after { opens = put_open o os; turn = (send o.uri x s).after.turn + 1 }) (λ w. told_outs s.encoding w (held w) (send o.uri x s).outs)) (sym k.opens)
     (row_held n o.uri x s held (put_open o s.opens) ((send o.uri x s).after.turn + 1) started follows (λ w away. holder_put_other w o s.opens away) f.silent
-    (subst (λ z. Matches (version_behind (held_of o.uri s.helds).version x) z (told_bodies s.encoding o.uri (held o.uri) (bodies_of x))) (sym best) f.here))
+    (subst (λ z. Matches (version_behind (version_held o.uri s.helds) x) z (told_bodies s.encoding o.uri (held o.uri) (bodies_of x))) (sym best) f.here))
 
 -- opening
 
 pub open_texts : (e : ℕ) (u l v t : List ℕ) (s : Documents) → texts_in (open_row e u l v t s).after ≡ touched (opened e u l v t (texts_in s)) (texts_in s)
-open_texts e u l v t s = touch_texts (opened e u l v t (texts_in s)) u (open_sends (opened e u l v t (texts_in s)) (held_of u s.helds).version s) s
+open_texts e u l v t s = touch_texts (opened e u l v t (texts_in s)) u (open_sends (opened e u l v t (texts_in s)) (version_held u s.helds) s) s
 
 pub open_stays : (e : ℕ) (u l v t : List ℕ) (s : Documents) → Stays s (open_row e u l v t s).after
-open_stays e u l v t s = touch_stays (opened e u l v t (texts_in s)) u (open_sends (opened e u l v t (texts_in s)) (held_of u s.helds).version s) s
+open_stays e u l v t s = touch_stays (opened e u l v t (texts_in s)) u (open_sends (opened e u l v t (texts_in s)) (version_held u s.helds) s) s
 
 pub open_silent : (e : ℕ) (u l v t : List ℕ) (s : Documents) → s.start ≡ None → (open_row e u l v t s).outs ≡ []
-open_silent e u l v t s h = send_silent u (open_sends (opened e u l v t (texts_in s)) (held_of u s.helds).version s) s h
+open_silent e u l v t s h = send_silent u (open_sends (opened e u l v t (texts_in s)) (version_held u s.helds) s) s h
 
 pub open_outs : (n : ℕ) (e : ℕ) (u l v t : List ℕ) (s : Documents) (held : List ℕ → Option HeldText) → s.start ≡ Some n → Held s held
     → (open_row e u l v t s).outs ≡ map (λ b. ToServer n b) (sent_open s.versions (opened e u l v t (texts_in s)) (held u))
 open_outs n e u l v t s held started follows =
     let o : Open = opened e u l v t (texts_in s) in
-    send_outs n u (open_sends o (held_of u s.helds).version s) s started ∙ ap (map (λ b. ToServer n b))
+    send_outs n u (open_sends o (version_held u s.helds) s) s started ∙ ap (map (λ b. ToServer n b))
     (by_match (λ w p h. holder u s.opens ≡ p → bodies_of (open_sends o w s) ≡ sent_open s.versions o h) (λ d. refl) (λ w p h a b d. differ_sent s o p w h d a b)
-    (held_of u s.helds).version (holder u s.opens) (held u) (follows u) refl)
+    (version_held u s.helds) (holder u s.opens) (held u) (follows u) refl)
 
 -- closing
 
 module _ (e : ℕ) (u : List ℕ) (s : Documents) where
   -- a document that isn't open there is no row
   pub close_none : found e u (texts_in s) ≡ None → close_row e u s ≡ nothing s
-  close_none h = ap (λ z. or_nothing z s (λ (o : Open). forget e o.uri (send o.uri (close_sends e o.uri (held_of o.uri s.helds).version s) s))) h
+  close_none h = ap (λ z. or_nothing z s (λ (o : Open). forget e o.uri (send o.uri (close_sends e o.uri (version_held o.uri s.helds) s) s))) h
 
   abbrev closing : Step
-  closing = forget e u (send u (close_sends e u (held_of u s.helds).version s) s)
+  closing = forget e u (send u (close_sends e u (version_held u s.helds) s) s)
 
   close_is : (o : Open) → found e u (texts_in s) ≡ Some o → close_row e u s ≡ closing
-  close_is o h = ap (λ z. or_nothing z s (λ (o : Open). forget e o.uri (send o.uri (close_sends e o.uri (held_of o.uri s.helds).version s) s))) h
-      ∙ ap (λ z. forget e z (send z (close_sends e z (held_of z s.helds).version s) s)) (find_is e u s.opens o h).1
+  close_is o h = ap (λ z. or_nothing z s (λ (o : Open). forget e o.uri (send o.uri (close_sends e o.uri (version_held o.uri s.helds) s) s))) h
+      ∙ ap (λ z. forget e z (send z (close_sends e z (version_held z s.helds) s) s)) (find_is e u s.opens o h).1
 
   -- the holder, were the document not open here, has this document
   beside_uri : (o : Open) → holder_beside e u s.opens ≡ Some o → o.uri ≡ u
   beside_uri o h = bytes_same o.uri u (both_true (bytes_eq o.uri u) (not (nat_eq o.editor e))
       (latest_of (λ (p : Open). Unit {0}) (λ p. bytes_eq p.uri u && not (nat_eq p.editor e)) s.opens o (all_there s.opens) h).1).0
 
-  closing_kept : Kept s (send u (close_sends e u (held_of u s.helds).version s) s).after
-  closing_kept = send_keeps u (close_sends e u (held_of u s.helds).version s) s
+  closing_kept : Kept s (send u (close_sends e u (version_held u s.helds) s) s).after
+  closing_kept = send_keeps u (close_sends e u (version_held u s.helds) s) s
 
   pub close_texts : texts_in (close_row e u s).after ≡ record { turn = s.turn; opens = drop_open e u s.opens }
   close_texts = go (found e u (texts_in s)) refl
@@ -99,13 +99,13 @@ module _ (e : ℕ) (u : List ℕ) (s : Documents) where
     where
       go : (o : Option Open) → found e u (texts_in s) ≡ o → (close_row e u s).outs ≡ []
       go None h = ap (λ (z : Step). z.outs) (close_none h)
-      go (Some o) h = ap (λ (z : Step). z.outs) (close_is o h) ∙ send_silent u (close_sends e u (held_of u s.helds).version s) s started
+      go (Some o) h = ap (λ (z : Step). z.outs) (close_is o h) ∙ send_silent u (close_sends e u (version_held u s.helds) s) s started
 
   pub close_outs : (n : ℕ) (o : Open) (held : List ℕ → Option HeldText) → s.start ≡ Some n → Held s held → found e u (texts_in s) ≡ Some o
       → (close_row e u s).outs ≡ map (λ b. ToServer n b) (sent_close s.versions u (holder_beside e u s.opens) (held u))
-  close_outs n o held started follows h = ap (λ (z : Step). z.outs) (close_is o h) ∙ send_outs n u (close_sends e u (held_of u s.helds).version s) s started ∙ ap (map (λ b. ToServer n b))
+  close_outs n o held started follows h = ap (λ (z : Step). z.outs) (close_is o h) ∙ send_outs n u (close_sends e u (version_held u s.helds) s) s started ∙ ap (map (λ b. ToServer n b))
       (by_match (λ v p k. holder u s.opens ≡ p → bodies_of (close_sends e u v s) ≡ sent_close s.versions u (holder_beside e u s.opens) k) (λ d. refl) (λ v p k a b d. go v p k a b d (holder_beside e u s.opens) refl)
-      (held_of u s.helds).version (holder u s.opens) (held u) (follows u) refl)
+      (version_held u s.helds) (holder u s.opens) (held u) (follows u) refl)
     where
       go : (v : ℕ) (p : Open) (k : HeldText) → k.version ≡ v → k.text ≡ p.text → holder u s.opens ≡ Some p → (rest : Option Open) → holder_beside e u s.opens ≡ rest
           → bodies_of (option_map_or (λ h. differing h v s) rest (Some (Closes (close_text u)))) ≡ sent_close s.versions u rest (Some k)
@@ -118,12 +118,12 @@ pub open_held : (n : ℕ) (code : Encoding) (e : ℕ) (u l v t : List ℕ) (s : 
     → IsUtf8 u → IsUtf8 l → IsUtf8 t → Held (open_row e u l v t s).after (λ w. told_outs s.encoding w (held w) (open_row e u l v t s).outs)
 open_held n code e u l v t s held started coded orderly follows small utf8_u utf8_l utf8_t =
     let o : Open = opened e u l v t (texts_in s) in
-    touch_held n o (open_sends o (held_of u s.helds).version s) s held started follows refl orderly.turns
-    (subst (λ z. Follows z u (Some o) (held_of u s.helds).version (held u) (open_sends o (held_of u s.helds).version s)) (sym coded)
+    touch_held n o (open_sends o (version_held u s.helds) s) s held started follows refl orderly.turns
+    (subst (λ z. Follows z u (Some o) (version_held u s.helds) (held u) (open_sends o (version_held u s.helds) s)) (sym coded)
     (by_match (λ w p h. holder u s.opens ≡ p → Follows (Some code) u (Some o) w h (open_sends o w s))
     (λ d. open_follows (Some code) o None None (utf8_u, utf8_l, utf8_t))
     (λ w p h a b d. differ_follows code s o p w h small d a b (utf8_u, utf8_l, utf8_t))
-    (held_of u s.helds).version (holder u s.opens) (held u) (follows u) refl))
+    (version_held u s.helds) (holder u s.opens) (held u) (follows u) refl))
 
 module _ (code : Encoding) (e : ℕ) (u : List ℕ) (s : Documents) (small : s.versions < 2 ^ 32) (utf8 : AllByRecursion IsSpelt s.opens) (o : Open) (there : find (is_open_at e u) s.opens ≡ Some o) where
   utf8_uri : IsUtf8 u
@@ -144,12 +144,12 @@ module _ (code : Encoding) (e : ℕ) (u : List ℕ) (s : Documents) (small : s.v
 
   closing_held : (n : ℕ) (held : List ℕ → Option HeldText) → s.start ≡ Some n → s.encoding ≡ Some code → Once s.opens → Held s held → Held (closing e u s).after (λ w. told_outs s.encoding w (held w) (closing e u s).outs)
   closing_held n held started coded once follows =
-      let x : Option Telling = close_sends e u (held_of u s.helds).version s in
-      let f : Follows s.encoding u (holder_beside e u s.opens) (held_of u s.helds).version (held u) x
-      = subst (λ z. Follows z u (holder_beside e u s.opens) (held_of u s.helds).version (held u) x) (sym coded) (closed_follows (held_of u s.helds).version (held u) (follows u)) in
+      let x : Option Telling = close_sends e u (version_held u s.helds) s in
+      let f : Follows s.encoding u (holder_beside e u s.opens) (version_held u s.helds) (held u) x
+      = subst (λ z. Follows z u (holder_beside e u s.opens) (version_held u s.helds) (held u) x) (sym coded) (closed_follows (version_held u s.helds) (held u) (follows u)) in
       subst (λ (os : List Open). Held (record (send u x s).after { opens = drop_open e u os; turn = (send u x s).after.turn }) (λ w. told_outs s.encoding w (held w) (send u x s).outs)) (sym (send_keeps u x s).opens)
       (row_held n u x s held (drop_open e u s.opens) (send u x s).after.turn started follows (λ w away. holder_drop_other e u w s.opens away) f.silent
-      (subst (λ z. Matches (version_behind (held_of u s.helds).version x) z (told_bodies s.encoding u (held u) (bodies_of x))) (sym (holder_drop e u s.opens once)) f.here))
+      (subst (λ z. Matches (version_behind (version_held u s.helds) x) z (told_bodies s.encoding u (held u) (bodies_of x))) (sym (holder_drop e u s.opens once)) f.here))
 
 pub close_held : (n : ℕ) (code : Encoding) (e : ℕ) (u : List ℕ) (s : Documents) (held : List ℕ → Option HeldText) → s.start ≡ Some n → s.encoding ≡ Some code → Orderly (texts_in s) → Held s held → s.versions < 2 ^ 32
     → AllByRecursion IsSpelt s.opens → Held (close_row e u s).after (λ w. told_outs s.encoding w (held w) (close_row e u s).outs)

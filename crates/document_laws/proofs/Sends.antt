@@ -1,5 +1,5 @@
 -- What a row sends, what stays behind it, and what the start then has.
-use Rattle.std.proofs.Common.{◌≡◌, ℕ, Bool, true, false, cond, List, [], ◌∷◌, map, refl, sym, ◌∙◌, ap, subst}
+use Rattle.std.proofs.Common.{◌≡◌, ℕ, ◌+◌, Bool, true, false, cond, List, [], ◌∷◌, length, map, refl, sym, ◌∙◌, ap, subst}
 use Rattle.std.specs.Prelude.{Option, Some, None, fold, find, nat_lt, bytes_eq, if◌then◌else◌}
 use Rattle.std.specs.List.{AllByRecursion}
 use Rattle.std.proofs.lemmas.Slice.Eq.{bytes_eq-Decides}
@@ -8,12 +8,12 @@ use Rattle.position_codec.specs.declared.Encoding.{Encoding}
 use Rattle.rpc_message.specs.Message.{message_of}
 use Rattle.focus_switch.specs.declared.telling.Telling.{Telling}
 use Rattle.document_model.specs.Opens.{Open, later, latest, holder}
-use Rattle.focus_switch.specs.Documents.{Documents, held_of}
-use Rattle.focus_switch.specs.Rows.{version_told, bodies_told, held_behind, tell, send}
+use Rattle.focus_switch.specs.Documents.{Documents, version_held}
+use Rattle.focus_switch.specs.Rows.{version_told, bodies_told, tell, send}
 use Rattle.document_model.specs.Sayings.{saying_of}
 use Rattle.document_model.specs.Helds.{HeldText, told}
 use Rattle.document_laws.specs.Follows.{Matches, Held, told_outs}
-use Rattle.document_laws.proofs.Keeping.{held_put, held_put_other}
+use Rattle.document_laws.proofs.Keeping.{version_put, version_put_other}
 use Rattle.document_model.proofs.Holders.{pick, bytes_same}
 
 abbrev pub bodies_of : Option Telling → List (List ℕ)
@@ -51,13 +51,13 @@ send_keeps u (Some x) s = go s.start
     go None = record { stays = record { start = refl; encoding = refl; versions = refl }; turn = refl; opens = refl }
     go (Some n) = record { stays = record { start = refl; encoding = refl; versions = refl }; turn = refl; opens = refl }
 
-pub send_version : (n : ℕ) (u : List ℕ) (x : Option Telling) (s : Documents) → s.start ≡ Some n → (held_of u (send u x s).after.helds).version ≡ version_behind (held_of u s.helds).version x
+pub send_version : (n : ℕ) (u : List ℕ) (x : Option Telling) (s : Documents) → s.start ≡ Some n → version_held u (send u x s).after.helds ≡ version_behind (version_held u s.helds) x
 send_version n u None s h = refl
-send_version n u (Some x) s h = ap (λ z. (held_of u (tell z u x s).after.helds).version) h ∙ ap (λ z. z.version) (held_put u (held_behind (held_of u s.helds) x) s.helds)
+send_version n u (Some x) s h = ap (λ z. version_held u (tell z u x s).after.helds) h ∙ version_put u (version_told x) (s.sent + length (bodies_told x)) s.helds
 
-pub send_version_other : (n : ℕ) (u w : List ℕ) (x : Option Telling) (s : Documents) → s.start ≡ Some n → bytes_eq w u ≡ false → (held_of w (send u x s).after.helds).version ≡ (held_of w s.helds).version
+pub send_version_other : (n : ℕ) (u w : List ℕ) (x : Option Telling) (s : Documents) → s.start ≡ Some n → bytes_eq w u ≡ false → version_held w (send u x s).after.helds ≡ version_held w s.helds
 send_version_other n u w None s h d = refl
-send_version_other n u w (Some x) s h d = ap (λ z. (held_of w (tell z u x s).after.helds).version) h ∙ ap (λ z. z.version) (held_put_other u w (held_behind (held_of u s.helds) x) s.helds d)
+send_version_other n u w (Some x) s h d = ap (λ z. version_held w (tell z u x s).after.helds) h ∙ version_put_other u w (version_told x) (s.sent + length (bodies_told x)) s.helds d
 
 -- what the start has of w behind bodies to it
 abbrev pub told_bodies : Option Encoding → List ℕ → Option HeldText → List (List ℕ) → Option HeldText
@@ -81,18 +81,18 @@ other_way u w h = go (bytes_eq u w) refl
 pub row_held : (n : ℕ) (u : List ℕ) (x : Option Telling) (s : Documents) (held : List ℕ → Option HeldText) (os : List Open) (turn : ℕ) → s.start ≡ Some n → Held s held
     → ((w : List ℕ) → bytes_eq u w ≡ false → holder w os ≡ holder w s.opens)
     → ((w : List ℕ) (h : Option HeldText) → bytes_eq w u ≡ false → told_bodies s.encoding w h (bodies_of x) ≡ h)
-    → Matches (version_behind (held_of u s.helds).version x) (holder u os) (told_bodies s.encoding u (held u) (bodies_of x))
+    → Matches (version_behind (version_held u s.helds) x) (holder u os) (told_bodies s.encoding u (held u) (bodies_of x))
     → Held (record (send u x s).after { opens = os; turn = turn }) (λ w. told_outs s.encoding w (held w) (send u x s).outs)
 row_held n u x s held os turn started follows others silent here w = go (bytes_eq w u) refl
   where
     said : (z : List ℕ) → told_outs s.encoding z (held z) (send u x s).outs ≡ told_bodies s.encoding z (held z) (bodies_of x)
     said z = ap (told_outs s.encoding z (held z)) (send_outs n u x s started) ∙ told_sent s.encoding z n (bodies_of x) (held z)
 
-    go : (b : Bool) → bytes_eq w u ≡ b → Matches (held_of w (send u x s).after.helds).version (holder w os) (told_outs s.encoding w (held w) (send u x s).outs)
-    go true d = subst (λ z. Matches (held_of z (send u x s).after.helds).version (holder z os) (told_outs s.encoding z (held z) (send u x s).outs)) (sym (bytes_same w u d))
-        (match_at (version_behind (held_of u s.helds).version x) (held_of u (send u x s).after.helds).version (holder u os) (holder u os) (told_bodies s.encoding u (held u) (bodies_of x)) (told_outs s.encoding u (held u) (send u x s).outs)
+    go : (b : Bool) → bytes_eq w u ≡ b → Matches (version_held w (send u x s).after.helds) (holder w os) (told_outs s.encoding w (held w) (send u x s).outs)
+    go true d = subst (λ z. Matches (version_held z (send u x s).after.helds) (holder z os) (told_outs s.encoding z (held z) (send u x s).outs)) (sym (bytes_same w u d))
+        (match_at (version_behind (version_held u s.helds) x) (version_held u (send u x s).after.helds) (holder u os) (holder u os) (told_bodies s.encoding u (held u) (bodies_of x)) (told_outs s.encoding u (held u) (send u x s).outs)
         (sym (send_version n u x s started)) refl (sym (said u)) here)
-    go false d = match_at (held_of w s.helds).version (held_of w (send u x s).after.helds).version (holder w s.opens) (holder w os) (held w) (told_outs s.encoding w (held w) (send u x s).outs)
+    go false d = match_at (version_held w s.helds) (version_held w (send u x s).after.helds) (holder w s.opens) (holder w os) (held w) (told_outs s.encoding w (held w) (send u x s).outs)
         (sym (send_version_other n u w x s started d)) (sym (others w (other_way u w d))) (sym (said w ∙ silent w (held w) d)) (follows w)
 
 -- the one that was touched last passes the test, and is one of them

@@ -1,13 +1,12 @@
 -- When the documents that are kept follow what editors have and what the start was told.
-use Rattle.std.specs.Prelude.{◌≡◌, ℕ, ◌<◌, false, List, [], ◌∷◌, fold, IsUtf8}
+use Rattle.std.specs.Prelude.{◌≡◌, ℕ, List, fold}
 use Rattle.std.specs.Prelude.{Option, Some, None}
-use Rattle.std.specs.List.{AllByRecursion}
 use Rattle.mux_history.specs.declared.out.Out.{Out}
 use Rattle.mux_history.specs.declared.out.Out.TheVariants.{ToServer}
 use Rattle.rpc_message.specs.Message.{message_of}
 use Rattle.position_codec.specs.declared.Encoding.{Encoding}
-use Rattle.document_model.specs.Opens.{Open, is_open_at, holder}
-use Rattle.focus_switch.specs.Documents.{Documents, held_of}
+use Rattle.document_model.specs.Opens.{Open, holder}
+use Rattle.focus_switch.specs.Documents.{Documents, version_held}
 use Rattle.document_model.specs.Helds.{HeldText, told}
 use Rattle.document_model.specs.Sayings.{saying_of}
 use Rattle.document_model.specs.Texts.{Texts}
@@ -24,7 +23,7 @@ texts_in s = record { turn = s.turn; opens = s.opens }
 
 -- what a ready start has of each document is the holder's text, under the version that is kept
 abbrev pub Held : Documents → (List ℕ → Option HeldText) → Type 0
-Held s held = (u : List ℕ) → Matches (held_of u s.helds).version (holder u s.opens) (held u)
+Held s held = (u : List ℕ) → Matches (version_held u s.helds) (holder u s.opens) (held u)
 
 -- what the start has behind these outs
 abbrev pub told_out : Option Encoding → List ℕ → Option HeldText → Out → Option HeldText

@@ -5,7 +5,7 @@ use Rattle.std.proofs.lemmas.List.Sums.{fold-append}
 use Rattle.mux_history.specs.declared.out.Out.{Out}
 use Rattle.focus_switch.specs.declared.telling.Telling.{Telling}
 use Rattle.document_model.specs.Opens.{Open}
-use Rattle.focus_switch.specs.Documents.{Documents, held_of}
+use Rattle.focus_switch.specs.Documents.{Documents, version_held}
 use Rattle.focus_switch.specs.Rows.{Step, nothing, tell, send, or_nothing, each, replayed, replay_sends, synced, sync_sends}
 
 -- what is open stays
@@ -34,13 +34,13 @@ stands outs s = record { outs = outs; after = s }
 -- a replay and a sync leave what is open
 
 pub replay_keeps : (s : Documents) (o : Open) → (replayed s o).after.opens ≡ s.opens
-replay_keeps s o = kept o.uri (replay_sends o (held_of o.uri s.helds).version s) s
+replay_keeps s o = kept o.uri (replay_sends o (version_held o.uri s.helds) s) s
 
 pub sync_keeps : (e : ℕ) (s : Documents) (o : Open) → (synced e s o).after.opens ≡ s.opens
 sync_keeps e s o = go (nat_eq o.editor e)
   where
-    go : (b : Bool) → (if b then send o.uri (sync_sends o (held_of o.uri s.helds).version s) s else nothing s).after.opens ≡ s.opens
-    go true = kept o.uri (sync_sends o (held_of o.uri s.helds).version s) s
+    go : (b : Bool) → (if b then send o.uri (sync_sends o (version_held o.uri s.helds) s) s else nothing s).after.opens ≡ s.opens
+    go true = kept o.uri (sync_sends o (version_held o.uri s.helds) s) s
     go false = refl
 
 pub record Next (f : Documents → Open → Step) (s : Documents) (os : List Open) (i : ℕ) (outs : List Out) (after : Documents) : Type 0 where

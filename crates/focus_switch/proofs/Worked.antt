@@ -10,12 +10,13 @@ use Rattle.mux_history.specs.declared.out.Out.TheVariants.{ToServer}
 use Rattle.rpc_message.specs.Message.{is_integer}
 use Rattle.position_codec.specs.declared.Encoding.TheVariants.{Utf16}
 use Rattle.focus_switch.specs.Documents.{Documents}
-use Rattle.focus_switch.specs.Rows.{Step, nothing, or_nothing, open_row, change_row, close_row, ready_row, unready_row, sync_row}
+use Rattle.focus_switch.specs.declared.agreement.Agreement.TheVariants.{Agrees}
+use Rattle.focus_switch.specs.Rows.{Step, nothing, or_nothing, open_row, change_row, close_row, ready_row, unready_row, sync_row, agreement}
 use Rattle.document_model.specs.Bodies.{open_text, full_text, close_text}
 
 -- no documents, and start 0 is ready
 abbrev begun : ℕ → Documents
-begun versions = (ready_row 0 Utf16 (record { start = None; encoding = None; versions = versions; turn = 0; opens = []; helds = [] })).after
+begun versions = (ready_row 0 Utf16 (record { start = None; encoding = None; versions = versions; turn = 0; opens = []; sent = 0; helds = [] })).after
 
 -- the outs of steps, one after the other
 abbrev outs : List (Documents → Step) → Documents → List Out
@@ -105,3 +106,17 @@ at_the_limit = refl
 replayed : outs (opens 0 u (codes "a") ∷ (λ s. nothing (unready_row s)) ∷ opens 1 v (codes "b") ∷ opens 1 u (codes "c") ∷ closes 1 v ∷ opens 1 v (codes "d") ∷ (λ s. ready_row 1 Utf16 s) ∷ []) (begun 100)
     ≡ sent (open_text u x (codes "a")) ∷ ToServer 1 (open_text u x (codes "c")) ∷ ToServer 1 (open_text v x (codes "d")) ∷ []
 replayed = refl
+
+-- a document that is closed leaves nothing; the count of an agreement is that of the start, as of the last notification on the document
+abbrev behind : List (Documents → Step) → Documents → Documents
+behind [] s = s
+behind (f ∷ fs) s = behind fs (f s).after
+
+nothing_left : behind (opens 0 u (codes "a") ∷ opens 1 u (codes "b") ∷ opens 0 v (codes "a") ∷ closes 0 v ∷ closes 0 u ∷ closes 1 u ∷ []) (begun 100) ≡ record (begun 100) { turn = 3; sent = 5 }
+nothing_left = refl
+
+counted : agreement 0 u (behind (opens 0 u (codes "a") ∷ opens 0 v (codes "a") ∷ closes 0 u ∷ opens 0 u (codes "a") ∷ opens 1 v (codes "b") ∷ []) (begun 100)) ≡ Agrees 1 4
+counted = refl
+
+at_the_limit_counted : agreement 0 u (behind (opens 0 u (codes "a") ∷ opens 0 u (codes "b") ∷ []) (begun 1)) ≡ Agrees 1 3
+at_the_limit_counted = refl

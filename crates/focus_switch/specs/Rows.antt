@@ -13,7 +13,7 @@ use Rattle.focus_switch.specs.declared.agreement.Agreement.TheVariants.{NotOpen,
 use Rattle.focus_switch.specs.declared.telling.Telling.{Telling}
 use Rattle.focus_switch.specs.declared.telling.Telling.TheVariants.{Opens, Changes, Closes, OpensAnew}
 use Rattle.document_model.specs.Opens.{Open, is_open_at, put_open, drop_open, holder, holder_beside, holds}
-use Rattle.focus_switch.specs.Documents.{Documents, held_of, put_held}
+use Rattle.focus_switch.specs.Documents.{Documents, held_of, version_held, helds_behind}
 use Rattle.document_model.specs.Notices.{DidChange, did_change, with_version}
 use Rattle.document_model.specs.Bodies.{open_text, full_text, close_text}
 
@@ -38,12 +38,11 @@ bodies_told (Changes v body) = body ∷ []
 bodies_told (Closes body) = body ∷ []
 bodies_told (OpensAnew closing opening) = closing ∷ opening ∷ []
 
-abbrev pub held_behind : Held → Telling → Held
-held_behind h x = record { version = version_told x; sent = h.sent + length (bodies_told x) }
-
 abbrev pub tell : Option ℕ → List ℕ → Telling → Documents → Step
 tell None u x s = nothing s
-tell (Some start) u x s = record { outs = map (λ b. ToServer start b) (bodies_told x); after = record s { helds = put_held u (held_behind (held_of u s.helds) x) s.helds } }
+tell (Some start) u x s =
+    let n = s.sent + length (bodies_told x) in
+    record { outs = map (λ b. ToServer start b) (bodies_told x); after = record s { sent = n; helds = helds_behind u (version_told x) n s.helds } }
 
 abbrev pub send : List ℕ → Option Telling → Documents → Step
 send u None s = nothing s
@@ -69,7 +68,7 @@ open_sends o (Some v) s = differing o v s
 abbrev pub open_row : ℕ → List ℕ → List ℕ → List ℕ → List ℕ → Documents → Step
 open_row e u l v t s =
     let o : Open = record { editor = e; uri = u; language = l; version = v; text = t; touched = s.turn } in
-    touch o (send u (open_sends o (held_of u s.helds).version s) s)
+    touch o (send u (open_sends o (version_held u s.helds) s) s)
 
 -- whether the server has the text that an editor has of a document
 abbrev pub had : ℕ → List ℕ → Documents → Bool
@@ -100,7 +99,7 @@ changed_open e q s = option_and_then (λ o. option_map (λ text. changed o q tex
 -- a body that isn't a didChange of a document that is open at e changes nothing
 abbrev pub change_row : ℕ → List ℕ → Json → Documents → Step
 change_row e body t s =
-    or_nothing (did_change t) s (λ q. or_nothing (changed_open e q s) s (λ new. touch new (send new.uri (change_sends new body t (held_of new.uri s.helds).version s) s)))
+    or_nothing (did_change t) s (λ q. or_nothing (changed_open e q s) s (λ new. touch new (send new.uri (change_sends new body t (version_held new.uri s.helds) s) s)))
 
 -- an editor closes a document: the last one closes it at the server, and else the next holder's text counts
 abbrev pub close_sends : ℕ → List ℕ → Option ℕ → Documents → Option Telling
@@ -111,7 +110,7 @@ abbrev pub forget : ℕ → List ℕ → Step → Step
 forget e u step = record { outs = step.outs; after = record step.after { opens = drop_open e u step.after.opens } }
 
 abbrev pub close_row : ℕ → List ℕ → Documents → Step
-close_row e u s = or_nothing (find (is_open_at e u) s.opens) s (λ o. forget e o.uri (send o.uri (close_sends e o.uri (held_of o.uri s.helds).version s) s))
+close_row e u s = or_nothing (find (is_open_at e u) s.opens) s (λ o. forget e o.uri (send o.uri (close_sends e o.uri (version_held o.uri s.helds) s) s))
 
 -- a start is ready: it is told of each document that is open, in the order of its earliest opening, with the holder's language and text
 abbrev pub replay_sends : Open → Option ℕ → Documents → Option Telling
@@ -122,7 +121,7 @@ abbrev pub and_then : Step → (Documents → Step) → Step
 and_then step f = record { outs = step.outs ++ (f step.after).outs; after = (f step.after).after }
 
 abbrev pub replayed : Documents → Open → Step
-replayed s o = send o.uri (replay_sends o (held_of o.uri s.helds).version s) s
+replayed s o = send o.uri (replay_sends o (version_held o.uri s.helds) s) s
 
 -- a step of each document, one behind the other
 abbrev pub each : (Documents → Open → Step) → Step → Open → Step
@@ -132,11 +131,11 @@ abbrev pub replay_all : Documents → Step
 replay_all s = fold (each replayed) (nothing s) s.opens
 
 abbrev pub ready_row : ℕ → Encoding → Documents → Step
-ready_row start encoding s = replay_all (record s { start = Some start; encoding = Some encoding; helds = [] })
+ready_row start encoding s = replay_all (record s { start = Some start; encoding = Some encoding; sent = 0; helds = [] })
 
 -- no start is ready
 abbrev pub unready_row : Documents → Documents
-unready_row s = record s { start = None; helds = [] }
+unready_row s = record s { start = None; sent = 0; helds = [] }
 
 -- Before a message of e goes on: of each document that is open at e, in the order of its opening, the server is told e's text, where it has another.
 -- The message is a touch of all of them.
@@ -145,7 +144,7 @@ sync_sends o None s = None
 sync_sends o (Some v) s = differing o v s
 
 abbrev pub synced : ℕ → Documents → Open → Step
-synced e s o = if nat_eq o.editor e then send o.uri (sync_sends o (held_of o.uri s.helds).version s) s else nothing s
+synced e s o = if nat_eq o.editor e then send o.uri (sync_sends o (version_held o.uri s.helds) s) s else nothing s
 
 abbrev pub touched_at : ℕ → ℕ → Open → Open
 touched_at e turn o = if nat_eq o.editor e then record o { touched = turn } else o
@@ -157,8 +156,9 @@ abbrev pub sync_row : ℕ → Documents → Step
 sync_row e s = touch_all e (fold (each (synced e)) (nothing s) s.opens)
 
 -- whether the server has a document, and with the text that an editor has
-abbrev pub agreement_of : Open → Held → Documents → Agreement
-agreement_of o h s = option_map_or (λ v. if holds o.uri o.text s.opens then Agrees v h.sent else Differs) h.version Differs
+abbrev pub agreement_of : Open → Option Held → Documents → Agreement
+agreement_of o None s = Differs
+agreement_of o (Some h) s = if holds o.uri o.text s.opens then Agrees h.version h.sent else Differs
 
 abbrev pub agreement : ℕ → List ℕ → Documents → Agreement
 agreement e u s = option_map_or (λ o. agreement_of o (held_of o.uri s.helds) s) (find (is_open_at e u) s.opens) NotOpen

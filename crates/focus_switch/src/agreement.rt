@@ -8,7 +8,7 @@ pub enum Agreement {
     Agrees {
         /// The version that the server has.
         held: u32,
-        /// How many notifications on the document the server was sent.
+        /// How many notifications on documents the server was sent since it is ready, up to the last one on this document. It rises with each of them.
         changed: u128,
     },
 }

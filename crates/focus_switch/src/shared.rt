@@ -5,7 +5,7 @@ ghost use Rattle.json_nodes.specs.At.{At};
 ghost use Rattle.focus_switch.specs.Noted.{FoundChange};
 ghost use Rattle.document_model.specs.Notices.{DidChange};
 ghost use Rattle.document_model.specs.Opens.{Open, holds, put_open};
-ghost use Rattle.focus_switch.specs.Documents.{held_of};
+ghost use Rattle.focus_switch.specs.Documents.{held_of, version_held};
 ghost use Rattle.focus_switch.specs.Rows.{Step, agreement, agreement_of, change_row, change_sends, change_tells, changed_open, close_next, close_row, close_sends, differing, each, open_row, open_sends, had, leave_row, nothing, or_nothing, ready_row, replay_all, replay_sends, replayed, send, sync_row, sync_sends, synced, text_after, touched_at, unready_row};
 ghost use Rattle.focus_switch.specs.Shown.{all_bytes, shown};
 
@@ -24,7 +24,7 @@ use rpc_message::Message;
 use std::alloc::Global;
 use std::marker::Model;
 
-/// The documents that are open at the editors of a group, and what the ready start of its server was told of them.
+/// The documents that are open at the editors of a group, and those that the ready start of its server has. It keeps nothing of a document that is closed everywhere.
 #[derive(Drop)]
 pub struct Shared<T: Text> {
     alloc: Global,
@@ -33,6 +33,7 @@ pub struct Shared<T: Text> {
     versions: u32,
     turn: u128,
     opens: Opens<T>,
+    sent: u128,
     helds: Helds,
 }
 
@@ -41,14 +42,14 @@ impl<T: Text> Model for Shared<T> {
 
     ghost Value = { Documents };
 
-    ghost view = { λ s. record { start = s.start; encoding = s.encoding; versions = s.versions; turn = s.turn; opens = s.opens; helds = s.helds } };
+    ghost view = { λ s. record { start = s.start; encoding = s.encoding; versions = s.versions; turn = s.turn; opens = s.opens; sent = s.sent; helds = s.helds } };
 }
 
 impl<T: Text + Drop> Shared<T> {
     /// No documents, and no start that is ready. A document has at most `versions` versions at a start before it is closed and opened again.
     pub fn new(alloc: Global, versions: u32) -> Self
         requires { 1 ≤ versions }
-        ensures { result ≡ record { start = None; encoding = None; versions = versions; turn = 0; opens = []; helds = [] } }
+        ensures { result ≡ record { start = None; encoding = None; versions = versions; turn = 0; opens = []; sent = 0; helds = [] } }
     {
         Shared {
             alloc,
@@ -57,6 +58,7 @@ impl<T: Text + Drop> Shared<T> {
             versions,
             turn: 0,
             opens: Opens::new(alloc),
+            sent: 0,
             helds: Helds::new(alloc),
         }
     }
@@ -202,9 +204,9 @@ impl<T: Text + Drop> Shared<T> {
 
     // What the start is told of a document before a message of an editor.
     fn sync_tells(&self, opening: &Opening<T>) -> Result<Option<Telling>, Memory>
-        ensures { IfOk result (λ x. x ≡ sync_sends (shown T.bytes opening.now) (held_of (shown T.bytes opening.now).uri self.now.helds).version self.now) }
+        ensures { IfOk result (λ x. x ≡ sync_sends (shown T.bytes opening.now) (version_held (shown T.bytes opening.now).uri self.now.helds) self.now) }
     {
-        match self.helds.get(opening.uri.as_bytes()).version {
+        match self.helds.version(opening.uri.as_bytes()) {
             None => Ok(None),
             Some(version) => self.switch_tells(opening, version),
         }
@@ -242,13 +244,11 @@ impl<T: Text + Drop> Shared<T> {
     fn agreement_of(&self, opening: &Opening<T>) -> Agreement
         ensures { result ≡ agreement_of (shown T.bytes opening.now) (held_of (shown T.bytes opening.now).uri self.now.helds) self.now }
     {
-        let held = self.helds.get(opening.uri.as_bytes());
-        match held.version {
-            Some(version) if self.holds(opening.uri.as_bytes(), &opening.text) =>
-                Agreement::Agrees {
-                    held: version,
-                    changed: held.sent,
-                },
+        match self.helds.get(opening.uri.as_bytes()) {
+            Some(held) if self.holds(opening.uri.as_bytes(), &opening.text) => Agreement::Agrees {
+                held: held.version,
+                changed: held.sent,
+            },
             _ => Agreement::Differs,
         }
     }
@@ -259,6 +259,7 @@ impl<T: Text + Drop> Shared<T> {
     {
         self.start = Some(start);
         self.encoding = Some(encoding);
+        self.sent = 0;
         self.helds.clear();
         self.replay_all()
     }
@@ -268,6 +269,7 @@ impl<T: Text + Drop> Shared<T> {
         ensures { self.new ≡ unready_row self.old }
     {
         self.start = None;
+        self.sent = 0;
         self.helds.clear();
     }
 
@@ -297,10 +299,10 @@ impl<T: Text + Drop> Shared<T> {
 
     // What the start is told of a document that it doesn't have.
     fn replay_tells(&self, uri: &str) -> Result<Option<Telling>, Memory>
-        ensures { IfOk result (λ x. (o : Open) → o.uri ≡ uri.now → x ≡ replay_sends o (held_of uri.now self.now.helds).version self.now) }
+        ensures { IfOk result (λ x. (o : Open) → o.uri ≡ uri.now → x ≡ replay_sends o (version_held uri.now self.now.helds) self.now) }
     {
         match (
-            self.helds.get(uri.as_bytes()).version,
+            self.helds.version(uri.as_bytes()),
             self.opens.holder(uri.as_bytes()),
         ) {
             (None, Some(holder)) => {
@@ -313,9 +315,9 @@ impl<T: Text + Drop> Shared<T> {
 
     // What the start is told where an editor changes a document.
     fn changing_tells(&self, tape: &Tape, new: &Opening<T>) -> Result<Option<Telling>, Memory>
-        ensures { (t : Json) → At tape.now 0 t → IfOk result (λ x. x ≡ change_sends (shown T.bytes new.now) tape.now.bytes t (held_of (shown T.bytes new.now).uri self.now.helds).version self.now) }
+        ensures { (t : Json) → At tape.now 0 t → IfOk result (λ x. x ≡ change_sends (shown T.bytes new.now) tape.now.bytes t (version_held (shown T.bytes new.now).uri self.now.helds) self.now) }
     {
-        let Some(version) = self.helds.get(new.uri.as_bytes()).version else {
+        let Some(version) = self.helds.version(new.uri.as_bytes()) else {
             return Ok(None)
         };
         if self.holds(new.uri.as_bytes(), &new.text) {
@@ -354,9 +356,9 @@ impl<T: Text + Drop> Shared<T> {
 
     // What the start is told where an editor closes a document.
     fn closing_tells(&self, e: u64, uri: &str) -> Result<Option<Telling>, Memory>
-        ensures { IfOk result (λ x. x ≡ close_sends e uri.now (held_of uri.now self.now.helds).version self.now) }
+        ensures { IfOk result (λ x. x ≡ close_sends e uri.now (version_held uri.now self.now.helds) self.now) }
     {
-        let Some(version) = self.helds.get(uri.as_bytes()).version else {
+        let Some(version) = self.helds.version(uri.as_bytes()) else {
             return Ok(None)
         };
         match self.opens.holder_beside(e, uri.as_bytes()) {
@@ -380,9 +382,9 @@ impl<T: Text + Drop> Shared<T> {
 
     // What the start is told where an editor opens a document.
     fn opening_tells(&self, opening: &Opening<T>) -> Result<Option<Telling>, Memory>
-        ensures { IfOk result (λ x. x ≡ open_sends (shown T.bytes opening.now) (held_of (shown T.bytes opening.now).uri self.now.helds).version self.now) }
+        ensures { IfOk result (λ x. x ≡ open_sends (shown T.bytes opening.now) (version_held (shown T.bytes opening.now).uri self.now.helds) self.now) }
     {
-        match self.helds.get(opening.uri.as_bytes()).version {
+        match self.helds.version(opening.uri.as_bytes()) {
             None => {
                 let body = opens(self.alloc, opening.uri.as_str(), opening)?;
                 Ok(Some(Telling::Opens(body)))
@@ -413,10 +415,11 @@ impl<T: Text + Drop> Shared<T> {
         let Some(start) = self.start else {
             return Ok(Outs::new(self.alloc))
         };
-        let Some(held) = telling.behind(self.helds.get(uri)) else {
+        let Some(sent) = self.sent.checked_add(telling.count()) else {
             return Err(Memory)
         };
-        self.helds.put(self.alloc, uri, held)?;
+        self.helds.tell(self.alloc, uri, telling.version(), sent)?;
+        self.sent = sent;
         telling.outs(self.alloc, start)
     }
 

@@ -1,11 +1,10 @@
 //! What a start of the server is told of a document.
-ghost use Rattle.std.specs.Prelude.{◌≡◌, ◌+◌, ◌^◌, ◌≤◌, map, IfOk, IfNone, IfSome};
+ghost use Rattle.std.specs.Prelude.{◌≡◌, ◌^◌, ◌+◌, ◌≤◌, length, map, IfOk};
 ghost use Rattle.mux_history.specs.declared.out.Out.TheVariants.{ToServer};
-ghost use Rattle.focus_switch.specs.Rows.{bodies_told, held_behind, switch};
+ghost use Rattle.focus_switch.specs.Rows.{bodies_told, switch, version_told};
 ghost use Rattle.focus_switch.specs.Shown.{shown};
 ghost use Rattle.document_model.specs.Bodies.{full_text, open_text};
 
-use crate::held::Held;
 use crate::opens::Opening;
 use crate::texts::{close_text, full_text, open_text};
 use doc_text::Text;
@@ -42,19 +41,25 @@ impl Telling {
         Ok(outs)
     }
 
-    /// What a start was told, with this; none where the count has no room.
-    pub fn behind(&self, held: Held) -> Option<Held>
-        ensures some { IfSome result (λ h. h ≡ held_behind held self.now) }
-        ensures none { IfNone result (2 ^ 128 ≤ held.sent + 2) }
+    /// The version that the start has of the document then, where it has the document.
+    pub fn version(&self) -> Option<u32>
+        ensures { result ≡ version_told self.now }
     {
-        let (version, bodies) = match self {
-            Telling::Opens(_) => (Some(1), 1),
-            Telling::Changes(version, _) => (Some(*version), 1),
-            Telling::Closes(_) => (None, 1),
-            Telling::OpensAnew(_, _) => (Some(1), 2),
-        };
-        let sent = held.sent.checked_add(bodies)?;
-        Some(Held { version, sent })
+        match self {
+            Telling::Opens(_) | Telling::OpensAnew(_, _) => Some(1),
+            Telling::Changes(version, _) => Some(*version),
+            Telling::Closes(_) => None,
+        }
+    }
+
+    /// How many bodies say so.
+    pub fn count(&self) -> u128
+        ensures { result ≡ length (bodies_told self.now) }
+    {
+        match self {
+            Telling::Opens(_) | Telling::Changes(_, _) | Telling::Closes(_) => 1,
+            Telling::OpensAnew(_, _) => 2,
+        }
     }
 }
 

@@ -135,16 +135,26 @@ fn tells_whose_text_the_server_has(rt: HostRuntime) -> Result<(), Memory> {
     let mut shared = Shared::new(rt.alloc(), 100);
     let _none = shared.ready(0, Encoding::Utf16)?;
     let _opened = open(rt.alloc(), &mut shared, 0, U, "a")?;
+    let _beside = open(rt.alloc(), &mut shared, 0, V, "a")?;
     let _told = open(rt.alloc(), &mut shared, 1, U, "b")?;
     assert_eq!(rt; shared.agrees(0, U.as_bytes()), Agreement::Differs);
     assert_eq!(rt;
         shared.agrees(1, U.as_bytes()),
         Agreement::Agrees {
             held: 2,
-            changed: 2
+            changed: 3
         }
     );
     assert_eq!(rt; shared.agrees(1, V.as_bytes()), Agreement::NotOpen);
+    let _closed = shared.close(0, V.as_bytes())?;
+    let _again = open(rt.alloc(), &mut shared, 0, V, "a")?;
+    assert_eq!(rt;
+        shared.agrees(0, V.as_bytes()),
+        Agreement::Agrees {
+            held: 1,
+            changed: 5
+        }
+    );
     Ok(())
 }
 

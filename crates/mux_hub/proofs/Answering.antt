@@ -45,7 +45,7 @@ not_unspawned e = cc
 
 -- a ready start that was told nothing of documents
 abbrev pub fresh : Documents → Encoding → Documents
-fresh d code = record d { start = Some 0; encoding = Some code; helds = [] }
+fresh d code = record d { start = Some 0; encoding = Some code; sent = 0; helds = [] }
 
 abbrev pub at_ready : Kept → Json → Kept
 at_ready t r = record t { stage = Ready; documents = fresh t.documents (encoding_in r) }

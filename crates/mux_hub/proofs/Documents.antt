@@ -5,7 +5,7 @@ use Rattle.mux_history.specs.declared.cause.Cause.TheVariants.{Joined, FromEdito
 use Rattle.mux_history.specs.declared.out.Out.TheVariants.{ToEditor, ToServer, Spawn}
 use Rattle.position_codec.specs.declared.Encoding.{Encoding}
 use Rattle.document_model.specs.Opens.{holder}
-use Rattle.focus_switch.specs.Documents.{Documents, held_of}
+use Rattle.focus_switch.specs.Documents.{Documents, version_held}
 use Rattle.rpc_message.specs.Message.{Message}
 use Rattle.document_model.specs.Orderly.{AllSpelt, Orderly}
 use Rattle.document_laws.specs.Follows.{Matches, texts_in}
@@ -38,7 +38,7 @@ pub ties_same : (g : Stage) (d : Documents) (h k : List ℕ → Option HeldText)
 ties_same Unspawned d h k e x = early_same d h k e x
 ties_same Spawning d h k e x = early_same d h k e x
 ties_same Initializing d h k e x = early_same d h k e x
-ties_same Ready d h k e x = (x.0, x.1, λ v. subst (λ o. Matches (held_of v d.helds).version (holder v d.opens) o) (e v) (x.2 v))
+ties_same Ready d h k e x = (x.0, x.1, λ v. subst (λ o. Matches (version_held v d.helds) (holder v d.opens) o) (e v) (x.2 v))
 ties_same Stopping d h k e x = x
 ties_same Ending d h k e x = x
 ties_same Ended d h k e x = x

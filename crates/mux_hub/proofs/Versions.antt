@@ -7,7 +7,7 @@ use Rattle.mux_history.specs.declared.cause.Cause.{Cause}
 use Rattle.mux_history.specs.declared.cause.Cause.TheVariants.{Joined, FromEditor, EditorGone, Started, StartFailed, FromServer, ServerGone, Drained, Tick}
 use Rattle.position_codec.specs.declared.Encoding.{Encoding}
 use Rattle.document_model.specs.Opens.{Open}
-use Rattle.focus_switch.specs.Documents.{Documents, held_of}
+use Rattle.focus_switch.specs.Documents.{Documents, version_held}
 use Rattle.document_model.specs.Notices.{DidChange, did_change}
 use Rattle.focus_switch.specs.Rows.{Step, send, touch, change_sends, changed_open, or_nothing, change_row, each, replay_sends, replayed, ready_row}
 use Rattle.focus_switch.specs.Rows.{nothing as told_nothing}
@@ -31,20 +31,20 @@ use Rattle.mux_hub.specs.Turns.{Turn, turn, ask_if, can_go, requested, malformed
 change_versions : (e : ℕ) (body : List ℕ) (tree : Json) (s : Documents) → (change_row e body tree s).after.versions ≡ s.versions
 change_versions e body tree s = go (did_change tree)
   where
-    found : (o : Option Open) → (or_nothing o s (λ new. touch new (send new.uri (change_sends new body tree (held_of new.uri s.helds).version s) s))).after.versions ≡ s.versions
+    found : (o : Option Open) → (or_nothing o s (λ new. touch new (send new.uri (change_sends new body tree (version_held new.uri s.helds) s) s))).after.versions ≡ s.versions
     found None = refl
-    found (Some new) = (touch_stays new new.uri (change_sends new body tree (held_of new.uri s.helds).version s) s).versions
+    found (Some new) = (touch_stays new new.uri (change_sends new body tree (version_held new.uri s.helds) s) s).versions
 
-    go : (o : Option DidChange) → (or_nothing o s (λ q. or_nothing (changed_open e q s) s (λ new. touch new (send new.uri (change_sends new body tree (held_of new.uri s.helds).version s) s)))).after.versions ≡ s.versions
+    go : (o : Option DidChange) → (or_nothing o s (λ q. or_nothing (changed_open e q s) s (λ new. touch new (send new.uri (change_sends new body tree (version_held new.uri s.helds) s) s)))).after.versions ≡ s.versions
     go None = refl
     go (Some q) = found (changed_open e q s)
 
 replay_versions : (os : List Open) (step : Step) → (fold (each replayed) step os).after.versions ≡ step.after.versions
 replay_versions [] step = refl
-replay_versions (o ∷ os) step = replay_versions os (each replayed step o) ∙ (send_keeps o.uri (replay_sends o (held_of o.uri step.after.helds).version step.after) step.after).stays.versions
+replay_versions (o ∷ os) step = replay_versions os (each replayed step o) ∙ (send_keeps o.uri (replay_sends o (version_held o.uri step.after.helds) step.after) step.after).stays.versions
 
 ready_versions : (n : ℕ) (code : Encoding) (d : Documents) → (ready_row n code d).after.versions ≡ d.versions
-ready_versions n code d = replay_versions d.opens (told_nothing (record d { start = Some n; encoding = Some code; helds = [] }))
+ready_versions n code d = replay_versions d.opens (told_nothing (record d { start = Some n; encoding = Some code; sent = 0; helds = [] }))
 
 abbrev Keeps : Kept → Turn → Type 0
 Keeps t x = x.now.documents.versions ≡ t.documents.versions
