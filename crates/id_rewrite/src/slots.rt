@@ -37,12 +37,25 @@ impl Model for Slots {
     ghost invariant = { λ t. RiseSlots 2 t.next t.slots.items };
 }
 
+// The place of a number, where none between the first and it was dropped.
+fn straight_place(slots: &[Slot], n: u32) -> Option<usize>
+    ensures { IfSome result (λ k. (k < length slots.now) × ((s : Slot) → s ≡ get_or slots.now k s → s.number ≡ n)) }
+{
+    let first = slots.first()?.number;
+    let at = n.checked_sub(first)? as usize;
+    let slot = slots.get(at)?;
+    if slot.number == n { Some(at) } else { None }
+}
+
 // The place of a number.
 fn place(slots: &[Slot], n: u32) -> Option<usize>
     requires { (from : ℕ) × (to : ℕ) × RiseSlots from to slots.now }
     ensures found { IfSome result (λ k. (k < length slots.now) × ((s : Slot) → s ≡ get_or slots.now k s → s.number ≡ n)) }
     ensures none { IfNone result (pending_of n (live slots.now) ≡ None) }
 {
+    if let Some(at) = straight_place(slots, n) {
+        return Some(at);
+    }
     let mut low = 0;
     let mut high = slots.len();
     while low < high {
