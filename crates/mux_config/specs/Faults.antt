@@ -19,6 +19,10 @@ rank Range = 2
 abbrev pub comes_before : Fault → Fault → Bool
 comes_before f g = nat_lt (rank f.sort) (rank g.sort) || (nat_eq (rank f.sort) (rank g.sort) && is_lt (slice_cmp nat_cmp f.path g.path))
 
+abbrev pub goes_first : Fault → Option Fault → Bool
+goes_first f None = true
+goes_first f (Some g) = comes_before f g
+
 abbrev pub first_of : Option Fault → Fault → Option Fault
 first_of None f = Some f
 first_of (Some g) f = if comes_before f g then Some f else Some g

@@ -3,7 +3,7 @@ use crate::fault::ConfigFault;
 use crate::first::{First, Sort};
 use crate::keys::{bounds, note_all, servers};
 use crate::servers::{command, server};
-use crate::values::{Address, address, member, number, place};
+use crate::values::{Address, address_in, member, number, place};
 use event_model::{Limits, Server};
 use message_body::Body;
 use outside_io::Place;
@@ -42,7 +42,7 @@ fn number_at(table: &Table, key: &str) -> u32 {
 // The place, or the default one.
 fn place_at(alloc: Global, table: &Table) -> Result<Place, AllocError> {
     let address = match member(table, "place") {
-        Some(value) => address(value),
+        Some(value) => address_in(value),
         None => None,
     };
     place(alloc, address.unwrap_or(Address::Unix("/tmp/lspmux.sock")))

@@ -2,7 +2,7 @@
 ghost use Rattle.std.specs.Prelude.{◌≡◌, ◌||◌, ◌&&◌, nat_lt, nat_eq, string_bytes, None};
 ghost use Rattle.std.specs.Ordering.{nat_cmp, is_lt};
 ghost use Rattle.std.specs.Cmp.Lexicographic.{slice_cmp};
-ghost use Rattle.mux_config.specs.Faults.{Fault, first_of, rank};
+ghost use Rattle.mux_config.specs.Faults.{Fault, first_of, goes_first, rank};
 
 use std::marker::Model;
 
@@ -50,14 +50,14 @@ impl First {
     pub fn note(&mut self, sort: Sort, path: String)
         ensures { self.new ≡ first_of self.old (record { sort = sort; path = string_bytes path }) }
     {
-        if self.is_behind(sort, path.as_str()) {
+        if self.goes_behind(sort, path.as_str()) {
             self.fault = Some((sort, path));
         }
     }
 
-    // Whether a fault comes before the noted one.
-    fn is_behind(&self, sort: Sort, path: &str) -> bool
-        ensures { (self.now ≡ None → result ≡ true) }
+    // Whether a fault comes before the noted one, or none was noted.
+    fn goes_behind(&self, sort: Sort, path: &str) -> bool
+        ensures { result ≡ goes_first (record { sort = sort; path = path.now }) self.now }
     {
         match &self.fault {
             None => true,

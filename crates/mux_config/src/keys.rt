@@ -1,7 +1,7 @@
 //! The keys at the top of the settings.
 use crate::first::{First, Sort};
 use crate::servers::note_servers;
-use crate::values::{address, member, number};
+use crate::values::{address_in, member, number};
 use std::alloc::{AllocError, Global};
 use toml::{Table, Value};
 
@@ -54,7 +54,7 @@ fn are_servers(value: &Value) -> bool {
 // What is wrong with a key at the top, if anything.
 fn wrong(table: &Table, key: &str, value: &Value) -> Option<Sort> {
     let fits = match key {
-        "place" => address(value).is_some(),
+        "place" => address_in(value).is_some(),
         "default" => is_server(table, value),
         "server" => are_servers(value),
         _ => {

@@ -1,5 +1,5 @@
 //! What a value of a setting may be.
-ghost use Rattle.std.specs.Prelude.{◌≡◌, ℕ, ◌≤◌, ◌<◌, ◌^◌, option_map, is_some, OnOk, IfOk};
+ghost use Rattle.std.specs.Prelude.{◌≡◌, ◌≤◌, length, option_map};
 ghost use Rattle.toml.specs.Data.{get_member};
 ghost use Rattle.toml.specs.View.{table_view, view};
 ghost use Rattle.mux_config.specs.Settings.{number_in};
@@ -51,7 +51,7 @@ fn port(text: &str) -> Option<u16> {
 }
 
 /// The place that a value is.
-pub fn address(value: &Value) -> Option<Address<'_>> {
+pub fn address_in(value: &Value) -> Option<Address<'_>> {
     let text = value.as_str()?;
     if let Some(path) = text.strip_prefix("unix:") {
         if path.is_empty() || path.len() > 100 {
@@ -72,7 +72,9 @@ pub fn place(alloc: Global, address: Address) -> Result<Place, AllocError> {
 }
 
 // Whether bytes are the text of a JSON object (RFC 8259, section 4) that nests at most 1,024 deep.
-fn is_object(alloc: Global, bytes: &[u8]) -> Result<bool, AllocError> {
+fn is_object(alloc: Global, bytes: &[u8]) -> Result<bool, AllocError>
+    requires { length bytes.now ≤ 1048576 }
+{
     match Tape::read(alloc, bytes) {
         Ok(tape) => Ok(matches!(tape.kind(tape.root()), Kind::Object)),
         Err(JsonFault::Memory) => Err(AllocError),
