@@ -101,7 +101,9 @@ impl Config {
             name: Body::new(b"main".to_vec(alloc)?),
             ceiling: None,
         })?;
-        config.commands.push(vec![in alloc; String::from_str(alloc, "rust-analyzer")?]?)?;
+        config
+            .commands
+            .push(vec![in alloc; String::from_str(alloc, "rust-analyzer")?]?)?;
         Ok(config)
     }
 

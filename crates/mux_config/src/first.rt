@@ -1,5 +1,5 @@
 //! The first of several faults.
-ghost use Rattle.std.specs.Prelude.{◌≡◌, ◌||◌, ◌&&◌, nat_lt, nat_eq, string_bytes, None};
+ghost use Rattle.std.specs.Prelude.{◌≡◌, ◌||◌, ◌&&◌, nat_lt, nat_eq, option_map, string_bytes, None};
 ghost use Rattle.std.specs.Ordering.{nat_cmp, is_lt};
 ghost use Rattle.std.specs.Cmp.Lexicographic.{slice_cmp};
 ghost use Rattle.mux_config.specs.Faults.{Fault, first_of, goes_first, rank};
@@ -67,7 +67,9 @@ impl First {
         }
     }
 
-    pub fn fault(self) -> Option<(Sort, String)> {
+    pub fn fault(self) -> Option<(Sort, String)>
+        ensures { option_map (λ p. record { sort = p.0; path = string_bytes p.1 }) result ≡ self }
+    {
         self.fault
     }
 }

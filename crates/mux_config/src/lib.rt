@@ -6,9 +6,9 @@ mod fault;
 mod first;
 mod keys;
 mod servers;
-mod values;
 #[cfg(test)]
 mod tests;
+mod values;
 
 pub use config::Config;
 pub use fault::ConfigFault;

@@ -43,11 +43,20 @@ fn the_first_fault_is_told(rt: HostRuntime) -> Result<(), Fail> {
         ("[server.a]\ncommand = []", "range server.a.command"),
         ("[server.a]\ncommand = [1]", "range server.a.command"),
         ("[server]\na = 1", "range server.a"),
-        ("[server.a]\ncommand = [\"a\"]\nceiling = \"[]\"", "range server.a.ceiling"),
+        (
+            "[server.a]\ncommand = [\"a\"]\nceiling = \"[]\"",
+            "range server.a.ceiling",
+        ),
         ("[server.a]\ncommand = [\"a\"]\nceiling = \"{}\"", "taken"),
-        ("default = \"b\"\n[server.a]\ncommand = [\"a\"]", "range default"),
+        (
+            "default = \"b\"\n[server.a]\ncommand = [\"a\"]",
+            "range default",
+        ),
         ("default = \"a\"\n[server.a]\ncommand = [\"a\"]", "taken"),
-        ("links = 0\nidle = -1\n[server.a]\ncommand = [\"a\"]", "range idle"),
+        (
+            "links = 0\nidle = -1\n[server.a]\ncommand = [\"a\"]",
+            "range idle",
+        ),
     ] {
         assert_eq!(rt; said(alloc, text)?.as_str(), wanted, "at {text}");
     }
@@ -68,13 +77,25 @@ fn each_range_is_kept(rt: HostRuntime) -> Result<(), Fail> {
         ("requests", 3, 2_147_483_647),
         ("versions", 2, 2_147_483_647),
     ] {
-        for (value, taken) in [(low - 1, false), (low, true), (high, true), (high + 1, false)] {
+        for (value, taken) in [
+            (low - 1, false),
+            (low, true),
+            (high, true),
+            (high + 1, false),
+        ] {
             let text = format!(in alloc; "{key} = {value}")?;
-            assert_eq!(rt; beside_a_server(alloc, text.as_str())?.as_str() == "taken", taken, "at {text}");
+            assert_eq!(rt;
+                beside_a_server(alloc, text.as_str())?.as_str() == "taken",
+                taken,
+                "at {text}"
+            );
         }
         let text = format!(in alloc; "{key} = \"1\"")?;
         let wanted = format!(in alloc; "range {key}")?;
-        assert_eq!(rt; beside_a_server(alloc, text.as_str())?.as_str(), wanted.as_str());
+        assert_eq!(rt;
+            beside_a_server(alloc, text.as_str())?.as_str(),
+            wanted.as_str()
+        );
     }
     Ok(())
 }
@@ -93,7 +114,11 @@ fn places_are_paths_and_ports(rt: HostRuntime) -> Result<(), Fail> {
         ("a", false),
     ] {
         let text = format!(in alloc; "place = \"{text}\"")?;
-        assert_eq!(rt; beside_a_server(alloc, text.as_str())?.as_str() == "taken", taken, "at {text}");
+        assert_eq!(rt;
+            beside_a_server(alloc, text.as_str())?.as_str() == "taken",
+            taken,
+            "at {text}"
+        );
     }
     Ok(())
 }
@@ -101,7 +126,8 @@ fn places_are_paths_and_ports(rt: HostRuntime) -> Result<(), Fail> {
 #[test]
 fn servers_stand_in_byte_order(rt: HostRuntime) -> Result<(), Fail> {
     let alloc = rt.alloc();
-    let text = "default = \"b\"\n[server.b]\ncommand = [\"x\", \"y\"]\n[server.a]\ncommand = [\"z\"]\nceiling = \"{}\"";
+    let text =
+        "default = \"b\"\n[server.b]\ncommand = [\"x\", \"y\"]\n[server.a]\ncommand = [\"z\"]\nceiling = \"{}\"";
     let config = Config::read(alloc, text.as_bytes()).expect(&rt, "settings");
     assert_eq!(rt; config.servers.len(), 2);
     assert_eq!(rt; config.servers[0].name.bytes(), b"a".as_slice());

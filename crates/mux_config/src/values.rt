@@ -1,8 +1,8 @@
 //! What a value of a setting may be.
-ghost use Rattle.std.specs.Prelude.{◌≡◌, ◌≤◌, length, option_map};
+ghost use Rattle.std.specs.Prelude.{◌≡◌, ◌≤◌, ◌&&◌, length, option_map};
 ghost use Rattle.toml.specs.Data.{get_member};
-ghost use Rattle.toml.specs.View.{table_view, view};
-ghost use Rattle.mux_config.specs.Settings.{number_in};
+ghost use Rattle.toml.specs.View.{items_view, table_view, view};
+ghost use Rattle.mux_config.specs.Settings.{all_strings, has_item, is_command, number_in};
 
 use json_span::{JsonFault, Kind, Tape};
 use outside_io::Place;
@@ -90,15 +90,35 @@ pub fn is_ceiling(alloc: Global, value: &Value) -> Result<bool, AllocError> {
     }
 }
 
-/// Whether a value is a command: one or more strings.
-pub fn is_command(value: &Value) -> bool {
-    let Some(words) = value.as_array() else {
-        return false;
-    };
-    for word in words {
-        if !word.is_str() {
+// Whether each value is a string.
+fn are_strings(values: &[Value]) -> bool
+    ensures { result ≡ all_strings (items_view values.now) }
+{
+    for value in values {
+        if !value.is_str() {
             return false;
         }
     }
-    !words.is_empty()
+    true
+}
+
+// Whether there is a value, and each is a string.
+fn are_words(values: &[Value]) -> bool
+    ensures { result ≡ (has_item (items_view values.now) && all_strings (items_view values.now)) }
+{
+    match values {
+        [] => false,
+        [_, ..] => are_strings(values),
+    }
+}
+
+/// Whether a value is a command: one or more strings.
+#[tactic(auto, using(crate::proofs::Commands::command_is))]
+pub fn is_command(value: &Value) -> bool
+    ensures { result ≡ is_command (view value.now) }
+{
+    match value.as_array() {
+        Some(words) => are_words(words.as_slice()),
+        None => false,
+    }
 }
