@@ -1,12 +1,20 @@
--- The settings of a daemon, over the table that a TOML document is: what is wrong with them, and what they say.
-use Rattle.std.specs.Prelude.{ℕ, zero, suc, ◌+◌, ◌*◌, ◌-◌, ℤ, pos, negsuc, Bool, true, false, not, ◌&&◌, ◌||◌, nat_eq, nat_le, nat_lt, List, [], ◌∷◌, ◌++◌, length, drop, bytes_eq, codes, is_some, if◌then◌else◌}
-use Rattle.std.specs.Prelude.{Option, Some, None}
-use Rattle.json_text.specs.Json.{Json, word, number, string as json_string, array as json_array, object}
+-- What is wrong with the settings of a daemon, over the table that a TOML document is.
+use Rattle.std.specs.Prelude.{ℕ, zero, suc, ◌+◌, ◌*◌, ◌-◌, ℤ, pos, negsuc, Bool, true, false, not, ◌&&◌, ◌||◌, ◌==◌, eqb, nat_eq, nat_le, nat_lt, slice_index, List, [], ◌∷◌, ◌++◌, length, drop, bytes_eq, codes, is_some, if◌then◌else◌}
+use Rattle.std.specs.Prelude.{Option, Some, None, option_map, option_and_then}
+use Rattle.std.specs.Option.{option_or}
+use Rattle.std.specs.List.{starts_with}
+use Rattle.std.specs.Str.{all_ascii_digits}
+use Rattle.std.specs.Str.Parse.{digits_value}
+use Rattle.json_text.specs.declared.kind.Kind.{Kind}
+use Rattle.json_text.specs.declared.kind.Kind.TheVariants.{Object}
+use Rattle.json_text.specs.Json.{Json, object}
 use Rattle.json_text.specs.Tree.{tree_of}
-use Rattle.toml.specs.Data.{Data, string, integer, float, boolean, datetime, array, table, Items, no_items, item, Members, no_members, member, get_member}
-use Rattle.mux_config.specs.Faults.{Fault}
+use Rattle.outside_io.specs.Doors.{Address, unix, tcp}
+use Rattle.toml.specs.Data.{Data, string, integer, float, boolean, datetime, array, table, Items, no_items, item, Members, no_members, member, get_member, as_str, as_table}
+use Rattle.mux_config.specs.Faults.{Fault, first_in}
 use Rattle.mux_config.specs.declared.first.Sort.{Sort}
 use Rattle.mux_config.specs.declared.first.Sort.TheVariants.{Unknown, Missing, Range}
+use Rattle.mux_config.specs.declared.keys.Span.{Span}
 
 -- numbers of a range
 
@@ -19,22 +27,42 @@ number_in low high (integer z) = within low high z
 number_in low high _ = None
 
 -- the least and the greatest number of a key, and its default
-pub record Bounds : Type 0 where
-  pub low : ℕ
-  pub high : ℕ
-  pub default : ℕ
+abbrev pub span : ℕ → ℕ → ℕ → Option Span
+span low high default = Some (record { low = low; high = high; default = default })
 
-abbrev pub bounds_of : List ℕ → Option Bounds
+abbrev pub bounds_of : List ℕ → Option Span
 bounds_of key =
-    if bytes_eq key (codes "links") then Some (record { low = 1; high = 32; default = 32 }) else
-    if bytes_eq key (codes "groups") then Some (record { low = 1; high = 16; default = 8 }) else
-    if bytes_eq key (codes "restarts") then Some (record { low = 0; high = 1000; default = 5 }) else
-    if bytes_eq key (codes "idle") then Some (record { low = 0; high = 86400; default = 300 }) else
-    if bytes_eq key (codes "grace") then Some (record { low = 0; high = 3600; default = 5 }) else
-    if bytes_eq key (codes "content") then Some (record { low = 1024; high = 268435456; default = 67108864 }) else
-    if bytes_eq key (codes "backlog") then Some (record { low = 1024; high = 1073741824; default = 134217728 }) else
-    if bytes_eq key (codes "requests") then Some (record { low = 3; high = 2147483647; default = 2147483647 }) else
-    if bytes_eq key (codes "versions") then Some (record { low = 2; high = 2147483647; default = 2147483647 }) else None
+    if bytes_eq key (codes "links") then span 1 32 32 else
+    if bytes_eq key (codes "groups") then span 1 16 8 else
+    if bytes_eq key (codes "restarts") then span 0 1000 5 else
+    if bytes_eq key (codes "idle") then span 0 86400 300 else
+    if bytes_eq key (codes "grace") then span 0 3600 5 else
+    if bytes_eq key (codes "content") then span 1024 268435456 67108864 else
+    if bytes_eq key (codes "backlog") then span 1024 1073741824 134217728 else
+    if bytes_eq key (codes "requests") then span 3 2147483647 2147483647 else
+    if bytes_eq key (codes "versions") then span 2 2147483647 2147483647 else None
+
+-- places: `unix:PATH` and `tcp:PORT`
+
+-- what follows a prefix
+abbrev pub behind : List ℕ → List ℕ → Option (List ℕ)
+behind prefix text = if starts_with eqb text prefix then Some (drop (length prefix) text) else None
+
+abbrev pub path_place : List ℕ → Option Address
+path_place path = if nat_le 1 (length path) && nat_le (length path) 100 then Some (unix path) else None
+
+-- digits, the first of them no zero
+abbrev pub is_numeral : List ℕ → Bool
+is_numeral text = nat_le 1 (length text) && (not (nat_eq (slice_index text 0) 48) && all_ascii_digits text)
+
+abbrev pub port_in : List ℕ → Option ℕ
+port_in text = if is_numeral text && nat_le (digits_value 10 text) 65535 then Some (digits_value 10 text) else None
+
+abbrev pub text_place : List ℕ → Option Address
+text_place text = option_or (option_and_then path_place (behind (codes "unix:") text)) (option_map tcp (option_and_then port_in (behind (codes "tcp:") text)))
+
+abbrev pub place_in : Data → Option Address
+place_in d = option_and_then text_place (as_str d)
 
 -- commands and ceilings
 
@@ -57,6 +85,10 @@ is_command _ = false
 abbrev pub is_object : Option Json → Bool
 is_object (Some (object s ms)) = true
 is_object _ = false
+
+abbrev pub is_object_kind : Kind → Bool
+is_object_kind Object = true
+is_object_kind _ = false
 
 abbrev pub is_ceiling : Data → Bool
 is_ceiling (string s) = nat_le (length s) 1048576 && is_object (tree_of s)
@@ -98,3 +130,59 @@ server_faults name _ = record { sort = Range; path = server_path name } ∷ []
 abbrev pub servers_faults : Members → List Fault
 servers_faults no_members = []
 servers_faults (member name d ms) = server_faults name d ++ servers_faults ms
+
+-- what is wrong with a key at the top
+
+abbrev pub servers_in : Members → Option Members
+servers_in ms = option_and_then as_table (get_member (codes "server") ms)
+
+abbrev pub count : Members → ℕ
+count no_members = 0
+count (member key d ms) = suc (count ms)
+
+-- whether a value names one of the servers
+abbrev pub is_server : Members → Data → Bool
+is_server ms d = is_some (option_and_then (λ name. option_and_then (λ servers. get_member name servers) (servers_in ms)) (as_str d))
+
+abbrev pub are_few : Option Members → Bool
+are_few None = false
+are_few (Some servers) = nat_le (count servers) 1024
+
+abbrev pub are_servers : Data → Bool
+are_servers d = are_few (as_table d)
+
+abbrev pub wrong_number : Option Span → Data → Option Sort
+wrong_number None d = Some Unknown
+wrong_number (Some s) d = range_unless (is_some (number_in s.low s.high d))
+
+abbrev pub wrong_at : Members → List ℕ → Data → Option Sort
+wrong_at ms key d =
+    if bytes_eq key (codes "place") then range_unless (is_some (place_in d)) else
+    if bytes_eq key (codes "default") then range_unless (is_server ms d) else
+    if bytes_eq key (codes "server") then range_unless (are_servers d) else wrong_number (bounds_of key) d
+
+-- the faults of some of the keys of the settings
+abbrev pub top_faults : Members → Members → List Fault
+top_faults ms no_members = []
+top_faults ms (member key d more) = fault_at key (wrong_at ms key d) ++ top_faults ms more
+
+-- whether something is said of servers: an empty table says nothing
+abbrev pub holds_servers : Option Members → Bool
+holds_servers None = true
+holds_servers (Some servers) = nat_le 1 (count servers)
+
+abbrev pub says_servers : Option Data → Bool
+says_servers None = false
+says_servers (Some d) = holds_servers (as_table d)
+
+abbrev pub faults_in_servers : Option Members → List Fault
+faults_in_servers None = []
+faults_in_servers (Some servers) = servers_faults servers
+
+-- all that is wrong with settings
+abbrev pub faults_of : Members → List Fault
+faults_of ms = top_faults ms ms ++ (missing_unless (says_servers (get_member (codes "server") ms)) (codes "server") ++ faults_in_servers (servers_in ms))
+
+-- the least unknown path, else the least missing one, else the least one out of range
+abbrev pub fault_of : Members → Option Fault
+fault_of ms = first_in None (faults_of ms)

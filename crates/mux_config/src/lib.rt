@@ -5,6 +5,7 @@ mod config;
 mod fault;
 mod first;
 mod keys;
+mod read;
 mod servers;
 #[cfg(test)]
 mod tests;
