@@ -66,15 +66,15 @@ top_key : (ms more : Members) (k : List ℕ) (d : Data) → top_faults ms more �
 top_key ms no_members k d none e = absurd (cc)
 top_key ms (member l c more) k d none e =
     at_key (λ k d. wrong_at ms k d ≡ None) (slice_cmp nat_cmp k l) k l c d (get_member k more) refl e
-        (nothing_wrong l (wrong_at ms l c) (nil_front (fault_at l (wrong_at ms l c)) (top_faults ms more) none))
-        (λ f. top_key ms more k d (nil_back (fault_at l (wrong_at ms l c)) (top_faults ms more) none) f)
+    (nothing_wrong l (wrong_at ms l c) (nil_front (fault_at l (wrong_at ms l c)) (top_faults ms more) none))
+    (λ f. top_key ms more k d (nil_back (fault_at l (wrong_at ms l c)) (top_faults ms more) none) f)
 
 pub server_key : (name : List ℕ) (ms : Members) (k : List ℕ) (d : Data) → keys_faults name ms ≡ [] → get_member k ms ≡ Some d → wrong_key k d ≡ None
 server_key name no_members k d none e = absurd (cc)
 server_key name (member l c ms) k d none e =
     at_key (λ k d. wrong_key k d ≡ None) (slice_cmp nat_cmp k l) k l c d (get_member k ms) refl e
-        (nothing_wrong (key_path name l) (wrong_key l c) (nil_front (key_faults name l c) (keys_faults name ms) none))
-        (λ f. server_key name ms k d (nil_back (key_faults name l c) (keys_faults name ms) none) f)
+    (nothing_wrong (key_path name l) (wrong_key l c) (nil_front (key_faults name l c) (keys_faults name ms) none))
+    (λ f. server_key name ms k d (nil_back (key_faults name l c) (keys_faults name ms) none) f)
 
 -- the parts of settings with no fault
 no_faults : (ms : Members) → fault_of ms ≡ None → faults_of ms ≡ []

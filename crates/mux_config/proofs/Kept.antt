@@ -47,15 +47,15 @@ pub content_kept : (ms : Members) → IsWithin 1024 268435456 (number_at ms (cod
 content_kept ms = or_kept 1024 268435456 67108864 (get_member (codes "content") ms) (omega arith, omega arith)
 
 pub limits_kept : (ms : Members) → AreLimits (limits_at ms)
-limits_kept ms = record
-  { groups = or_kept 1 16 8 (get_member (codes "groups") ms) (omega arith, omega arith)
-  ; restarts = or_kept 0 1000 5 (get_member (codes "restarts") ms) (omega arith, omega arith)
-  ; idle = or_kept 0 86400 300 (get_member (codes "idle") ms) (omega arith, omega arith)
-  ; grace = or_kept 0 3600 5 (get_member (codes "grace") ms) (omega arith, omega arith)
-  ; backlog = or_kept 1024 1073741824 134217728 (get_member (codes "backlog") ms) (omega arith, omega arith)
-  ; requests = or_kept 3 2147483647 2147483647 (get_member (codes "requests") ms) (omega arith, omega arith)
-  ; versions = or_kept 2 2147483647 2147483647 (get_member (codes "versions") ms) (omega arith, omega arith)
-  }
+limits_kept ms = record {
+  groups = or_kept 1 16 8 (get_member (codes "groups") ms) (omega arith, omega arith);
+  restarts = or_kept 0 1000 5 (get_member (codes "restarts") ms) (omega arith, omega arith);
+  idle = or_kept 0 86400 300 (get_member (codes "idle") ms) (omega arith, omega arith);
+  grace = or_kept 0 3600 5 (get_member (codes "grace") ms) (omega arith, omega arith);
+  backlog = or_kept 1024 1073741824 134217728 (get_member (codes "backlog") ms) (omega arith, omega arith);
+  requests = or_kept 3 2147483647 2147483647 (get_member (codes "requests") ms) (omega arith, omega arith);
+  versions = or_kept 2 2147483647 2147483647 (get_member (codes "versions") ms) (omega arith, omega arith);
+}
 
 -- places
 

@@ -107,8 +107,10 @@ named_before name (member k d ms) e = by_order (slice_cmp nat_cmp name k) refl (
     later : names_before name ms < count ms → (b : Bool) → cond b 0 (suc (names_before name ms)) < suc (count ms)
     later h true = omega arith
     later h false = omega (arith, h)
+
     here : bytes_eq k name ≡ true → names_before name (member k d ms) < suc (count ms)
     here e = rw e (omega arith)
+
     by_order : (o : Ordering) → slice_cmp nat_cmp name k ≡ o → (is_some (get_member name ms) ≡ true → names_before name ms < count ms) → is_some (match_ordering o (get_member name ms) (Some d) (get_member name ms)) ≡ true → names_before name (member k d ms) < suc (count ms)
     by_order Less o more e = later (more e) (bytes_eq k name)
     by_order Equal o more e = here (subst (λ z. bytes_eq k z ≡ true) (sym (same_key name k o)) (nat_list_eq_equiv.refl k))
@@ -131,21 +133,21 @@ pub in_range : (ms servers : Members) → fault_of ms ≡ None → servers_in ms
 in_range ms servers e found some few texts ascend =
     let none = servers_fit ms servers e found in
     let n = servers_counted servers in
-    record
-      { place = place_kept ms
-      ; links = links_kept ms
-      ; content = content_kept ms
-      ; limits = limits_kept ms
-      ; servers = record
-          { count = (rw n some, rw n few)
-          ; texts = texts
-          ; ascend = ascend
-          ; ceilings = ceilings_kept servers none
-          }
-      ; default = rw n (default_kept ms servers e found some)
-      ; commands = commands_counted servers ∙ sym n
-      ; words = words_kept servers none
-      }
+    record {
+      place = place_kept ms;
+      links = links_kept ms;
+      content = content_kept ms;
+      limits = limits_kept ms;
+      servers = record {
+        count = (rw n some, rw n few);
+        texts = texts;
+        ascend = ascend;
+        ceilings = ceilings_kept servers none;
+      };
+      default = rw n (default_kept ms servers e found some);
+      commands = commands_counted servers ∙ sym n;
+      words = words_kept servers none;
+    }
 
 pub in_range_by : (a b : Chosen) → IsInRange b → a ≡ b → IsInRange a
 in_range_by a b h e = subst IsInRange (sym e) h

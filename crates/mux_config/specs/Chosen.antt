@@ -26,13 +26,13 @@ pub record Chosen : Type 0 where
 
 -- the settings that the fields of a `Config` are
 abbrev pub chosen_by : Place → ℕ → ℕ → Limits → ℕ → List Server → List (Vec (String Global) Global) → Chosen
-chosen_by place links content limits default servers commands = record
-  { place = address_of place
-  ; links = links
-  ; content = content
-  ; hub = record { limits = limits; servers = servers; default = default }
-  ; commands = map (λ words. map string_bytes words.items) commands
-  }
+chosen_by place links content limits default servers commands = record {
+  place = address_of place;
+  links = links;
+  content = content;
+  hub = record { limits = limits; servers = servers; default = default };
+  commands = map (λ words. map string_bytes words.items) commands;
+}
 
 -- the number of a key, or its default
 abbrev pub number_or : Option Span → Option Data → ℕ
@@ -46,15 +46,15 @@ abbrev pub place_at : Members → Address
 place_at ms = unwrap_or (option_and_then place_in (get_member (codes "place") ms)) (unix (codes "/tmp/lspmux.sock"))
 
 abbrev pub limits_at : Members → Limits
-limits_at ms = record
-  { groups = number_at ms (codes "groups")
-  ; restarts = number_at ms (codes "restarts")
-  ; idle = number_at ms (codes "idle")
-  ; grace = number_at ms (codes "grace")
-  ; backlog = number_at ms (codes "backlog")
-  ; requests = number_at ms (codes "requests")
-  ; versions = number_at ms (codes "versions")
-  }
+limits_at ms = record {
+  groups = number_at ms (codes "groups");
+  restarts = number_at ms (codes "restarts");
+  idle = number_at ms (codes "idle");
+  grace = number_at ms (codes "grace");
+  backlog = number_at ms (codes "backlog");
+  requests = number_at ms (codes "requests");
+  versions = number_at ms (codes "versions");
+}
 
 -- how many names stand before a name
 abbrev pub names_before : List ℕ → Members → ℕ
@@ -95,13 +95,13 @@ commands_of (member name d ms) = command_of d ∷ commands_of ms
 
 -- what a table says, with these servers
 abbrev pub chosen_with : Members → Members → Chosen
-chosen_with ms servers = record
-  { place = place_at ms
-  ; links = number_at ms (codes "links")
-  ; content = number_at ms (codes "content")
-  ; hub = record { limits = limits_at ms; servers = servers_of servers; default = default_at ms servers }
-  ; commands = commands_of servers
-  }
+chosen_with ms servers = record {
+  place = place_at ms;
+  links = number_at ms (codes "links");
+  content = number_at ms (codes "content");
+  hub = record { limits = limits_at ms; servers = servers_of servers; default = default_at ms servers };
+  commands = commands_of servers;
+}
 
 abbrev pub chosen_in : Members → Option Members → Chosen
 chosen_in ms None = chosen_with ms no_members

@@ -87,12 +87,7 @@ fn wrong_number(key: &str, value: &Value) -> Option<Sort>
 }
 
 // What is wrong with a key at the top, if anything.
-fn wrong(
-    alloc: Global,
-    table: &Table,
-    key: &str,
-    value: &Value,
-) -> Result<Option<Sort>, AllocError>
+fn wrong(alloc: Global, table: &Table, key: &str, value: &Value) -> Result<Option<Sort>, AllocError>
     ensures { IfOk result (λ wrong. wrong ≡ wrong_at (table_view table.now) key.now (view value.now)) }
 {
     match key {

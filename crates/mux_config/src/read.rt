@@ -14,7 +14,7 @@ use crate::keys::{bounds, note_all, servers};
 use crate::servers::{commands_of, servers_of};
 use crate::values::{member, number, place_in};
 use event_model::{Limits, Server};
-use message_body::Body;
+use message_body::{Body, Memory};
 use outside_io::Place;
 use std::alloc::{AllocError, Global};
 use toml::Table;
@@ -138,8 +138,8 @@ fn fault_in(alloc: Global, table: &Table) -> Result<Option<(Sort, String)>, Allo
 }
 
 impl Config {
-    /// Reads settings: a TOML document (TOML 1.1) in UTF-8. `NotToml` comes only where `toml` refuses the bytes, and of a table
-    /// with faults the least unknown path is told, else the least missing one, else the least one out of range.
+    /// Reads settings: a TOML document (TOML 1.1) in UTF-8. Where it has faults, the least unknown path is told, else the least
+    /// missing one, else the least one out of range. Each fault costs the time of its path.
     pub fn read(alloc: Global, bytes: &[u8]) -> Result<Config, ConfigFault>
         ensures { Answers bytes.now result }
     {
@@ -157,7 +157,7 @@ impl Config {
     }
 
     /// The defaults, with one server `main` whose command is `rust-analyzer`.
-    pub fn built_in(alloc: Global) -> Result<Config, AllocError>
+    pub fn built_in(alloc: Global) -> Result<Config, Memory>
         ensures { IfOk result (λ config. chosen config ≡ chosen_of built_in) }
     {
         let name = Body::new(b"main".to_vec(alloc)?);
@@ -176,7 +176,12 @@ impl Config {
                 versions: 2_147_483_647,
             },
             default: 0,
-            servers: vec![in alloc; Server { name, ceiling: None }]?,
+            servers: vec![in alloc;
+                Server {
+                    name,
+                    ceiling: None
+                },
+            ]?,
             commands: vec![in alloc; vec![in alloc; program]?]?,
         })
     }

@@ -1,22 +1,24 @@
 use super::*;
-use std::alloc::Global;
+use std::alloc::{AllocError, Global};
 use std::test::Fail;
 
-// What is said of settings: the sort and the path of the fault, or nothing.
-fn said(alloc: Global, text: &str) -> Result<String, Fail> {
-    let (sort, path) = match Config::read(alloc, text.as_bytes()) {
-        Ok(_) => ("taken", None),
-        Err(ConfigFault::NotToml) => ("not toml", None),
-        Err(ConfigFault::Unknown(path)) => ("unknown ", Some(path)),
-        Err(ConfigFault::Missing(path)) => ("missing ", Some(path)),
-        Err(ConfigFault::Range(path)) => ("range ", Some(path)),
-        Err(ConfigFault::Memory) => ("memory", None),
-    };
-    let mut said = String::from_str(alloc, sort)?;
-    if let Some(path) = path {
-        said.push_str(path.as_str())?;
+// The sort and the path of a fault.
+fn told(alloc: Global, fault: ConfigFault) -> Result<String, AllocError> {
+    match fault {
+        ConfigFault::NotToml => String::from_str(alloc, "not toml"),
+        ConfigFault::Unknown(path) => format!(in alloc; "unknown {path}"),
+        ConfigFault::Missing(path) => format!(in alloc; "missing {path}"),
+        ConfigFault::Range(path) => format!(in alloc; "range {path}"),
+        ConfigFault::Memory => String::from_str(alloc, "memory"),
     }
-    Ok(said)
+}
+
+// What is said of settings: the sort and the path of the fault, or that they are taken.
+fn said(alloc: Global, text: &str) -> Result<String, Fail> {
+    match Config::read(alloc, text.as_bytes()) {
+        Ok(_config) => Ok(String::from_str(alloc, "taken")?),
+        Err(fault) => Ok(told(alloc, fault)?),
+    }
 }
 
 // With a server `a` behind the text.
