@@ -1,12 +1,11 @@
 -- The JSON objects among texts.
 use Rattle.std.proofs.Common.{◌≡◌, ℕ, Bool, List, Some, refl, subst}
 use Rattle.json_text.specs.Json.{Json, word, number, string, array, object, IsText}
-use Rattle.json_text.specs.declared.kind.Word.{Word}
 use Rattle.json_text.specs.declared.kind.Word.TheVariants.{Null, False, True}
 use Rattle.json_text.specs.Tree.{tree_of}
 use Rattle.json_text.proofs.Laws.{tree_complete}
 use Rattle.json_nodes.specs.Doc.{Doc, Holds}
-use Rattle.json_nodes.specs.Nodes.{kind_of, kind_of_word}
+use Rattle.json_nodes.specs.Nodes.{kind_of}
 use Rattle.mux_config.specs.Settings.{is_object, is_object_kind}
 
 pub object_kind : (t : Json) → is_object_kind (kind_of t) ≡ is_object (Some t)

@@ -1,13 +1,12 @@
 -- What is true of settings with no fault.
-use Rattle.std.proofs.Common.{◌≡◌, ℕ, suc, ◌+◌, ◌≤◌, ◌<◌, ℤ, pos, negsuc, Bool, true, false, ◌&&◌, nat_le, cond, List, [], ◌∷◌, ◌++◌, length, map, Option, Some, None, option_map, option_and_then, unwrap_or, is_some, codes, IsUtf8, Ordering, Less, Equal, Greater, nat_cmp, refl, sym, ap, ◌∙◌, subst, arith}
-use Rattle.std.proofs.lemmas.Bool.{and_parts}
+use Rattle.std.proofs.Common.{◌≡◌, ℕ, ◌≤◌, ◌<◌, Bool, true, false, cond, List, [], ◌∷◌, ◌++◌, Option, Some, None, option_and_then, codes, Ordering, Less, Equal, Greater, nat_cmp, refl, sym, ap, ◌∙◌, subst, arith}
 use Rattle.std.proofs.lemmas.Bool.Decides.{nat_tests}
 use Rattle.std.proofs.lemmas.Cmp.{ranked}
 use Rattle.std.specs.Cmp.Lexicographic.{slice_cmp}
 use Rattle.std.specs.Ordering.{match_ordering, ordering_then, MatchOrdering}
-use Rattle.toml.specs.Data.{Data, string, integer, float, boolean, datetime, array, table, Members, no_members, member, get_member, as_str, as_table}
-use Rattle.mux_config.specs.Faults.{Fault, first_in, first_of, comes_before}
-use Rattle.mux_config.specs.Settings.{range_unless, fault_at, wrong_key, keys_faults, key_faults, key_path, missing_unless, server_faults, servers_faults, servers_in, count, is_command, is_ceiling, wrong_at, top_faults, says_servers, holds_servers, are_servers, faults_in_servers, faults_of, fault_of}
+use Rattle.toml.specs.Data.{Data, string, integer, float, boolean, datetime, array, table, Members, no_members, member, get_member, as_table}
+use Rattle.mux_config.specs.Faults.{Fault, first_in, comes_before}
+use Rattle.mux_config.specs.Settings.{range_unless, fault_at, wrong_key, keys_faults, key_faults, key_path, missing_unless, servers_faults, servers_in, count, wrong_at, top_faults, says_servers, holds_servers, are_servers, faults_in_servers, faults_of, fault_of}
 use Rattle.mux_config.specs.declared.first.Sort.{Sort}
 
 -- a fault that was noted is not forgotten

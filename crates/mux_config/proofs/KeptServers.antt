@@ -1,5 +1,5 @@
 -- The servers of settings with no fault.
-use Rattle.std.proofs.Common.{◌≡◌, ℕ, suc, ◌+◌, ◌≤◌, ◌<◌, Bool, true, false, ◌&&◌, nat_le, bytes_eq, cond, List, [], ◌∷◌, ◌++◌, length, map, Option, Some, None, IfSome, option_map, option_and_then, is_some, codes, IsUtf8, Ordering, Less, Equal, Greater, nat_cmp, refl, sym, ap, ◌∙◌, subst, arith}
+use Rattle.std.proofs.Common.{◌≡◌, ℕ, suc, ◌≤◌, ◌<◌, Bool, true, false, ◌&&◌, nat_le, bytes_eq, cond, List, [], length, Option, Some, None, IfSome, option_and_then, is_some, codes, IsUtf8, Ordering, Less, Equal, Greater, nat_cmp, refl, sym, ap, ◌∙◌, subst, arith}
 use Rattle.std.proofs.lemmas.Bool.{and_parts}
 use Rattle.std.proofs.lemmas.Bool.Decides.{nat_tests}
 use Rattle.std.proofs.lemmas.Cmp.{nat_list_eq_equiv}
@@ -9,11 +9,11 @@ use Rattle.std.specs.List.{AllByRecursion}
 use Rattle.std.specs.List.Sorted.{IsStrictlySortedBy}
 use Rattle.std.specs.Ordering.{match_ordering}
 use Rattle.json_text.specs.Tree.{tree_of}
-use Rattle.toml.specs.Data.{Data, string, integer, float, boolean, datetime, array, table, Items, no_items, item, Members, no_members, member, get, get_member, as_str, as_array, as_table}
-use Rattle.mux_config.specs.Settings.{is_string, all_strings, has_item, is_command, is_ceiling, is_object, is_server, servers_in, server_faults, servers_faults, keys_faults, missing_unless, key_path, count, fault_of, wrong_key}
-use Rattle.mux_config.specs.Chosen.{Chosen, built_in, IsWithin, IsCeiling, AreServers, IsInRange, names_of, server_of, servers_of, strings_of, words_of, command_of, commands_of, names_before, default_place, default_at, chosen_with, chosen_in, chosen_of}
+use Rattle.toml.specs.Data.{Data, string, integer, float, boolean, datetime, array, table, Items, no_items, item, Members, no_members, member, get, get_member, as_str, as_array}
+use Rattle.mux_config.specs.Settings.{all_strings, has_item, is_command, is_ceiling, is_object, is_server, servers_in, server_faults, servers_faults, keys_faults, missing_unless, key_path, count, fault_of}
+use Rattle.mux_config.specs.Chosen.{Chosen, built_in, IsCeiling, IsInRange, names_of, servers_of, strings_of, words_of, command_of, commands_of, names_before, default_place, default_at, chosen_with, chosen_of}
 use Rattle.mux_config.proofs.Faultless.{fits, key_fits, server_key, same_key, servers_fit, not_missing, nil_front, nil_back}
-use Rattle.mux_config.proofs.Kept.{links_kept, content_kept, limits_kept, place_kept, then_kept}
+use Rattle.mux_config.proofs.Kept.{links_kept, content_kept, limits_kept, place_kept}
 
 -- ceilings
 

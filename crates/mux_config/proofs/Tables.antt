@@ -1,5 +1,5 @@
 -- Tables beside the members that they stand for.
-use Rattle.std.proofs.Common.{◌≡◌, ℕ, suc, Bool, List, [], ◌∷◌, length, Option, Some, None, IsSome, option_map, String, Global, Less, nat_cmp, string_bytes, refl, ap}
+use Rattle.std.proofs.Common.{◌≡◌, suc, List, [], ◌∷◌, length, Option, Some, None, IsSome, option_map, String, Global, Less, nat_cmp, string_bytes, refl, ap}
 use Rattle.toml.specs.View.{members_view}
 use Rattle.toml.proofs.Views.{Entry}
 use Rattle.std.specs.Cmp.Lexicographic.{slice_cmp}

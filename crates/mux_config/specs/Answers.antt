@@ -1,10 +1,9 @@
 -- What the answer of a reading says of the bytes.
 use Rattle.std.specs.Prelude.{◌≡◌, ℕ, List, string_bytes, IsUtf8, ⊤}
-use Rattle.std.specs.Prelude.{Option, Some, None, Result, Ok, Err}
+use Rattle.std.specs.Prelude.{Some, None, Result, Ok, Err}
 use Rattle.toml.specs.Data.{Members}
 use Rattle.toml.specs.Parse.{parse_document}
 use Rattle.mux_config.specs.Chosen.{Chosen, chosen_by, chosen_of}
-use Rattle.mux_config.specs.Faults.{Fault}
 use Rattle.mux_config.specs.Settings.{fault_of}
 use Rattle.mux_config.specs.declared.config.Config.{Config}
 use Rattle.mux_config.specs.declared.fault.ConfigFault.{ConfigFault}

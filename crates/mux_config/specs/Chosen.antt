@@ -1,6 +1,6 @@
 -- What settings say, over the table that a TOML document is, and the ranges that each daemon's settings keep.
-use Rattle.std.specs.Prelude.{◌≡◌, ◌≤◌, ◌<◌, ℕ, suc, Bool, true, if◌then◌else◌, List, [], ◌∷◌, length, map, bytes_eq, codes, IsUtf8, IfSome}
-use Rattle.std.specs.Prelude.{Option, Some, None, option_map, option_and_then, unwrap_or, Vec, String, string_bytes}
+use Rattle.std.specs.Prelude.{◌≡◌, ◌≤◌, ◌<◌, ℕ, suc, true, if◌then◌else◌, List, [], ◌∷◌, length, map, bytes_eq, codes, IsUtf8, IfSome}
+use Rattle.std.specs.Prelude.{Option, Some, None, option_and_then, unwrap_or, Vec, String, string_bytes}
 use Rattle.std.specs.Ordering.{nat_cmp}
 use Rattle.std.specs.Cmp.Lexicographic.{slice_cmp}
 use Rattle.std.specs.List.{AllByRecursion}

@@ -1,5 +1,5 @@
 -- The first of several faults: an unknown path, a missing one, one out of range, each the least in byte order.
-use Rattle.std.specs.Prelude.{ℕ, Bool, true, false, List, nat_lt, nat_eq, ◌&&◌, ◌||◌, if◌then◌else◌, fold}
+use Rattle.std.specs.Prelude.{ℕ, Bool, true, List, nat_lt, nat_eq, ◌&&◌, ◌||◌, if◌then◌else◌, fold}
 use Rattle.std.specs.Prelude.{Option, Some, None}
 use Rattle.std.specs.Ordering.{nat_cmp, is_lt}
 use Rattle.std.specs.Cmp.Lexicographic.{slice_cmp}

@@ -1,5 +1,5 @@
 -- What is wrong with the settings of a daemon, over the table that a TOML document is.
-use Rattle.std.specs.Prelude.{ℕ, zero, suc, ◌+◌, ◌*◌, ◌-◌, ℤ, pos, negsuc, Bool, true, false, not, ◌&&◌, ◌||◌, ◌==◌, eqb, nat_eq, nat_le, nat_lt, slice_index, List, [], ◌∷◌, ◌++◌, length, drop, bytes_eq, codes, is_some, if◌then◌else◌}
+use Rattle.std.specs.Prelude.{ℕ, suc, ℤ, pos, negsuc, Bool, true, false, not, ◌&&◌, eqb, nat_eq, nat_le, slice_index, List, [], ◌∷◌, ◌++◌, length, drop, bytes_eq, codes, is_some, if◌then◌else◌}
 use Rattle.std.specs.Prelude.{Option, Some, None, option_map, option_and_then}
 use Rattle.std.specs.Option.{option_or}
 use Rattle.std.specs.List.{starts_with}
@@ -10,7 +10,7 @@ use Rattle.json_text.specs.declared.kind.Kind.TheVariants.{Object}
 use Rattle.json_text.specs.Json.{Json, object}
 use Rattle.json_text.specs.Tree.{tree_of}
 use Rattle.outside_io.specs.Doors.{Address, unix, tcp}
-use Rattle.toml.specs.Data.{Data, string, integer, float, boolean, datetime, array, table, Items, no_items, item, Members, no_members, member, get_member, as_str, as_table}
+use Rattle.toml.specs.Data.{Data, string, integer, array, table, Items, no_items, item, Members, no_members, member, get_member, as_str, as_table}
 use Rattle.mux_config.specs.Faults.{Fault, first_in}
 use Rattle.mux_config.specs.declared.first.Sort.{Sort}
 use Rattle.mux_config.specs.declared.first.Sort.TheVariants.{Unknown, Missing, Range}

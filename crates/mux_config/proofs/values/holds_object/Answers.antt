@@ -1,4 +1,4 @@
-use Rattle.std.proofs.Common.{◌≡◌, ap, ◌∙◌}
+use Rattle.std.proofs.Common.{ap, ◌∙◌}
 use Rattle.mux_config.specs.Settings.{is_object_kind}
 use Rattle.mux_config.proofs.Ceilings.{object_kind}
 use Rattle.mux_config.proofs.values.holds_object.Goals as goal

@@ -1,4 +1,4 @@
-use Rattle.std.proofs.Common.{◌≡◌, refl}
+use Rattle.std.proofs.Common.{refl}
 use Rattle.json_text.proofs.Laws.{syntax_none, deep_none}
 use Rattle.mux_config.proofs.Ceilings.{object_read}
 use Rattle.mux_config.proofs.values.is_object.Goals as goal

@@ -1,4 +1,4 @@
-use Rattle.std.proofs.Common.{◌≡◌, rules}
+use Rattle.std.proofs.Common.{rules}
 use Rattle.mux_config.specs.Chosen.{built_in, chosen_of}
 use Rattle.mux_config.proofs.KeptServers.{built_in_kept, in_range_by}
 use Rattle.mux_config.proofs.config.Config.built_in.Goals as goal
