@@ -1,0 +1,7 @@
+pub mod Ceilings
+pub mod Commands
+pub mod Faultless
+pub mod Kept
+pub mod KeptServers
+pub mod Places
+pub mod Tables

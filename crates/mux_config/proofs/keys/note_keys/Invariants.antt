@@ -1,0 +1,8 @@
+use Rattle.std.proofs.Common.{◌≡◌}
+use Rattle.toml.specs.View.{members_view}
+use Rattle.mux_config.specs.Faults.{first_in}
+use Rattle.mux_config.specs.Settings.{top_faults}
+use Rattle.mux_config.proofs.keys.note_keys.Given as goal
+
+abbrev pub invariant-loop-key : goal.invariant-loop-key
+invariant-loop-key l = first_in l.first (top_faults (members_view l.table.entries) (members_view l.key-iterator)) ≡ first_in l.initial.first (top_faults (members_view l.table.entries) (members_view l.table.entries))

@@ -1,0 +1,4 @@
+pub mod Answers
+pub mod Chosen
+pub mod Faults
+pub mod Settings

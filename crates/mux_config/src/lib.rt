@@ -1,0 +1,15 @@
+//! The settings of a daemon, a TOML document (TOML 1.1).
+#![tactic(auto)]
+
+mod config;
+mod fault;
+mod first;
+mod keys;
+mod read;
+mod servers;
+#[cfg(test)]
+mod tests;
+mod values;
+
+pub use config::Config;
+pub use fault::ConfigFault;
