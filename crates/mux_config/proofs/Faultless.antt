@@ -18,7 +18,7 @@ noted f (g ∷ fs) e = by_test (comes_before g f) (noted g fs) (noted f fs) e
     by_test true new old h = new h
     by_test false new old h = old h
 
-none_noted : (fs : List Fault) → first_in None fs ≡ None → fs ≡ []
+pub none_noted : (fs : List Fault) → first_in None fs ≡ None → fs ≡ []
 none_noted [] e = refl
 none_noted (f ∷ fs) e = absurd (noted f fs e)
 

@@ -5,6 +5,7 @@ mod config;
 mod fault;
 mod first;
 mod keys;
+mod laws;
 mod read;
 mod servers;
 #[cfg(test)]
@@ -13,3 +14,4 @@ mod values;
 
 pub use config::Config;
 pub use fault::ConfigFault;
+pub use laws::first_law;
