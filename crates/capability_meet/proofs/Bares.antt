@@ -1,4 +1,4 @@
--- Trees that differ in their places alone say the same, and what says the same is alike in the order.
+-- What says the same is alike in the order.
 use Rattle.std.proofs.Common.{◌≡◌, ℕ, zero, suc, true, List, refl, sym, subst}
 use Rattle.std.specs.Prelude.{Option, Some, None}
 use Rattle.std.specs.List.{slice_get}
@@ -15,37 +15,8 @@ use Rattle.json_nodes.specs.SameTree.{Same, SameItems, SameNamed, words, numbers
 use Rattle.json_nodes.proofs.SameLaw.{same_law}
 use Rattle.capability_meet.specs.Order.{below, below_given}
 use Rattle.capability_meet.proofs.BelowLaws.{among_at, below_self, below_through, items_complete, members_complete, same_bytes}
-use Rattle.capability_meet.proofs.Induction.{ItemsHave, MembersHave, Steps, every}
-use Rattle.capability_meet.proofs.SameLaws.{same_through}
-use Rattle.capability_meet.proofs.SameTurned.{same_turned}
-
--- a tree says what it says without its places
-
-abbrev Bared : Json → Type 0
-Bared j = Same j (bare j)
-
-items_bared : (js : Items) → ItemsHave Bared js → SameItems js (bare_items js)
-items_bared no_items h = no_more
-items_bared (item j js) h = one_more (h 0 j refl) (items_bared js (λ n k e. h (suc n) k e))
-
-named_bared : (o : Option Json) → ((j : Json) → o ≡ Some j → Bared j) → SameNamed o (option_map bare o)
-named_bared None h = neither
-named_bared (Some j) h = both (h j refl)
-
-bared_steps : Steps Bared
-bared_steps = record {
-  words = λ s w. words;
-  numbers = λ s ds. numbers;
-  strings = λ s cs. strings;
-  arrays = λ s js h. arrays (items_bared js h);
-  objects = λ s ms h. objects (λ cs. subst (λ o. SameNamed (named cs ms) o) (sym (named_bare cs ms)) (named_bared (named cs ms) (λ j e. h cs j e)));
-}
-
-bare_same : (j : Json) → same j (bare j) ≡ true
-bare_same j = (same_law j (bare j)).1 (every Bared bared_steps j)
-
-pub same_bares : (j k : Json) → bare j ≡ bare k → same j k ≡ true
-same_bares j k e = same_through j (bare j) k (bare_same j) (subst (λ (z : Json). same z k ≡ true) (sym e) (same_turned k (bare k) (bare_same k)))
+use Rattle.json_nodes.proofs.Induction.{ItemsHave, MembersHave, Steps, every}
+use Rattle.json_nodes.proofs.SameBytes.{same_bares}
 
 -- what says the same is below
 

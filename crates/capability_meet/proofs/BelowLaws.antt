@@ -12,8 +12,8 @@ use Rattle.json_text.specs.Named.{items_list, named, if_named, or_else}
 use Rattle.json_nodes.specs.Same.{same, has_name, if_some}
 use Rattle.json_nodes.proofs.Spelling.{named_member, named_none}
 use Rattle.capability_meet.specs.Order.{below, below_given, is_among, is_least, items_below, members_below}
-use Rattle.capability_meet.proofs.Induction.{MembersHave, Steps, every}
-use Rattle.capability_meet.proofs.SameLaws.{same_self, same_through, number_through, string_through}
+use Rattle.json_nodes.proofs.Induction.{MembersHave, Steps, every}
+use Rattle.json_nodes.proofs.SameLaws.{same_self, same_through, number_through, string_through}
 
 pub and_left : (a b : Bool) → (a && b) ≡ true → a ≡ true
 and_left true b h = refl

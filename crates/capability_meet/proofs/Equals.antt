@@ -20,15 +20,6 @@ use Rattle.capability_meet.specs.Order.{below, is_among}
 use Rattle.capability_meet.proofs.Bares.{alike_bares}
 use Rattle.capability_meet.proofs.BelowLaws.{among_at}
 
-one_meaning : (xs : List ℕ) (i k : ℕ) (t u : Json) → value t i xs → value u k xs → depth t ≤ 1024 → depth u ≤ 1024 → bare t ≡ bare u
-one_meaning xs i k t u h g d e =
-    let p : PlacedText t xs = placed_text t xs (bare_text t xs (says_of t i xs h)) in
-    let q : PlacedText u xs = placed_text u xs (bare_text u xs (says_of u k xs g)) in
-    sym p.same ∙ ap bare (one_tree xs p.tree q.tree p.text (omega (arith, p.deep, d)) q.text (omega (arith, q.deep, e))) ∙ q.same
-
-pub bytes_meaning : (xs ys : List ℕ) (i k : ℕ) (t u : Json) → value t i xs → value u k ys → depth t ≤ 1024 → depth u ≤ 1024 → bytes_eq xs ys ≡ true → bare t ≡ bare u
-bytes_meaning xs ys i k t u h g d e f = one_meaning xs i k t u h (subst (λ (zs : List ℕ). value u k zs) (sym ((bytes_eq-Decides xs ys).0 f)) g) d e
-
 pub bares_below : (t u : Json) (b : Bool) → bare t ≡ bare u → b ≡ true → b ≡ below t u
 bares_below t u b e h = h ∙ sym (alike_bares t u e).down
 

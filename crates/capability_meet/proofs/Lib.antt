@@ -4,7 +4,6 @@ pub mod BelowStep
 pub mod Compacts
 pub mod Declares
 pub mod Equals
-pub mod Induction
 pub mod Letters
 pub mod MemberBelow
 pub mod MeetLaws
@@ -15,8 +14,6 @@ pub mod Pairs
 pub mod Passes
 pub mod Pieces
 pub mod Reading
-pub mod SameLaws
-pub mod SameTurned
 pub mod Shows
 pub mod Spots
 pub mod TextLaws

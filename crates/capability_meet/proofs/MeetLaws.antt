@@ -14,9 +14,9 @@ use Rattle.capability_meet.specs.Meet.{if_meets, meets, twin}
 use Rattle.capability_meet.specs.MeetTree.{common_items, common_members, meet_tree, put_member}
 use Rattle.capability_meet.specs.Order.{below, below_given, is_among, is_least, items_below}
 use Rattle.capability_meet.proofs.BelowLaws.{Twin, among_at, items_complete, items_sound, least_below, members_complete, members_sound, or_right, or_true, same_bytes, twin_of}
-use Rattle.capability_meet.proofs.Induction.{MembersHave, Steps, every}
-use Rattle.capability_meet.proofs.SameLaws.{same_self, same_through}
-use Rattle.capability_meet.proofs.SameTurned.{same_turned}
+use Rattle.json_nodes.proofs.Induction.{MembersHave, Steps, every}
+use Rattle.json_nodes.proofs.SameLaws.{same_self, same_through}
+use Rattle.json_nodes.proofs.SameTurned.{same_turned}
 
 -- items
 

@@ -1,5 +1,7 @@
+pub mod Absent
 pub mod Bounds
 pub mod InStep
+pub mod Induction
 pub mod Looks
 pub mod Members
 pub mod Numbers
@@ -7,7 +9,10 @@ pub mod Parts
 pub mod Places
 pub mod PutBare
 pub mod Putting
+pub mod SameBytes
 pub mod SameLaw
+pub mod SameLaws
+pub mod SameTurned
 pub mod Sames
 pub mod Spelled
 pub mod Spelling

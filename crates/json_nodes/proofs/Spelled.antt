@@ -126,32 +126,24 @@ name_inside doc k n m t u cs d c h = let a : NameAt doc m n t d cs = name_text d
     subst (λ (p : Span). IsStringAt doc.bytes p cs) (sym same) a.text
 
 -- a value's bytes stand between its places
-pub value_between : (doc : Doc) (k : ℕ) (t : Json) (d : Node) (bs : List ℕ) → At doc k t → ((get_or doc.nodes k d).from ≤ (get_or doc.nodes k d).to → (get_or doc.nodes k d).to ≤ length doc.bytes → bs ≡ between (get_or doc.nodes k d).from (get_or doc.nodes k d).to doc.bytes)
+pub value_between : (doc : Doc) (k : ℕ) (t : Json) (d : Node) (bs : List ℕ) → At doc k t → bs ≡ between (get_or doc.nodes k d).from (get_or doc.nodes k d).to doc.bytes
     → bs ≡ between (span_of t).from (span_of t).to doc.bytes
 value_between doc k t d bs a part =
-    let s : IsSpelledAt doc.bytes t = span_text doc k t a in
     let e : node_span (get_or doc.nodes k d) ≡ span_of t = span_law doc k t d a in
-    let from : (get_or doc.nodes k d).from ≡ (span_of t).from = ap (λ (p : Span). p.from) e in
-    let to : (get_or doc.nodes k d).to ≡ (span_of t).to = ap (λ (p : Span). p.to) e in
-    let rises : (get_or doc.nodes k d).from ≤ (get_or doc.nodes k d).to = omega (arith, s.rises) in
-    let fits : (get_or doc.nodes k d).to ≤ length doc.bytes = omega (arith, s.fits) in
-    part rises fits ∙ ap₂ (λ i j. between i j doc.bytes) from to
+    part ∙ ap₂ (λ i j. between i j doc.bytes) (ap (λ (p : Span). p.from) e) (ap (λ (p : Span). p.to) e)
 
 pub value_inside : (doc : Doc) (k : ℕ) (t : Json) (bs : List ℕ) → At doc k t → bs ≡ between (span_of t).from (span_of t).to doc.bytes → value t (span_of t).from bs
 value_inside doc k t bs a e = subst (λ xs. value t (span_of t).from xs) (sym e) (span_text doc k t a).text
 
 -- the characters of a string are spelled between its quotation marks
-pub quotes_between : (bytes : List ℕ) (p : Span) (cs bs : List ℕ) → IsStringAt bytes p cs → (p.from + 2 ≤ p.to → p.to ≤ length bytes → bs ≡ between (p.from + 1) (p.to - 1) bytes) → bs ≡ between (p.from + 1) (p.to - 1) bytes
-quotes_between bytes p cs bs s part = part s.rises s.fits
-
-pub quotes_spelled : (bytes : List ℕ) (p : Span) (cs bs : List ℕ) → IsStringAt bytes p cs → (p.from + 2 ≤ p.to → p.to ≤ length bytes → bs ≡ between (p.from + 1) (p.to - 1) bytes) → SpellsCharacters cs bs
-quotes_spelled bytes p cs bs s part = subst (λ xs. SpellsCharacters cs xs) (sym (part s.rises s.fits)) s.text
+pub quotes_spelled : (bytes : List ℕ) (p : Span) (cs bs : List ℕ) → IsStringAt bytes p cs → bs ≡ between (p.from + 1) (p.to - 1) bytes → SpellsCharacters cs bs
+quotes_spelled bytes p cs bs s part = subst (λ xs. SpellsCharacters cs xs) (sym part) s.text
 
 module _ (doc : Doc) (d : Node) (bs : List ℕ) where
   pub string_between : (k : ℕ) (s : Span) (cs : List ℕ) → At doc k (string s cs)
-      → ((node_span (get_or doc.nodes k d)).from + 2 ≤ (node_span (get_or doc.nodes k d)).to → (node_span (get_or doc.nodes k d)).to ≤ length doc.bytes → bs ≡ between ((node_span (get_or doc.nodes k d)).from + 1) ((node_span (get_or doc.nodes k d)).to - 1) doc.bytes)
+      → bs ≡ between ((node_span (get_or doc.nodes k d)).from + 1) ((node_span (get_or doc.nodes k d)).to - 1) doc.bytes
       → bs ≡ between (s.from + 1) (s.to - 1) doc.bytes
-  string_between k s cs a part = quotes_between doc.bytes (node_span (get_or doc.nodes k d)) cs bs (string_inside doc k s cs d a) part ∙ ap (λ (p : Span). between (p.from + 1) (p.to - 1) doc.bytes) (span_law doc k (string s cs) d a)
+  string_between k s cs a part = part ∙ ap (λ (p : Span). between (p.from + 1) (p.to - 1) doc.bytes) (span_law doc k (string s cs) d a)
 
   -- where a member's name stands
   name_spans_named : (t : Json) (n : ℕ) (s : Span) → slice_get (name_spans t) n ≡ Some s → (cs : List ℕ) × (slice_get (names t) n ≡ Some cs)
@@ -167,10 +159,10 @@ module _ (doc : Doc) (d : Node) (bs : List ℕ) where
   name_spans_named (array r js) n s h = cc
 
   pub name_between : (k n m : ℕ) (t u : Json) (s : Span) → ChildAt doc k t n m u → slice_get (name_spans t) n ≡ Some s
-      → ((place_span (get_or doc.nodes m d).name).from + 2 ≤ (place_span (get_or doc.nodes m d).name).to → (place_span (get_or doc.nodes m d).name).to ≤ length doc.bytes → bs ≡ between ((place_span (get_or doc.nodes m d).name).from + 1) ((place_span (get_or doc.nodes m d).name).to - 1) doc.bytes)
+      → bs ≡ between ((place_span (get_or doc.nodes m d).name).from + 1) ((place_span (get_or doc.nodes m d).name).to - 1) doc.bytes
       → bs ≡ between (s.from + 1) (s.to - 1) doc.bytes
   name_between k n m t u s c h part =
       let named : (cs : List ℕ) × (slice_get (names t) n ≡ Some cs) = name_spans_named t n s h in
       let a : NameAt doc m n t d named.0 = name_text doc k n m t u named.0 d c named.1 in
       let same : a.place ≡ s = (let e : Some a.place ≡ Some s = sym a.here ∙ h in cc) in
-      quotes_between doc.bytes (place_span (get_or doc.nodes m d).name) named.0 bs (name_inside doc k n m t u named.0 d c named.1) part ∙ ap (λ (p : Span). between (p.from + 1) (p.to - 1) doc.bytes) (ap place_span a.named ∙ same)
+      part ∙ ap (λ (p : Span). between (p.from + 1) (p.to - 1) doc.bytes) (ap place_span a.named ∙ same)

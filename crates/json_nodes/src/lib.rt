@@ -2,19 +2,20 @@
 #![tactic(auto)]
 
 mod look;
+mod maybe;
 mod member;
 mod names;
 mod node;
 mod puts;
 mod same;
+mod span_bytes;
 mod steps;
+mod values;
 
-pub use look::{bytes_in, first_in, kind_in, name_in, next_in, span_in, string_in, text_in};
-pub use member::member_in;
-pub use names::same_names_in;
 pub use node::{Node, Place};
-pub use puts::{Put, puts_in};
-pub use same::{is_named_again, last_spelled, same_in};
+pub use puts::Put;
+pub use span_bytes::part;
+pub use values::Values;
 
 #[cfg(test)]
 mod tests;

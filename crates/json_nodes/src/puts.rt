@@ -2,6 +2,7 @@ ghost use Rattle.json_nodes.specs.At.{At, ChildAt};
 ghost use Rattle.json_nodes.specs.Puts.{member_edits, put_edits, text_for};
 ghost use Rattle.json_nodes.specs.Same.{drop_members};
 ghost use Rattle.json_nodes.specs.Texts.{names};
+ghost use Rattle.json_nodes.specs.Values.{doc_of};
 ghost use Rattle.json_text.specs.Changes.{edits_of};
 ghost use Rattle.json_text.specs.declared.span.Span.{Span};
 ghost use Rattle.json_text.specs.Json.{Json, Members, object, span_of};
@@ -10,8 +11,7 @@ ghost use Rattle.json_text.specs.String.{SpellsCharacters};
 ghost use Rattle.std.specs.Prelude.{◌≡◌, ◌<◌, ◌++◌, ℕ, suc, List, length, option_map, Some, IfOk};
 ghost use Rattle.std.specs.List.{slice_get};
 
-use crate::look::{first_in, kind_in, name_in, next_in, span_in};
-use crate::node::Node;
+use crate::values::Values;
 use json_text::{Change, Kind};
 use json_token::spells_text;
 use message_body::{Body, Memory};
@@ -24,43 +24,38 @@ pub struct Put<'a> {
     pub text: &'a [u8],
 }
 
-/// The changes of a text that put other bytes in place of each value of these names in an object, one for each member of such
-/// a name, however often a name stands there; of two puts of one name the first counts. None where the value is no object.
-/// Their places rise and lie within the value. The cost is linear in the object's bytes for each put, and in the new bytes.
-pub fn puts_in(
-    alloc: Global,
-    bytes: &[u8],
-    nodes: &[Node],
-    node: u32,
-    puts: &[Put],
-) -> Result<Vec<Change>, Memory>
-    requires { node < length nodes.now }
-    ensures edits { (t : Json) → At (record { bytes = bytes.now; nodes = nodes.now }) node t → IfOk result (λ changes. edits_of changes.items ≡ put_edits (text_for puts.now) t) }
-    ensures within { (t : Json) → At (record { bytes = bytes.now; nodes = nodes.now }) node t → IfOk result (λ changes. RiseFrom (span_of t).from (span_of t).to (edits_of changes.items)) }
-    ensures rise { (t : Json) → At (record { bytes = bytes.now; nodes = nodes.now }) node t → IfOk result (λ changes. Rise bytes.now (edits_of changes.items)) }
-{
-    match kind_in(nodes, node) {
-        Kind::Object => member_puts(alloc, bytes, nodes, node, puts),
-        _ => Ok(Vec::new(alloc)),
+impl<'a> Values<'a> {
+    /// The changes of a text that put other bytes in place of each value of these names in an object, one for each member of such
+    /// a name, however often a name stands there; of two puts of one name the first counts. None where the value is no object.
+    /// Their places rise and lie within the value. The cost is linear in the object's bytes for each put, and in the new bytes.
+    pub fn puts(self, alloc: Global, node: u32, puts: &[Put]) -> Result<Vec<Change>, Memory>
+        requires { node < length self.nodes.now }
+        ensures edits { (t : Json) → At (doc_of self.entry) node t → IfOk result (λ changes. edits_of changes.items ≡ put_edits (text_for puts.now) t) }
+        ensures within { (t : Json) → At (doc_of self.entry) node t → IfOk result (λ changes. RiseFrom (span_of t).from (span_of t).to (edits_of changes.items)) }
+        ensures rise { (t : Json) → At (doc_of self.entry) node t → IfOk result (λ changes. Rise (doc_of self.entry).bytes (edits_of changes.items)) }
+    {
+        match self.kind(node) {
+            Kind::Object => member_puts(alloc, self, node, puts),
+            _ => Ok(Vec::new(alloc)),
+        }
     }
 }
 
 // The changes of the members of an object.
 fn member_puts(
     alloc: Global,
-    bytes: &[u8],
-    nodes: &[Node],
+    values: Values,
     node: u32,
     puts: &[Put],
 ) -> Result<Vec<Change>, Memory>
-    requires { node < length nodes.now }
-    ensures { (s : Span) (ms : Members) → At (record { bytes = bytes.now; nodes = nodes.now }) node (object s ms) → IfOk result (λ changes. edits_of changes.items ≡ member_edits (text_for puts.now) ms) }
+    requires { node < length values.nodes.now }
+    ensures { (s : Span) (ms : Members) → At (doc_of values.entry) node (object s ms) → IfOk result (λ changes. edits_of changes.items ≡ member_edits (text_for puts.now) ms) }
 {
     let mut changes = Vec::new(alloc);
-    let mut next = first_in(nodes, node);
+    let mut next = values.first(node);
     while let Some(member) = next {
-        add_put(alloc, &mut changes, bytes, nodes, member, puts)?;
-        next = next_in(nodes, member);
+        add_put(alloc, &mut changes, values, member, puts)?;
+        next = values.next(member);
     }
     Ok(changes)
 }
@@ -69,18 +64,17 @@ fn member_puts(
 fn add_put(
     alloc: Global,
     changes: &mut Vec<Change>,
-    bytes: &[u8],
-    nodes: &[Node],
+    values: Values,
     member: u32,
     puts: &[Put],
 ) -> Result<(), Memory>
-    requires { member < length nodes.now }
-    ensures { (k n : ℕ) (s : Span) (ms : Members) (u : Json) → ChildAt (record { bytes = bytes.now; nodes = nodes.now }) k (object s ms) n member u → IfOk result (λ done. edits_of changes.new.items ++ member_edits (text_for puts.now) (drop_members (suc n) ms) ≡ edits_of changes.old.items ++ member_edits (text_for puts.now) (drop_members n ms)) }
+    requires { member < length values.nodes.now }
+    ensures { (k n : ℕ) (s : Span) (ms : Members) (u : Json) → ChildAt (doc_of values.entry) k (object s ms) n member u → IfOk result (λ done. edits_of changes.new.items ++ member_edits (text_for puts.now) (drop_members (suc n) ms) ≡ edits_of changes.old.items ++ member_edits (text_for puts.now) (drop_members n ms)) }
 {
-    if let Some(text) = text_for(name_in(bytes, nodes, member), puts) {
+    if let Some(text) = text_for(values.name(member), puts) {
         let text = Body::new(Vec::from_slice(alloc, text)?);
         changes.push(Change {
-            span: span_in(nodes, member),
+            span: values.span(member),
             text,
         })?;
     }

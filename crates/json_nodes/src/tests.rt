@@ -28,43 +28,51 @@ fn nodes() -> [Node; 5] {
     ]
 }
 
+fn values_of(nodes: &[Node]) -> Values {
+    Values { bytes: TEXT, nodes }
+}
+
 #[test]
 fn walks_the_values(rt: HostRuntime) {
     let nodes = nodes();
-    assert!(rt; matches!(kind_in(&nodes, 0), Kind::Object));
-    assert!(rt; matches!(kind_in(&nodes, 3), Kind::Text));
-    assert_eq!(rt; first_in(&nodes, 0), Some(1));
-    assert_eq!(rt; next_in(&nodes, 1), Some(4));
-    assert_eq!(rt; next_in(&nodes, 4), None);
-    assert_eq!(rt; first_in(&nodes, 1), Some(2));
-    assert_eq!(rt; next_in(&nodes, 2), Some(3));
-    assert_eq!(rt; next_in(&nodes, 3), None);
-    assert_eq!(rt; first_in(&nodes, 4), None);
+    let values = values_of(&nodes);
+    assert!(rt; matches!(values.kind(0), Kind::Object));
+    assert!(rt; matches!(values.kind(3), Kind::Text));
+    assert_eq!(rt; values.first(0), Some(1));
+    assert_eq!(rt; values.next(1), Some(4));
+    assert_eq!(rt; values.next(4), None);
+    assert_eq!(rt; values.first(1), Some(2));
+    assert_eq!(rt; values.next(2), Some(3));
+    assert_eq!(rt; values.next(3), None);
+    assert_eq!(rt; values.first(4), None);
 }
 
 #[test]
 fn reads_the_bytes(rt: HostRuntime) {
     let nodes = nodes();
-    let span = span_in(&nodes, 1);
+    let values = values_of(&nodes);
+    let span = values.span(1);
     assert_eq!(rt; (span.from, span.to), (5, 17));
-    assert_eq!(rt; bytes_in(TEXT, &nodes, 2), b"1".as_slice());
-    assert_eq!(rt; name_in(TEXT, &nodes, 4), b"a".as_slice());
-    assert_eq!(rt; string_in(TEXT, &nodes, 3), b"\\u0062".as_slice());
-    let text = text_in(rt.alloc(), TEXT, &nodes, 3);
+    assert_eq!(rt; values.bytes(2), b"1".as_slice());
+    assert_eq!(rt; values.name(4), b"a".as_slice());
+    assert_eq!(rt; values.string(3), b"\\u0062".as_slice());
+    let text = values.text(rt.alloc(), 3);
     assert!(rt; matches!(&text, Ok(text) if text.bytes() == b"b".as_slice()));
 }
 
 #[test]
 fn finds_the_last_member(rt: HostRuntime) {
     let nodes = nodes();
-    assert_eq!(rt; member_in(TEXT, &nodes, 0, "a"), Some(4));
-    assert_eq!(rt; member_in(TEXT, &nodes, 0, "b"), None);
-    assert_eq!(rt; member_in(TEXT, &nodes, 1, "a"), None);
+    let values = values_of(&nodes);
+    assert_eq!(rt; values.member(0, "a"), Some(4));
+    assert_eq!(rt; values.member(0, "b"), None);
+    assert_eq!(rt; values.member(1, "a"), None);
 }
 
 #[test]
 fn compares_values(rt: HostRuntime) {
     let nodes = nodes();
-    assert!(rt; same_in(TEXT, &nodes, 0, TEXT, &nodes, 0));
-    assert!(rt; !same_in(TEXT, &nodes, 1, TEXT, &nodes, 4));
+    let values = values_of(&nodes);
+    assert!(rt; values.same(0, values, 0));
+    assert!(rt; !values.same(1, values, 4));
 }

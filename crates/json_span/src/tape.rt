@@ -14,14 +14,13 @@ ghost use Rattle.json_nodes.specs.Puts.{put_edits, text_for};
 ghost use Rattle.json_nodes.specs.Same.{same};
 ghost use Rattle.json_nodes.specs.SameTree.{Same};
 ghost use Rattle.json_nodes.specs.Texts.{IsSpelledAt};
+ghost use Rattle.json_nodes.specs.Values.{doc_of};
 ghost use Rattle.json_span.specs.Machine.{start, read};
 ghost use Rattle.json_span.specs.Views.{Reads};
 
 use crate::fault::JsonFault;
 use crate::state::Reader;
-use json_nodes::{
-    Node, Put, first_in, kind_in, member_in, next_in, puts_in, same_in, span_in, text_in,
-};
+use json_nodes::{Node, Put, Values};
 use json_text::{Change, Kind, Span};
 use message_body::{Body, Memory};
 use std::alloc::Global;
@@ -87,6 +86,17 @@ impl<'a> Tape<'a> {
         self.nodes.as_slice()
     }
 
+    /// Its bytes and its values in preorder, as one.
+    pub fn values(&self) -> Values<'_>
+        ensures same { doc_of result ≡ self.now }
+        ensures text { (j : Json) × Holds self.now j }
+    {
+        Values {
+            bytes: self.bytes,
+            nodes: self.nodes.as_slice(),
+        }
+    }
+
     /// The text's value.
     pub fn root(&self) -> u32
         ensures first { result ≡ 0 }
@@ -103,7 +113,7 @@ impl<'a> Tape<'a> {
         requires { node < length self.now.nodes }
         ensures { (t : Json) → At self.now node t → result ≡ kind_of t }
     {
-        kind_in(self.nodes.as_slice(), node)
+        self.values().kind(node)
     }
 
     /// Where a value stands, with its quotation marks or brackets.
@@ -113,7 +123,7 @@ impl<'a> Tape<'a> {
         ensures text { (t : Json) → At self.now node t → IsSpelledAt self.now.bytes t }
         ensures inside { (result.from ≤ result.to) × (result.to ≤ length self.now.bytes) }
     {
-        span_in(self.nodes.as_slice(), node)
+        self.values().span(node)
     }
 
     /// The value of the last member of this name; none where the value is no object.
@@ -122,7 +132,7 @@ impl<'a> Tape<'a> {
         ensures member { (t : Json) → At self.now node t → Found self.now (named_in (chars name.now) t) result }
         ensures inside { MatchOption result (Unit {0}) (λ member. member < length self.now.nodes) }
     {
-        member_in(self.bytes, self.nodes.as_slice(), node, name)
+        self.values().member(node, name)
     }
 
     /// The first item of an array, or the value of the first member of an object.
@@ -131,7 +141,7 @@ impl<'a> Tape<'a> {
         ensures first { (t : Json) → At self.now node t → FoundChild self.now node t 0 result }
         ensures inside { MatchOption result (Unit {0}) (λ first. (node < first) × (first < length self.now.nodes)) }
     {
-        first_in(self.nodes.as_slice(), node)
+        self.values().first(node)
     }
 
     /// The item that follows this one in its array, or the value of the member that follows this one's in its object. Nothing
@@ -142,7 +152,7 @@ impl<'a> Tape<'a> {
         ensures root { (t : Json) → Holds self.now t → node ≡ 0 → result ≡ None }
         ensures inside { MatchOption result (Unit {0}) (λ next. (node < next) × (next < length self.now.nodes)) }
     {
-        next_in(self.nodes.as_slice(), node)
+        self.values().next(node)
     }
 
     /// The characters of a string, in UTF-8; a surrogate with no partner stands for U+FFFD.
@@ -150,7 +160,7 @@ impl<'a> Tape<'a> {
         requires { node < length self.now.nodes }
         ensures { (s : Span) (cs : List ℕ) → At self.now node (string s cs) → IfOk result (λ text. text ≡ encode_utf8_all cs) }
     {
-        text_in(alloc, self.bytes, self.nodes.as_slice(), node)
+        self.values().text(alloc, node)
     }
 
     /// The changes that put other bytes in place of each value of these names in an object, one for each member of such a name,
@@ -162,24 +172,17 @@ impl<'a> Tape<'a> {
         ensures within { (t : Json) → At self.now node t → IfOk result (λ changes. RiseFrom (span_of t).from (span_of t).to (edits_of changes.items)) }
         ensures rise { IfOk result (λ changes. Rise self.now.bytes (edits_of changes.items)) }
     {
-        puts_in(alloc, self.bytes, self.nodes.as_slice(), node, puts)
+        self.values().puts(alloc, node, puts)
     }
 }
 
 /// Whether two values say the same: numbers by their text, strings by their characters, arrays item by item, and objects by
-/// name, in any order, where the last member of a name counts.
+/// name, in any order, where the last member of a name counts. The time is that of `Values::same`.
 pub fn same(left: &Tape, node: u32, right: &Tape, other: u32) -> bool
     requires node { node < length left.now.nodes }
     requires other { other < length right.now.nodes }
     ensures test { (t u : Json) → At left.now node t → At right.now other u → result ≡ same t u }
     ensures relation { (t u : Json) → At left.now node t → At right.now other u → (IsTrue result ↔ Same t u) }
 {
-    same_in(
-        left.bytes,
-        left.nodes.as_slice(),
-        node,
-        right.bytes,
-        right.nodes.as_slice(),
-        other,
-    )
+    left.values().same(node, right.values(), other)
 }

@@ -4,6 +4,7 @@ ghost use Rattle.json_text.specs.Changes.{edits_of};
 ghost use Rattle.json_text.specs.Replace.{replace, Rise};
 ghost use Rattle.json_text.specs.Tree.{tree_of};
 ghost use Rattle.json_nodes.specs.At.{Found};
+ghost use Rattle.json_nodes.specs.Values.{doc_of};
 ghost use Rattle.rpc_message.specs.Changed.{changed_text, id_edits};
 ghost use Rattle.rpc_message.specs.Envelopes.{Tells};
 ghost use Rattle.rpc_message.specs.Message.{Message as Meaning, id_bytes, message_of, place_in, result_bytes};
@@ -14,7 +15,7 @@ ghost use Rattle.rpc_message.specs.Texts.{with_id_text};
 use crate::envelope::{Envelope, envelope_in};
 use crate::parts::{member_bytes, member_span, with_id, with_id_change};
 use crate::sort::{Malformed, Sort};
-use json_nodes::{Node, text_in};
+use json_nodes::Values;
 use json_span::{JsonFault, Tape};
 use json_text::{Change, Span, splice};
 use message_body::{Body, Memory};
@@ -42,17 +43,16 @@ impl<'a> Model for Message<'a> {
 // The characters of a message's method, in UTF-8, where it has one.
 fn decoded_method(
     alloc: Global,
-    bytes: &[u8],
-    nodes: &[Node],
+    values: Values,
     envelope: Envelope,
 ) -> Result<Option<Body>, Memory>
-    requires { (m : Meaning) × Tells (record { bytes = bytes.now; nodes = nodes.now }) envelope m }
-    ensures { (m : Meaning) → Tells (record { bytes = bytes.now; nodes = nodes.now }) envelope m → IfOk result (λ name. name ≡ method_of m) }
+    requires { (m : Meaning) × Tells (doc_of values.entry) envelope m }
+    ensures { (m : Meaning) → Tells (doc_of values.entry) envelope m → IfOk result (λ name. name ≡ method_of m) }
 {
     match envelope {
-        Envelope::Request { method, .. } | Envelope::Notification { method, .. } => Ok(Some(text_in(
-            alloc, bytes, nodes, method,
-        )?)),
+        Envelope::Request { method, .. } | Envelope::Notification { method, .. } => Ok(Some(
+            values.text(alloc, method)?,
+        )),
         Envelope::Outcome { .. } | Envelope::Failure { .. } => Ok(None),
     }
 }
@@ -70,12 +70,12 @@ impl<'a> Message<'a> {
             Err(JsonFault::Syntax(_)) => return Err(Malformed::NotJson),
             Err(JsonFault::TooDeep(_)) => return Err(Malformed::NotJson),
         };
-        let envelope = match envelope_in(alloc, tape.bytes(), tape.nodes()) {
+        let envelope = match envelope_in(alloc, tape.values()) {
             Ok(Some(envelope)) => envelope,
             Ok(None) => return Err(Malformed::NotMessage),
             Err(Memory) => return Err(Malformed::Memory),
         };
-        match decoded_method(alloc, tape.bytes(), tape.nodes(), envelope) {
+        match decoded_method(alloc, tape.values(), envelope) {
             Ok(method) => Ok(Message {
                 tape,
                 envelope,
@@ -123,14 +123,14 @@ impl<'a> Message<'a> {
     pub fn id(&self) -> Option<Span>
         ensures { (bytes : List ℕ) → IsRead self.now bytes → result ≡ place_in (codes "id") (tree_of bytes) }
     {
-        member_span(self.tape.bytes(), self.tape.nodes(), "id")
+        member_span(self.tape.values(), "id")
     }
 
     /// The bytes of its id, as they came; `null` where it has none.
     pub fn id_bytes(&self) -> &[u8]
         ensures { (bytes : List ℕ) → IsRead self.now bytes → result.now ≡ id_bytes bytes }
     {
-        member_bytes(self.tape.bytes(), self.tape.nodes(), "id")
+        member_bytes(self.tape.values(), "id")
     }
 
     /// The characters of its method, in UTF-8; none where it is a response.
@@ -172,7 +172,7 @@ impl<'a> Message<'a> {
     pub fn result_bytes(&self) -> &[u8]
         ensures { (bytes : List ℕ) → IsRead self.now bytes → result.now ≡ result_bytes bytes }
     {
-        member_bytes(self.tape.bytes(), self.tape.nodes(), "result")
+        member_bytes(self.tape.values(), "result")
     }
 
     /// The number of its error, which is that of its object's member `error`; none where it is no response with an error.
@@ -191,7 +191,7 @@ impl<'a> Message<'a> {
     pub fn with_id(&self, alloc: Global, id: &[u8]) -> Result<Body, Memory>
         ensures { (bytes : List ℕ) → IsRead self.now bytes → IfOk result (λ body. body ≡ with_id_text bytes id.now) }
     {
-        with_id(alloc, self.tape.bytes(), self.tape.nodes(), id)
+        with_id(alloc, self.tape.values(), id)
     }
 
     /// The body with each change made, and all else as it came; the places rise and don't overlap.

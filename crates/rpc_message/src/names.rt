@@ -4,10 +4,11 @@ ghost use Rattle.json_text.specs.declared.span.Span.{Span};
 ghost use Rattle.json_text.specs.Json.{Members, object};
 ghost use Rattle.json_text.specs.String.{SpellsCharacters};
 ghost use Rattle.json_nodes.specs.At.{At};
+ghost use Rattle.json_nodes.specs.Values.{doc_of};
 ghost use Rattle.rpc_message.specs.Message.{no_name_twice};
 ghost use Rattle.rpc_message.specs.Names.{has_name};
 
-use json_nodes::{Node, first_in, last_spelled, name_in, next_in};
+use json_nodes::Values;
 use json_token::decode;
 use message_body::Memory;
 use std::alloc::Global;
@@ -17,38 +18,38 @@ use std::collections::BTreeSet;
 const FEW: usize = 16;
 
 /// Whether no two members of an object have one name. It takes n log n comparisons of n names, whatever the names are.
-pub fn names_once(alloc: Global, bytes: &[u8], nodes: &[Node], node: u32) -> Result<bool, Memory>
-    requires { node < length nodes.now }
-    ensures { (s : Span) (ms : Members) → At (record { bytes = bytes.now; nodes = nodes.now }) node (object s ms) → IfOk result (λ once. once ≡ no_name_twice ms) }
+pub fn names_once(alloc: Global, values: Values, node: u32) -> Result<bool, Memory>
+    requires { node < length values.nodes.now }
+    ensures { (s : Span) (ms : Members) → At (doc_of values.entry) node (object s ms) → IfOk result (λ once. once ≡ no_name_twice ms) }
 {
-    if has_few(nodes, node) {
-        Ok(few_names_once(bytes, nodes, node))
+    if has_few(values, node) {
+        Ok(few_names_once(values, node))
     } else {
-        many_names_once(alloc, bytes, nodes, node)
+        many_names_once(alloc, values, node)
     }
 }
 
 // Whether an object has few members.
-fn has_few(nodes: &[Node], node: u32) -> bool
-    requires { node < length nodes.now }
+fn has_few(values: Values, node: u32) -> bool
+    requires { node < length values.nodes.now }
 {
-    let mut next = first_in(nodes, node);
+    let mut next = values.first(node);
     for _ in 0..FEW {
         let Some(member) = next else { return true };
-        next = next_in(nodes, member);
+        next = values.next(member);
     }
     next.is_none()
 }
 
 // The same, each name against those behind it.
-fn few_names_once(bytes: &[u8], nodes: &[Node], node: u32) -> bool
-    requires { node < length nodes.now }
-    ensures { (s : Span) (ms : Members) → At (record { bytes = bytes.now; nodes = nodes.now }) node (object s ms) → result ≡ no_name_twice ms }
+fn few_names_once(values: Values, node: u32) -> bool
+    requires { node < length values.nodes.now }
+    ensures { (s : Span) (ms : Members) → At (doc_of values.entry) node (object s ms) → result ≡ no_name_twice ms }
 {
-    let mut next = first_in(nodes, node);
+    let mut next = values.first(node);
     while let Some(member) = next {
-        let following = next_in(nodes, member);
-        if last_spelled(name_in(bytes, nodes, member), bytes, nodes, following).is_some() {
+        let following = values.next(member);
+        if values.is_named_again(member, following) {
             return false;
         }
         next = following;
@@ -57,17 +58,17 @@ fn few_names_once(bytes: &[u8], nodes: &[Node], node: u32) -> bool
 }
 
 // The same, each name against those before it, which are kept in order.
-fn many_names_once(alloc: Global, bytes: &[u8], nodes: &[Node], node: u32) -> Result<bool, Memory>
-    requires { node < length nodes.now }
-    ensures { (s : Span) (ms : Members) → At (record { bytes = bytes.now; nodes = nodes.now }) node (object s ms) → IfOk result (λ once. once ≡ no_name_twice ms) }
+fn many_names_once(alloc: Global, values: Values, node: u32) -> Result<bool, Memory>
+    requires { node < length values.nodes.now }
+    ensures { (s : Span) (ms : Members) → At (doc_of values.entry) node (object s ms) → IfOk result (λ once. once ≡ no_name_twice ms) }
 {
     let mut names = BTreeSet::new(alloc);
-    let mut next = first_in(nodes, node);
+    let mut next = values.first(node);
     while let Some(member) = next {
-        if !add_name(alloc, &mut names, name_in(bytes, nodes, member))? {
+        if !add_name(alloc, &mut names, values.name(member))? {
             return Ok(false);
         }
-        next = next_in(nodes, member);
+        next = values.next(member);
     }
     Ok(true)
 }

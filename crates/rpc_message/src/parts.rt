@@ -40,34 +40,34 @@ fn tail(bytes: &[u8], from: usize) -> &[u8]
 }
 
 // The member of this name, in a body that is an object.
-fn root_member(bytes: &[u8], nodes: &[Node], name: &str) -> Option<u32>
-    ensures member { (j : Json) → Holds (record { bytes = bytes.now; nodes = nodes.now }) j → Found (record { bytes = bytes.now; nodes = nodes.now }) (named_in (chars name.now) j) result }
-    ensures inside { MatchOption result (Unit {0}) (λ node. node < length nodes.now) }
+fn root_member(values: Values, name: &str) -> Option<u32>
+    ensures member { (j : Json) → Holds (doc_of values.entry) j → Found (doc_of values.entry) (named_in (chars name.now) j) result }
+    ensures inside { MatchOption result (Unit {0}) (λ node. node < length values.entry.nodes.now) }
 {
     if nodes.is_empty() {
         None
     } else {
-        member_in(bytes, nodes, 0, name)
+        values.member(0, name)
     }
 }
 
 /// Where the last member of this name stands, in a body that is an object; none where it has none.
-pub fn member_span(bytes: &[u8], nodes: &[Node], name: &str) -> Option<Span>
-    ensures { (j : Json) → Holds (record { bytes = bytes.now; nodes = nodes.now }) j → result ≡ place_in (chars name.now) (tree_of bytes.now) }
+pub fn member_span(values: Values, name: &str) -> Option<Span>
+    ensures { (j : Json) → Holds (doc_of values.entry) j → result ≡ place_in (chars name.now) (tree_of bytes.now) }
 {
     match root_member(bytes, nodes, name) {
-        Some(node) => Some(span_in(nodes, node)),
+        Some(node) => Some(values.span(node)),
         None => None,
     }
 }
 
 /// The bytes of the last member of this name, in a body that is an object; `null` where it has none.
-pub fn member_bytes<'a>(bytes: &'a [u8], nodes: &[Node], name: &str) -> &'a [u8]
-    ensures { (j : Json) → Holds (record { bytes = bytes.now; nodes = nodes.now }) j → result.now ≡ member_bytes (chars name.now) bytes.now }
+pub fn member_bytes<'a>(bytes: &'a [u8], values: Values, name: &str) -> &'a [u8]
+    ensures { (j : Json) → Holds (doc_of values.entry) j → result.now ≡ member_bytes (chars name.now) bytes.now }
 {
     match root_member(bytes, nodes, name) {
         Some(node) => {
-            let span = span_in(nodes, node);
+            let span = values.span(node);
             part(bytes, span.from, span.to)
         }
         None => "null".as_bytes(),
@@ -86,11 +86,11 @@ fn replaced(alloc: Global, bytes: &[u8], span: Span, text: &[u8]) -> Result<Body
 }
 
 /// A body with other bytes as its id, and all else as it came.
-pub fn with_id(alloc: Global, bytes: &[u8], nodes: &[Node], id: &[u8]) -> Result<Body, Memory>
-    ensures { (j : Json) → Holds (record { bytes = bytes.now; nodes = nodes.now }) j → IfOk result (λ body. body ≡ with_id_text bytes.now id.now) }
+pub fn with_id(alloc: Global, values: Values, id: &[u8]) -> Result<Body, Memory>
+    ensures { (j : Json) → Holds (doc_of values.entry) j → IfOk result (λ body. body ≡ with_id_text bytes.now id.now) }
 {
     match root_member(bytes, nodes, "id") {
-        Some(node) => replaced(alloc, bytes, span_in(nodes, node), id),
+        Some(node) => replaced(alloc, bytes, values.span(node), id),
         None => Ok(Body::new(Vec::from_slice(alloc, bytes)?)),
     }
 }

@@ -3,6 +3,7 @@ use Rattle.json_text.specs.declared.kind.Kind.{Kind}
 use Rattle.json_text.specs.declared.kind.Kind.TheVariants as kind
 use Rattle.json_text.specs.Json.{Json, object, number}
 use Rattle.json_text.specs.Named.{named}
+use Rattle.json_nodes.specs.Values.{doc_of}
 use Rattle.json_nodes.specs.At.{At}
 use Rattle.json_nodes.specs.Doc.{Doc}
 use Rattle.json_nodes.specs.Nodes.{kind_of}
@@ -16,143 +17,143 @@ use Rattle.json_nodes.proofs.same.+same.Goals as goal
 
 pub same_items-returns-in_default-beside : goal.same_items-returns-in_default-beside
 same_items-returns-in_default-beside t c =
-    let d : Doc = record { bytes = c.args.left.bytes.now; nodes = c.args.left.nodes.now } in
-    let e : Doc = record { bytes = c.args.right.bytes.now; nodes = c.args.right.nodes.now } in
+    let d : Doc = doc_of c.args.left in
+    let e : Doc = doc_of c.args.right in
     comparing_longer d e c.args.node c.args.other c.in-Some.item c.loop-next.next c.loop-next.beside c.loop-next.invariant c.in-Some.is c.in_default-beside.is
 
 pub same_items-returns-then-not-same_values : goal.same_items-returns-then-not-same_values
 same_items-returns-then-not-same_values t c =
-    let d : Doc = record { bytes = c.args.left.bytes.now; nodes = c.args.left.nodes.now } in
-    let e : Doc = record { bytes = c.args.right.bytes.now; nodes = c.args.right.nodes.now } in
+    let d : Doc = doc_of c.args.left in
+    let e : Doc = doc_of c.args.right in
     comparing_differs d e c.args.node c.args.other c.in-Some.item c.in-Some-beside.twin c.loop-next.next c.loop-next.beside c.same_values.result c.loop-next.invariant c.in-Some.is c.in-Some-beside.is c.same_values.ensures c.if-not-same_values.true
 
 pub same_items-loop-next-preserved : goal.same_items-loop-next-preserved
 same_items-loop-next-preserved t c =
-    let d : Doc = record { bytes = c.args.left.bytes.now; nodes = c.args.left.nodes.now } in
-    let e : Doc = record { bytes = c.args.right.bytes.now; nodes = c.args.right.nodes.now } in
-    comparing_on d e c.args.node c.args.other c.in-Some.item c.in-Some-beside.twin c.loop-next.next c.loop-next.beside c.next_in-next.result c.next_in-beside.result c.same_values.result c.loop-next.invariant c.in-Some.is c.in-Some-beside.is c.same_values.ensures c.if-not-same_values.false
-    (λ k n t u a. c.next_in-next.ensures.next c.args.left.bytes.now k n t u a) c.next_in-next.ensures.inside
-    (λ k n t u a. c.next_in-beside.ensures.next c.args.right.bytes.now k n t u a) c.next_in-beside.ensures.inside
+    let d : Doc = doc_of c.args.left in
+    let e : Doc = doc_of c.args.right in
+    comparing_on d e c.args.node c.args.other c.in-Some.item c.in-Some-beside.twin c.loop-next.next c.loop-next.beside c.next-next.result c.next-beside.result c.same_values.result c.loop-next.invariant c.in-Some.is c.in-Some-beside.is c.same_values.ensures c.if-not-same_values.false
+    (λ k n t u a. c.next-next.ensures.next k n t u a) c.next-next.ensures.inside
+    (λ k n t u a. c.next-beside.ensures.next k n t u a) c.next-beside.ensures.inside
 
 pub same_items-returns : goal.same_items-returns
 same_items-returns t c =
-    let d : Doc = record { bytes = c.args.left.bytes.now; nodes = c.args.left.nodes.now } in
-    let e : Doc = record { bytes = c.args.right.bytes.now; nodes = c.args.right.nodes.now } in
+    let d : Doc = doc_of c.args.left in
+    let e : Doc = doc_of c.args.right in
     λ s r js ks a b. none_answer c.is_none.result c.loop-next.beside c.is_none.ensures ∙ comparing_ends d e c.args.node c.args.other c.loop-next.next c.loop-next.beside c.loop-next.invariant c.in_default.is s r js ks a b
 
 pub same_member-returns-then-is_some : goal.same_member-returns-then-is_some
 same_member-returns-then-is_some t c =
-    let d : Doc = record { bytes = c.args.left.bytes.now; nodes = c.args.left.nodes.now } in
-    λ k n s r u ms ns cs m g f a. member_later d (named cs (drop_members (n + 1) ms)) (named cs ns) u c.last_spelled.result (c.last_spelled.ensures.named k (n + 1) s ms cs (c.name_in-name.ensures.spelled k n (object s ms) u cs m g) f) (sym c.is_some.ensures ∙ c.if-is_some.true)
+    let d : Doc = doc_of c.args.left in
+    λ k n s r u ms ns cs m g f a. member_later d (named cs (drop_members (n + 1) ms)) (named cs ns) u c.last_spelled.result (c.last_spelled.ensures.named k (n + 1) s ms cs (c.name-name.ensures.spelled k n (object s ms) u cs m g) f) (sym c.is_some.ensures ∙ c.if-is_some.true)
 
 pub same_member-returns-in-Some : goal.same_member-returns-in-Some
 same_member-returns-in-Some t c = λ k n s r u ms ns cs m g f a.
-    let d : Doc = record { bytes = c.args.left.bytes.now; nodes = c.args.left.nodes.now } in
-    let e : Doc = record { bytes = c.args.right.bytes.now; nodes = c.args.right.nodes.now } in
-    let spelled = c.name_in-name.ensures.spelled k n (object s ms) u cs m g in
+    let d : Doc = doc_of c.args.left in
+    let e : Doc = doc_of c.args.right in
+    let spelled = c.name-name.ensures.spelled k n (object s ms) u cs m g in
     member_last d e (named cs (drop_members (n + 1) ms)) (named cs ns) c.args.member c.in-Some.twin u c.last_spelled.result c.last_spelled-2.result c.same_values.result
     (c.last_spelled.ensures.named k (n + 1) s ms cs spelled f) (sym c.is_some.ensures ∙ c.if-is_some.false) (child_at m)
-    (c.last_spelled-2.ensures.named c.args.other 0 r ns cs spelled (c.first_in.ensures.first c.args.right.bytes.now (object r ns) a)) c.in-Some.is c.same_values.ensures
+    (c.last_spelled-2.ensures.named c.args.other 0 r ns cs spelled (c.first.ensures.first (object r ns) a)) c.in-Some.is c.same_values.ensures
 
 pub same_member-returns-in-None : goal.same_member-returns-in-None
 same_member-returns-in-None t c = λ k n s r u ms ns cs m g f a.
-    let d : Doc = record { bytes = c.args.left.bytes.now; nodes = c.args.left.nodes.now } in
-    let e : Doc = record { bytes = c.args.right.bytes.now; nodes = c.args.right.nodes.now } in
-    let spelled = c.name_in-name.ensures.spelled k n (object s ms) u cs m g in
+    let d : Doc = doc_of c.args.left in
+    let e : Doc = doc_of c.args.right in
+    let spelled = c.name-name.ensures.spelled k n (object s ms) u cs m g in
     member_missing d e (named cs (drop_members (n + 1) ms)) (named cs ns) u c.last_spelled.result c.last_spelled-2.result
     (c.last_spelled.ensures.named k (n + 1) s ms cs spelled f) (sym c.is_some.ensures ∙ c.if-is_some.false)
-    (c.last_spelled-2.ensures.named c.args.other 0 r ns cs spelled (c.first_in.ensures.first c.args.right.bytes.now (object r ns) a)) c.in-None.is
+    (c.last_spelled-2.ensures.named c.args.other 0 r ns cs spelled (c.first.ensures.first (object r ns) a)) c.in-None.is
 
 pub same_members-returns-then-not-same_member : goal.same_members-returns-then-not-same_member
 same_members-returns-then-not-same_member t c =
-    let d : Doc = record { bytes = c.args.left.bytes.now; nodes = c.args.left.nodes.now } in
-    let e : Doc = record { bytes = c.args.right.bytes.now; nodes = c.args.right.nodes.now } in
+    let d : Doc = doc_of c.args.left in
+    let e : Doc = doc_of c.args.right in
     walk_fails d e c.args.node c.args.other same_members members_first c.in-Some.member c.loop-next.next c.same_member.result members_by c.loop-next.invariant c.in-Some.is
-    (λ s r ms ns a n u cs m g. c.same_member.ensures c.args.node n s r u ms ns cs m g (c.next_in-following.ensures.next c.args.left.bytes.now c.args.node n (object s ms) u m) a)
+    (λ s r ms ns a n u cs m g. c.same_member.ensures c.args.node n s r u ms ns cs m g (c.next-following.ensures.next c.args.node n (object s ms) u m) a)
     c.if-not-same_member.true
 
 pub same_members-loop-next-preserved : goal.same_members-loop-next-preserved
 same_members-loop-next-preserved t c =
-    let d : Doc = record { bytes = c.args.left.bytes.now; nodes = c.args.left.nodes.now } in
-    let e : Doc = record { bytes = c.args.right.bytes.now; nodes = c.args.right.nodes.now } in
-    walk_on d e c.args.node c.args.other same_members members_first c.in-Some.member c.loop-next.next c.next_in-following.result c.same_member.result members_by c.loop-next.invariant c.in-Some.is
-    (λ s r ms ns a n u cs m g. c.same_member.ensures c.args.node n s r u ms ns cs m g (c.next_in-following.ensures.next c.args.left.bytes.now c.args.node n (object s ms) u m) a)
+    let d : Doc = doc_of c.args.left in
+    let e : Doc = doc_of c.args.right in
+    walk_on d e c.args.node c.args.other same_members members_first c.in-Some.member c.loop-next.next c.next-following.result c.same_member.result members_by c.loop-next.invariant c.in-Some.is
+    (λ s r ms ns a n u cs m g. c.same_member.ensures c.args.node n s r u ms ns cs m g (c.next-following.ensures.next c.args.node n (object s ms) u m) a)
     c.if-not-same_member.false
-    (λ k n t u a. c.next_in-following.ensures.next c.args.left.bytes.now k n t u a) c.next_in-following.ensures.inside
+    (λ k n t u a. c.next-following.ensures.next k n t u a) c.next-following.ensures.inside
 
 pub same_members-returns : goal.same_members-returns
-same_members-returns t c = walk_holds (record { bytes = c.args.left.bytes.now; nodes = c.args.left.nodes.now }) (record { bytes = c.args.right.bytes.now; nodes = c.args.right.nodes.now }) c.args.node c.args.other same_members c.loop-next.next (λ ns. refl) c.loop-next.invariant c.in_default.is
+same_members-returns t c = walk_holds (doc_of c.args.left) (doc_of c.args.right) c.args.node c.args.other same_members c.loop-next.next (λ ns. refl) c.loop-next.invariant c.in_default.is
 
 pub same_values-returns-then-not-same_kind : goal.same_values-returns-then-not-same_kind
 same_values-returns-then-not-same_kind z c =
-    λ t u a b. other_kind c.kind_in-kind.result c.kind_in.result t u (c.kind_in-kind.ensures c.args.left.bytes.now t a) (c.kind_in.ensures c.args.right.bytes.now u b) (sym c.same_kind.ensures ∙ c.if-not-same_kind.true)
+    λ t u a b. other_kind c.kind-kind.result c.kind.result t u (c.kind-kind.ensures t a) (c.kind.ensures u b) (sym c.same_kind.ensures ∙ c.if-not-same_kind.true)
 
 pub same_values-returns-in-Null : goal.same_values-returns-in-Null
 same_values-returns-in-Null z c = λ t u a b.
-    let first : c.kind_in-kind.result ≡ kind_of t = c.kind_in-kind.ensures c.args.left.bytes.now t a in
-    let second : (k : Kind) → c.kind_in-kind.result ≡ k → kind_of u ≡ k = second_kind c.kind_in-kind.result c.kind_in.result u (c.kind_in.ensures c.args.right.bytes.now u b) (sym c.same_kind.ensures ∙ c.if-not-same_kind.false) in
-    same_words c.kind_in-kind.result t u first second c.in-Null.is
+    let first : c.kind-kind.result ≡ kind_of t = c.kind-kind.ensures t a in
+    let second : (k : Kind) → c.kind-kind.result ≡ k → kind_of u ≡ k = second_kind c.kind-kind.result c.kind.result u (c.kind.ensures u b) (sym c.same_kind.ensures ∙ c.if-not-same_kind.false) in
+    same_words c.kind-kind.result t u first second c.in-Null.is
 
 pub same_values-returns-in-Number : goal.same_values-returns-in-Number
 same_values-returns-in-Number z c = λ t u a b.
-    let d : Doc = record { bytes = c.args.left.bytes.now; nodes = c.args.left.nodes.now } in
-    let e : Doc = record { bytes = c.args.right.bytes.now; nodes = c.args.right.nodes.now } in
-    let first : kind_of t ≡ kind.Number = sym (c.kind_in-kind.ensures c.args.left.bytes.now t a) ∙ c.in-Number.is in
-    let second : kind_of u ≡ kind.Number = second_kind c.kind_in-kind.result c.kind_in.result u (c.kind_in.ensures c.args.right.bytes.now u b) (sym c.same_kind.ensures ∙ c.if-not-same_kind.false) kind.Number c.in-Number.is in
-    c.eq.ensures ∙ same_numbers t u c.bytes_in.result.now c.bytes_in-in-Number.result.now first second
-    (λ s ds p. (c.bytes_in.ensures.spelled (number s ds) (subst (λ (v : Json). At d c.args.node v) p a)).0.0)
-    (λ s ds p. (c.bytes_in-in-Number.ensures.spelled (number s ds) (subst (λ (v : Json). At e c.args.other v) p b)).0.0)
+    let d : Doc = doc_of c.args.left in
+    let e : Doc = doc_of c.args.right in
+    let first : kind_of t ≡ kind.Number = sym (c.kind-kind.ensures t a) ∙ c.in-Number.is in
+    let second : kind_of u ≡ kind.Number = second_kind c.kind-kind.result c.kind.result u (c.kind.ensures u b) (sym c.same_kind.ensures ∙ c.if-not-same_kind.false) kind.Number c.in-Number.is in
+    c.eq.ensures ∙ same_numbers t u c.bytes.result.now c.bytes-in-Number.result.now first second
+    (λ s ds p. (c.bytes.ensures.spelled (number s ds) (subst (λ (v : Json). At d c.args.node v) p a)).0.0)
+    (λ s ds p. (c.bytes-in-Number.ensures.spelled (number s ds) (subst (λ (v : Json). At e c.args.other v) p b)).0.0)
 
 pub same_values-returns-in-Text : goal.same_values-returns-in-Text
 same_values-returns-in-Text z c = λ t u a b.
-    let d : Doc = record { bytes = c.args.left.bytes.now; nodes = c.args.left.nodes.now } in
-    let e : Doc = record { bytes = c.args.right.bytes.now; nodes = c.args.right.nodes.now } in
-    let first : kind_of t ≡ kind.Text = sym (c.kind_in-kind.ensures c.args.left.bytes.now t a) ∙ c.in-Text.is in
-    let second : kind_of u ≡ kind.Text = second_kind c.kind_in-kind.result c.kind_in.result u (c.kind_in.ensures c.args.right.bytes.now u b) (sym c.same_kind.ensures ∙ c.if-not-same_kind.false) kind.Text c.in-Text.is in
+    let d : Doc = doc_of c.args.left in
+    let e : Doc = doc_of c.args.right in
+    let first : kind_of t ≡ kind.Text = sym (c.kind-kind.ensures t a) ∙ c.in-Text.is in
+    let second : kind_of u ≡ kind.Text = second_kind c.kind-kind.result c.kind.result u (c.kind.ensures u b) (sym c.same_kind.ensures ∙ c.if-not-same_kind.false) kind.Text c.in-Text.is in
     same_strings t u c.same_characters.result first second
-    (λ s r cs ds p q. decided c.same_characters.result cs ds (c.same_characters.ensures cs ds (c.string_in.ensures.spelled s cs (subst (λ (v : Json). At d c.args.node v) p a)) (c.string_in-in-Text.ensures.spelled r ds (subst (λ (v : Json). At e c.args.other v) q b))))
+    (λ s r cs ds p q. decided c.same_characters.result cs ds (c.same_characters.ensures cs ds (c.string.ensures.spelled s cs (subst (λ (v : Json). At d c.args.node v) p a)) (c.string-in-Text.ensures.spelled r ds (subst (λ (v : Json). At e c.args.other v) q b))))
 
 pub same_values-returns-in-Array : goal.same_values-returns-in-Array
 same_values-returns-in-Array z c = λ t u a b.
-    let d : Doc = record { bytes = c.args.left.bytes.now; nodes = c.args.left.nodes.now } in
-    let e : Doc = record { bytes = c.args.right.bytes.now; nodes = c.args.right.nodes.now } in
-    let first : kind_of t ≡ kind.Array = sym (c.kind_in-kind.ensures c.args.left.bytes.now t a) ∙ c.in-Array.is in
-    let second : kind_of u ≡ kind.Array = second_kind c.kind_in-kind.result c.kind_in.result u (c.kind_in.ensures c.args.right.bytes.now u b) (sym c.same_kind.ensures ∙ c.if-not-same_kind.false) kind.Array c.in-Array.is in
+    let d : Doc = doc_of c.args.left in
+    let e : Doc = doc_of c.args.right in
+    let first : kind_of t ≡ kind.Array = sym (c.kind-kind.ensures t a) ∙ c.in-Array.is in
+    let second : kind_of u ≡ kind.Array = second_kind c.kind-kind.result c.kind.result u (c.kind.ensures u b) (sym c.same_kind.ensures ∙ c.if-not-same_kind.false) kind.Array c.in-Array.is in
     same_arrays t u c.same_items.result first second
     (λ s r js ks p q. c.same_items.ensures s r js ks (subst (λ (v : Json). At d c.args.node v) p a) (subst (λ (v : Json). At e c.args.other v) q b))
 
 pub same_in_step-returns-in_default-beside : goal.same_in_step-returns-in_default-beside
 same_in_step-returns-in_default-beside t c =
-    pairs_short (record { bytes = c.args.left.bytes.now; nodes = c.args.left.nodes.now }) (record { bytes = c.args.right.bytes.now; nodes = c.args.right.nodes.now }) c.args.node c.args.other (in_step same) c.loop-next.next c.loop-next.beside c.in-Some.member false c.loop-next.invariant c.in-Some.is c.in_default-beside.is (λ p cs t rest. refl)
+    pairs_short (doc_of c.args.left) (doc_of c.args.right) c.args.node c.args.other (in_step same) c.loop-next.next c.loop-next.beside c.in-Some.member false c.loop-next.invariant c.in-Some.is c.in_default-beside.is (λ p cs t rest. refl)
 
 pub same_in_step-returns : goal.same_in_step-returns
-same_in_step-returns t c = steps_done (record { bytes = c.args.left.bytes.now; nodes = c.args.left.nodes.now }) (record { bytes = c.args.right.bytes.now; nodes = c.args.right.nodes.now }) c.args.node c.args.other same c.loop-next.next c.loop-next.beside c.loop-next.invariant c.in_default.is
+same_in_step-returns t c = steps_done (doc_of c.args.left) (doc_of c.args.right) c.args.node c.args.other same c.loop-next.next c.loop-next.beside c.loop-next.invariant c.in_default.is
 
 pub same_values-returns-in-Object : goal.same_values-returns-in-Object
 same_values-returns-in-Object z c = λ t u a b.
-    let d : Doc = record { bytes = c.args.left.bytes.now; nodes = c.args.left.nodes.now } in
-    let e : Doc = record { bytes = c.args.right.bytes.now; nodes = c.args.right.nodes.now } in
-    let first : kind_of t ≡ kind.Object = sym (c.kind_in-kind.ensures c.args.left.bytes.now t a) ∙ c.in-Object.is in
-    let second : kind_of u ≡ kind.Object = second_kind c.kind_in-kind.result c.kind_in.result u (c.kind_in.ensures c.args.right.bytes.now u b) (sym c.same_kind.ensures ∙ c.if-not-same_kind.false) kind.Object c.in-Object.is in
+    let d : Doc = doc_of c.args.left in
+    let e : Doc = doc_of c.args.right in
+    let first : kind_of t ≡ kind.Object = sym (c.kind-kind.ensures t a) ∙ c.in-Object.is in
+    let second : kind_of u ≡ kind.Object = second_kind c.kind-kind.result c.kind.result u (c.kind.ensures u b) (sym c.same_kind.ensures ∙ c.if-not-same_kind.false) kind.Object c.in-Object.is in
     same_objects t u c.same_objects.result first second
     (λ s r ms ns p q. c.same_objects.ensures s r ms ns (subst (λ (v : Json). At d c.args.node v) p a) (subst (λ (v : Json). At e c.args.other v) q b))
 
-pub same_objects-returns-then-same_names_in : goal.same_objects-returns-then-same_names_in
-same_objects-returns-then-same_names_in z c = λ s r ms ns a b. c.same_in_step.ensures s r ms ns a b ∙ objects_step s r ms ns (sym (c.same_names_in.ensures s r ms ns a b) ∙ c.if-same_names_in.true)
+pub same_objects-returns-then-same_names : goal.same_objects-returns-then-same_names
+same_objects-returns-then-same_names z c = λ s r ms ns a b. c.same_in_step.ensures s r ms ns a b ∙ objects_step s r ms ns (sym (c.same_names.ensures s r ms ns a b) ∙ c.if-same_names.true)
 
 pub same_in_step-returns-then-not-same_beside : goal.same_in_step-returns-then-not-same_beside
 same_in_step-returns-then-not-same_beside z c =
-    pairs_stop (record { bytes = c.args.left.bytes.now; nodes = c.args.left.nodes.now }) (record { bytes = c.args.right.bytes.now; nodes = c.args.right.nodes.now }) c.args.node c.args.other (in_step same) c.loop-next.next c.loop-next.beside c.in-Some.member c.in-Some-beside.twin false c.loop-next.invariant c.in-Some.is c.in-Some-beside.is
+    pairs_stop (doc_of c.args.left) (doc_of c.args.right) c.args.node c.args.other (in_step same) c.loop-next.next c.loop-next.beside c.in-Some.member c.in-Some-beside.twin false c.loop-next.invariant c.in-Some.is c.in-Some-beside.is
     (λ s r p q ms ns cs ds t u rest others a b w. ap (λ v. v && in_step same rest others)
-    (ap (λ z. same t u || has_name cs z) w.after ∙ sym (c.same_beside.ensures c.args.node w.count s t u ms cs w.first w.name (c.next_in-following.ensures.next c.args.left.bytes.now c.args.node w.count (object s ms) t w.first) (child_at w.second)) ∙ c.if-not-same_beside.true))
+    (ap (λ z. same t u || has_name cs z) w.after ∙ sym (c.same_beside.ensures c.args.node w.count s t u ms cs w.first w.name (c.next-following.ensures.next c.args.node w.count (object s ms) t w.first) (child_at w.second)) ∙ c.if-not-same_beside.true))
 
 pub same_in_step-loop-next-preserved : goal.same_in_step-loop-next-preserved
 same_in_step-loop-next-preserved z c =
-    pairs_go (record { bytes = c.args.left.bytes.now; nodes = c.args.left.nodes.now }) (record { bytes = c.args.right.bytes.now; nodes = c.args.right.nodes.now }) c.args.node c.args.other (in_step same) c.loop-next.next c.loop-next.beside c.next_in-following.result c.next_in-beside.result c.in-Some.member c.in-Some-beside.twin c.loop-next.invariant c.in-Some.is c.in-Some-beside.is
+    pairs_go (doc_of c.args.left) (doc_of c.args.right) c.args.node c.args.other (in_step same) c.loop-next.next c.loop-next.beside c.next-following.result c.next-beside.result c.in-Some.member c.in-Some-beside.twin c.loop-next.invariant c.in-Some.is c.in-Some-beside.is
     (λ s r p q ms ns cs ds t u rest others a b w. ap (λ v. v && in_step same rest others)
-    (ap (λ z. same t u || has_name cs z) w.after ∙ sym (c.same_beside.ensures c.args.node w.count s t u ms cs w.first w.name (c.next_in-following.ensures.next c.args.left.bytes.now c.args.node w.count (object s ms) t w.first) (child_at w.second)) ∙ c.if-not-same_beside.false))
-    (λ k n t u a. c.next_in-following.ensures.next c.args.left.bytes.now k n t u a) c.next_in-following.ensures.inside
-    (λ k n t u a. c.next_in-beside.ensures.next c.args.right.bytes.now k n t u a) c.next_in-beside.ensures.inside
+    (ap (λ z. same t u || has_name cs z) w.after ∙ sym (c.same_beside.ensures c.args.node w.count s t u ms cs w.first w.name (c.next-following.ensures.next c.args.node w.count (object s ms) t w.first) (child_at w.second)) ∙ c.if-not-same_beside.false))
+    (λ k n t u a. c.next-following.ensures.next k n t u a) c.next-following.ensures.inside
+    (λ k n t u a. c.next-beside.ensures.next k n t u a) c.next-beside.ensures.inside
 
 pub same_beside-returns-then-same_values : goal.same_beside-returns-then-same_values
 same_beside-returns-then-same_values z c = λ k n s u v ms cs m g f b. c.if-same_values.true ∙ ap (λ x. x || has_name cs (drop_members (n + 1) ms)) (sym c.if-same_values.true ∙ c.same_values.ensures u v (child_at m) b)

@@ -1,4 +1,5 @@
 use Rattle.std.proofs.Common.{length, ◌+◌, ◌*◌, ◌-◌}
+use Rattle.json_nodes.specs.Values.{doc_of}
 use Rattle.json_nodes.specs.InStep.{in_step}
 use Rattle.json_nodes.specs.Same.{same, same_members}
 use Rattle.json_nodes.proofs.InStep.{PairsWalk}
@@ -28,19 +29,19 @@ abbrev pub decreases-same_member : goal.decreases-same_member
 decreases-same_member l = 4 * (length l.left.nodes.now - l.member) + 3
 
 abbrev pub invariant-same_in_step-loop-next : goal.invariant-same_in_step-loop-next
-invariant-same_in_step-loop-next l = PairsWalk (record { bytes = l.left.bytes.now; nodes = l.left.nodes.now }) (record { bytes = l.right.bytes.now; nodes = l.right.nodes.now }) l.node l.other (in_step same) l.next l.beside
+invariant-same_in_step-loop-next l = PairsWalk (doc_of l.left) (doc_of l.right) l.node l.other (in_step same) l.next l.beside
 
 abbrev pub decreases-same_in_step-loop-next : goal.decreases-same_in_step-loop-next
 decreases-same_in_step-loop-next l = left (length l.left.nodes.now) l.next
 
 abbrev pub invariant-same_items-loop-next : goal.invariant-same_items-loop-next
-invariant-same_items-loop-next l = Comparing (record { bytes = l.left.bytes.now; nodes = l.left.nodes.now }) (record { bytes = l.right.bytes.now; nodes = l.right.nodes.now }) l.node l.other l.next l.beside
+invariant-same_items-loop-next l = Comparing (doc_of l.left) (doc_of l.right) l.node l.other l.next l.beside
 
 abbrev pub decreases-same_items-loop-next : goal.decreases-same_items-loop-next
 decreases-same_items-loop-next l = left (length l.left.nodes.now) l.next
 
 abbrev pub invariant-same_members-loop-next : goal.invariant-same_members-loop-next
-invariant-same_members-loop-next l = MembersWalk (record { bytes = l.left.bytes.now; nodes = l.left.nodes.now }) (record { bytes = l.right.bytes.now; nodes = l.right.nodes.now }) l.node l.other same_members l.next
+invariant-same_members-loop-next l = MembersWalk (doc_of l.left) (doc_of l.right) l.node l.other same_members l.next
 
 abbrev pub decreases-same_members-loop-next : goal.decreases-same_members-loop-next
 decreases-same_members-loop-next l = left (length l.left.nodes.now) l.next

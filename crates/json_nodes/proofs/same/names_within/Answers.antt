@@ -2,6 +2,7 @@ use Rattle.std.proofs.Common.{refl, ◌∙◌, ap, not}
 use Rattle.std.specs.Option.{is_some}
 use Rattle.json_text.specs.Json.{object}
 use Rattle.json_text.specs.Named.{named}
+use Rattle.json_nodes.specs.Values.{doc_of}
 use Rattle.json_nodes.specs.Doc.{Doc}
 use Rattle.json_nodes.specs.Same.{names_within}
 use Rattle.json_nodes.proofs.Sames.{walk_on, walk_fails, walk_holds, names_by, within_first, found_some}
@@ -9,20 +10,20 @@ use Rattle.json_nodes.proofs.same.names_within.Goals as goal
 
 pub returns-then-is_none : goal.returns-then-is_none
 returns-then-is_none c =
-    let d : Doc = record { bytes = c.args.left.bytes.now; nodes = c.args.left.nodes.now } in
-    let e : Doc = record { bytes = c.args.right.bytes.now; nodes = c.args.right.nodes.now } in
+    let d : Doc = doc_of c.args.left in
+    let e : Doc = doc_of c.args.right in
     walk_fails d e c.args.node c.args.other names_within within_first c.in-Some.member c.loop-next.next (is_some c.last_spelled.result) names_by c.loop-next.invariant c.in-Some.is
-    (λ s r ms ns a n u cs m g. found_some e (named cs ns) c.last_spelled.result (c.last_spelled.ensures.named c.args.other 0 r ns cs (c.name_in-name.ensures.spelled c.args.node n (object s ms) u cs m g) (c.first_in.ensures.first c.args.right.bytes.now (object r ns) a)))
+    (λ s r ms ns a n u cs m g. found_some e (named cs ns) c.last_spelled.result (c.last_spelled.ensures.named c.args.other 0 r ns cs (c.name-name.ensures.spelled c.args.node n (object s ms) u cs m g) (c.first.ensures.first (object r ns) a)))
     (c.is_none.ensures ∙ ap not c.if-is_none.true)
 
 pub loop-next-preserved : goal.loop-next-preserved
 loop-next-preserved c =
-    let d : Doc = record { bytes = c.args.left.bytes.now; nodes = c.args.left.nodes.now } in
-    let e : Doc = record { bytes = c.args.right.bytes.now; nodes = c.args.right.nodes.now } in
-    walk_on d e c.args.node c.args.other names_within within_first c.in-Some.member c.loop-next.next c.next_in-next.result (is_some c.last_spelled.result) names_by c.loop-next.invariant c.in-Some.is
-    (λ s r ms ns a n u cs m g. found_some e (named cs ns) c.last_spelled.result (c.last_spelled.ensures.named c.args.other 0 r ns cs (c.name_in-name.ensures.spelled c.args.node n (object s ms) u cs m g) (c.first_in.ensures.first c.args.right.bytes.now (object r ns) a)))
+    let d : Doc = doc_of c.args.left in
+    let e : Doc = doc_of c.args.right in
+    walk_on d e c.args.node c.args.other names_within within_first c.in-Some.member c.loop-next.next c.next-next.result (is_some c.last_spelled.result) names_by c.loop-next.invariant c.in-Some.is
+    (λ s r ms ns a n u cs m g. found_some e (named cs ns) c.last_spelled.result (c.last_spelled.ensures.named c.args.other 0 r ns cs (c.name-name.ensures.spelled c.args.node n (object s ms) u cs m g) (c.first.ensures.first (object r ns) a)))
     (c.is_none.ensures ∙ ap not c.if-is_none.false)
-    (λ k n t u a. c.next_in-next.ensures.next c.args.left.bytes.now k n t u a) c.next_in-next.ensures.inside
+    (λ k n t u a. c.next-next.ensures.next k n t u a) c.next-next.ensures.inside
 
 pub returns : goal.returns
-returns c = walk_holds (record { bytes = c.args.left.bytes.now; nodes = c.args.left.nodes.now }) (record { bytes = c.args.right.bytes.now; nodes = c.args.right.nodes.now }) c.args.node c.args.other names_within c.loop-next.next (λ ns. refl) c.loop-next.invariant c.in_default.is
+returns c = walk_holds (doc_of c.args.left) (doc_of c.args.right) c.args.node c.args.other names_within c.loop-next.next (λ ns. refl) c.loop-next.invariant c.in_default.is

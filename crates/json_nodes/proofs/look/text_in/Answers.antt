@@ -1,5 +1,0 @@
-use Rattle.std.proofs.Common.{◌∙◌}
-use Rattle.json_nodes.proofs.look.text_in.Goals as goal
-
-pub returns : goal.returns
-returns c = λ s cs a. c.new.ensures ∙ c.in_ok-text.ensures cs (c.string_in.ensures.spelled s cs a)
