@@ -9,4 +9,3 @@ pub mod OnePass
 pub mod Order
 pub mod Parts
 pub mod Shown
-pub mod Values

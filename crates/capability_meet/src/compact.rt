@@ -6,11 +6,10 @@ ghost use Rattle.json_nodes.specs.At.{At, ChildAt};
 ghost use Rattle.json_nodes.specs.Same.{drop_members};
 ghost use Rattle.capability_meet.specs.Compact.{compact, compact_items, compact_members, name_text};
 ghost use Rattle.capability_meet.specs.Parts.{listed};
-ghost use Rattle.capability_meet.specs.Values.{doc_of};
+ghost use Rattle.json_nodes.specs.Values.{doc_of};
 
-use crate::parts::{name_place, part, write, write_comma};
-use crate::values::Values;
-use json_nodes::{bytes_in, first_in, kind_in, next_in};
+use crate::parts::{name_place, write, write_comma};
+use json_nodes::{Values, part};
 use json_text::Kind;
 use message_body::Memory;
 
@@ -20,10 +19,10 @@ pub fn write_compact(out: &mut Vec<u8>, values: Values, node: u32) -> Result<(),
     requires { node < length values.nodes.now }
     ensures { (t : Json) → At (doc_of values.entry) node t → OnOk result (out.new.items ≡ out.old.items ++ compact (doc_of values.entry).bytes t) }
 {
-    match kind_in(values.nodes, node) {
+    match values.kind(node) {
         Kind::Array => write_array(out, values, node),
         Kind::Object => write_object(out, values, node),
-        _ => write(out, bytes_in(values.bytes, values.nodes, node)),
+        _ => write(out, values.bytes(node)),
     }
 }
 
@@ -43,12 +42,12 @@ fn write_items(out: &mut Vec<u8>, values: Values, node: u32) -> Result<(), Memor
     ensures { (s : Span) (js : Items) → At (doc_of values.entry) node (array s js) → OnOk result (out.new.items ≡ out.old.items ++ listed false (compact_items (doc_of values.entry).bytes js)) }
 {
     let mut started = false;
-    let mut next = first_in(values.nodes, node);
+    let mut next = values.first(node);
     while let Some(item) = next {
         write_comma(out, started)?;
         write_compact(out, values, item)?;
         started = true;
-        next = next_in(values.nodes, item);
+        next = values.next(item);
     }
     Ok(())
 }
@@ -69,13 +68,13 @@ fn write_members(out: &mut Vec<u8>, values: Values, node: u32) -> Result<(), Mem
     ensures { (s : Span) (ms : Members) → At (doc_of values.entry) node (object s ms) → OnOk result (out.new.items ≡ out.old.items ++ listed false (compact_members (doc_of values.entry).bytes ms)) }
 {
     let mut started = false;
-    let mut next = first_in(values.nodes, node);
+    let mut next = values.first(node);
     while let Some(pair) = next {
         write_comma(out, started)?;
         write_name(out, values, pair)?;
         write_compact(out, values, pair)?;
         started = true;
-        next = next_in(values.nodes, pair);
+        next = values.next(pair);
     }
     Ok(())
 }

@@ -14,7 +14,6 @@ mod spot;
 #[cfg(test)]
 mod tests;
 mod twins;
-mod values;
 mod written;
 
 pub use fault::CapFault;

@@ -6,14 +6,14 @@ ghost use Rattle.capability_meet.specs.Answers.{Answers};
 ghost use Rattle.capability_meet.specs.DeclaredTree.{declared_of};
 ghost use Rattle.capability_meet.specs.MeetTree.{meet_of};
 ghost use Rattle.capability_meet.specs.OnePass.{met_at, whole_at};
-ghost use Rattle.capability_meet.specs.Values.{doc_of};
+ghost use Rattle.json_nodes.specs.Values.{doc_of};
 
 use crate::fault::{CapFault, read};
 use crate::parts::write;
 use crate::spot::Spot;
 use crate::twins::meets;
-use crate::values::{Values, values_of};
 use crate::written::write_met;
+use json_nodes::Values;
 use message_body::{Body, Memory};
 use std::alloc::Global;
 
@@ -75,9 +75,9 @@ fn meet_at(alloc: Global, a: &[u8], b: &[u8], spot: Spot) -> Result<Body, CapFau
     let right = read(alloc, b)?;
     let text = write_whole(
         alloc,
-        values_of(&left),
+        left.values(),
         left.root(),
-        values_of(&right),
+        right.values(),
         right.root(),
         spot,
     )?;

@@ -1,7 +1,6 @@
 // The order of capabilities.
 ghost use Rattle.std.specs.Prelude.{◌≡◌, ◌+◌, ◌<◌, ◌||◌, ℕ, List, length, true, MatchOption, Some};
 ghost use Rattle.std.specs.List.{slice_get};
-ghost use Rattle.json_text.specs.Bare.{bare};
 ghost use Rattle.json_text.specs.declared.span.Span.{Span};
 ghost use Rattle.json_text.specs.Json.{Items, Json, Members, array, object};
 ghost use Rattle.json_text.specs.Named.{named};
@@ -10,14 +9,10 @@ ghost use Rattle.json_nodes.specs.InStep.{in_step};
 ghost use Rattle.json_nodes.specs.Same.{drop_members, has_name, if_some};
 ghost use Rattle.json_nodes.specs.Texts.{names};
 ghost use Rattle.capability_meet.specs.Order.{below, is_among, is_least, items_below, members_below};
-ghost use Rattle.capability_meet.specs.Values.{doc_of};
+ghost use Rattle.json_nodes.specs.Values.{doc_of};
 
 use crate::kinds::{Pair, pair_of};
-use crate::values::{Values, values_of};
-use json_nodes::{
-    bytes_in, first_in, is_named_again, kind_in, last_spelled, name_in, next_in, same_in,
-    same_names_in,
-};
+use json_nodes::Values;
 use json_span::Tape;
 use json_text::Kind;
 
@@ -35,18 +30,9 @@ pub fn below(a: &Tape, x: u32, b: &Tape, y: u32) -> bool
     requires other { y < length b.now.nodes }
     ensures { (t u : Json) → At a.now x t → At b.now y u → result ≡ below t u }
 {
-    let left = values_of(a);
-    let right = values_of(b);
-    same_bytes(left, x, right, y) || values_below(left, x, right, y)
-}
-
-// Whether two values are the same bytes, so that they say the same.
-fn same_bytes(left: Values, node: u32, right: Values, other: u32) -> bool
-    requires node { node < length left.nodes.now }
-    requires other { other < length right.nodes.now }
-    ensures { (t u : Json) → At (doc_of left.entry) node t → At (doc_of right.entry) other u → result ≡ true → bare t ≡ bare u }
-{
-    bytes_in(left.bytes, left.nodes, node) == bytes_in(right.bytes, right.nodes, other)
+    let left = a.values();
+    let right = b.values();
+    left.same_bytes(x, right, y) || values_below(left, x, right, y)
 }
 
 #[cycle(below)]
@@ -55,18 +41,11 @@ fn values_below(left: Values, node: u32, right: Values, other: u32) -> bool
     requires other { other < length right.nodes.now }
     ensures { (t u : Json) → At (doc_of left.entry) node t → At (doc_of right.entry) other u → result ≡ below t u }
 {
-    match pair_of(kind_in(left.nodes, node), kind_in(right.nodes, other)) {
+    match pair_of(left.kind(node), right.kind(other)) {
         Pair::Least => true,
         Pair::Arrays => items_below(left, node, right, other),
         Pair::Objects => members_below(left, node, right, other),
-        Pair::Others => same_in(
-            left.bytes,
-            left.nodes,
-            node,
-            right.bytes,
-            right.nodes,
-            other,
-        ),
+        Pair::Others => left.same(node, right, other),
     }
 }
 
@@ -76,28 +55,16 @@ fn items_below(left: Values, node: u32, right: Values, other: u32) -> bool
     requires other { other < length right.nodes.now }
     ensures { (s r : Span) (js ks : Items) → At (doc_of left.entry) node (array s js) → At (doc_of right.entry) other (array r ks) → result ≡ items_below js ks }
 {
-    let mut next = first_in(left.nodes, node);
-    let mut beside = first_in(right.nodes, other);
+    let mut next = left.first(node);
+    let mut beside = right.first(other);
     while let Some(item) = next {
         if !is_beside_or_among(left, item, right, beside, other) {
             return false;
         }
-        next = next_in(left.nodes, item);
-        beside = next_after(right, beside);
+        next = left.next(item);
+        beside = right.maybe_next(beside);
     }
     true
-}
-
-// The item that follows, where there is this one.
-fn next_after(values: Values, item: Option<u32>) -> Option<u32>
-    requires { MatchOption item (Unit {0}) (λ m. m < length values.nodes.now) }
-    ensures next { (k n : ℕ) (s : Span) (js : Items) → FoundChild (doc_of values.entry) k (array s js) n item → FoundChild (doc_of values.entry) k (array s js) (n + 1) result }
-    ensures inside { MatchOption result (Unit {0}) (λ m. m < length values.entry.nodes.now) }
-{
-    match item {
-        Some(item) => next_in(values.nodes, item),
-        None => None,
-    }
 }
 
 // Whether a value says the same as this item of an array, or as some item of it.
@@ -114,7 +81,7 @@ fn is_beside_or_among(
     ensures { (t : Json) (r : Span) (ks : Items) (n : ℕ) → At (doc_of left.entry) node t → At (doc_of right.entry) other (array r ks) → FoundChild (doc_of right.entry) other (array r ks) n beside → result ≡ is_among t ks }
 {
     if let Some(item) = beside {
-        if same_in(left.bytes, left.nodes, node, right.bytes, right.nodes, item) {
+        if left.same(node, right, item) {
             return true;
         }
     }
@@ -127,12 +94,12 @@ pub fn is_among(left: Values, node: u32, right: Values, other: u32) -> bool
     requires other { other < length right.nodes.now }
     ensures { (t : Json) (r : Span) (ks : Items) → At (doc_of left.entry) node t → At (doc_of right.entry) other (array r ks) → result ≡ is_among t ks }
 {
-    let mut next = first_in(right.nodes, other);
+    let mut next = right.first(other);
     while let Some(item) = next {
-        if same_in(left.bytes, left.nodes, node, right.bytes, right.nodes, item) {
+        if left.same(node, right, item) {
             return true;
         }
-        next = next_in(right.nodes, item);
+        next = right.next(item);
     }
     false
 }
@@ -144,14 +111,7 @@ fn members_below(left: Values, node: u32, right: Values, other: u32) -> bool
     requires other { other < length right.nodes.now }
     ensures { (s r : Span) (ms ns : Members) → At (doc_of left.entry) node (object s ms) → At (doc_of right.entry) other (object r ns) → result ≡ members_below ms ns }
 {
-    if same_names_in(
-        left.bytes,
-        left.nodes,
-        node,
-        right.bytes,
-        right.nodes,
-        other,
-    ) {
+    if left.same_names(node, right, other) {
         members_in_step(left, node, right, other)
     } else {
         members_by_name(left, node, right, other)
@@ -165,16 +125,16 @@ fn members_in_step(left: Values, node: u32, right: Values, other: u32) -> bool
     requires other { other < length right.nodes.now }
     ensures { (s r : Span) (ms ns : Members) → At (doc_of left.entry) node (object s ms) → At (doc_of right.entry) other (object r ns) → result ≡ in_step below ms ns }
 {
-    let mut next = first_in(left.nodes, node);
-    let mut beside = first_in(right.nodes, other);
+    let mut next = left.first(node);
+    let mut beside = right.first(other);
     while let Some(member) = next {
         let Some(twin) = beside else { return false };
-        let following = next_in(left.nodes, member);
+        let following = left.next(member);
         if !below_beside(left, member, following, right, twin) {
             return false;
         }
         next = following;
-        beside = next_in(right.nodes, twin);
+        beside = right.next(twin);
     }
     true
 }
@@ -187,8 +147,7 @@ fn below_beside(left: Values, member: u32, following: Option<u32>, right: Values
     requires twin { twin < length right.nodes.now }
     ensures { (k n : ℕ) (s : Span) (u v : Json) (ms : Members) (cs : List ℕ) → ChildAt (doc_of left.entry) k (object s ms) n member u → slice_get (names (object s ms)) n ≡ Some cs → FoundChild (doc_of left.entry) k (object s ms) (n + 1) following → At (doc_of right.entry) twin v → result ≡ (below u v || has_name cs (drop_members (n + 1) ms)) }
 {
-    values_below(left, member, right, twin)
-        || is_named_again(left.bytes, left.nodes, member, following)
+    values_below(left, member, right, twin) || left.is_named_again(member, following)
 }
 
 // The same for any two, each member looked up by its name.
@@ -198,9 +157,9 @@ fn members_by_name(left: Values, node: u32, right: Values, other: u32) -> bool
     requires other { other < length right.nodes.now }
     ensures { (s r : Span) (ms ns : Members) → At (doc_of left.entry) node (object s ms) → At (doc_of right.entry) other (object r ns) → result ≡ members_below ms ns }
 {
-    let mut next = first_in(left.nodes, node);
+    let mut next = left.first(node);
     while let Some(member) = next {
-        let following = next_in(left.nodes, member);
+        let following = left.next(member);
         if !member_below(left, member, following, right, other) {
             return false;
         }
@@ -223,14 +182,14 @@ fn member_below(
     requires other { other < length right.nodes.now }
     ensures { (k n : ℕ) (s r : Span) (u : Json) (ms ns : Members) (cs : List ℕ) → ChildAt (doc_of left.entry) k (object s ms) n member u → slice_get (names (object s ms)) n ≡ Some cs → FoundChild (doc_of left.entry) k (object s ms) (n + 1) following → At (doc_of right.entry) other (object r ns) → result ≡ (has_name cs (drop_members (n + 1) ms) || (is_least u || if_some (named cs ns) (λ v. below u v))) }
 {
-    let name = name_in(left.bytes, left.nodes, member);
-    if last_spelled(name, left.bytes, left.nodes, following).is_some() {
+    let name = left.name(member);
+    if left.last_spelled(name, following).is_some() {
         return true;
     }
     if is_least(left, member) {
         return true;
     }
-    match last_spelled(name, right.bytes, right.nodes, first_in(right.nodes, other)) {
+    match right.last_spelled(name, right.first(other)) {
         Some(twin) => values_below(left, member, right, twin),
         None => false,
     }
@@ -241,5 +200,5 @@ fn is_least(values: Values, node: u32) -> bool
     requires { node < length values.nodes.now }
     ensures { (t : Json) → At (doc_of values.entry) node t → result ≡ is_least t }
 {
-    matches!(kind_in(values.nodes, node), Kind::Null | Kind::False)
+    matches!(values.kind(node), Kind::Null | Kind::False)
 }

@@ -4,21 +4,12 @@ ghost use Rattle.json_text.specs.declared.span.Span.{Span};
 ghost use Rattle.json_text.specs.Json.{Json, Members, member, object};
 ghost use Rattle.json_nodes.specs.At.{ChildAt};
 ghost use Rattle.json_nodes.specs.Same.{drop_members};
-ghost use Rattle.json_nodes.specs.Texts.{between};
 ghost use Rattle.capability_meet.specs.Parts.{comma, window};
-ghost use Rattle.capability_meet.specs.Values.{doc_of};
+ghost use Rattle.json_nodes.specs.Values.{doc_of};
 
-use crate::values::Values;
+use json_nodes::{Values, part};
 use json_text::{Change, Span};
 use message_body::Memory;
-
-// The bytes from one place to another, as far as there are such.
-pub fn part(bytes: &[u8], from: usize, to: usize) -> &[u8]
-    ensures { result.now ≡ between from to bytes.now }
-{
-    let end = if to < bytes.len() { to } else { bytes.len() };
-    if from < end { &bytes[from..end] } else { &[] }
-}
 
 // Where the name of a member stands, with its quotation marks; the member is that of this value.
 pub fn name_place(values: Values, node: u32) -> Span

@@ -13,12 +13,11 @@ ghost use Rattle.json_nodes.specs.Texts.{member_names};
 ghost use Rattle.capability_meet.specs.Answers.{Answers};
 ghost use Rattle.capability_meet.specs.Parts.{listed};
 ghost use Rattle.capability_meet.specs.Shown.{change_of, other_pairs, shown_text, without};
-ghost use Rattle.capability_meet.specs.Values.{doc_of};
+ghost use Rattle.json_nodes.specs.Values.{doc_of};
 
 use crate::fault::{CapFault, read};
 use crate::parts::{name_place, write, write_comma, write_window};
-use crate::values::{Values, values_of};
-use json_nodes::{first_in, member_in, name_in, next_in, span_in};
+use json_nodes::Values;
 use json_text::Change;
 use json_token::spells_text;
 use message_body::{Body, Memory};
@@ -34,32 +33,20 @@ pub fn shown(alloc: Global, answer: &[u8]) -> Result<Body, CapFault>
     ensures { Answers result (option_map (shown_text answer.now) (tree_of answer.now)) }
 {
     let tape = read(alloc, answer)?;
-    Ok(Body::new(shown_in(alloc, values_of(&tape), tape.root())?))
+    Ok(Body::new(shown_in(alloc, tape.values(), tape.root())?))
 }
 
 fn shown_in(alloc: Global, values: Values, root: u32) -> Result<Vec<u8>, Memory>
     requires { root < length values.nodes.now }
     ensures { (t : Json) → At (doc_of values.entry) root t → IfOk result (λ out. out.items ≡ shown_text (doc_of values.entry).bytes t) }
 {
-    let capabilities = member_of(values, Some(root), "capabilities");
-    let workspace = member_of(values, capabilities, "workspace");
+    let capabilities = values.maybe_member(Some(root), "capabilities");
+    let workspace = values.maybe_member(capabilities, "workspace");
     let inner = change_without(alloc, values, workspace, "workspaceFolders", &None)?;
     let change = change_without(alloc, values, capabilities, "notebookDocumentSync", &inner)?;
     let mut out = Vec::new(alloc);
     write_window(&mut out, values.bytes, 0, values.bytes.len(), &change)?;
     Ok(out)
-}
-
-// The value of the last member of this name, where the value is there and an object.
-fn member_of(values: Values, node: Option<u32>, name: &str) -> Option<u32>
-    requires { MatchOption node (Unit {0}) (λ n. n < length values.nodes.now) }
-    ensures member { (o : Option Json) → Found (doc_of values.entry) o node → Found (doc_of values.entry) (option_and_then (named_in (chars name.now)) o) result }
-    ensures inside { MatchOption result (Unit {0}) (λ n. n < length values.entry.nodes.now) }
-{
-    match node {
-        Some(node) => member_in(values.bytes, values.nodes, node, name),
-        None => None,
-    }
 }
 
 // A value, where it is there, and its text without the members of this name.
@@ -77,7 +64,7 @@ fn change_without(
     let mut out = Vec::new(alloc);
     write_without(&mut out, values, node, name, change)?;
     Ok(Some(Change {
-        span: span_in(values.nodes, node),
+        span: values.span(node),
         text: Body::new(out),
     }))
 }
@@ -93,12 +80,12 @@ fn write_without(
     requires { node < length values.nodes.now }
     ensures { (t : Json) → At (doc_of values.entry) node t → OnOk result (out.new.items ≡ out.old.items ++ without (doc_of values.entry).bytes (chars name.now) change.now t) }
 {
-    if member_in(values.bytes, values.nodes, node, name).is_some() {
+    if values.member(node, name).is_some() {
         write(out, b"{")?;
         write_other_pairs(out, values, node, name, change)?;
         write(out, b"}")
     } else {
-        let span = span_in(values.nodes, node);
+        let span = values.span(node);
         write_window(out, values.bytes, span.from, span.to, change)
     }
 }
@@ -115,10 +102,10 @@ fn write_other_pairs(
     ensures { (s : Span) (ms : Members) → At (doc_of values.entry) node (object s ms) → OnOk result (out.new.items ≡ out.old.items ++ listed false (other_pairs (doc_of values.entry).bytes (chars name.now) change.now ms)) }
 {
     let mut started = false;
-    let mut next = first_in(values.nodes, node);
+    let mut next = values.first(node);
     while let Some(pair) = next {
         started = write_other_pair(out, started, values, pair, name, change)?;
-        next = next_in(values.nodes, pair);
+        next = values.next(pair);
     }
     Ok(())
 }
@@ -135,11 +122,11 @@ fn write_other_pair(
     requires { node < length values.nodes.now }
     ensures { (k n : ℕ) (s p : Span) (ms rest : Members) (cs : List ℕ) (u : Json) → ChildAt (doc_of values.entry) k (object s ms) n node u → slice_get (member_names ms) n ≡ Some cs → drop_members n ms ≡ member p cs u rest → IfOk result (λ now. out.new.items ++ listed now (other_pairs (doc_of values.entry).bytes (chars name.now) change.now rest) ≡ out.old.items ++ listed started (other_pairs (doc_of values.entry).bytes (chars name.now) change.now (member p cs u rest))) }
 {
-    if spells_text(name_in(values.bytes, values.nodes, node), name) {
+    if spells_text(values.name(node), name) {
         return Ok(started);
     }
     let from = name_place(values, node).from;
-    let to = span_in(values.nodes, node).to;
+    let to = values.span(node).to;
     write_comma(out, started)?;
     write_window(out, values.bytes, from, to, change)?;
     Ok(true)

@@ -10,12 +10,11 @@ ghost use Rattle.json_nodes.specs.Same.{drop_members, if_some};
 ghost use Rattle.json_nodes.specs.Texts.{member_names};
 ghost use Rattle.capability_meet.specs.Meet.{if_meets, meets};
 ghost use Rattle.capability_meet.specs.OnePass.{twin_at};
-ghost use Rattle.capability_meet.specs.Values.{doc_of};
+ghost use Rattle.json_nodes.specs.Values.{doc_of};
 
 use crate::kinds::{Pair, pair_of};
 use crate::spot::{Spot, is_left_out};
-use crate::values::Values;
-use json_nodes::{first_in, kind_in, last_spelled, member_in, name_in, same_in};
+use json_nodes::Values;
 
 // Whether two values have more in common than the least value.
 pub fn meets(left: Values, node: u32, right: Values, other: u32) -> bool
@@ -23,18 +22,11 @@ pub fn meets(left: Values, node: u32, right: Values, other: u32) -> bool
     requires other { other < length right.nodes.now }
     ensures { (t u : Json) → At (doc_of left.entry) node t → At (doc_of right.entry) other u → result ≡ meets t u }
 {
-    match pair_of(kind_in(left.nodes, node), kind_in(right.nodes, other)) {
+    match pair_of(left.kind(node), right.kind(other)) {
         Pair::Least => false,
         Pair::Arrays => true,
         Pair::Objects => true,
-        Pair::Others => same_in(
-            left.bytes,
-            left.nodes,
-            node,
-            right.bytes,
-            right.nodes,
-            other,
-        ),
+        Pair::Others => left.same(node, right, other),
     }
 }
 
@@ -53,14 +45,14 @@ pub fn twin_of(
     ensures twin { (k n : ℕ) (s r : Span) (ms ns : Members) (cs : List ℕ) (u : Json) → ChildAt (doc_of left.entry) k (object s ms) n node u → slice_get (member_names ms) n ≡ Some cs → FoundChild (doc_of left.entry) k (object s ms) (n + 1) following → At (doc_of right.entry) other (object r ns) → Found (doc_of right.entry) (twin_at spot cs u (drop_members (n + 1) ms) ns) result }
     ensures inside { MatchOption result (Unit {0}) (λ m. m < length right.entry.nodes.now) }
 {
-    let name = name_in(left.bytes, left.nodes, node);
-    if last_spelled(name, left.bytes, left.nodes, following).is_some() {
+    let name = left.name(node);
+    if left.last_spelled(name, following).is_some() {
         return None;
     }
     if is_left_out(spot, name) {
         return None;
     }
-    match last_spelled(name, right.bytes, right.nodes, first_in(right.nodes, other)) {
+    match right.last_spelled(name, right.first(other)) {
         Some(twin) => if_meets(left, node, right, twin),
         None => None,
     }
@@ -86,10 +78,10 @@ pub fn named_meets(left: Values, node: u32, right: Values, other: u32, name: &st
     requires other { other < length right.nodes.now }
     ensures { (t u : Json) → At (doc_of left.entry) node t → At (doc_of right.entry) other u → result ≡ if_some (named_in (chars name.now) t) (λ j. if_some (named_in (chars name.now) u) (λ k. meets j k)) }
 {
-    let Some(mine) = member_in(left.bytes, left.nodes, node, name) else {
+    let Some(mine) = left.member(node, name) else {
         return false
     };
-    match member_in(right.bytes, right.nodes, other, name) {
+    match right.member(other, name) {
         Some(twin) => meets(left, mine, right, twin),
         None => false,
     }

@@ -11,7 +11,7 @@ ghost use Rattle.capability_meet.specs.declared.spot.Spot.TheVariants as spot;
 ghost use Rattle.capability_meet.specs.Meet.{meets, named_meets};
 ghost use Rattle.capability_meet.specs.OnePass.{items_met, pairs_at, required, text_at};
 ghost use Rattle.capability_meet.specs.Parts.{listed};
-ghost use Rattle.capability_meet.specs.Values.{doc_of};
+ghost use Rattle.json_nodes.specs.Values.{doc_of};
 
 use crate::compact::{write_compact, write_name};
 use crate::kinds::{Pair, pair_of};
@@ -19,8 +19,7 @@ use crate::order::is_among;
 use crate::parts::{write, write_comma};
 use crate::spot::{Spot, spot_of};
 use crate::twins::{named_meets, twin_of};
-use crate::values::Values;
-use json_nodes::{first_in, kind_in, name_in, next_in};
+use json_nodes::Values;
 use message_body::Memory;
 
 // Writes what two values have in common that have more in common than the least value.
@@ -37,7 +36,7 @@ pub fn write_met(
     requires other { other < length right.nodes.now }
     ensures { (t u : Json) → At (doc_of left.entry) node t → At (doc_of right.entry) other u → meets t u ≡ true → OnOk result (out.new.items ≡ out.old.items ++ text_at (doc_of left.entry).bytes spot t u) }
 {
-    match pair_of(kind_in(left.nodes, node), kind_in(right.nodes, other)) {
+    match pair_of(left.kind(node), right.kind(other)) {
         Pair::Least => Ok(()),
         Pair::Arrays => write_array(out, left, node, right, other),
         Pair::Objects => write_object(out, left, node, right, other, spot),
@@ -74,10 +73,10 @@ fn write_items(
     ensures { (s r : Span) (js ks : Items) → At (doc_of left.entry) node (array s js) → At (doc_of right.entry) other (array r ks) → OnOk result (out.new.items ≡ out.old.items ++ listed false (items_met (doc_of left.entry).bytes js ks)) }
 {
     let mut started = false;
-    let mut next = first_in(left.nodes, node);
+    let mut next = left.first(node);
     while let Some(item) = next {
         started = write_item(out, started, left, item, right, other)?;
-        next = next_in(left.nodes, item);
+        next = left.next(item);
     }
     Ok(())
 }
@@ -137,9 +136,9 @@ fn write_pairs(
     ensures { (s r : Span) (ms ns : Members) (more : List (List ℕ)) → At (doc_of left.entry) node (object s ms) → At (doc_of right.entry) other (object r ns) → IfOk result (λ now. out.new.items ++ listed now more ≡ out.old.items ++ listed false (pairs_at (doc_of left.entry).bytes spot ms ns ++ more)) }
 {
     let mut started = false;
-    let mut next = first_in(left.nodes, node);
+    let mut next = left.first(node);
     while let Some(pair) = next {
-        let following = next_in(left.nodes, pair);
+        let following = left.next(pair);
         started = write_pair(out, started, left, pair, following, right, other, spot)?;
         next = following;
     }
@@ -168,7 +167,7 @@ fn write_pair(
     };
     write_comma(out, started)?;
     write_name(out, left, node)?;
-    let inner = spot_of(spot, name_in(left.bytes, left.nodes, node));
+    let inner = spot_of(spot, left.name(node));
     write_met(out, left, node, right, twin, inner)?;
     Ok(true)
 }

@@ -1,4 +1,5 @@
 mod Worked
+pub mod Alone
 pub mod Beside
 pub mod Bodies
 pub mod Changed

@@ -143,12 +143,7 @@ fn is_enveloped(alloc: Global, values: Values) -> Result<bool, Memory>
 }
 
 // A body with a method.
-fn called(
-    values: Values,
-    method: u32,
-    id: Option<u32>,
-    params: Option<u32>,
-) -> Option<Envelope>
+fn called(values: Values, method: u32, id: Option<u32>, params: Option<u32>) -> Option<Envelope>
     requires method { method < length values.nodes.now }
     requires id { MatchOption id (Unit {0}) (λ n. n < length values.nodes.now) }
     requires params { MatchOption params (Unit {0}) (λ n. n < length values.nodes.now) }
@@ -200,12 +195,7 @@ fn by_members(values: Values) -> Option<Envelope>
 {
     let id = values.member(0, "id");
     match values.member(0, "method") {
-        Some(method) => called(
-            values,
-            method,
-            id,
-            values.member(0, "params"),
-        ),
+        Some(method) => called(values, method, id, values.member(0, "params")),
         None => answered(
             values,
             id,

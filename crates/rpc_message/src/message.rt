@@ -13,7 +13,7 @@ ghost use Rattle.rpc_message.specs.Sorts.{Refuses, sort_of};
 ghost use Rattle.rpc_message.specs.Texts.{with_id_text};
 
 use crate::envelope::{Envelope, envelope_in};
-use crate::parts::{member_bytes, member_span, with_id, with_id_change};
+use crate::parts::{member_bytes, member_span, with_id_change};
 use crate::sort::{Malformed, Sort};
 use json_nodes::Values;
 use json_span::{JsonFault, Tape};
@@ -41,12 +41,8 @@ impl<'a> Model for Message<'a> {
 }
 
 // The characters of a message's method, in UTF-8, where it has one.
-fn decoded_method(
-    alloc: Global,
-    values: Values,
-    envelope: Envelope,
-) -> Result<Option<Body>, Memory>
-    requires { (m : Meaning) × Tells (doc_of values.entry) envelope m }
+fn decoded_method(alloc: Global, values: Values, envelope: Envelope) -> Result<Option<Body>, Memory>
+    requires { (m : Meaning) × Tells (doc_of values) envelope m }
     ensures { (m : Meaning) → Tells (doc_of values.entry) envelope m → IfOk result (λ name. name ≡ method_of m) }
 {
     match envelope {
@@ -191,7 +187,7 @@ impl<'a> Message<'a> {
     pub fn with_id(&self, alloc: Global, id: &[u8]) -> Result<Body, Memory>
         ensures { (bytes : List ℕ) → IsRead self.now bytes → IfOk result (λ body. body ≡ with_id_text bytes id.now) }
     {
-        with_id(alloc, self.tape.values(), id)
+        self.with_changes(alloc, id, Vec::new(alloc))
     }
 
     /// The body with each change made, and all else as it came; the places rise and don't overlap.

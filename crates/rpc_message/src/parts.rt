@@ -1,97 +1,46 @@
-//! The parts of a body that are passed on as they came: its id, its result, and the whole under another id.
-ghost use Rattle.std.specs.Prelude.{◌≡◌, ◌<◌, ◌≤◌, ◌-◌, [], ◌∷◌, length, take, drop, IfOk, MatchOption};
+//! The parts of a body that are passed on as they came: its id and its result; and the change of its id.
+ghost use Rattle.std.specs.Prelude.{◌≡◌, ◌<◌, length, IfOk, MatchOption};
 ghost use Rattle.std.specs.Str.{chars};
 ghost use Rattle.json_text.specs.Changes.{edits_of};
 ghost use Rattle.json_text.specs.Json.{Json};
 ghost use Rattle.json_text.specs.Named.{named_in};
-ghost use Rattle.json_text.specs.Replace.{replace};
 ghost use Rattle.json_text.specs.Tree.{tree_of};
 ghost use Rattle.json_nodes.specs.At.{Found};
 ghost use Rattle.json_nodes.specs.Doc.{Holds};
+ghost use Rattle.json_nodes.specs.Values.{doc_of};
 ghost use Rattle.rpc_message.specs.Changed.{beside, id_edits_at, is_in_front};
 ghost use Rattle.rpc_message.specs.Message.{member_bytes, place_in};
-ghost use Rattle.rpc_message.specs.Texts.{with_id_text};
 
-use json_nodes::{Node, member_in, span_in};
+use json_nodes::Values;
 use json_text::{Change, Span};
 use message_body::{Body, Memory};
 use std::alloc::Global;
-
-// The bytes from one place to another, where there are such places.
-fn part(bytes: &[u8], from: usize, to: usize) -> &[u8]
-    ensures { from ≤ to → to ≤ length bytes.now → result.now ≡ take (to - from) (drop from bytes.now) }
-{
-    if from <= to && to <= bytes.len() {
-        &bytes[from..to]
-    } else {
-        &[]
-    }
-}
-
-// The bytes from a place on, where there is such a place.
-fn tail(bytes: &[u8], from: usize) -> &[u8]
-    ensures { from ≤ length bytes.now → result.now ≡ drop from bytes.now }
-{
-    if from <= bytes.len() {
-        &bytes[from..]
-    } else {
-        &[]
-    }
-}
 
 // The member of this name, in a body that is an object.
 fn root_member(values: Values, name: &str) -> Option<u32>
     ensures member { (j : Json) → Holds (doc_of values.entry) j → Found (doc_of values.entry) (named_in (chars name.now) j) result }
     ensures inside { MatchOption result (Unit {0}) (λ node. node < length values.entry.nodes.now) }
 {
-    if nodes.is_empty() {
-        None
-    } else {
-        values.member(0, name)
-    }
+    values.maybe_member(Some(0), name)
 }
 
 /// Where the last member of this name stands, in a body that is an object; none where it has none.
 pub fn member_span(values: Values, name: &str) -> Option<Span>
-    ensures { (j : Json) → Holds (doc_of values.entry) j → result ≡ place_in (chars name.now) (tree_of bytes.now) }
+    ensures { (j : Json) → Holds (doc_of values.entry) j → result ≡ place_in (chars name.now) (tree_of (doc_of values.entry).bytes) }
 {
-    match root_member(bytes, nodes, name) {
+    match root_member(values, name) {
         Some(node) => Some(values.span(node)),
         None => None,
     }
 }
 
 /// The bytes of the last member of this name, in a body that is an object; `null` where it has none.
-pub fn member_bytes<'a>(bytes: &'a [u8], values: Values, name: &str) -> &'a [u8]
-    ensures { (j : Json) → Holds (doc_of values.entry) j → result.now ≡ member_bytes (chars name.now) bytes.now }
+pub fn member_bytes<'a>(values: Values<'a>, name: &str) -> &'a [u8]
+    ensures { (j : Json) → Holds (doc_of values.entry) j → result.now ≡ member_bytes (chars name.now) (doc_of values.entry).bytes }
 {
-    match root_member(bytes, nodes, name) {
-        Some(node) => {
-            let span = values.span(node);
-            part(bytes, span.from, span.to)
-        }
+    match root_member(values, name) {
+        Some(node) => values.bytes(node),
         None => "null".as_bytes(),
-    }
-}
-
-// The bytes with others at a place.
-fn replaced(alloc: Global, bytes: &[u8], span: Span, text: &[u8]) -> Result<Body, Memory>
-    ensures { span.from ≤ span.to → span.to ≤ length bytes.now → IfOk result (λ body. body ≡ replace bytes.now (record { span = span; text = text.now } ∷ [])) }
-{
-    let mut written = Vec::new(alloc);
-    written.extend_from_slice(part(bytes, 0, span.from))?;
-    written.extend_from_slice(text)?;
-    written.extend_from_slice(tail(bytes, span.to))?;
-    Ok(Body::new(written))
-}
-
-/// A body with other bytes as its id, and all else as it came.
-pub fn with_id(alloc: Global, values: Values, id: &[u8]) -> Result<Body, Memory>
-    ensures { (j : Json) → Holds (doc_of values.entry) j → IfOk result (λ body. body ≡ with_id_text bytes.now id.now) }
-{
-    match root_member(bytes, nodes, "id") {
-        Some(node) => replaced(alloc, bytes, values.span(node), id),
-        None => Ok(Body::new(Vec::from_slice(alloc, bytes)?)),
     }
 }
 

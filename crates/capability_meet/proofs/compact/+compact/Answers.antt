@@ -6,7 +6,7 @@ use Rattle.json_nodes.specs.At.{At}
 use Rattle.json_nodes.proofs.Numbers.{child_at}
 use Rattle.capability_meet.specs.Compact.{compact, compact_items, compact_members, name_text}
 use Rattle.capability_meet.specs.Parts.{listed}
-use Rattle.capability_meet.specs.Values.{doc_of}
+use Rattle.json_nodes.specs.Values.{doc_of}
 use Rattle.capability_meet.proofs.Compacts.{is_array, is_leaf, is_object, leaf_text, member_written}
 use Rattle.capability_meet.proofs.Meets.{wrapped}
 use Rattle.capability_meet.proofs.Pieces.{piece_put}
@@ -15,20 +15,20 @@ use Rattle.capability_meet.proofs.compact.+compact.Goals as goal
 
 pub write_compact-returns-in-Array : goal.write_compact-returns-in-Array
 write_compact-returns-in-Array z c = λ t a.
-    let k : (s : Span) × (js : Items) × (t ≡ array s js) = is_array t (sym (c.kind_in.ensures c.args.values.bytes.now t a) ∙ c.in-Array.is) in
+    let k : (s : Span) × (js : Items) × (t ≡ array s js) = is_array t (sym (c.kind.ensures t a) ∙ c.in-Array.is) in
     subst (λ (x : Json). OnOk c.write_array.result (c.write_array.new.out.items ≡ c.args.out.now.items ++ compact c.args.values.bytes.now x)) (sym k.2) (c.write_array.ensures k.0 k.1 (subst (λ (x : Json). At (doc_of c.args.values) c.args.node x) k.2 a))
 
 pub write_compact-returns-in-Object : goal.write_compact-returns-in-Object
 write_compact-returns-in-Object z c = λ t a.
-    let k : (s : Span) × (ms : Members) × (t ≡ object s ms) = is_object t (sym (c.kind_in.ensures c.args.values.bytes.now t a) ∙ c.in-Object.is) in
+    let k : (s : Span) × (ms : Members) × (t ≡ object s ms) = is_object t (sym (c.kind.ensures t a) ∙ c.in-Object.is) in
     subst (λ (x : Json). OnOk c.write_object.result (c.write_object.new.out.items ≡ c.args.out.now.items ++ compact c.args.values.bytes.now x)) (sym k.2) (c.write_object.ensures k.0 k.1 (subst (λ (x : Json). At (doc_of c.args.values) c.args.node x) k.2 a))
 
 pub write_compact-returns-in_default : goal.write_compact-returns-in_default
 write_compact-returns-in_default z c = λ t a.
     subst (λ (x : List ℕ). OnOk c.write.result (c.write.new.out.items ≡ c.args.out.now.items ++ x))
-    (leaf_text c.args.values.bytes.now c.bytes_in.result.now (span_of t).from t
-    (is_leaf t (λ e. c.in_default.not-Array (c.kind_in.ensures c.args.values.bytes.now t a ∙ e)) (λ e. c.in_default.not-Object (c.kind_in.ensures c.args.values.bytes.now t a ∙ e)))
-    (c.bytes_in.ensures.place t a) (c.bytes_in.ensures.spelled t a))
+    (leaf_text c.args.values.bytes.now c.bytes.result.now (span_of t).from t
+    (is_leaf t (λ e. c.in_default.not-Array (c.kind.ensures t a ∙ e)) (λ e. c.in_default.not-Object (c.kind.ensures t a ∙ e)))
+    (c.bytes.ensures.place t a) (c.bytes.ensures.spelled t a))
     c.write.ensures
 
 pub write_array-returns : goal.write_array-returns
@@ -42,8 +42,8 @@ write_object-returns z c = λ s ms a.
 pub write_items-loop-next-preserved : goal.write_items-loop-next-preserved
 write_items-loop-next-preserved z c =
     items_go (doc_of c.args.values) c.args.node (λ (i : Unit {0}). Unit {0}) _ (λ i js. c.loop-next.out.items ++ listed c.loop-next.started (compact_items c.args.values.bytes.now js)) (λ i js. c.write_compact.new.out.items ++ listed true (compact_items c.args.values.bytes.now js))
-    c.loop-next.next c.next_in-next.result c.in-Some.item c.loop-next.invariant c.in-Some.is
-    (λ k n t u a. c.next_in-next.ensures.next c.args.values.bytes.now k n t u a) c.next_in-next.ensures.inside
+    c.loop-next.next c.next-next.result c.in-Some.item c.loop-next.invariant c.in-Some.is
+    (λ k n t u a. c.next-next.ensures.next k n t u a) c.next-next.ensures.inside
     (λ i k u rest m. sym (piece_put c.loop-next.out.items c.write_comma.new.out.items c.write_compact.new.out.items (compact c.args.values.bytes.now u) (compact c.args.values.bytes.now u) (compact_items c.args.values.bytes.now rest) c.loop-next.started
     c.in_ok-write_comma.ensures (c.in_ok-write_compact.ensures u m) refl))
 
@@ -53,8 +53,8 @@ write_items-returns z c = λ s js a. sym (append-nil c.loop-next.out.items) ∙ 
 pub write_members-loop-next-preserved : goal.write_members-loop-next-preserved
 write_members-loop-next-preserved z c =
     members_go (doc_of c.args.values) c.args.node (λ (i : Unit {0}). Unit {0}) _ (λ i ms. c.loop-next.out.items ++ listed c.loop-next.started (compact_members c.args.values.bytes.now ms)) (λ i ms. c.write_compact.new.out.items ++ listed true (compact_members c.args.values.bytes.now ms))
-    c.loop-next.next c.next_in-next.result c.in-Some.pair c.loop-next.invariant c.in-Some.is
-    (λ k n t u a. c.next_in-next.ensures.next c.args.values.bytes.now k n t u a) c.next_in-next.ensures.inside
+    c.loop-next.next c.next-next.result c.in-Some.pair c.loop-next.invariant c.in-Some.is
+    (λ k n t u a. c.next-next.ensures.next k n t u a) c.next-next.ensures.inside
     (λ i k s ms p cs u rest w. sym (member_written c.loop-next.out.items c.write_comma.new.out.items c.write_name.new.out.items c.write_compact.new.out.items (name_text c.args.values.bytes.now p cs) (compact c.args.values.bytes.now u) (compact_members c.args.values.bytes.now rest) c.loop-next.started
     c.in_ok-write_comma.ensures (c.in_ok-write_name.ensures c.args.node w.count s p ms rest cs u w.child w.here) (c.in_ok-write_compact.ensures u (child_at w.child))))
 

@@ -2,7 +2,7 @@ use Rattle.std.proofs.Common.{length, ◌+◌, ◌*◌, ◌-◌, ◌++◌, false
 use Rattle.json_nodes.proofs.Members.{left}
 use Rattle.capability_meet.specs.Compact.{compact_items, compact_members}
 use Rattle.capability_meet.specs.Parts.{listed}
-use Rattle.capability_meet.specs.Values.{doc_of}
+use Rattle.json_nodes.specs.Values.{doc_of}
 use Rattle.capability_meet.proofs.Walks.{ItemsWalk, MembersWalk}
 use Rattle.capability_meet.proofs.compact.+compact.Given as goal
 

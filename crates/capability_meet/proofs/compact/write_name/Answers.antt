@@ -3,7 +3,7 @@ use Rattle.std.specs.Prelude.{OnOk}
 use Rattle.json_text.specs.declared.span.Span.{Span}
 use Rattle.json_nodes.specs.Texts.{between}
 use Rattle.capability_meet.specs.Compact.{name_text}
-use Rattle.capability_meet.specs.Values.{doc_of}
+use Rattle.json_nodes.specs.Values.{doc_of}
 use Rattle.capability_meet.proofs.Names.{name_text_is}
 use Rattle.capability_meet.proofs.compact.write_name.Goals as goal
 

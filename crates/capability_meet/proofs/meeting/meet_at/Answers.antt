@@ -1,4 +1,4 @@
-use Rattle.capability_meet.specs.Values.{doc_of}
+use Rattle.json_nodes.specs.Values.{doc_of}
 use Rattle.capability_meet.proofs.Meets.{meet_read}
 use Rattle.capability_meet.proofs.meeting.meet_at.Goals as goal
 

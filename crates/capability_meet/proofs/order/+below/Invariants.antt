@@ -6,7 +6,7 @@ use Rattle.json_nodes.specs.InStep.{in_step}
 use Rattle.json_nodes.proofs.InStep.{PairsWalk}
 use Rattle.json_nodes.proofs.Members.{left}
 use Rattle.capability_meet.specs.Order.{below, members_below}
-use Rattle.capability_meet.specs.Values.{doc_of}
+use Rattle.json_nodes.specs.Values.{doc_of}
 use Rattle.capability_meet.proofs.Walks.{MembersWalk}
 use Rattle.capability_meet.proofs.order.+below.Given as goal
 

@@ -2,7 +2,7 @@ use Rattle.std.proofs.Common.{length}
 use Rattle.json_nodes.specs.At.{At}
 use Rattle.json_nodes.proofs.Members.{left}
 use Rattle.capability_meet.specs.Order.{is_among}
-use Rattle.capability_meet.specs.Values.{doc_of}
+use Rattle.json_nodes.specs.Values.{doc_of}
 use Rattle.capability_meet.proofs.Walks.{ItemsWalk}
 use Rattle.capability_meet.proofs.order.is_among.Given as goal
 

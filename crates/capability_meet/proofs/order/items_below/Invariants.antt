@@ -4,7 +4,7 @@ use Rattle.json_text.specs.Json.{array}
 use Rattle.json_nodes.specs.At.{At}
 use Rattle.json_nodes.proofs.Members.{left}
 use Rattle.capability_meet.specs.Order.{items_below}
-use Rattle.capability_meet.specs.Values.{doc_of}
+use Rattle.json_nodes.specs.Values.{doc_of}
 use Rattle.capability_meet.proofs.Equals.{SomeItem}
 use Rattle.capability_meet.proofs.Walks.{ItemsWalk}
 use Rattle.capability_meet.proofs.order.items_below.Given as goal

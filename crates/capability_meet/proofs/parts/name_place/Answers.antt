@@ -1,4 +1,4 @@
-use Rattle.capability_meet.specs.Values.{doc_of}
+use Rattle.json_nodes.specs.Values.{doc_of}
 use Rattle.capability_meet.proofs.Names.{name_law}
 use Rattle.capability_meet.proofs.parts.name_place.Goals as goal
 

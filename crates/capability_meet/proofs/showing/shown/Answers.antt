@@ -1,5 +1,5 @@
 use Rattle.capability_meet.specs.Shown.{shown_text}
-use Rattle.capability_meet.specs.Values.{doc_of}
+use Rattle.json_nodes.specs.Values.{doc_of}
 use Rattle.capability_meet.proofs.Reading.{told_of_read}
 use Rattle.capability_meet.proofs.showing.shown.Goals as goal
 

@@ -6,7 +6,7 @@ use Rattle.json_text.specs.Named.{named_in}
 use Rattle.json_nodes.specs.At.{Found}
 use Rattle.json_nodes.specs.Doc.{Doc}
 use Rattle.capability_meet.specs.Shown.{change_of, without, workspace_text}
-use Rattle.capability_meet.specs.Values.{doc_of}
+use Rattle.json_nodes.specs.Values.{doc_of}
 use Rattle.capability_meet.proofs.Letters.{capabilities_letters, folders_letters, notebook_letters, workspace_letters}
 use Rattle.capability_meet.proofs.Shows.{shown_so}
 use Rattle.capability_meet.proofs.showing.shown_in.Goals as goal

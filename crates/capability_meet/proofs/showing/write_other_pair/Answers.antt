@@ -13,10 +13,10 @@ use Rattle.capability_meet.proofs.showing.write_other_pair.Goals as goal
 pub returns-then-spells_text : goal.returns-then-spells_text
 returns-then-spells_text c = λ k n s p ms rest cs u a g h.
     piece_skipped c.args.out.now.items (window c.args.values.bytes.now c.args.change.now p.from (span_of u).to) (other_pairs c.args.values.bytes.now (chars c.args.name.now) c.args.change.now rest) c.args.started c.spells_text.result (bytes_eq (chars c.args.name.now) cs)
-    (named_so c.spells_text.result cs (chars c.args.name.now) (c.spells_text.ensures cs (c.name_in.ensures.spelled k n (object s ms) u cs a g))) c.if-spells_text.true
+    (named_so c.spells_text.result cs (chars c.args.name.now) (c.spells_text.ensures cs (c.name.ensures.spelled k n (object s ms) u cs a g))) c.if-spells_text.true
 
 pub returns : goal.returns
 returns c = λ k n s p ms rest cs u a g h.
-    piece_written c.args.out.now.items c.write_comma.new.out.items c.write_window.new.out.items (window c.args.values.bytes.now c.args.change.now p.from (span_of u).to) (window c.args.values.bytes.now c.args.change.now c.name_place-from.result.from c.span_in-to.result.to) (other_pairs c.args.values.bytes.now (chars c.args.name.now) c.args.change.now rest) c.args.started c.spells_text.result (bytes_eq (chars c.args.name.now) cs)
-    (named_so c.spells_text.result cs (chars c.args.name.now) (c.spells_text.ensures cs (c.name_in.ensures.spelled k n (object s ms) u cs a g))) c.if-spells_text.false c.in_ok-write_comma.ensures c.in_ok-write_window.ensures
-    (ap (λ (z : Span). window c.args.values.bytes.now c.args.change.now z.from c.span_in-to.result.to) (c.name_place-from.ensures k n s p ms rest cs u a h) ∙ ap (λ (z : Span). window c.args.values.bytes.now c.args.change.now p.from z.to) (c.span_in-to.ensures.span c.args.values.bytes.now u (child_at a)))
+    piece_written c.args.out.now.items c.write_comma.new.out.items c.write_window.new.out.items (window c.args.values.bytes.now c.args.change.now p.from (span_of u).to) (window c.args.values.bytes.now c.args.change.now c.name_place-from.result.from c.span-to.result.to) (other_pairs c.args.values.bytes.now (chars c.args.name.now) c.args.change.now rest) c.args.started c.spells_text.result (bytes_eq (chars c.args.name.now) cs)
+    (named_so c.spells_text.result cs (chars c.args.name.now) (c.spells_text.ensures cs (c.name.ensures.spelled k n (object s ms) u cs a g))) c.if-spells_text.false c.in_ok-write_comma.ensures c.in_ok-write_window.ensures
+    (ap (λ (z : Span). window c.args.values.bytes.now c.args.change.now z.from c.span-to.result.to) (c.name_place-from.ensures k n s p ms rest cs u a h) ∙ ap (λ (z : Span). window c.args.values.bytes.now c.args.change.now p.from z.to) (c.span-to.ensures.span u (child_at a)))

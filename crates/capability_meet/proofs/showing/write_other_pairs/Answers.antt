@@ -2,15 +2,15 @@ use Rattle.std.proofs.Common.{◌++◌, sym, ◌∙◌, append-nil, false}
 use Rattle.std.specs.Str.{chars}
 use Rattle.capability_meet.specs.Parts.{listed}
 use Rattle.capability_meet.specs.Shown.{other_pairs}
-use Rattle.capability_meet.specs.Values.{doc_of}
+use Rattle.json_nodes.specs.Values.{doc_of}
 use Rattle.capability_meet.proofs.Walks.{members_go, members_done}
 use Rattle.capability_meet.proofs.showing.write_other_pairs.Goals as goal
 
 pub loop-next-preserved : goal.loop-next-preserved
 loop-next-preserved c =
     members_go (doc_of c.args.values) c.args.node (λ (i : Unit {0}). Unit {0}) _ (λ i ms. c.loop-next.out.items ++ listed c.loop-next.started (other_pairs c.args.values.bytes.now (chars c.args.name.now) c.args.change.now ms)) (λ i ms. c.write_other_pair.new.out.items ++ listed c.in_ok-started.started (other_pairs c.args.values.bytes.now (chars c.args.name.now) c.args.change.now ms))
-    c.loop-next.next c.next_in-next.result c.in-Some.pair c.loop-next.invariant c.in-Some.is
-    (λ k n t u a. c.next_in-next.ensures.next c.args.values.bytes.now k n t u a) c.next_in-next.ensures.inside
+    c.loop-next.next c.next-next.result c.in-Some.pair c.loop-next.invariant c.in-Some.is
+    (λ k n t u a. c.next-next.ensures.next k n t u a) c.next-next.ensures.inside
     (λ i k s ms p cs u rest w. sym (c.in_ok-started.ensures c.args.node w.count s p ms rest cs u w.child w.name w.here))
 
 pub returns : goal.returns

@@ -3,7 +3,7 @@ use Rattle.std.specs.Str.{chars}
 use Rattle.json_nodes.proofs.Members.{left}
 use Rattle.capability_meet.specs.Parts.{listed}
 use Rattle.capability_meet.specs.Shown.{other_pairs}
-use Rattle.capability_meet.specs.Values.{doc_of}
+use Rattle.json_nodes.specs.Values.{doc_of}
 use Rattle.capability_meet.proofs.Walks.{MembersWalk}
 use Rattle.capability_meet.proofs.showing.write_other_pairs.Given as goal
 

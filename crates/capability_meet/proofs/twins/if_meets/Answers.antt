@@ -1,4 +1,4 @@
-use Rattle.capability_meet.specs.Values.{doc_of}
+use Rattle.json_nodes.specs.Values.{doc_of}
 use Rattle.capability_meet.proofs.Meets.{met_so, not_met}
 use Rattle.capability_meet.proofs.twins.if_meets.Goals as goal
 

@@ -3,13 +3,13 @@ use Rattle.capability_meet.proofs.Pairs.{meets_arrays, meets_least, meets_object
 use Rattle.capability_meet.proofs.twins.meets.Goals as goal
 
 pub returns-in-Least : goal.returns-in-Least
-returns-in-Least c = λ t u a b. meets_least t u (pair_kinds c.kind_in.result c.kind_in-2.result t u c.pair_of.result pair.Least (record { first = c.kind_in.ensures c.args.left.bytes.now t a; second = c.kind_in-2.ensures c.args.right.bytes.now u b }) c.pair_of.ensures c.in-Least.is)
+returns-in-Least c = λ t u a b. meets_least t u (pair_kinds c.kind.result c.kind-2.result t u c.pair_of.result pair.Least (record { first = c.kind.ensures t a; second = c.kind-2.ensures u b }) c.pair_of.ensures c.in-Least.is)
 
 pub returns-in-Arrays : goal.returns-in-Arrays
-returns-in-Arrays c = λ t u a b. meets_arrays t u (pair_kinds c.kind_in.result c.kind_in-2.result t u c.pair_of.result pair.Arrays (record { first = c.kind_in.ensures c.args.left.bytes.now t a; second = c.kind_in-2.ensures c.args.right.bytes.now u b }) c.pair_of.ensures c.in-Arrays.is)
+returns-in-Arrays c = λ t u a b. meets_arrays t u (pair_kinds c.kind.result c.kind-2.result t u c.pair_of.result pair.Arrays (record { first = c.kind.ensures t a; second = c.kind-2.ensures u b }) c.pair_of.ensures c.in-Arrays.is)
 
 pub returns-in-Objects : goal.returns-in-Objects
-returns-in-Objects c = λ t u a b. meets_objects t u (pair_kinds c.kind_in.result c.kind_in-2.result t u c.pair_of.result pair.Objects (record { first = c.kind_in.ensures c.args.left.bytes.now t a; second = c.kind_in-2.ensures c.args.right.bytes.now u b }) c.pair_of.ensures c.in-Objects.is)
+returns-in-Objects c = λ t u a b. meets_objects t u (pair_kinds c.kind.result c.kind-2.result t u c.pair_of.result pair.Objects (record { first = c.kind.ensures t a; second = c.kind-2.ensures u b }) c.pair_of.ensures c.in-Objects.is)
 
 pub returns-in-Others : goal.returns-in-Others
-returns-in-Others c = λ t u a b. meets_rest t u c.same_in.result (pair_kinds c.kind_in.result c.kind_in-2.result t u c.pair_of.result pair.Others (record { first = c.kind_in.ensures c.args.left.bytes.now t a; second = c.kind_in-2.ensures c.args.right.bytes.now u b }) c.pair_of.ensures c.in-Others.is) (c.same_in.ensures.test t u a b)
+returns-in-Others c = λ t u a b. meets_rest t u c.same.result (pair_kinds c.kind.result c.kind-2.result t u c.pair_of.result pair.Others (record { first = c.kind.ensures t a; second = c.kind-2.ensures u b }) c.pair_of.ensures c.in-Others.is) (c.same.ensures.test t u a b)

@@ -8,7 +8,7 @@ use Rattle.json_nodes.proofs.Numbers.{child_at}
 use Rattle.capability_meet.specs.declared.kinds.Pair.TheVariants as pair
 use Rattle.capability_meet.specs.OnePass.{pairs_at, required, spot_of, text_at, twin_at}
 use Rattle.capability_meet.specs.Parts.{listed}
-use Rattle.capability_meet.specs.Values.{doc_of}
+use Rattle.json_nodes.specs.Values.{doc_of}
 use Rattle.capability_meet.proofs.Meets.{Beside, found_none, found_value, pair_put, pair_skipped, twin_meets, wrapped}
 use Rattle.capability_meet.proofs.Pairs.{meets_least, pair_kinds, text_arrays, text_objects, text_rest}
 use Rattle.capability_meet.proofs.Walks.{members_go, members_done}
@@ -16,24 +16,24 @@ use Rattle.capability_meet.proofs.written.+met.Goals as goal
 
 pub write_met-returns-in-Least : goal.write_met-returns-in-Least
 write_met-returns-in-Least z c = λ t u a b m.
-    let h : false ≡ true = meets_least t u (pair_kinds c.kind_in.result c.kind_in-2.result t u c.pair_of.result pair.Least (record { first = c.kind_in.ensures c.args.left.bytes.now t a; second = c.kind_in-2.ensures c.args.right.bytes.now u b }) c.pair_of.ensures c.in-Least.is) ∙ m in absurd (cc)
+    let h : false ≡ true = meets_least t u (pair_kinds c.kind.result c.kind-2.result t u c.pair_of.result pair.Least (record { first = c.kind.ensures t a; second = c.kind-2.ensures u b }) c.pair_of.ensures c.in-Least.is) ∙ m in absurd (cc)
 
 pub write_met-returns-in-Arrays : goal.write_met-returns-in-Arrays
 write_met-returns-in-Arrays z c = λ t u a b m.
     text_arrays (λ x. OnOk c.write_array.result (c.write_array.new.out.items ≡ c.args.out.now.items ++ x)) c.args.left.bytes.now c.args.spot t u
-    (pair_kinds c.kind_in.result c.kind_in-2.result t u c.pair_of.result pair.Arrays (record { first = c.kind_in.ensures c.args.left.bytes.now t a; second = c.kind_in-2.ensures c.args.right.bytes.now u b }) c.pair_of.ensures c.in-Arrays.is)
+    (pair_kinds c.kind.result c.kind-2.result t u c.pair_of.result pair.Arrays (record { first = c.kind.ensures t a; second = c.kind-2.ensures u b }) c.pair_of.ensures c.in-Arrays.is)
     (λ s r js ks e f. c.write_array.ensures s r js ks (subst (λ (v : Json). At (doc_of c.args.left) c.args.node v) e a) (subst (λ (v : Json). At (doc_of c.args.right) c.args.other v) f b))
 
 pub write_met-returns-in-Objects : goal.write_met-returns-in-Objects
 write_met-returns-in-Objects z c = λ t u a b m.
     text_objects (λ x. OnOk c.write_object.result (c.write_object.new.out.items ≡ c.args.out.now.items ++ x)) c.args.left.bytes.now c.args.spot t u
-    (pair_kinds c.kind_in.result c.kind_in-2.result t u c.pair_of.result pair.Objects (record { first = c.kind_in.ensures c.args.left.bytes.now t a; second = c.kind_in-2.ensures c.args.right.bytes.now u b }) c.pair_of.ensures c.in-Objects.is)
+    (pair_kinds c.kind.result c.kind-2.result t u c.pair_of.result pair.Objects (record { first = c.kind.ensures t a; second = c.kind-2.ensures u b }) c.pair_of.ensures c.in-Objects.is)
     (λ s r ms ns e f. c.write_object.ensures s r ms ns (subst (λ (v : Json). At (doc_of c.args.left) c.args.node v) e a) (subst (λ (v : Json). At (doc_of c.args.right) c.args.other v) f b))
 
 pub write_met-returns-in-Others : goal.write_met-returns-in-Others
 write_met-returns-in-Others z c = λ t u a b m.
     text_rest (λ x. OnOk c.write_compact.result (c.write_compact.new.out.items ≡ c.args.out.now.items ++ x)) c.args.left.bytes.now c.args.spot t u
-    (pair_kinds c.kind_in.result c.kind_in-2.result t u c.pair_of.result pair.Others (record { first = c.kind_in.ensures c.args.left.bytes.now t a; second = c.kind_in-2.ensures c.args.right.bytes.now u b }) c.pair_of.ensures c.in-Others.is) m (c.write_compact.ensures t a)
+    (pair_kinds c.kind.result c.kind-2.result t u c.pair_of.result pair.Others (record { first = c.kind.ensures t a; second = c.kind-2.ensures u b }) c.pair_of.ensures c.in-Others.is) m (c.write_compact.ensures t a)
 
 pub write_object-returns : goal.write_object-returns
 write_object-returns z c = λ s r ms ns a b.
@@ -50,14 +50,14 @@ write_pair-returns z c = λ k n s p r ms rest ns cs u more m g h e f a.
     pair_put c.args.out.now.items c.write_comma.new.out.items c.write_name.new.out.items c.write_met.new.out.items (name_text c.args.left.bytes.now p cs) (text_at c.args.left.bytes.now c.spot_of-inner.result u v.0)
     (λ v. name_text c.args.left.bytes.now p cs ++ (58 ∷ text_at c.args.left.bytes.now (spot_of c.args.spot cs) u v)) (pairs_at c.args.left.bytes.now c.args.spot rest ns) more c.args.started (twin_at c.args.spot cs u rest ns) v.0 v.1
     c.in_ok-write_comma.ensures (c.in_ok-write_name.ensures k n s p ms rest cs u m h) (c.in_ok-write_met.ensures u v.0 (child_at m) v.2 (twin_meets c.args.spot cs u v.0 rest ns v.1))
-    (ap (λ x. name_text c.args.left.bytes.now p cs ++ (58 ∷ text_at c.args.left.bytes.now x u v.0)) (sym (c.spot_of-inner.ensures cs (c.name_in.ensures.spelled k n (object s ms) u cs m g))))
+    (ap (λ x. name_text c.args.left.bytes.now p cs ++ (58 ∷ text_at c.args.left.bytes.now x u v.0)) (sym (c.spot_of-inner.ensures cs (c.name.ensures.spelled k n (object s ms) u cs m g))))
 
 pub write_pairs-loop-next-preserved : goal.write_pairs-loop-next-preserved
 write_pairs-loop-next-preserved z c =
     members_go (doc_of c.args.left) c.args.node (λ (b : Beside). (r : Span) × At (doc_of c.args.right) c.args.other (object r b.others)) _ (λ b ms. c.loop-next.out.items ++ listed c.loop-next.started (pairs_at c.args.left.bytes.now c.args.spot ms b.others ++ b.more)) (λ b ms. c.write_pair.new.out.items ++ listed c.in_ok-started.started (pairs_at c.args.left.bytes.now c.args.spot ms b.others ++ b.more))
-    c.loop-next.next c.next_in-following.result c.in-Some.pair c.loop-next.invariant c.in-Some.is
-    (λ k n t u a. c.next_in-following.ensures.next c.args.left.bytes.now k n t u a) c.next_in-following.ensures.inside
-    (λ b k s ms p cs u rest w. sym (c.in_ok-started.ensures c.args.node w.count s p k.0 ms rest b.others cs u b.more w.child w.name w.here w.after (c.next_in-following.ensures.next c.args.left.bytes.now c.args.node w.count (object s ms) u w.child) k.1))
+    c.loop-next.next c.next-following.result c.in-Some.pair c.loop-next.invariant c.in-Some.is
+    (λ k n t u a. c.next-following.ensures.next k n t u a) c.next-following.ensures.inside
+    (λ b k s ms p cs u rest w. sym (c.in_ok-started.ensures c.args.node w.count s p k.0 ms rest b.others cs u b.more w.child w.name w.here w.after (c.next-following.ensures.next c.args.node w.count (object s ms) u w.child) k.1))
 
 pub write_pairs-returns : goal.write_pairs-returns
 write_pairs-returns z c = λ s r ms ns more a b. members_done (doc_of c.args.left) c.args.node (λ (b : Beside). (r : Span) × At (doc_of c.args.right) c.args.other (object r b.others)) (λ b ms. c.args.out.now.items ++ listed false (pairs_at c.args.left.bytes.now c.args.spot ms b.others ++ b.more)) (λ b ms. c.loop-next.out.items ++ listed c.loop-next.started (pairs_at c.args.left.bytes.now c.args.spot ms b.others ++ b.more)) c.loop-next.next c.loop-next.invariant c.in_default.is (record { others = ns; more = more }) (r, b) s ms a

@@ -5,7 +5,7 @@ use Rattle.json_nodes.specs.At.{At}
 use Rattle.json_nodes.proofs.Members.{left}
 use Rattle.capability_meet.specs.OnePass.{items_met}
 use Rattle.capability_meet.specs.Parts.{listed}
-use Rattle.capability_meet.specs.Values.{doc_of}
+use Rattle.json_nodes.specs.Values.{doc_of}
 use Rattle.capability_meet.proofs.Walks.{ItemsWalk}
 use Rattle.capability_meet.proofs.written.write_items.Given as goal
 

@@ -6,8 +6,8 @@ use Rattle.rpc_message.proofs.envelope.is_error.Goals as goal
 
 pub returns-then-is_integer_value : goal.returns-then-is_integer_value
 returns-then-is_integer_value c = λ t a. error_and t c.is_integer_value.result c.is_string_value.result
-    (c.is_integer_value.ensures (named_in (chars (codes "code")) t) (c.member_in.ensures.member t a))
-    (c.is_string_value.ensures c.args.bytes.now (named_in (chars (codes "message")) t) (c.member_in-then-is_integer_value.ensures.member t a)) c.if-is_integer_value.true
+    (c.is_integer_value.ensures (named_in (chars (codes "code")) t) (c.member.ensures.member t a))
+    (c.is_string_value.ensures (named_in (chars (codes "message")) t) (c.member-then-is_integer_value.ensures.member t a)) c.if-is_integer_value.true
 
 pub returns-else-is_integer_value : goal.returns-else-is_integer_value
-returns-else-is_integer_value c = λ t a. error_not t c.is_integer_value.result (c.is_integer_value.ensures (named_in (chars (codes "code")) t) (c.member_in.ensures.member t a)) c.if-is_integer_value.false
+returns-else-is_integer_value c = λ t a. error_not t c.is_integer_value.result (c.is_integer_value.ensures (named_in (chars (codes "code")) t) (c.member.ensures.member t a)) c.if-is_integer_value.false

@@ -3,4 +3,4 @@ use Rattle.json_nodes.proofs.Members.{Inside}
 use Rattle.rpc_message.proofs.names.has_few.Given as goal
 
 abbrev pub invariant-loop : goal.invariant-loop
-invariant-loop l = Inside (length l.nodes) l.next
+invariant-loop l = Inside (length l.values.nodes.now) l.next

@@ -1,35 +1,37 @@
 use Rattle.std.proofs.Common.{ap, sym, subst, length, Err}
+use Rattle.json_nodes.specs.Doc.{Doc}
+use Rattle.json_nodes.specs.Values.{doc_of}
 use Rattle.rpc_message.specs.Envelopes.{Tells, TellsIf}
 use Rattle.rpc_message.specs.Message.{message_of}
 use Rattle.rpc_message.specs.Parsed.{IsRead}
-use Rattle.rpc_message.proofs.Reading.{syntax_refused, depth_refused, has_root, told_read, members_read, read_is, same_doc}
+use Rattle.rpc_message.proofs.Reading.{syntax_refused, depth_refused, has_root, told_read, members_read, read_is}
 use Rattle.rpc_message.proofs.message.Message.read.Goals as goal
 
 pub envelope_in-requires : goal.envelope_in-requires
-envelope_in-requires c = has_root c.in-Ok.tape c.in-Ok.ensures.ok.1.0 (length c.nodes.result.now) c.in-Ok.ensures.ok.1.1 (ap length c.nodes.ensures)
+envelope_in-requires c = has_root c.in-Ok.tape c.in-Ok.ensures.ok.1.0 (length c.values.result.nodes.now) c.in-Ok.ensures.ok.1.1 (ap (λ (d : Doc). length d.nodes) c.values.ensures.same)
 
 pub returns-in-Ok-None-clause-refused : goal.returns-in-Ok-None-clause-refused
 returns-in-Ok-None-clause-refused c =
-    let told : TellsIf c.in-Ok.tape c.in-Ok-None.field-0 (message_of c.args.bytes.now) = told_read c.in-Ok.tape (record { bytes = c.bytes.result.now; nodes = c.nodes.result.now }) c.in-Ok-None.field-0 c.args.bytes.now c.in-Ok.ensures.ok.1.0
-    (same_doc c.in-Ok.tape c.bytes.result.now c.nodes.result.now c.bytes.ensures c.nodes.ensures) c.in-Ok.ensures.ok.0 c.in-Ok.ensures.ok.1.1 c.in-Ok-None.ensures.tells in
+    let told : TellsIf c.in-Ok.tape c.in-Ok-None.field-0 (message_of c.args.bytes.now) = told_read c.in-Ok.tape (doc_of c.values.result) c.in-Ok-None.field-0 c.args.bytes.now c.in-Ok.ensures.ok.1.0
+    c.values.ensures.same c.in-Ok.ensures.ok.0 c.in-Ok.ensures.ok.1.1 c.in-Ok-None.ensures.tells in
     subst (λ e. TellsIf c.in-Ok.tape e (message_of c.args.bytes.now)) c.in-Ok-None.field-0-is told
 
 pub decoded_method-requires : goal.decoded_method-requires
 decoded_method-requires c =
-    let told : TellsIf c.in-Ok.tape c.in-Ok-Some.field-0 (message_of c.args.bytes.now) = told_read c.in-Ok.tape (record { bytes = c.bytes.result.now; nodes = c.nodes.result.now }) c.in-Ok-Some.field-0 c.args.bytes.now c.in-Ok.ensures.ok.1.0
-    (same_doc c.in-Ok.tape c.bytes.result.now c.nodes.result.now c.bytes.ensures c.nodes.ensures) c.in-Ok.ensures.ok.0 c.in-Ok.ensures.ok.1.1 c.in-Ok-Some.ensures.tells in
+    let told : TellsIf c.in-Ok.tape c.in-Ok-Some.field-0 (message_of c.args.bytes.now) = told_read c.in-Ok.tape (doc_of c.values.result) c.in-Ok-Some.field-0 c.args.bytes.now c.in-Ok.ensures.ok.1.0
+    c.values.ensures.same c.in-Ok.ensures.ok.0 c.in-Ok.ensures.ok.1.1 c.in-Ok-Some.ensures.tells in
     let some : Tells c.in-Ok.tape c.in-Ok-Some.envelope (message_of c.args.bytes.now) = subst (λ e. TellsIf c.in-Ok.tape e (message_of c.args.bytes.now)) c.in-Ok-Some.field-0-is told in
-    (message_of c.args.bytes.now, subst (λ d. Tells d c.in-Ok-Some.envelope (message_of c.args.bytes.now)) (sym (same_doc c.in-Ok.tape c.bytes-2.result.now c.nodes-2.result.now c.bytes-2.ensures c.nodes-2.ensures)) some)
+    (message_of c.args.bytes.now, subst (λ d. Tells d c.in-Ok-Some.envelope (message_of c.args.bytes.now)) (sym c.values-2.ensures.same) some)
 
 pub returns-in-Ok-decoded_method-clause-ok : goal.returns-in-Ok-decoded_method-clause-ok
 returns-in-Ok-decoded_method-clause-ok c =
-    let told : TellsIf c.in-Ok.tape c.in-Ok-Some.field-0 (message_of c.args.bytes.now) = told_read c.in-Ok.tape (record { bytes = c.bytes.result.now; nodes = c.nodes.result.now }) c.in-Ok-Some.field-0 c.args.bytes.now c.in-Ok.ensures.ok.1.0
-    (same_doc c.in-Ok.tape c.bytes.result.now c.nodes.result.now c.bytes.ensures c.nodes.ensures) c.in-Ok.ensures.ok.0 c.in-Ok.ensures.ok.1.1 c.in-Ok-Some.ensures.tells in
+    let told : TellsIf c.in-Ok.tape c.in-Ok-Some.field-0 (message_of c.args.bytes.now) = told_read c.in-Ok.tape (doc_of c.values.result) c.in-Ok-Some.field-0 c.args.bytes.now c.in-Ok.ensures.ok.1.0
+    c.values.ensures.same c.in-Ok.ensures.ok.0 c.in-Ok.ensures.ok.1.1 c.in-Ok-Some.ensures.tells in
     let some : Tells c.in-Ok.tape c.in-Ok-Some.envelope (message_of c.args.bytes.now) = subst (λ e. TellsIf c.in-Ok.tape e (message_of c.args.bytes.now)) c.in-Ok-Some.field-0-is told in
     read_is c.in-Ok.tape c.in-Ok-Some.envelope c.in-Ok-decoded_method.method c.args.bytes.now c.in-Ok.ensures.ok.1.0 c.in-Ok.ensures.ok.0 c.in-Ok.ensures.ok.1.1 some
-    (members_read c.in-Ok.tape (record { bytes = c.bytes.result.now; nodes = c.nodes.result.now }) c.in-Ok-Some.field-0 c.in-Ok-Some.envelope c.in-Ok.ensures.ok.1.0 (same_doc c.in-Ok.tape c.bytes.result.now c.nodes.result.now c.bytes.ensures c.nodes.ensures) c.in-Ok.ensures.ok.1.1 c.in-Ok-Some.ensures.members c.in-Ok-Some.field-0-is)
+    (members_read c.in-Ok.tape (doc_of c.values.result) c.in-Ok-Some.field-0 c.in-Ok-Some.envelope c.in-Ok.ensures.ok.1.0 c.values.ensures.same c.in-Ok.ensures.ok.1.1 c.in-Ok-Some.ensures.members c.in-Ok-Some.field-0-is)
     (c.in-Ok-decoded_method.ensures (message_of c.args.bytes.now)
-    (subst (λ d. Tells d c.in-Ok-Some.envelope (message_of c.args.bytes.now)) (sym (same_doc c.in-Ok.tape c.bytes-2.result.now c.nodes-2.result.now c.bytes-2.ensures c.nodes-2.ensures)) some))
+    (subst (λ d. Tells d c.in-Ok-Some.envelope (message_of c.args.bytes.now)) (sym c.values-2.ensures.same) some))
 
 pub invariant_of-result : goal.invariant_of-result
 invariant_of-result c = subst (IsRead (record { doc = c.in-Ok.tape; envelope = c.in-Ok-Some.envelope; method = c.in-Ok-decoded_method.method })) (sym c.in-Ok.ensures.ok.0) (returns-in-Ok-decoded_method-clause-ok c)

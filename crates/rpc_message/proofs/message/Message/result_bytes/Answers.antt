@@ -1,12 +1,10 @@
 use Rattle.std.proofs.Common.{◌≡◌, ◌∙◌, ap, codes}
-use Rattle.json_nodes.specs.Doc.{Doc}
+use Rattle.json_nodes.specs.Values.{doc_of}
 use Rattle.rpc_message.specs.Parsed.{Parsed}
-use Rattle.rpc_message.proofs.Reading.{read_bytes, result_chars, same_doc}
+use Rattle.rpc_message.proofs.Reading.{read_bytes, result_chars}
 use Rattle.rpc_message.proofs.message.Message.result_bytes.Goals as goal
 
 pub returns : goal.returns
 returns c = λ bytes r.
-    let d : Doc = record { bytes = c.bytes.result.now; nodes = c.nodes.result.now } in
-    let same : d ≡ c.args.self.now.doc = same_doc c.args.self.now.doc c.bytes.result.now c.nodes.result.now
-    (c.bytes.ensures ∙ ap (λ (p : Parsed). p.doc.bytes) c.self.view_is) (c.nodes.ensures ∙ ap (λ (p : Parsed). p.doc.nodes) c.self.view_is) in
-    read_bytes c.args.self.now bytes c.member_bytes.result.now (codes "result") d same r c.member_bytes.ensures result_chars
+    let same : doc_of c.values.result ≡ c.args.self.now.doc = c.values.ensures.same ∙ ap (λ (p : Parsed). p.doc) c.self.view_is in
+    read_bytes c.args.self.now bytes c.member_bytes.result.now (codes "result") (doc_of c.values.result) same r c.member_bytes.ensures result_chars
