@@ -35,25 +35,6 @@ some_first e y beside first later = record { inside = inside_more (length e.node
 pub some_next : (e : Doc) (y : ℕ) (here beside : Option ℕ) → SomeItem e y here → ((k n : ℕ) (s : Span) (js : Items) → FoundChild e k (array s js) n here → FoundChild e k (array s js) (n + 1) beside) → MatchOption beside (Unit {0}) (λ m. m < length e.nodes) → SomeItem e y beside
 some_next e y here beside w next inside = record { inside = inside; place = λ r ks a. let p : (n : ℕ) × FoundChild e y (array r ks) n here = w.place r ks a in (p.0 + 1, next y p.0 r ks p.1) }
 
-none_after : (js : Items) (n : ℕ) → slice_get (items_list js) n ≡ None → slice_get (items_list js) (suc n) ≡ None
-none_after js n h = go (items_list js) n h
-  where
-    go : (xs : List Json) (n : ℕ) → slice_get xs n ≡ None → slice_get xs (suc n) ≡ None
-    go [] n h = refl
-    go (x ∷ xs) zero h = absurd (cc)
-    go (x ∷ xs) (suc n) h = go xs n h
-
-pub after_none : (e : Doc) (k n : ℕ) (s : Span) (js : Items) (here : Option ℕ) → here ≡ None → FoundChild e k (array s js) n here → FoundChild e k (array s js) (n + 1) None
-after_none e k n s js here is h =
-    let none : slice_get (items_list js) n ≡ None = no_child e k n (array s js) (subst (λ o. FoundChild e k (array s js) n o) is h) in
-    let none_next : slice_get (items_list js) (n + 1) ≡ None = ap (λ i. slice_get (items_list js) i) (add-one n) ∙ none_after js n none in
-    subst (λ o. found_child e k (array s js) (n + 1) o None) (sym none_next) tt
-
-pub after_some : (e : Doc) (k n m : ℕ) (s : Span) (js : Items) (here next : Option ℕ) → here ≡ Some m → Follows e m next → FoundChild e k (array s js) n here → FoundChild e k (array s js) (n + 1) next
-after_some e k n m s js here next is f h =
-    let c : (u : Json) × ChildAt e k (array s js) n m u = found_child_is e k n m (array s js) (subst (λ o. FoundChild e k (array s js) n o) is h) in
-    f k n (array s js) c.0 c.1
-
 pub beside_among : (e : Doc) (y n m : ℕ) (t : Json) (r : Span) (ks : Items) (here : Option ℕ) (b : Bool) → here ≡ Some m → FoundChild e y (array r ks) n here → ((u : Json) → At e m u → b ≡ same t u) → b ≡ true → true ≡ is_among t ks
 beside_among e y n m t r ks here b is h says holds =
     let c : (u : Json) × ChildAt e y (array r ks) n m u = found_child_is e y n m (array r ks) (subst (λ o. FoundChild e y (array r ks) n o) is h) in

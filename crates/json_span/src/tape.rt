@@ -1,5 +1,6 @@
 //! A JSON text with its values.
-ghost use Rattle.std.specs.Prelude.{◌≡◌, ◌↔◌, ◌+◌, ◌<◌, ℕ, ◌≤◌, List, length, encode_utf8_all, IsTrue, IfOk, MatchOption, MatchResult, Err, None};
+ghost use Rattle.std.specs.Prelude.{◌≡◌, ◌↔◌, ◌+◌, ◌<◌, ℕ, ◌≤◌, List, length, encode_utf8_all, IsTrue, IfOk, MatchOption, MatchResult, Option, Err, None};
+ghost use Rattle.std.specs.Option.{option_and_then, option_map};
 ghost use Rattle.std.specs.Str.{chars};
 ghost use Rattle.json_text.specs.declared.span.Span.{Span};
 ghost use Rattle.json_text.specs.Json.{Json, string, IsText, depth, span_of};
@@ -133,6 +134,29 @@ impl<'a> Tape<'a> {
         ensures inside { MatchOption result (Unit {0}) (λ member. member < length self.now.nodes) }
     {
         self.values().member(node, name)
+    }
+
+    /// The number, where it is that of a value.
+    pub fn within(&self, node: Option<u32>) -> Option<u32>
+        ensures same { (o : Option Json) → Found self.now o node → result ≡ node }
+        ensures inside { MatchOption result (Unit {0}) (λ n. n < length self.now.nodes) }
+    {
+        self.values().within(node)
+    }
+
+    /// What a value is, where it is there.
+    pub fn maybe_kind(&self, node: Option<u32>) -> Option<Kind>
+        ensures { (o : Option Json) → Found self.now o node → result ≡ option_map kind_of o }
+    {
+        self.values().maybe_kind(node)
+    }
+
+    /// The value of the last member of this name, where the value is there and an object.
+    pub fn maybe_member(&self, node: Option<u32>, name: &str) -> Option<u32>
+        ensures member { (o : Option Json) → Found self.now o node → Found self.now (option_and_then (named_in (chars name.now)) o) result }
+        ensures inside { MatchOption result (Unit {0}) (λ member. member < length self.now.nodes) }
+    {
+        self.values().maybe_member(node, name)
     }
 
     /// The first item of an array, or the value of the first member of an object.

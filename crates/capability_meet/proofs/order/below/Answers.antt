@@ -6,4 +6,4 @@ use Rattle.capability_meet.proofs.order.below.Goals as goal
 
 pub returns-then-same_bytes : goal.returns-then-same_bytes
 returns-then-same_bytes c = λ t u a b.
-    bares_below t u c.same_bytes.result (c.same_bytes.ensures t u (subst (λ (d : Doc). At d c.args.x t) (sym c.values_of-left.ensures) a) (subst (λ (d : Doc). At d c.args.y u) (sym c.values_of-right.ensures) b) c.if-same_bytes.true) c.if-same_bytes.true
+    bares_below t u c.same_bytes.result (c.same_bytes.ensures.says t u (subst (λ (d : Doc). At d c.args.x t) (sym c.values-left.ensures.same) a) (subst (λ (d : Doc). At d c.args.y u) (sym c.values-right.ensures.same) b) c.if-same_bytes.true) c.if-same_bytes.true

@@ -18,7 +18,7 @@ loop-next-preserved c = (
   items_go (doc_of c.args.left) c.args.node (λ ks. (r : Span) × At (doc_of c.args.right) c.args.other (array r ks)) (λ ks js. items_below js ks) (λ ks js. items_below js ks) (λ ks js. items_below js ks) c.loop-next.next c.next-next.result c.in-Some.item c.loop-next.invariant.0 c.in-Some.is
       (λ k n t u a. c.next-next.ensures.next k n t u a) c.next-next.ensures.inside
       (λ ks k u rest m. let p = c.loop-next.invariant.1.place k.0 ks k.1 in ap (λ v. v && items_below rest ks) (sym (c.is_beside_or_among.ensures u k.0 ks p.0 m k.1 p.1) ∙ c.if-not-is_beside_or_among.false)),
-  some_next (doc_of c.args.right) c.args.other c.loop-next.beside c.next_after-beside.result c.loop-next.invariant.1 c.next_after-beside.ensures.next c.next_after-beside.ensures.inside,
+  some_next (doc_of c.args.right) c.args.other c.loop-next.beside c.maybe_next-beside.result c.loop-next.invariant.1 (λ k n s js. c.maybe_next-beside.ensures.next k n (array s js)) c.maybe_next-beside.ensures.inside,
 )
 
 pub returns : goal.returns
