@@ -23,9 +23,6 @@ use Rattle.doc_text.specs.Changes.{both, coordinate, position_of, position_in, r
 use Rattle.doc_text.specs.Found.{Gives}
 use Rattle.doc_text.specs.Numbers.{unsigned}
 
-pub same_doc : (doc : Doc) (bs : List ℕ) (ns : List Node) → bs ≡ doc.bytes → ns ≡ doc.nodes → ◌≡◌ {A = Doc} (record { bytes = bs; nodes = ns }) doc
-same_doc doc bs ns e f = ap₂ (λ b n. record { bytes = b; nodes = n }) e f
-
 -- the characters of the names
 
 line_chars : chars (codes "line") ≡ codes "line"

@@ -11,7 +11,6 @@ use crate::change::{ContentChange, Extent, Position, Range};
 use crate::doc_text::DocText;
 use crate::fault::ChangeFault;
 use crate::number::unsigned;
-use json_nodes::{bytes_in, string_in};
 use json_span::Tape;
 use json_text::Kind;
 use json_token::decode;
@@ -24,7 +23,7 @@ fn coordinate(tape: &Tape, position: u32, name: &str) -> Option<u32>
 {
     let node = tape.member(position, name)?;
     match tape.kind(node) {
-        Kind::Number => unsigned(bytes_in(tape.bytes(), tape.nodes(), node)),
+        Kind::Number => unsigned(tape.values().bytes(node)),
         _ => None,
     }
 }
@@ -77,7 +76,7 @@ fn string_text(alloc: Global, tape: &Tape, node: u32) -> Result<DocText, ChangeF
 {
     match tape.kind(node) {
         Kind::Text => {
-            let decoded = decode(alloc, string_in(tape.bytes(), tape.nodes(), node))?;
+            let decoded = decode(alloc, tape.values().string(node))?;
             DocText::from_utf8(decoded)
         }
         _ => Err(ChangeFault::BadShape),

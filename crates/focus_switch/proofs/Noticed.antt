@@ -18,9 +18,6 @@ use Rattle.focus_switch.specs.declared.notice.Change.{Change}
 use Rattle.document_model.specs.Notices.{did_change, did_change_of, integer_text, uri_in, version_in, changes_in, new_version}
 use Rattle.focus_switch.specs.Noted.{FoundChange, made}
 
-pub same_doc : (doc : Doc) (bs : List ℕ) (ns : List Node) → bs ≡ doc.bytes → ns ≡ doc.nodes → ◌≡◌ {A = Doc} (record { bytes = bs; nodes = ns }) doc
-same_doc doc bs ns e f = ap₂ (λ b n. record { bytes = b; nodes = n }) e f
-
 -- the characters of the names
 
 pub params_chars : chars (codes "params") ≡ codes "params"

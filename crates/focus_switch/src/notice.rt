@@ -12,7 +12,7 @@ ghost use Rattle.doc_text.specs.Changes.{string_text};
 ghost use Rattle.document_model.specs.Notices.{did_change, document_in, edits_in, integer_text, with_version};
 ghost use Rattle.focus_switch.specs.Noted.{FoundChange, made};
 
-use json_nodes::{Put, bytes_in};
+use json_nodes::Put;
 use json_span::Tape;
 use json_text::{Change as BodyChange, Kind, splice};
 use message_body::{Body, Memory};
@@ -28,18 +28,6 @@ pub struct Change {
     pub version: Body,
     /// The node of the list of changes.
     pub changes: u32,
-}
-
-// The member of a value that may be there.
-fn member(tape: &Tape, node: Option<u32>, name: &str) -> Option<u32>
-    requires { MatchOption node (Unit {0}) (λ n. n < length tape.now.nodes) }
-    ensures found { (o : Option Json) → Found tape.now o node → Found tape.now (option_and_then (named_in (chars name.now)) o) result }
-    ensures inside { MatchOption result (Unit {0}) (λ n. n < length tape.now.nodes) }
-{
-    match node {
-        Some(node) => tape.member(node, name),
-        None => None,
-    }
 }
 
 // The characters of a value that may be there, where it is a string, in UTF-8.
@@ -76,7 +64,7 @@ fn integer(alloc: Global, tape: &Tape, node: Option<u32>) -> Result<Option<Body>
 {
     let Some(node) = node else { return Ok(None) };
     match tape.kind(node) {
-        Kind::Number => whole(alloc, bytes_in(tape.bytes(), tape.nodes(), node)),
+        Kind::Number => whole(alloc, tape.values().bytes(node)),
         _ => Ok(None),
     }
 }
@@ -89,7 +77,7 @@ fn document(tape: &Tape) -> (Option<u32>, Option<u32>)
     ensures document_inside { MatchOption result.1 (Unit {0}) (λ n. n < length tape.now.nodes) }
 {
     let params = tape.member(tape.root(), "params");
-    (params, member(tape, params, "textDocument"))
+    (params, tape.maybe_member(params, "textDocument"))
 }
 
 /// What a message says as a didChange; nothing where it has not the shape of one.
@@ -98,9 +86,9 @@ pub fn did_change(alloc: Global, tape: &Tape) -> Result<Option<Change>, Memory>
     ensures inside { IfOk result (λ change. MatchOption change (Unit {0}) (λ c. c.changes < length tape.now.nodes)) }
 {
     let (params, document) = document(tape);
-    let changes = member(tape, params, "contentChanges");
-    let uri = string(alloc, tape, member(tape, document, "uri"))?;
-    let version = integer(alloc, tape, member(tape, document, "version"))?;
+    let changes = tape.maybe_member(params, "contentChanges");
+    let uri = string(alloc, tape, tape.maybe_member(document, "uri"))?;
+    let version = integer(alloc, tape, tape.maybe_member(document, "version"))?;
     Ok(change_of(uri, version, changes))
 }
 

@@ -70,9 +70,25 @@ fn finds_the_last_member(rt: HostRuntime) {
 }
 
 #[test]
+fn looks_up_absent_values(rt: HostRuntime) {
+    let nodes = nodes();
+    let values = values_of(&nodes);
+    assert_eq!(rt; values.within(Some(5)), None);
+    assert!(rt; matches!(values.maybe_kind(Some(1)), Some(Kind::Array)));
+    assert!(rt; values.maybe_kind(None).is_none());
+    assert_eq!(rt; values.maybe_member(Some(0), "a"), Some(4));
+    assert_eq!(rt; values.maybe_member(None, "a"), None);
+    assert_eq!(rt; values.maybe_next(Some(1)), Some(4));
+    assert_eq!(rt; values.maybe_next(None), None);
+}
+
+#[test]
 fn compares_values(rt: HostRuntime) {
     let nodes = nodes();
     let values = values_of(&nodes);
     assert!(rt; values.same(0, values, 0));
     assert!(rt; !values.same(1, values, 4));
+    assert!(rt; values.same_bytes(1, values, 1));
+    assert!(rt; values.same_names(0, values, 0));
+    assert_eq!(rt; part(TEXT, 20, 99), b"\":{}}".as_slice());
 }

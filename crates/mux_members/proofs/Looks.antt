@@ -1,6 +1,7 @@
 -- What the look-ups over a text find.
 use Rattle.std.proofs.Common.{◌≡◌, ℕ, ◌≤◌, Bool, true, List, length, IsTrue, ◌↔◌, sym, ◌∙◌, ap, subst, arith}
 use Rattle.std.specs.Prelude.{Option, Some, None, bytes_eq}
+use Rattle.std.specs.Option.{option_and_then}
 use Rattle.std.specs.Str.{chars}
 use Rattle.json_text.specs.declared.span.Span.{Span}
 use Rattle.json_text.specs.declared.kind.Kind.{Kind}
@@ -13,25 +14,14 @@ use Rattle.json_nodes.specs.Doc.{Doc}
 use Rattle.json_nodes.specs.Nodes.{kind_of}
 use Rattle.json_nodes.proofs.Sames.{number_of}
 use Rattle.rpc_message.specs.Message.{is_integer, is_integer_value}
-use Rattle.json_nodes.proofs.Bounds.{at_inside}
 use Rattle.json_nodes.proofs.Spelling.{named_so}
 use Rattle.event_model.specs.Members.{named_of}
 use Rattle.mux_members.specs.Finds.{is_ascii}
 use Rattle.mux_members.proofs.Encoded.{ascii_chars}
 
-pub outside : (doc : Doc) (o : Option Json) (place : Option ℕ) (n k : ℕ) → place ≡ Some n → k ≡ length doc.nodes → k ≤ n → Found doc o place → ⊥
-outside doc o place n k e f g h = go o (subst (λ z. Found doc o z) e h)
-  where
-    go : (o : Option Json) → Found doc o (Some n) → ⊥
-    go (Some t) a = absurd (omega (arith, at_inside a))
-    go None a = a
-
-pub member_found : (doc : Doc) (o : Option Json) (place answer : Option ℕ) (n : ℕ) (name : List ℕ) → is_ascii name ≡ true → Some n ≡ place → ((t : Json) → At doc n t → Found doc (named_in (chars name) t) answer) → Found doc o place → Found doc (named_of name o) answer
-member_found doc o place answer n name ascii same h f = go o (subst (λ z. Found doc o z) (sym same) f)
-  where
-    go : (o : Option Json) → Found doc o (Some n) → Found doc (named_of name o) answer
-    go (Some t) a = subst (λ z. Found doc (named_in z t) answer) (ascii_chars name ascii) (h t a)
-    go None a = absurd a
+pub member_found : (doc : Doc) (o : Option Json) (answer : Option ℕ) (name : List ℕ) → is_ascii name ≡ true → Found doc (option_and_then (named_in (chars name)) o) answer → Found doc (named_of name o) answer
+member_found doc (Some t) answer name ascii h = subst (λ z. Found doc (named_in z t) answer) (ascii_chars name ascii) h
+member_found doc None answer name ascii h = h
 
 pub spells_name : (doc d : Doc) (place : Option ℕ) (n : ℕ) (s : Span) (cs name raw : List ℕ) (b : Bool) → is_ascii name ≡ true → Some n ≡ place → d ≡ doc → ((s : Span) (cs : List ℕ) → At d n (string s cs) → SpellsCharacters cs raw)
     → ((cs : List ℕ) → SpellsCharacters cs raw → IsTrue b ↔ (cs ≡ chars name)) → Found doc (Some (string s cs)) place → b ≡ bytes_eq name cs

@@ -1,52 +1,29 @@
 //! The values of a text that may be there: what they are, their members and their items.
 ghost use Rattle.std.specs.Prelude.{◌≡◌, ◌<◌, ℕ, List, ◌∷◌, length, bytes_eq, true, MatchOption, Option, Some};
-ghost use Rattle.std.specs.Option.{option_map};
 ghost use Rattle.json_text.specs.declared.span.Span.{Span};
 ghost use Rattle.json_text.specs.Json.{Json, span_of, string, value};
 ghost use Rattle.json_nodes.specs.At.{At, Found};
-ghost use Rattle.json_nodes.specs.Nodes.{kind_of};
 ghost use Rattle.rpc_message.specs.Message.{is_integer_value, is_string_value};
 ghost use Rattle.event_model.specs.Members.{listed, named_of};
 ghost use Rattle.mux_members.specs.Finds.{Rest, is_array_value, is_ascii, is_object_value, values_of};
 
-use json_nodes::{bytes_in, string_in};
 use json_span::Tape;
 use json_text::Kind;
 use json_token::spells_text;
-
-/// The number, where it is that of a value.
-pub fn within(tape: &Tape, node: Option<u32>) -> Option<u32>
-    ensures same { (o : Option Json) → Found tape.now o node → result ≡ node }
-    ensures inside { MatchOption result (Unit {0}) (λ n. n < length tape.now.nodes) }
-{
-    match node {
-        Some(number) if (number as usize) < tape.nodes().len() => node,
-        _ => None,
-    }
-}
-
-// What a value is, where it is there.
-fn kind(tape: &Tape, node: Option<u32>) -> Option<Kind>
-    ensures { (o : Option Json) → Found tape.now o node → result ≡ option_map kind_of o }
-{
-    let node = within(tape, node)?;
-    Some(tape.kind(node))
-}
 
 /// The value of the last member of this name, where the value is there and an object.
 pub fn member(tape: &Tape, node: Option<u32>, name: &str) -> Option<u32>
     ensures { is_ascii name.now ≡ true → (o : Option Json) → Found tape.now o node → Found tape.now (named_of name.now o) result }
 {
-    let node = within(tape, node)?;
-    tape.member(node, name)
+    tape.maybe_member(node, name)
 }
 
 /// Whether a string has the characters of a name.
 pub fn spells(tape: &Tape, node: Option<u32>, name: &str) -> bool
     ensures { is_ascii name.now ≡ true → (s : Span) (cs : List ℕ) → Found tape.now (Some (string s cs)) node → result ≡ bytes_eq name.now cs }
 {
-    match within(tape, node) {
-        Some(node) => spells_text(string_in(tape.bytes(), tape.nodes(), node), name),
+    match tape.within(node) {
+        Some(node) => spells_text(tape.values().string(node), name),
         None => false,
     }
 }
@@ -55,8 +32,8 @@ pub fn spells(tape: &Tape, node: Option<u32>, name: &str) -> bool
 pub fn bytes<'a>(tape: &'a Tape, node: Option<u32>) -> &'a [u8]
     ensures { (t : Json) → Found tape.now (Some t) node → value t (span_of t).from result.now }
 {
-    match within(tape, node) {
-        Some(node) => bytes_in(tape.bytes(), tape.nodes(), node),
+    match tape.within(node) {
+        Some(node) => tape.values().bytes(node),
         None => &[],
     }
 }
@@ -65,11 +42,11 @@ pub fn bytes<'a>(tape: &'a Tape, node: Option<u32>) -> &'a [u8]
 pub fn is_integer(tape: &Tape, node: Option<u32>) -> bool
     ensures { (o : Option Json) → Found tape.now o node → result ≡ is_integer_value o }
 {
-    let Some(node) = within(tape, node) else {
+    let Some(node) = tape.within(node) else {
         return false
     };
     match tape.kind(node) {
-        Kind::Number => rpc_message::is_integer(bytes_in(tape.bytes(), tape.nodes(), node)),
+        Kind::Number => rpc_message::is_integer(tape.values().bytes(node)),
         _ => false,
     }
 }
@@ -78,21 +55,21 @@ pub fn is_integer(tape: &Tape, node: Option<u32>) -> bool
 pub fn is_text(tape: &Tape, node: Option<u32>) -> bool
     ensures { (o : Option Json) → Found tape.now o node → result ≡ is_string_value o }
 {
-    matches!(kind(tape, node), Some(Kind::Text))
+    matches!(tape.maybe_kind(node), Some(Kind::Text))
 }
 
 /// Whether a value is there and an array.
 pub fn is_array(tape: &Tape, node: Option<u32>) -> bool
     ensures { (o : Option Json) → Found tape.now o node → result ≡ is_array_value o }
 {
-    matches!(kind(tape, node), Some(Kind::Array))
+    matches!(tape.maybe_kind(node), Some(Kind::Array))
 }
 
 /// Whether a value is there and an object.
 pub fn is_object(tape: &Tape, node: Option<u32>) -> bool
     ensures { (o : Option Json) → Found tape.now o node → result ≡ is_object_value o }
 {
-    matches!(kind(tape, node), Some(Kind::Object))
+    matches!(tape.maybe_kind(node), Some(Kind::Object))
 }
 
 /// The first item of an array, or the value of the first member of an object.
@@ -100,7 +77,7 @@ pub fn first_value(tape: &Tape, node: Option<u32>) -> Option<u32>
     ensures rest { (o : Option Json) → Found tape.now o node → Rest tape.now result (values_of o) }
     ensures inside { MatchOption result (Unit {0}) (λ n. n < length tape.now.nodes) }
 {
-    let node = within(tape, node)?;
+    let node = tape.within(node)?;
     tape.first(node)
 }
 

@@ -10,7 +10,7 @@ ghost use Rattle.mux_members.specs.Finds.{is_ascii};
 ghost use Rattle.mux_members.specs.Notices.{AreTexts, IsTextIf, Says, is_of_documents};
 
 use crate::envelope::{notification_method, notification_params};
-use crate::look::{bytes, is_integer, is_text, member, spells, within};
+use crate::look::{bytes, is_integer, is_text, member, spells};
 use json_span::Tape;
 use message_body::{Body, Memory};
 use rpc_message::Message;
@@ -40,7 +40,7 @@ fn string(alloc: Global, tape: &Tape, node: Option<u32>, name: &str) -> Result<O
     ensures utf8 { is_ascii name.now ≡ true → (o : Option Json) → Found tape.now o node → IfOk result (λ text. IsTextIf text) }
 {
     let member = member(tape, node, name);
-    match within(tape, member) {
+    match tape.within(member) {
         Some(inside) if is_text(tape, member) => {
             let text = tape.text(alloc, inside)?;
             Ok(Some(text))

@@ -9,7 +9,7 @@ ghost use Rattle.event_model.specs.Members.{bytes_if, first_uri, listed, named_o
 ghost use Rattle.mux_model.specs.Rows.{initialize_for};
 ghost use Rattle.mux_members.specs.Finds.{FoundText, is_ascii};
 
-use crate::look::{first_item, is_text, member, next_value, within};
+use crate::look::{first_item, is_text, member, next_value};
 use json_span::{Tape, quote};
 use message_body::{Body, Memory};
 use rpc_message::{Message, initialize};
@@ -64,7 +64,7 @@ fn quoted(alloc: Global, text: &[u8]) -> Result<Body, Memory>
 fn string_or_null(alloc: Global, tape: &Tape, node: Option<u32>) -> Result<Body, Memory>
     ensures { (o : Option (List ℕ)) → FoundText tape.now o node → IfOk result (λ text. text ≡ string_or_null o) }
 {
-    match within(tape, node) {
+    match tape.within(node) {
         Some(node) => {
             let text = tape.text(alloc, node)?;
             quoted(alloc, text.bytes())
@@ -77,7 +77,7 @@ fn string_or_null(alloc: Global, tape: &Tape, node: Option<u32>) -> Result<Body,
 fn options<'a>(tape: &'a Tape, params: Option<u32>) -> Option<&'a [u8]>
     ensures { (o : Option Json) → Found tape.now o params → option_map (λ b. b.now) result ≡ bytes_if (codes "initializationOptions") o tape.now.bytes }
 {
-    let node = within(tape, member(tape, params, "initializationOptions"))?;
+    let node = tape.within(member(tape, params, "initializationOptions"))?;
     let span = tape.span(node);
     Some(&tape.bytes()[span.from..span.to])
 }

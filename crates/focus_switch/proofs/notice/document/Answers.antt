@@ -11,4 +11,4 @@ returns-clause-params c = λ t a. subst (λ n. Found c.args.tape.now (named_in n
 pub returns-clause-document : goal.returns-clause-document
 returns-clause-document c = λ t a.
     let params : Found c.args.tape.now (named_in (codes "params") t) c.member-params.result = subst (λ n. Found c.args.tape.now (named_in n t) c.member-params.result) params_chars (c.member-params.ensures.member t (subst (λ k. At c.args.tape.now k t) (sym c.root.ensures.first) a)) in
-    subst (λ n. Found c.args.tape.now (option_and_then (named_in n) (named_in (codes "params") t)) c.member.result) document_chars (c.member.ensures.found (named_in (codes "params") t) params)
+    subst (λ n. Found c.args.tape.now (option_and_then (named_in n) (named_in (codes "params") t)) c.maybe_member.result) document_chars (c.maybe_member.ensures.member (named_in (codes "params") t) params)
