@@ -6,7 +6,7 @@ ghost use Rattle.capability_meet.specs.Answers.{Answers};
 ghost use Rattle.capability_meet.specs.DeclaredTree.{declared_of};
 ghost use Rattle.capability_meet.specs.MeetTree.{meet_of};
 ghost use Rattle.capability_meet.specs.OnePass.{met_at, whole_at};
-ghost use Rattle.json_nodes.specs.Values.{doc_of};
+ghost use Rattle.json_nodes.specs.Values.{OfValues, doc_of};
 
 use crate::fault::{CapFault, read};
 use crate::parts::write;
@@ -94,7 +94,7 @@ fn write_whole(
 ) -> Result<Vec<u8>, Memory>
     requires node { node < length left.nodes.now }
     requires other { other < length right.nodes.now }
-    ensures { (t u : Json) → At (doc_of left.entry) node t → At (doc_of right.entry) other u → IfOk result (λ out. out.items ≡ whole_at (doc_of left.entry).bytes spot t u) }
+    ensures { OfValues left.entry node right.entry other (λ t u. IfOk result (λ out. out.items ≡ whole_at (doc_of left.entry).bytes spot t u)) }
 {
     let mut out = Vec::new(alloc);
     if meets(left, node, right, other) {

@@ -9,7 +9,7 @@ ghost use Rattle.json_nodes.specs.InStep.{in_step};
 ghost use Rattle.json_nodes.specs.Same.{drop_members, has_name, if_some};
 ghost use Rattle.json_nodes.specs.Texts.{names};
 ghost use Rattle.capability_meet.specs.Order.{below, is_among, is_least, items_below, members_below};
-ghost use Rattle.json_nodes.specs.Values.{doc_of};
+ghost use Rattle.json_nodes.specs.Values.{OfArrays, OfObjects, doc_of};
 
 use crate::kinds::{Pair, pair_of};
 use json_nodes::Values;
@@ -53,7 +53,7 @@ fn values_below(left: Values, node: u32, right: Values, other: u32) -> bool
 fn items_below(left: Values, node: u32, right: Values, other: u32) -> bool
     requires node { node < length left.nodes.now }
     requires other { other < length right.nodes.now }
-    ensures { (s r : Span) (js ks : Items) → At (doc_of left.entry) node (array s js) → At (doc_of right.entry) other (array r ks) → result ≡ items_below js ks }
+    ensures { OfArrays left.entry node right.entry other (λ js ks. result ≡ items_below js ks) }
 {
     let mut next = left.first(node);
     let mut beside = right.first(other);
@@ -109,7 +109,7 @@ pub fn is_among(left: Values, node: u32, right: Values, other: u32) -> bool
 fn members_below(left: Values, node: u32, right: Values, other: u32) -> bool
     requires node { node < length left.nodes.now }
     requires other { other < length right.nodes.now }
-    ensures { (s r : Span) (ms ns : Members) → At (doc_of left.entry) node (object s ms) → At (doc_of right.entry) other (object r ns) → result ≡ members_below ms ns }
+    ensures { OfObjects left.entry node right.entry other (λ ms ns. result ≡ members_below ms ns) }
 {
     if left.same_names(node, right, other) {
         members_in_step(left, node, right, other)
@@ -123,7 +123,7 @@ fn members_below(left: Values, node: u32, right: Values, other: u32) -> bool
 fn members_in_step(left: Values, node: u32, right: Values, other: u32) -> bool
     requires node { node < length left.nodes.now }
     requires other { other < length right.nodes.now }
-    ensures { (s r : Span) (ms ns : Members) → At (doc_of left.entry) node (object s ms) → At (doc_of right.entry) other (object r ns) → result ≡ in_step below ms ns }
+    ensures { OfObjects left.entry node right.entry other (λ ms ns. result ≡ in_step below ms ns) }
 {
     let mut next = left.first(node);
     let mut beside = right.first(other);
@@ -155,7 +155,7 @@ fn below_beside(left: Values, member: u32, following: Option<u32>, right: Values
 fn members_by_name(left: Values, node: u32, right: Values, other: u32) -> bool
     requires node { node < length left.nodes.now }
     requires other { other < length right.nodes.now }
-    ensures { (s r : Span) (ms ns : Members) → At (doc_of left.entry) node (object s ms) → At (doc_of right.entry) other (object r ns) → result ≡ members_below ms ns }
+    ensures { OfObjects left.entry node right.entry other (λ ms ns. result ≡ members_below ms ns) }
 {
     let mut next = left.first(node);
     while let Some(member) = next {

@@ -10,7 +10,7 @@ ghost use Rattle.json_nodes.specs.Same.{drop_members, if_some};
 ghost use Rattle.json_nodes.specs.Texts.{member_names};
 ghost use Rattle.capability_meet.specs.Meet.{if_meets, meets};
 ghost use Rattle.capability_meet.specs.OnePass.{twin_at};
-ghost use Rattle.json_nodes.specs.Values.{doc_of};
+ghost use Rattle.json_nodes.specs.Values.{OfValues, doc_of};
 
 use crate::kinds::{Pair, pair_of};
 use crate::spot::{Spot, is_left_out};
@@ -76,7 +76,7 @@ pub fn if_meets(left: Values, node: u32, right: Values, other: u32) -> Option<u3
 pub fn named_meets(left: Values, node: u32, right: Values, other: u32, name: &str) -> bool
     requires node { node < length left.nodes.now }
     requires other { other < length right.nodes.now }
-    ensures { (t u : Json) → At (doc_of left.entry) node t → At (doc_of right.entry) other u → result ≡ if_some (named_in (chars name.now) t) (λ j. if_some (named_in (chars name.now) u) (λ k. meets j k)) }
+    ensures { OfValues left.entry node right.entry other (λ t u. result ≡ if_some (named_in (chars name.now) t) (λ j. if_some (named_in (chars name.now) u) (λ k. meets j k))) }
 {
     let Some(mine) = left.member(node, name) else {
         return false

@@ -11,7 +11,7 @@ ghost use Rattle.capability_meet.specs.declared.spot.Spot.TheVariants as spot;
 ghost use Rattle.capability_meet.specs.Meet.{meets, named_meets};
 ghost use Rattle.capability_meet.specs.OnePass.{items_met, pairs_at, required, text_at};
 ghost use Rattle.capability_meet.specs.Parts.{listed};
-ghost use Rattle.json_nodes.specs.Values.{doc_of};
+ghost use Rattle.json_nodes.specs.Values.{OfArrays, OfObjects, OfValues, doc_of};
 
 use crate::compact::{write_compact, write_name};
 use crate::kinds::{Pair, pair_of};
@@ -34,7 +34,7 @@ pub fn write_met(
 ) -> Result<(), Memory>
     requires node { node < length left.nodes.now }
     requires other { other < length right.nodes.now }
-    ensures { (t u : Json) → At (doc_of left.entry) node t → At (doc_of right.entry) other u → meets t u ≡ true → OnOk result (out.new.items ≡ out.old.items ++ text_at (doc_of left.entry).bytes spot t u) }
+    ensures { OfValues left.entry node right.entry other (λ t u. meets t u ≡ true → OnOk result (out.new.items ≡ out.old.items ++ text_at (doc_of left.entry).bytes spot t u)) }
 {
     match pair_of(left.kind(node), right.kind(other)) {
         Pair::Least => Ok(()),
@@ -70,7 +70,7 @@ fn write_items(
 ) -> Result<(), Memory>
     requires node { node < length left.nodes.now }
     requires other { other < length right.nodes.now }
-    ensures { (s r : Span) (js ks : Items) → At (doc_of left.entry) node (array s js) → At (doc_of right.entry) other (array r ks) → OnOk result (out.new.items ≡ out.old.items ++ listed false (items_met (doc_of left.entry).bytes js ks)) }
+    ensures { OfArrays left.entry node right.entry other (λ js ks. OnOk result (out.new.items ≡ out.old.items ++ listed false (items_met (doc_of left.entry).bytes js ks))) }
 {
     let mut started = false;
     let mut next = left.first(node);
@@ -184,7 +184,7 @@ fn write_lacking(
 ) -> Result<(), Memory>
     requires node { node < length left.nodes.now }
     requires other { other < length right.nodes.now }
-    ensures { (s r : Span) (ms ns : Members) → At (doc_of left.entry) node (object s ms) → At (doc_of right.entry) other (object r ns) → OnOk result (out.new.items ≡ out.old.items ++ listed started (required spot ms ns)) }
+    ensures { OfObjects left.entry node right.entry other (λ ms ns. OnOk result (out.new.items ≡ out.old.items ++ listed started (required spot ms ns))) }
 {
     match spot {
         Spot::ShowDocument => {
@@ -228,7 +228,7 @@ fn write_required(
 ) -> Result<(), Memory>
     requires node { node < length left.nodes.now }
     requires other { other < length right.nodes.now }
-    ensures { (s r : Span) (ms ns : Members) → At (doc_of left.entry) node (object s ms) → At (doc_of right.entry) other (object r ns) → OnOk result (out.new.items ≡ out.old.items ++ listed started (if named_meets (chars name.now) ms ns then [] else (pair.now ∷ []))) }
+    ensures { OfObjects left.entry node right.entry other (λ ms ns. OnOk result (out.new.items ≡ out.old.items ++ listed started (if named_meets (chars name.now) ms ns then [] else (pair.now ∷ [])))) }
 {
     if named_meets(left, node, right, other, name) {
         return Ok(());

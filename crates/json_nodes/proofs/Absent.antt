@@ -4,7 +4,7 @@ use Rattle.std.specs.Prelude.{Option, Some, None}
 use Rattle.std.specs.List.{slice_get}
 use Rattle.json_text.specs.Json.{Json}
 use Rattle.json_text.specs.Named.{children}
-use Rattle.json_nodes.specs.At.{At, ChildAt, Found, FoundChild, found_child}
+use Rattle.json_nodes.specs.At.{ChildAt, Found, FoundChild, found_child}
 use Rattle.json_nodes.specs.Doc.{Doc}
 use Rattle.json_nodes.proofs.Bounds.{at_inside}
 use Rattle.json_nodes.proofs.Members.{Follows, found_child_is, no_child}

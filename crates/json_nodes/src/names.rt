@@ -2,7 +2,7 @@ ghost use Rattle.json_nodes.specs.At.{At, ChildAt, Found, FoundChild};
 ghost use Rattle.json_nodes.specs.InStep.{same_names};
 ghost use Rattle.json_nodes.specs.Same.{drop_members, has_name};
 ghost use Rattle.json_nodes.specs.Texts.{names};
-ghost use Rattle.json_nodes.specs.Values.{doc_of};
+ghost use Rattle.json_nodes.specs.Values.{OfObjects, doc_of};
 ghost use Rattle.json_text.specs.declared.span.Span.{Span};
 ghost use Rattle.json_text.specs.Json.{Json, Members, object};
 ghost use Rattle.json_text.specs.Named.{named};
@@ -18,7 +18,7 @@ impl<'a> Values<'a> {
     pub fn same_names(self, node: u32, right: Values, other: u32) -> bool
         requires node { node < length self.nodes.now }
         requires other { other < length right.nodes.now }
-        ensures { (s r : Span) (ms ns : Members) → At (doc_of self.entry) node (object s ms) → At (doc_of right.entry) other (object r ns) → result ≡ same_names ms ns }
+        ensures { OfObjects self.entry node right.entry other (λ ms ns. result ≡ same_names ms ns) }
     {
         let mut next = self.first(node);
         let mut beside = right.first(other);

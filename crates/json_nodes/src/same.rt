@@ -2,7 +2,7 @@ ghost use Rattle.json_nodes.specs.At.{At, ChildAt, FoundChild};
 ghost use Rattle.json_nodes.specs.InStep.{in_step};
 ghost use Rattle.json_nodes.specs.Same.{drop_members, has_name, if_some, names_within, same, same_items, same_kind, same_members};
 ghost use Rattle.json_nodes.specs.SameTree.{Same};
-ghost use Rattle.json_nodes.specs.Values.{bytes_at, doc_of};
+ghost use Rattle.json_nodes.specs.Values.{OfArrays, OfObjects, OfValues, bytes_at, doc_of};
 ghost use Rattle.json_nodes.specs.Texts.{names};
 ghost use Rattle.json_text.specs.Bare.{bare};
 ghost use Rattle.json_text.specs.declared.span.Span.{Span};
@@ -34,7 +34,7 @@ impl<'a> Values<'a> {
     pub fn same_bytes(self, node: u32, right: Values, other: u32) -> bool
         requires node { node < length self.nodes.now }
         requires other { other < length right.nodes.now }
-        ensures test { (t u : Json) → At (doc_of self.entry) node t → At (doc_of right.entry) other u → result ≡ bytes_eq (bytes_at (doc_of self.entry) t) (bytes_at (doc_of right.entry) u) }
+        ensures test { OfValues self.entry node right.entry other (λ t u. result ≡ bytes_eq (bytes_at (doc_of self.entry) t) (bytes_at (doc_of right.entry) u)) }
         ensures says { (t u : Json) → At (doc_of self.entry) node t → At (doc_of right.entry) other u → result ≡ true → bare t ≡ bare u }
     {
         self.bytes(node) == right.bytes(other)
@@ -79,7 +79,7 @@ fn same_objects(left: Values, node: u32, right: Values, other: u32) -> bool
 fn same_in_step(left: Values, node: u32, right: Values, other: u32) -> bool
     requires node { node < length left.nodes.now }
     requires other { other < length right.nodes.now }
-    ensures { (s r : Span) (ms ns : Members) → At (doc_of left.entry) node (object s ms) → At (doc_of right.entry) other (object r ns) → result ≡ in_step same ms ns }
+    ensures { OfObjects left.entry node right.entry other (λ ms ns. result ≡ in_step same ms ns) }
 {
     let mut next = left.first(node);
     let mut beside = right.first(other);
@@ -111,7 +111,7 @@ fn same_beside(left: Values, member: u32, following: Option<u32>, right: Values,
 fn same_items(left: Values, node: u32, right: Values, other: u32) -> bool
     requires node { node < length left.nodes.now }
     requires other { other < length right.nodes.now }
-    ensures { (s r : Span) (js ks : Items) → At (doc_of left.entry) node (array s js) → At (doc_of right.entry) other (array r ks) → result ≡ same_items js ks }
+    ensures { OfArrays left.entry node right.entry other (λ js ks. result ≡ same_items js ks) }
 {
     let mut next = left.first(node);
     let mut beside = right.first(other);
@@ -131,7 +131,7 @@ fn same_items(left: Values, node: u32, right: Values, other: u32) -> bool
 fn same_members(left: Values, node: u32, right: Values, other: u32) -> bool
     requires node { node < length left.nodes.now }
     requires other { other < length right.nodes.now }
-    ensures { (s r : Span) (ms ns : Members) → At (doc_of left.entry) node (object s ms) → At (doc_of right.entry) other (object r ns) → result ≡ same_members ms ns }
+    ensures { OfObjects left.entry node right.entry other (λ ms ns. result ≡ same_members ms ns) }
 {
     let mut next = left.first(node);
     while let Some(member) = next {
@@ -166,7 +166,7 @@ fn same_member(left: Values, member: u32, following: Option<u32>, right: Values,
 fn names_within(left: Values, node: u32, right: Values, other: u32) -> bool
     requires node { node < length left.nodes.now }
     requires other { other < length right.nodes.now }
-    ensures { (s r : Span) (ms ns : Members) → At (doc_of left.entry) node (object s ms) → At (doc_of right.entry) other (object r ns) → result ≡ names_within ms ns }
+    ensures { OfObjects left.entry node right.entry other (λ ms ns. result ≡ names_within ms ns) }
 {
     let mut next = left.first(node);
     while let Some(member) = next {

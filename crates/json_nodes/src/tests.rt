@@ -28,14 +28,13 @@ fn nodes() -> [Node; 5] {
     ]
 }
 
-fn values_of(nodes: &[Node]) -> Values {
-    Values { bytes: TEXT, nodes }
-}
-
 #[test]
 fn walks_the_values(rt: HostRuntime) {
     let nodes = nodes();
-    let values = values_of(&nodes);
+    let values = Values {
+        bytes: TEXT,
+        nodes: &nodes,
+    };
     assert!(rt; matches!(values.kind(0), Kind::Object));
     assert!(rt; matches!(values.kind(3), Kind::Text));
     assert_eq!(rt; values.first(0), Some(1));
@@ -50,7 +49,10 @@ fn walks_the_values(rt: HostRuntime) {
 #[test]
 fn reads_the_bytes(rt: HostRuntime) {
     let nodes = nodes();
-    let values = values_of(&nodes);
+    let values = Values {
+        bytes: TEXT,
+        nodes: &nodes,
+    };
     let span = values.span(1);
     assert_eq!(rt; (span.from, span.to), (5, 17));
     assert_eq!(rt; values.bytes(2), b"1".as_slice());
@@ -63,7 +65,10 @@ fn reads_the_bytes(rt: HostRuntime) {
 #[test]
 fn finds_the_last_member(rt: HostRuntime) {
     let nodes = nodes();
-    let values = values_of(&nodes);
+    let values = Values {
+        bytes: TEXT,
+        nodes: &nodes,
+    };
     assert_eq!(rt; values.member(0, "a"), Some(4));
     assert_eq!(rt; values.member(0, "b"), None);
     assert_eq!(rt; values.member(1, "a"), None);
@@ -72,7 +77,10 @@ fn finds_the_last_member(rt: HostRuntime) {
 #[test]
 fn looks_up_absent_values(rt: HostRuntime) {
     let nodes = nodes();
-    let values = values_of(&nodes);
+    let values = Values {
+        bytes: TEXT,
+        nodes: &nodes,
+    };
     assert_eq!(rt; values.within(Some(5)), None);
     assert!(rt; matches!(values.maybe_kind(Some(1)), Some(Kind::Array)));
     assert!(rt; values.maybe_kind(None).is_none());
@@ -85,7 +93,10 @@ fn looks_up_absent_values(rt: HostRuntime) {
 #[test]
 fn compares_values(rt: HostRuntime) {
     let nodes = nodes();
-    let values = values_of(&nodes);
+    let values = Values {
+        bytes: TEXT,
+        nodes: &nodes,
+    };
     assert!(rt; values.same(0, values, 0));
     assert!(rt; !values.same(1, values, 4));
     assert!(rt; values.same_bytes(1, values, 1));
