@@ -8,7 +8,6 @@ use Rattle.json_text.specs.Tree.{tree_of}
 use Rattle.json_text.proofs.Laws.{syntax_none, deep_none, tree_complete, tree_sound}
 use Rattle.json_nodes.specs.At.{At, Found}
 use Rattle.json_nodes.specs.Doc.{Doc, Holds}
-use Rattle.json_nodes.specs.declared.node.Node.{Node}
 use Rattle.json_nodes.proofs.Bounds.{at_inside, root_inside}
 use Rattle.json_nodes.proofs.Numbers.{root_at}
 use Rattle.rpc_message.specs.declared.envelope.Envelope.{Envelope}
@@ -152,9 +151,6 @@ module _ (k : Parsed) (e : Envelope) (same : e ≡ k.envelope) (bytes : List ℕ
 
   pub error_member : (answer : Option ℕ) → error_at e ≡ answer → Found k.doc (error_in (message_of bytes) r.tree) answer
   error_member answer is = subst (λ o. Found k.doc (error_in (message_of bytes) r.tree) o) (ap error_at (sym same) ∙ is) (error_stands k.doc k.envelope (message_of bytes) r.tree r.tells r.members)
-
-pub same_doc : (doc : Doc) (bs : List ℕ) (ns : List Node) → bs ≡ doc.bytes → ns ≡ doc.nodes → ◌≡◌ {A = Doc} (record { bytes = bs; nodes = ns }) doc
-same_doc doc bs ns e f = ap₂ (λ b n. record { bytes = b; nodes = n }) e f
 
 -- what is said of a text with its nodes holds of the body that was read
 pub read_bytes : (m : Parsed) (bytes w cs : List ℕ) (d : Doc) → d ≡ m.doc → IsRead m bytes → ((j : Json) → Holds d j → w ≡ member_bytes (chars cs) d.bytes) → chars cs ≡ cs → w ≡ member_bytes cs bytes
