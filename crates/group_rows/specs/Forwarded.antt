@@ -1,0 +1,94 @@
+-- The requests of editors that were sent on to a start of a server, by their numbers (JSON-RPC 2.0, section 4: an id is the client's own, and its response has it).
+use Rattle.std.specs.Prelude.{ℕ, ◌+◌, Bool, true, false, not, List, [], ◌∷◌, ◌++◌, map, filter, find, fold, codes, nat_eq, bytes_eq, decimal, if◌then◌else◌}
+use Rattle.std.specs.Prelude.{Option, Some, None}
+use Rattle.json_text.specs.Json.{Json, number}
+use Rattle.mux_history.specs.declared.cause.Cause.TheVariants.{FromEditor, FromServer, StartFailed, ServerGone}
+use Rattle.mux_history.specs.declared.out.Out.TheVariants.{ToServer}
+use Rattle.rpc_message.specs.Message.{Message, request, notification, Id, integer, id_bytes}
+use Rattle.event_model.specs.Event.{Event, took, did}
+use Rattle.event_model.specs.Requests.{answered_id, is_own}
+use Rattle.event_model.specs.Members.{named_of}
+
+-- whose request is at work, and the bytes of its id
+pub record Sender : Type 0 where
+  pub editor : ℕ
+  pub id : List ℕ
+
+-- a request that was sent on and isn't answered
+pub record Forwarded : Type 0 where
+  pub number : ℕ
+  pub editor : ℕ
+  pub id : List ℕ
+  pub cancelled : Bool
+
+-- at a start: whose request is at work, the number that comes next, and the requests that it has to answer, in the order of their numbers
+pub record Forwarding : Type 0 where
+  pub sender : Option Sender
+  pub next : ℕ
+  pub open_requests : List Forwarded
+
+abbrev pub sender_of : ℕ → List ℕ → Message → Option Sender
+sender_of e body (request id method ps) = Some (record { editor = e; id = id_bytes body })
+sender_of e body other = None
+
+abbrev pub numbered : Option Sender → ℕ → List Forwarded
+numbered None n = []
+numbered (Some sender) n = record { number = n; editor = sender.editor; id = sender.id; cancelled = false } ∷ []
+
+-- this id of a response writes this number
+abbrev pub names : Option Id → ℕ → Bool
+names (Some (integer digits)) n = bytes_eq digits (decimal n)
+names other n = false
+
+abbrev pub answered_by : Option Id → Forwarded → Bool
+answered_by id f = names id f.number
+
+-- what `$/cancelRequest` names (LSP 3.17, Cancellation Support)
+abbrev pub is_written : Option Json → ℕ → Bool
+is_written (Some (number s digits)) n = bytes_eq digits (decimal n)
+is_written other n = false
+
+abbrev pub cancelled_by : Option Json → Forwarded → Forwarded
+cancelled_by id f = if is_written id f.number then record { number = f.number; editor = f.editor; id = f.id; cancelled = true } else f
+
+-- the daemon's own `initialize` and `shutdown` are no editor's: they have the numbers before 2, and behind the last
+abbrev pub forwards : Forwarding → Message → Forwarding
+forwards x (request id method ps) = if is_own method then x else record { sender = x.sender; next = x.next + 1; open_requests = x.open_requests ++ numbered x.sender x.next }
+forwards x (notification method ps) = if bytes_eq method (codes "$/cancelRequest") then record { sender = x.sender; next = x.next; open_requests = map (cancelled_by (named_of (codes "id") ps)) x.open_requests } else x
+forwards x other = x
+
+-- a body that its open requests, or their numbers, speak of
+abbrev pub moves_ids : Message → Bool
+moves_ids (request id method ps) = not (is_own method)
+moves_ids (notification method ps) = bytes_eq method (codes "$/cancelRequest")
+moves_ids other = false
+
+abbrev pub no_forwarding : Forwarding
+no_forwarding = record { sender = None; next = 2; open_requests = [] }
+
+-- a request is open from its own body to the start until the start's response, or the end of its program
+abbrev pub forwarding_behind : ℕ → Forwarding → Event → Forwarding
+forwarding_behind s x (took (FromEditor e body) m) = record { sender = sender_of e body m; next = x.next; open_requests = x.open_requests }
+forwarding_behind s x (took (FromServer n body) m) = record { sender = None; next = x.next; open_requests = if nat_eq n s then filter (λ f. not (answered_by (answered_id m) f)) x.open_requests else x.open_requests }
+forwarding_behind s x (took (StartFailed n) m) = if nat_eq n s then no_forwarding else record { sender = None; next = x.next; open_requests = x.open_requests }
+forwarding_behind s x (took (ServerGone n) m) = if nat_eq n s then no_forwarding else record { sender = None; next = x.next; open_requests = x.open_requests }
+forwarding_behind s x (took cause m) = record { sender = None; next = x.next; open_requests = x.open_requests }
+forwarding_behind s x (did (ToServer n body) m) = if nat_eq n s then forwards x m else x
+forwarding_behind s x (did out m) = x
+
+abbrev pub forwarding_of : ℕ → List Event → Forwarding
+forwarding_of s events = fold (forwarding_behind s) no_forwarding events
+
+-- the open request of a number
+abbrev pub is_under : ℕ → Forwarded → Bool
+is_under n f = nat_eq f.number n
+
+abbrev pub forwarded_under : ℕ → List Forwarded → Option Forwarded
+forwarded_under n fs = find (is_under n) fs
+
+-- the numbers of an editor's open requests, rising
+abbrev pub is_of : ℕ → Forwarded → Bool
+is_of e f = nat_eq f.editor e
+
+abbrev pub numbers_of : ℕ → List Forwarded → List ℕ
+numbers_of e fs = map (λ f. f.number) (filter (is_of e) fs)

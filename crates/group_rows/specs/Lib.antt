@@ -1,0 +1,4 @@
+pub mod Example
+pub mod Forwarded
+pub mod Rows
+pub mod Texts

@@ -1,0 +1,165 @@
+-- The routing table over several editors and groups, in part: E2, E7, E8 before an answer, E10, E12 to E15, S2 of a group's first start, S5 without versions, and the start of a server's program.
+use Rattle.std.specs.Prelude.{ℕ, Bool, ◌&&◌, List, [], ◌∷◌, ◌++◌, filter, find, flat_map, codes, nat_eq, nat_lt, decimal, bytes_eq, if◌then◌else◌}
+use Rattle.std.specs.Prelude.{Option, Some, None, slice_get}
+use Rattle.std.specs.List.{list_any}
+use Rattle.std.specs.Option.{option_map_or}
+use Rattle.mux_history.specs.declared.cause.Cause.{Cause}
+use Rattle.mux_history.specs.declared.cause.Cause.TheVariants.{FromEditor, Started, FromServer}
+use Rattle.mux_history.specs.declared.out.Out.{Out}
+use Rattle.mux_history.specs.declared.out.Out.TheVariants.{ToEditor, ToServer}
+use Rattle.position_codec.specs.declared.Encoding.{Encoding}
+use Rattle.rpc_message.specs.Message.{Message, request, notification, message_of, id_bytes, result_bytes}
+use Rattle.rpc_message.specs.Texts.{ok_text, error_text, initialized_text, with_id_text, Code, request_failed, server_not_initialized}
+use Rattle.document_model.specs.Bodies.{open_text}
+use Rattle.document_model.specs.Helds.{HeldText}
+use Rattle.document_model.specs.Opens.{Open, holder, holder_beside}
+use Rattle.document_model.specs.Rows.{differing, sent_open, sent_change, sent_close}
+use Rattle.document_model.specs.Sayings.{Saying, opens, changes, closes, misshapen, saying_by}
+use Rattle.document_model.specs.Sayings as saying
+use Rattle.document_model.specs.Texts.{Texts, opened, found, changed}
+use Rattle.event_model.specs.declared.phase.Phase.{Phase}
+use Rattle.event_model.specs.declared.phase.Phase.TheVariants.{New, Waiting, Answered, Running}
+use Rattle.event_model.specs.declared.stage.Stage.{Stage}
+use Rattle.event_model.specs.declared.stage.Stage.TheVariants.{Spawning, Initializing, Ready}
+use Rattle.event_model.specs.Event.{Event, behind, with_cause, requests}
+use Rattle.event_model.specs.Phases.{desk_of, is_there, is_malformed, is_waiting}
+use Rattle.event_model.specs.Requests.{answered_id}
+use Rattle.event_model.specs.Row.{Row, nothing, send, choose, look, outs, each, on, ◌⨾◌}
+use Rattle.event_model.specs.Settings.{Settings}
+use Rattle.event_model.specs.Spawns.{group_of, start_of}
+use Rattle.event_model.specs.Stages.{life_of, is_ready, is_first_result}
+use Rattle.mux_model.specs.Documents.{held_at}
+use Rattle.mux_model.specs.Rows.{malformed_row, to_start}
+use Rattle.group_words.specs.Houses.{editors_in, groups_of, home_of}
+use Rattle.group_words.specs.Rows.{initialize_of, initialize_row, shown_of}
+use Rattle.group_rows.specs.Forwarded.{Forwarded, forwarding_of, answered_by}
+use Rattle.group_rows.specs.Texts.{encoding_of, texts_of}
+
+abbrev pub answer_error : ℕ → List ℕ → Code → Row
+answer_error e body code = send (ToEditor e (error_text (id_bytes body) code))
+
+-- E12 to E14: what a start that has these texts is sent where an editor opens, changes or closes a document
+abbrev pub changed_bodies : ℕ → List ℕ → Option Open → Option Open → Option HeldText → List (List ℕ)
+changed_bodies versions body (Some old) (Some new) held = sent_change versions body old new held
+changed_bodies versions body (Some old) None held = []
+changed_bodies versions body None new held = []
+
+abbrev pub closed_bodies : ℕ → ℕ → List ℕ → List Open → Option Open → Option HeldText → List (List ℕ)
+closed_bodies versions e u os None held = []
+closed_bodies versions e u os (Some o) held = sent_close versions u (holder_beside e u os) held
+
+abbrev pub document_bodies : ℕ → Option Encoding → Texts → (List ℕ → Option HeldText) → ℕ → List ℕ → Saying → List (List ℕ)
+document_bodies versions code x held e body (opens u l v t) = sent_open versions (opened e u l v t x) (held u)
+document_bodies versions code x held e body (changes u v cs) = changed_bodies versions body (found e u x) (changed code e u v cs x) (held u)
+document_bodies versions code x held e body (closes u) = closed_bodies versions e u x.opens (found e u x) (held u)
+document_bodies versions code x held e body misshapen = []
+document_bodies versions code x held e body saying.nothing = []
+
+-- sync(e): of each document that is open at e, in the order of its opening, e's text, where the start has another
+abbrev pub synced : ℕ → Open → Option HeldText → List (List ℕ)
+synced versions o None = []
+synced versions o (Some h) = differing versions o h
+
+abbrev pub sync_bodies : ℕ → (List ℕ → Option HeldText) → ℕ → List Open → List (List ℕ)
+sync_bodies versions held e os = flat_map (λ (o : Open). synced versions o (held o.uri)) (filter (λ (o : Open). nat_eq o.editor e) os)
+
+-- X4: each document that is open, in the order of its earliest opening, with the holder's language and text
+abbrev pub replay_bodies : List (List ℕ) → List Open → List Open → List (List ℕ)
+replay_bodies told all [] = []
+replay_bodies told all (o ∷ os) =
+    if list_any (bytes_eq o.uri) told then replay_bodies told all os
+    else option_map_or (λ (h : Open). open_text h.uri h.language h.text ∷ []) (holder o.uri all) [] ++ replay_bodies (o.uri ∷ told) all os
+
+-- E10: the request goes to the start of the editor's group under the next number, behind a sync
+abbrev pub forward : ℕ → List ℕ → Row
+forward s body = look (λ events. send (ToServer s (with_id_text body (decimal (forwarding_of s events).next))))
+
+abbrev pub can_ask : Settings → ℕ → List Event → Bool
+can_ask settings s events = is_ready (life_of s events).stage && nat_lt (forwarding_of s events).next settings.limits.requests
+
+abbrev pub sync_row : Settings → List Event → ℕ → ℕ → ℕ → Row
+sync_row settings before g s e = to_start s (sync_bodies settings.limits.versions (λ u. held_at s u before) e (texts_of settings g before).opens)
+
+abbrev pub request_at : Settings → List Event → ℕ → List ℕ → ℕ → ℕ → Row
+request_at settings before e body g s = choose (can_ask settings s before) (sync_row settings before g s e ⨾ forward s body) (answer_error e body request_failed)
+
+abbrev pub request_row : Settings → List Event → ℕ → List ℕ → Row
+request_row settings before e body = on (home_of settings e before) (answer_error e body request_failed)
+    (λ g. on (start_of g before) (answer_error e body request_failed) (request_at settings before e body g))
+
+abbrev pub document_at : Settings → List Event → ℕ → List ℕ → Saying → ℕ → ℕ → Row
+document_at settings before e body x g s =
+    choose (is_ready (life_of s before).stage) (to_start s (document_bodies settings.limits.versions (encoding_of g before) (texts_of settings g before) (λ u. held_at s u before) e body x)) nothing
+
+abbrev pub document_row : Settings → List Event → ℕ → List ℕ → Saying → Row
+document_row settings before e body x = on (home_of settings e before) nothing (λ g. on (start_of g before) nothing (document_at settings before e body x g))
+
+-- E15 gives nothing, as a notification on no document does
+abbrev pub served_row : Settings → List Event → ℕ → List ℕ → Message → Row
+served_row settings before e body (request id method params) = request_row settings before e body
+served_row settings before e body (notification method params) = document_row settings before e body (saying_by method params)
+served_row settings before e body other = nothing
+
+-- E8: a request comes too early
+abbrev pub early_row : ℕ → List ℕ → Message → Row
+early_row e body (request id method params) = answer_error e body server_not_initialized
+early_row e body other = nothing
+
+abbrev pub message_row : Settings → List Event → ℕ → List ℕ → Message → Phase → Row
+message_row settings before e body m New = choose (requests (codes "initialize") m) (initialize_row settings before e body) (early_row e body m)
+message_row settings before e body m Waiting = early_row e body m
+message_row settings before e body m Answered = served_row settings before e body m
+message_row settings before e body m Running = served_row settings before e body m
+message_row settings before e body m other = nothing
+
+abbrev pub from_editor : Settings → List Event → ℕ → List ℕ → Message → Phase → Row
+from_editor settings before e body m phase = choose (is_malformed m) (malformed_row e m phase) (message_row settings before e body m phase)
+
+-- S2: the session begins, the start is told of each document that is open, and the editors that wait are answered
+abbrev pub welcome : List ℕ → ℕ → Row
+welcome body e = look (λ events. send (ToEditor e (ok_text (id_bytes (desk_of e events).initialize) (shown_of (result_bytes body)))))
+
+abbrev pub waiting_in : Settings → ℕ → List Event → List ℕ
+waiting_in settings g events = editors_in is_waiting g (λ e. home_of settings e events) events
+
+abbrev pub result_in : Settings → List Event → ℕ → List ℕ → ℕ → Row
+result_in settings before s body g =
+    send (ToServer s initialized_text) ⨾ (to_start s (replay_bodies [] (texts_of settings g before).opens (texts_of settings g before).opens) ⨾ look (λ events. each (welcome body) (waiting_in settings g events)))
+
+abbrev pub first_result : Settings → List Event → ℕ → List ℕ → Row
+first_result settings before s body = on (group_of s before) nothing (result_in settings before s body)
+
+-- S5: an answer goes to the editor that asked, under its own id
+abbrev pub pass_on : List Event → List ℕ → Forwarded → Row
+pass_on before body f = choose (is_there (desk_of f.editor before).phase) (send (ToEditor f.editor (with_id_text body f.id))) nothing
+
+abbrev pub response_row : ℕ → List Event → List ℕ → Message → Row
+response_row s before body m = on (find (answered_by (answered_id m)) (forwarding_of s before).open_requests) nothing (pass_on before body)
+
+abbrev pub from_server : Settings → ℕ → List Event → List ℕ → Message → Stage → Row
+from_server settings s before body m Initializing = choose (is_first_result m) (first_result settings before s body) nothing
+from_server settings s before body m Ready = response_row s before body m
+from_server settings s before body m other = nothing
+
+-- the daemon's own initialize, of the group's key and of what is declared
+abbrev pub begin_in : Settings → List Event → ℕ → ℕ → Row
+begin_in settings before s g = on (slice_get (groups_of settings before) g) nothing (λ x. send (ToServer s (initialize_of x)))
+
+abbrev pub started : Settings → ℕ → List Event → Stage → Row
+started settings s before Spawning = on (group_of s before) nothing (begin_in settings before s)
+started settings s before other = nothing
+
+-- J1 gives nothing, as each cause without a row of its own does
+abbrev pub row_of : Settings → List Event → Cause → Row
+row_of settings before (FromEditor e body) = from_editor settings before e body (message_of body) (desk_of e before).phase
+row_of settings before (FromServer s body) = from_server settings s before body (message_of body) (life_of s before).stage
+row_of settings before (Started s) = started settings s before (life_of s before).stage
+row_of settings before other = nothing
+
+abbrev pub outs_of : Settings → List Event → Cause → List Out
+outs_of settings before cause = outs (row_of settings before cause) (with_cause before cause)
+
+-- the outs of each of these causes in turn, behind these events
+abbrev pub outs_from : Settings → List Event → List Cause → List (List Out)
+outs_from settings events [] = []
+outs_from settings events (cause ∷ causes) = let xs = outs_of settings events cause in xs ∷ outs_from settings (behind (with_cause events cause) xs) causes

@@ -1,0 +1,2 @@
+//! What several editors that share servers have open, and the routing table over them, in part: definitions, which nothing runs.
+#![tactic(auto)]
