@@ -1,10 +1,14 @@
 -- A text leads on from each spot as it does from a first one.
-use Rattle.std.proofs.Common.{◌≡◌, ℕ, ◌+◌, Bool, true, false, cond, nat_eq, List, [], ◌∷◌, refl, sym, ap, ◌∙◌, arith, subst}
+use Rattle.std.proofs.Common.{◌≡◌, ℕ, ◌+◌, ◌++◌, Bool, true, false, cond, nat_eq, List, [], ◌∷◌, refl, sym, ap, ◌∙◌, arith, subst}
+use Rattle.std.specs.Prelude.{IsUtf8}
+use Rattle.std.specs.Str.{chars}
 use Rattle.std.proofs.lemmas.Bool.Decides.{nat_tests}
+use Rattle.std.proofs.lemmas.List.Sums.{fold-append}
+use Rattle.std.proofs.lemmas.Str.{chars-append}
 use Rattle.position_codec.specs.declared.Encoding.{Encoding}
 use Rattle.position_codec.specs.declared.spot.Spot.{Spot}
 use Rattle.position_codec.specs.Position.{units}
-use Rattle.position_codec.specs.Spots.{spot_at, spot_past, spot_behind, spot_after}
+use Rattle.position_codec.specs.Spots.{spot_at, spot_past, spot_behind, spot_after, Stops}
 use Rattle.position_codec.proofs.Sorts.{Sort, is_feed, is_return, is_other, sort}
 
 same_spot : (r : Bool) (a b x y : ℕ) → a ≡ b → x ≡ y → spot_at a x r ≡ spot_at b y r
@@ -54,3 +58,12 @@ pub after_behind : (e : Encoding) (s : Spot) (cs : List ℕ) → spot_behind e s
 after_behind e s cs =
     let h : s ≡ spot_after s (spot_at 0 0 s.returned) = same_spot s.returned s.line (s.line + 0) s.column (s.column + 0) (omega arith) (omega arith) in
     ap (λ x. spot_behind e x cs) h ∙ behind_after e s cs (spot_at 0 0 s.returned)
+
+-- behind a text and one more
+pub spot_more : (e : Encoding) (from : Spot) (xs ys : List ℕ) → IsUtf8 xs → spot_behind e from (chars (xs ++ ys)) ≡ spot_behind e (spot_behind e from (chars xs)) (chars ys)
+spot_more e from xs ys u = ap (λ l. spot_behind e from l) (chars-append xs ys u) ∙ fold-append _ from (chars xs) (chars ys)
+
+-- a place that is before the end of the next character still is where more follows
+pub stops_more : (e : Encoding) (s : Spot) (k n : ℕ) (cs ds : List ℕ) → Stops e s k n cs → Stops e s k n (cs ++ ds)
+stops_more e s k n [] ds h = absurd h
+stops_more e s k n (c ∷ cs) ds h = h

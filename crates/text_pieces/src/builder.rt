@@ -47,7 +47,7 @@ pub struct Builder {
     encoding: Encoding,
     pieces: Vec<Piece>,
     /// What isn't yet cut into pieces.
-    open: String,
+    uncut: String,
 }
 
 impl Builder {
@@ -57,7 +57,7 @@ impl Builder {
         Builder {
             encoding,
             pieces: Vec::new(alloc),
-            open: String::new(alloc),
+            uncut: String::new(alloc),
         }
     }
 
@@ -65,7 +65,7 @@ impl Builder {
     pub fn push_str(&mut self, text: &str) -> Result<(), Memory>
         ensures { OnOk result (builder_text self.new ≡ builder_text self.old ++ text.now) }
     {
-        self.open.push_str(text)?;
+        self.uncut.push_str(text)?;
         Ok(())
     }
 
@@ -73,16 +73,17 @@ impl Builder {
     pub fn push_piece(&mut self, alloc: Global, piece: &Piece) -> Result<(), Memory>
         ensures { OnOk result (builder_text self.new ≡ builder_text self.old ++ piece.now) }
     {
-        let short = self.open.len() < LEAST || piece.len() < LEAST;
-        if short && !self.open.is_empty() {
-            return self.push_str(piece.as_str());
+        let text = piece.as_str();
+        let short = self.uncut.len() < LEAST || text.len() < LEAST;
+        if short && !self.uncut.is_empty() {
+            return self.push_str(text);
         }
         self.close(alloc)?;
         self.pieces.push(piece.counted(alloc, self.encoding)?)?;
         Ok(())
     }
 
-    // Joins what is open with the last piece.
+    // Joins what is uncut with the last piece.
     fn join_last(&mut self, alloc: Global) -> Result<(), Memory>
         ensures { OnOk result (builder_text self.new ≡ builder_text self.old) }
     {
@@ -90,30 +91,30 @@ impl Builder {
             return Ok(())
         };
         let mut joined = String::from_str(alloc, last.as_str())?;
-        joined.push_str(self.open.as_str())?;
-        self.open = joined;
+        joined.push_str(self.uncut.as_str())?;
+        self.uncut = joined;
         Ok(())
     }
 
-    // Cuts what is open into pieces.
+    // Cuts what is uncut into pieces.
     fn close(&mut self, alloc: Global) -> Result<(), Memory>
         ensures text { OnOk result (builder_text self.new ≡ builder_text self.old) }
-        ensures closed { OnOk result (self.new.open.bytes.items ≡ []) }
+        ensures closed { OnOk result (self.new.uncut.bytes.items ≡ []) }
     {
-        if self.open.is_empty() {
+        if self.uncut.is_empty() {
             return Ok(());
         }
-        if self.open.len() < LEAST {
+        if self.uncut.len() < LEAST {
             self.join_last(alloc)?;
         }
-        add_pieces(alloc, self.encoding, self.open.as_str(), &mut self.pieces)?;
-        self.open.clear();
+        add_pieces(alloc, self.encoding, self.uncut.as_str(), &mut self.pieces)?;
+        self.uncut.clear();
         Ok(())
     }
 
     /// The pieces of what was built.
     pub fn finish(mut self, alloc: Global) -> Result<Vec<Piece>, Memory>
-        ensures { IfOk result (λ pieces. text_of pieces.items ≡ builder_text self.entry) }
+        ensures { IfOk result (λ pieces. text_of pieces.items ≡ builder_text self) }
     {
         self.close(alloc)?;
         Ok(self.pieces)

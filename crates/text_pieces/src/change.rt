@@ -1,6 +1,7 @@
 //! Changes of a text in pieces.
 ghost use Rattle.std.specs.Prelude.{◌≡◌, ◌++◌, take, drop, IfOk, OnOk};
-ghost use Rattle.doc_text.specs.Changes.{changed, changed_all, place_in};
+ghost use Rattle.doc_text.specs.Changes.{changed, changed_all};
+ghost use Rattle.doc_text.specs.declared.change.Extent.TheVariants.{Part};
 ghost use Rattle.text_pieces.specs.Pieces.{text_of, builder_text, cut_at, IsCut};
 
 use crate::builder::{Builder, add_pieces};

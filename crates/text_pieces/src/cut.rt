@@ -1,9 +1,7 @@
 //! Where a place is in a list of pieces.
-ghost use Rattle.std.specs.Prelude.{◌≡◌, ◌<◌, length, true, false, max, IfOk, slice_index_or};
-ghost use Rattle.std.specs.Str.{chars};
-ghost use Rattle.position_codec.specs.Spots.{Advances, ahead, spot_behind};
+ghost use Rattle.std.specs.Prelude.{◌≡◌, max, IfOk};
 ghost use Rattle.doc_text.specs.Changes.{offset_in};
-ghost use Rattle.text_pieces.specs.Pieces.{text_of, cut_at, IsCut};
+ghost use Rattle.text_pieces.specs.Pieces.{text_of, cut_at, cut_before, IsCut};
 
 use crate::piece::Piece;
 use doc_text::{Position, Range};
@@ -18,7 +16,9 @@ pub struct Cut {
 }
 
 impl Cut {
-    fn is_before(self, other: Cut) -> bool {
+    fn is_before(self, other: Cut) -> bool
+        ensures { result ≡ cut_before self other }
+    {
         self.index < other.index || (self.index == other.index && self.offset < other.offset)
     }
 }

@@ -1,5 +1,6 @@
 //! Whether two lists of pieces have the same text.
-ghost use Rattle.std.specs.Prelude.{◌≡◌, ◌++◌, bytes_eq, drop, length, List};
+ghost use Rattle.std.specs.Prelude.{◌≡◌, [], bytes_eq};
+ghost use Rattle.text_pieces.specs.Rests.{rest_text};
 ghost use Rattle.text_pieces.specs.Pieces.{text_of};
 
 use crate::piece::Piece;
@@ -14,7 +15,10 @@ struct Rest<'a> {
 
 impl<'a> Rest<'a> {
     // Goes on to the next piece that isn't empty, where this one is at its end.
-    fn fill(&mut self) {
+    fn fill(&mut self)
+        ensures text { rest_text self.new ≡ rest_text self.old }
+        ensures filled { self.new.piece.now ≡ [] → rest_text self.new ≡ [] }
+    {
         while self.piece.is_empty() {
             let Some((next, behind)) = self.behind.split_first() else {
                 return;

@@ -1,5 +1,5 @@
 //! A piece of a text, which knows what it adds to a place.
-ghost use Rattle.std.specs.Prelude.{◌≡◌, length, IfOk, IfSome, IsUtf8};
+ghost use Rattle.std.specs.Prelude.{◌≡◌, IfOk, IfSome, IsUtf8};
 ghost use Rattle.std.specs.Str.{chars};
 ghost use Rattle.position_codec.specs.Spots.{spot_behind};
 
@@ -66,13 +66,6 @@ impl Piece {
         self.text.as_str()
     }
 
-    /// How many bytes it has.
-    pub fn len(&self) -> usize
-        ensures { result ≡ length self.now }
-    {
-        self.text.len()
-    }
-
     /// The same piece, without a copy of its text.
     pub fn share(&self) -> Result<Piece, Memory>
         ensures { IfOk result (λ piece. piece ≡ self.now) }
@@ -98,10 +91,12 @@ impl Piece {
 
     /// The spot behind the piece, where this one is in front of it. It takes constant time by the encoding that the piece counts by.
     pub fn pass(&self, encoding: Encoding, spot: Spot) -> Option<Spot>
-        ensures { IfSome result (λ next. next ≡ spot_behind encoding spot (chars self.now)) }
+        ensures some { IfSome result (λ next. next ≡ spot_behind encoding spot (chars self.now)) }
+        ensures utf8 { IsUtf8 self.now }
     {
+        let text = self.text.as_str();
         if self.encoding != encoding {
-            return spot.behind(encoding, self.as_str());
+            return spot.behind(encoding, text);
         }
         if spot.returned {
             spot.after(self.returned)

@@ -38,7 +38,7 @@ fn whole(alloc: Global, pieces: &[Piece]) -> Result<Vec<u8>, Memory>
 {
     let mut size: usize = 0;
     for piece in pieces {
-        size = size.saturating_add(piece.len());
+        size = size.saturating_add(piece.as_str().len());
     }
     let mut bytes = Vec::with_capacity(alloc, size)?;
     for piece in pieces {
