@@ -51,14 +51,15 @@ pub struct Builder {
 }
 
 impl Builder {
-    pub fn new(alloc: Global, encoding: Encoding) -> Builder
-        ensures { builder_text result ≡ [] }
+    /// Nothing, with room for so many pieces.
+    pub fn new(alloc: Global, encoding: Encoding, count: usize) -> Result<Builder, Memory>
+        ensures { IfOk result (λ builder. builder_text builder ≡ []) }
     {
-        Builder {
+        Ok(Builder {
             encoding,
-            pieces: Vec::new(alloc),
+            pieces: Vec::with_capacity(alloc, count)?,
             uncut: String::new(alloc),
-        }
+        })
     }
 
     /// Puts a text behind what was built.

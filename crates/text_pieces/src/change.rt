@@ -75,7 +75,7 @@ fn replaced(
     ensures { IfOk result (λ after. text_of after.items ≡ changed encoding (record { extent = Part range; text = text.now }) (text_of pieces.now)) }
 {
     let (start, end) = find_range(pieces, encoding, range)?;
-    let mut builder = Builder::new(alloc, encoding);
+    let mut builder = Builder::new(alloc, encoding, pieces.len())?;
     add_before(alloc, &mut builder, pieces, start)?;
     builder.push_str(text)?;
     add_behind(alloc, &mut builder, pieces, end)?;
@@ -102,7 +102,24 @@ fn change(
     }
 }
 
-/// The pieces with the changes made, each in what the one before left.
+// The pieces with further changes made.
+fn change_on(
+    alloc: Global,
+    encoding: Encoding,
+    pieces: Vec<Piece>,
+    changes: &[ContentChange],
+) -> Result<Vec<Piece>, Memory>
+    ensures { IfOk result (λ after. text_of after.items ≡ changed_all encoding changes.now (text_of pieces.items)) }
+{
+    let mut after = pieces;
+    for one in changes {
+        after = change(alloc, encoding, after.as_slice(), one)?;
+    }
+    Ok(after)
+}
+
+/// The pieces with the changes made, each in what the one before left. Each takes time linear in the number of pieces, in its own
+/// text, and in the length of a few pieces.
 pub fn change_all(
     alloc: Global,
     encoding: Encoding,
@@ -111,9 +128,9 @@ pub fn change_all(
 ) -> Result<Vec<Piece>, Memory>
     ensures { IfOk result (λ after. text_of after.items ≡ changed_all encoding changes.now (text_of pieces.now)) }
 {
-    let mut after = share(alloc, pieces)?;
-    for one in changes {
-        after = change(alloc, encoding, after.as_slice(), one)?;
-    }
-    Ok(after)
+    let Some((first, later)) = changes.split_first() else {
+        return share(alloc, pieces);
+    };
+    let after = change(alloc, encoding, pieces, first)?;
+    change_on(alloc, encoding, after, later)
 }

@@ -23,6 +23,7 @@ fn change(
     Ok((done, text.whole(alloc)?))
 }
 
+// A change is one of a text with all ends of lines, or joins a `\r` and a `\n`; behind the two the next line starts.
 #[test]
 fn makes_changes(rt: HostRuntime) -> Result<(), Memory> {
     let rows: [(&str, &[u8], &str); 5] = [
@@ -57,5 +58,29 @@ fn makes_changes(rt: HostRuntime) -> Result<(), Memory> {
         assert_eq!(rt; done, Ok(()));
         assert_eq!(rt; text.bytes(), wanted.as_bytes());
     }
+    Ok(())
+}
+
+#[test]
+fn leaves_the_text_where_the_shape_is_bad(rt: HostRuntime) -> Result<(), Memory> {
+    let (done, text) = change(
+        rt.alloc(),
+        "a\rb",
+        Encoding::Utf8,
+        b"[{\"text\":\"x\"},{\"text\":1}]",
+    )?;
+    assert_eq!(rt; done, Err(ChangeFault::BadShape));
+    assert_eq!(rt; text.bytes(), b"a\rb".as_slice());
+    Ok(())
+}
+
+#[test]
+fn compares_and_copies(rt: HostRuntime) -> Result<(), Memory> {
+    let text = PieceText::new(rt.alloc(), b"a\rb")?;
+    let copied = text.copy(rt.alloc())?;
+    assert!(rt; text.equals(&copied));
+    assert_eq!(rt; copied.whole(rt.alloc())?.bytes(), b"a\rb".as_slice());
+    let other = PieceText::new(rt.alloc(), b"a\nb")?;
+    assert!(rt; !text.equals(&other));
     Ok(())
 }
