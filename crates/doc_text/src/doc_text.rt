@@ -40,7 +40,7 @@ impl DocText {
     }
 
     /// The text.
-    pub(crate) fn as_str(&self) -> &str
+    pub fn as_str(&self) -> &str
         ensures { result.now ≡ self.now }
     {
         self.text.as_str()

@@ -1,17 +1,21 @@
-use Rattle.std.proofs.Common.{◌<◌, ◌^◌, length, sym, arith, rules}
+use Rattle.std.proofs.Common.{◌<◌, ◌^◌, inl, inr, length, sym, arith, rules}
 use Rattle.std.specs.Str.{chars}
 use Rattle.std.proofs.lemmas.Iterator.{YieldsList-from_chars}
 use Rattle.std.proofs.lemmas.Iterator.Consumers.{YieldsList-turn, YieldsList-end}
-use Rattle.std.proofs.lemmas.List.{length_push}
+use Rattle.std.proofs.lemmas.List.{length_push, at_drop_all}
+use Rattle.position_codec.specs.Position.{bytes}
 use Rattle.position_codec.proofs.Advancing.{reading_starts, reading_on, advances_some, advances_all, advances_to}
 use Rattle.position_codec.proofs.Turns.{bytes_chars, bytes_turn}
-use Rattle.position_codec.proofs.spot.Spot.advance.Goals as goal
+use Rattle.position_codec.proofs.spot.Spot.advance_within.Goals as goal
 
 pub loop-c-init : goal.loop-c-init
-loop-c-init c = reading_starts c.args.encoding c.args.self c.args.line c.args.character (chars c.args.text.now) c.requires
+loop-c-init c = reading_starts c.args.encoding c.args.self c.args.line c.args.character (chars c.args.text.now) c.requires.ahead
 
-pub returns-then-offset-ge-MOST-clause-some : goal.returns-then-offset-ge-MOST-clause-some
-returns-then-offset-ge-MOST-clause-some c = advances_some c.utf8.text c.loop-c.invariant c.if-offset-ge-MOST.true
+pub returns-then-offset-most-clause-some : goal.returns-then-offset-most-clause-some
+returns-then-offset-most-clause-some c = advances_some c.utf8.text c.loop-c.invariant (omega (arith, c.if-offset-most.true, c.requires.most))
+
+pub returns-then-offset-most-clause-whole : goal.returns-then-offset-most-clause-whole
+returns-then-offset-most-clause-whole c = λ h. inr c.if-offset-most.true
 
 pub returns-in_err-next-clause-none : goal.returns-in_err-next-clause-none
 returns-in_err-next-clause-none c =
@@ -41,3 +45,10 @@ pub returns-clause-some : goal.returns-clause-some
 returns-clause-some c =
     let t = YieldsList-end (YieldsList-from_chars c.args.text.now c.utf8.text cc) c.loop-c.yielded _ c.loop-c.yielded_by _ _ c.in-None.is c.next.ensures.steps in
     advances_all c.utf8.text c.loop-c.invariant (omega (arith, t.1))
+
+pub returns-clause-whole : goal.returns-clause-whole
+returns-clause-whole c =
+    let t = YieldsList-end (YieldsList-from_chars c.args.text.now c.utf8.text cc) c.loop-c.yielded _ c.loop-c.yielded_by _ _ c.in-None.is c.next.ensures.steps in
+    let b = at_drop_all bytes (chars c.args.text.now) (length c.loop-c.yielded) (omega (arith, t.1)) in
+    let w = bytes_chars c.args.text.now c.utf8.text in
+    λ h. inl (omega (arith, w, b, c.loop-c.invariant.whole))
