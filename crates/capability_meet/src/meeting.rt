@@ -1,7 +1,5 @@
 //! What two capabilities have in common.
 ghost use Rattle.std.specs.Prelude.{◌≡◌, ◌≤◌, ◌<◌, length, IfOk, MatchOption};
-ghost use Rattle.json_text.specs.Json.{Json};
-ghost use Rattle.json_nodes.specs.At.{At};
 ghost use Rattle.capability_meet.specs.Answers.{Answers};
 ghost use Rattle.capability_meet.specs.DeclaredTree.{declared_of};
 ghost use Rattle.capability_meet.specs.MeetTree.{meet_of};

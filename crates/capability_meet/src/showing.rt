@@ -1,11 +1,10 @@
 //! What editors are shown of an initialize result.
 ghost use Rattle.std.specs.Prelude.{◌≡◌, ◌≤◌, ◌<◌, ◌++◌, ℕ, List, length, false, IfOk, OnOk, MatchOption, Option, Some};
 ghost use Rattle.std.specs.List.{slice_get};
-ghost use Rattle.std.specs.Option.{option_and_then, option_map};
+ghost use Rattle.std.specs.Option.{option_map};
 ghost use Rattle.std.specs.Str.{chars};
 ghost use Rattle.json_text.specs.declared.span.Span.{Span};
 ghost use Rattle.json_text.specs.Json.{Json, Members, member, object};
-ghost use Rattle.json_text.specs.Named.{named_in};
 ghost use Rattle.json_text.specs.Tree.{tree_of};
 ghost use Rattle.json_nodes.specs.At.{At, ChildAt, Found};
 ghost use Rattle.json_nodes.specs.Same.{drop_members};

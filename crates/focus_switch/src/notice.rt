@@ -1,7 +1,6 @@
 //! What a didChange says (LSP 3.17, DidChangeTextDocumentParams), and the same with another version.
 ghost use Rattle.std.specs.Prelude.{◌≡◌, ◌<◌, length, codes, IfOk, MatchOption, Option, Some, None, if◌then◌else◌};
 ghost use Rattle.std.specs.Option.{option_and_then};
-ghost use Rattle.std.specs.Str.{chars};
 ghost use Rattle.json_text.specs.Changes.{edits_of};
 ghost use Rattle.json_text.specs.Json.{Json};
 ghost use Rattle.json_text.specs.Named.{named_in};

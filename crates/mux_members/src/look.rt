@@ -2,7 +2,7 @@
 ghost use Rattle.std.specs.Prelude.{◌≡◌, ◌<◌, ℕ, List, ◌∷◌, length, bytes_eq, true, MatchOption, Option, Some};
 ghost use Rattle.json_text.specs.declared.span.Span.{Span};
 ghost use Rattle.json_text.specs.Json.{Json, span_of, string, value};
-ghost use Rattle.json_nodes.specs.At.{At, Found};
+ghost use Rattle.json_nodes.specs.At.{Found};
 ghost use Rattle.rpc_message.specs.Message.{is_integer_value, is_string_value};
 ghost use Rattle.event_model.specs.Members.{listed, named_of};
 ghost use Rattle.mux_members.specs.Finds.{Rest, is_array_value, is_ascii, is_object_value, values_of};

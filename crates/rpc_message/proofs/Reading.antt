@@ -153,9 +153,6 @@ module _ (k : Parsed) (e : Envelope) (same : e ≡ k.envelope) (bytes : List ℕ
   pub error_member : (answer : Option ℕ) → error_at e ≡ answer → Found k.doc (error_in (message_of bytes) r.tree) answer
   error_member answer is = subst (λ o. Found k.doc (error_in (message_of bytes) r.tree) o) (ap error_at (sym same) ∙ is) (error_stands k.doc k.envelope (message_of bytes) r.tree r.tells r.members)
 
-pub same_doc : (doc : Doc) (bs : List ℕ) (ns : List Node) → bs ≡ doc.bytes → ns ≡ doc.nodes → ◌≡◌ {A = Doc} (record { bytes = bs; nodes = ns }) doc
-same_doc doc bs ns e f = ap₂ (λ b n. record { bytes = b; nodes = n }) e f
-
 -- what is said of a text with its nodes holds of the body that was read
 pub read_bytes : (m : Parsed) (bytes w cs : List ℕ) (d : Doc) → d ≡ m.doc → IsRead m bytes → ((j : Json) → Holds d j → w ≡ member_bytes (chars cs) d.bytes) → chars cs ≡ cs → w ≡ member_bytes cs bytes
 read_bytes m bytes w cs d same r h plain =

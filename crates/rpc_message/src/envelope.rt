@@ -1,5 +1,5 @@
 //! What a body is, by the members of its object (JSON-RPC 2.0, sections 4 and 5; LSP 3.17, Base Protocol).
-ghost use Rattle.std.specs.Prelude.{◌≡◌, ◌<◌, ℕ, List, length, true, is_some, IfOk, IfSome, MatchOption, Option, None, Some};
+ghost use Rattle.std.specs.Prelude.{◌≡◌, ◌<◌, length, true, is_some, IfOk, IfSome, MatchOption, Option, None, Some};
 ghost use Rattle.json_text.specs.Json.{Json};
 ghost use Rattle.json_nodes.specs.At.{At, Found};
 ghost use Rattle.json_nodes.specs.Values.{doc_of};

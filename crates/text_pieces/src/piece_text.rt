@@ -72,10 +72,21 @@ impl Text for PieceText {
         tape: &Tape,
         changes: u32,
     ) -> Result<(), ChangeFault> {
+        let text = self.changed(alloc, encoding, tape, changes)?;
+        *self = text;
+        Ok(())
+    }
+
+    fn changed(
+        &self,
+        alloc: Global,
+        encoding: Encoding,
+        tape: &Tape,
+        changes: u32,
+    ) -> Result<Self, ChangeFault> {
         let changes = doc_text::changes(alloc, tape, changes)?;
         let pieces = change_all(alloc, encoding, self.pieces.as_slice(), changes.as_slice())?;
-        self.pieces = pieces;
-        Ok(())
+        Ok(PieceText { pieces })
     }
 
     fn copy(&self, alloc: Global) -> Result<Self, Memory> {
