@@ -7,12 +7,12 @@ ghost use Rattle.event_model.specs.Stages.{may_start, runs};
 ghost use Rattle.mux_hub.specs.Tables.{joined_in};
 
 use crate::pending::Pending;
-use text_pieces::PieceText;
 use event_model::{Phase, Stage};
 use focus_switch::Shared;
 use message_body::Body;
 use mux_history::Cause;
 use std::marker::Model;
+use text_pieces::PieceText;
 
 // How many editors joined.
 fn joined_in(phase: Phase) -> u64
