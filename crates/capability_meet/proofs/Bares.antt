@@ -2,20 +2,18 @@
 use Rattle.std.proofs.Common.{◌≡◌, ℕ, zero, suc, true, List, refl, sym, subst}
 use Rattle.std.specs.Prelude.{Option, Some, None}
 use Rattle.std.specs.List.{slice_get}
-use Rattle.std.specs.Option.{option_map}
-use Rattle.json_text.specs.Bare.{bare, bare_items}
+use Rattle.json_text.specs.Bare.{bare}
 use Rattle.json_text.specs.declared.kind.Word.{Word}
 use Rattle.json_text.specs.declared.kind.Word.TheVariants as word_of
 use Rattle.json_text.specs.declared.span.Span.{Span}
 use Rattle.json_text.specs.Json.{Json, word, number, string, array, object, Items, no_items, item, Members}
 use Rattle.json_text.specs.Named.{items_list, named}
-use Rattle.json_text.proofs.Put.{named_bare}
 use Rattle.json_nodes.specs.Same.{same}
-use Rattle.json_nodes.specs.SameTree.{Same, SameItems, SameNamed, words, numbers, strings, arrays, objects, no_more, one_more, neither, both}
+use Rattle.json_nodes.specs.SameTree.{Same, SameItems, SameNamed, numbers, strings, arrays, objects, one_more, both}
 use Rattle.json_nodes.proofs.SameLaw.{same_law}
 use Rattle.capability_meet.specs.Order.{below, below_given}
 use Rattle.capability_meet.proofs.BelowLaws.{among_at, below_self, below_through, items_complete, members_complete, same_bytes}
-use Rattle.json_nodes.proofs.Induction.{ItemsHave, MembersHave, Steps, every}
+use Rattle.json_nodes.proofs.Induction.{MembersHave, Steps, every}
 use Rattle.json_nodes.proofs.SameBytes.{same_bares}
 
 -- what says the same is below

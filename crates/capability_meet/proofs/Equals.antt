@@ -1,20 +1,13 @@
 -- Values that are the same bytes, and items beside each other.
-use Rattle.std.proofs.Common.{◌≡◌, ℕ, zero, suc, ◌+◌, ◌≤◌, ◌<◌, Bool, true, List, [], ◌∷◌, length, refl, sym, ◌∙◌, ap, subst, arith, add-one}
-use Rattle.std.specs.Prelude.{Option, Some, None, bytes_eq, MatchOption}
-use Rattle.std.specs.List.{slice_get}
-use Rattle.std.proofs.lemmas.Slice.Eq.{bytes_eq-Decides}
+use Rattle.std.proofs.Common.{◌≡◌, ℕ, ◌+◌, ◌<◌, Bool, true, length, sym, ◌∙◌, subst}
+use Rattle.std.specs.Prelude.{Option, Some, MatchOption}
 use Rattle.json_text.specs.Bare.{bare}
 use Rattle.json_text.specs.declared.span.Span.{Span}
-use Rattle.json_text.specs.Json.{Json, array, Items, value, depth}
-use Rattle.json_text.specs.Named.{items_list}
-use Rattle.json_text.proofs.Compact.{bare_text}
-use Rattle.json_text.proofs.Forms.{says_of}
-use Rattle.json_text.proofs.Laws.{one_tree}
-use Rattle.json_text.proofs.Moves.{PlacedText, placed_text}
-use Rattle.json_nodes.specs.At.{At, ChildAt, FoundChild, found_child}
+use Rattle.json_text.specs.Json.{Json, array, Items}
+use Rattle.json_nodes.specs.At.{At, ChildAt, FoundChild}
 use Rattle.json_nodes.specs.Doc.{Doc}
 use Rattle.json_nodes.specs.Same.{same}
-use Rattle.json_nodes.proofs.Members.{Follows, found_child_is, inside_more, no_child}
+use Rattle.json_nodes.proofs.Members.{found_child_is, inside_more}
 use Rattle.json_nodes.proofs.Numbers.{child_at}
 use Rattle.capability_meet.specs.Order.{below, is_among}
 use Rattle.capability_meet.proofs.Bares.{alike_bares}

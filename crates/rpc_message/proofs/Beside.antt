@@ -1,8 +1,8 @@
 -- The id's edit in front of the edits of another member, or behind them.
-use Rattle.std.proofs.Common.{◌≡◌, ◌⊎◌, ℕ, suc, ◌+◌, ◌≤◌, ◌<◌, Bool, true, false, List, [], ◌∷◌, ◌++◌, length, bytes_eq, take, drop, ◌-◌, Option, Some, None, codes, if◌then◌else◌, inl, inr, refl, sym, ◌∙◌, ap, subst, arith}
+use Rattle.std.proofs.Common.{◌≡◌, ◌⊎◌, ℕ, suc, ◌+◌, ◌≤◌, ◌<◌, false, List, [], ◌∷◌, ◌++◌, length, bytes_eq, take, drop, ◌-◌, Option, Some, None, codes, if◌then◌else◌, inl, inr, refl, sym, ◌∙◌, ap, subst, arith}
 use Rattle.std.proofs.lemmas.Bool.{le-leb, lt-leb}
 use Rattle.json_text.specs.declared.span.Span.{Span}
-use Rattle.json_text.specs.Json.{Json, object, Members, value, span_of, IsText}
+use Rattle.json_text.specs.Json.{Json, object, Members, span_of, IsText}
 use Rattle.json_text.specs.Named.{named}
 use Rattle.json_text.specs.Replace.{Edit, RiseFrom, Rise}
 use Rattle.json_text.specs.Tree.{tree_of}
@@ -13,7 +13,7 @@ use Rattle.json_text.proofs.Swaps.{Swaps, swapped, in_object, SwapsMembers, Repl
 use Rattle.json_text.proofs.Forms.{says}
 use Rattle.json_nodes.proofs.Swapped.{rise_in}
 use Rattle.json_nodes.proofs.TwoSwaps.{both, Either, two_swaps, apart}
-use Rattle.rpc_message.specs.Changed.{is_in_front, beside, id_edits_at, id_edits}
+use Rattle.rpc_message.specs.Changed.{beside, id_edits_at, id_edits}
 use Rattle.rpc_message.specs.Message.{place_in}
 use Rattle.rpc_message.proofs.Ids.{place_of, no_place}
 

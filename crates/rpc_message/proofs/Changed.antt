@@ -1,9 +1,9 @@
 -- A body with other bytes in some places, and as its id.
-use Rattle.std.proofs.Common.{◌≡◌, ◌⊎◌, ℕ, ◌≤◌, ◌<◌, Bool, true, false, List, [], ◌∷◌, ◌++◌, length, Option, Some, None, codes, if◌then◌else◌, inl, inr, refl, sym, ◌∙◌, ap, ap₂, subst, append-nil, arith}
+use Rattle.std.proofs.Common.{◌≡◌, ℕ, Bool, true, false, List, [], ◌∷◌, ◌++◌, Option, codes, if◌then◌else◌, sym, ◌∙◌, ap, append-nil}
 use Rattle.json_text.specs.declared.change.Change.{Change}
 use Rattle.json_text.specs.declared.span.Span.{Span}
 use Rattle.json_text.specs.Changes.{edits_of}
-use Rattle.json_text.specs.Replace.{Edit, RiseFrom}
+use Rattle.json_text.specs.Replace.{Edit}
 use Rattle.json_nodes.proofs.Putting.{edits_push}
 use Rattle.json_text.specs.Tree.{tree_of}
 use Rattle.rpc_message.specs.Changed.{is_in_front, beside, id_edits_at, id_edits}

@@ -1,11 +1,11 @@
 -- A message in which values of an object gave way to others says the same but for these.
-use Rattle.std.proofs.Common.{◌≡◌, ℕ, suc, ◌+◌, ◌-◌, ◌≤◌, max, Bool, true, false, ◌&&◌, List, [], ◌∷◌, ◌++◌, length, length-append, take, drop, bytes_eq, Option, Some, None, option_map, is_some, not, codes, if◌then◌else◌, refl, sym, ◌∙◌, ap, ap₂, subst, arith}
+use Rattle.std.proofs.Common.{◌≡◌, ℕ, ◌+◌, ◌-◌, ◌≤◌, Bool, true, false, ◌&&◌, List, [], ◌∷◌, ◌++◌, length, length-append, take, drop, bytes_eq, Option, Some, None, option_map, is_some, not, codes, if◌then◌else◌, refl, sym, ◌∙◌, ap, ap₂, subst, arith}
 use Rattle.std.specs.Option.{option_and_then}
 use Rattle.json_text.specs.declared.span.Span.{Span}
 use Rattle.json_text.specs.Bare.{bare, bare_members, nowhere}
-use Rattle.json_text.specs.Json.{Json, word, number, string, array, object, Items, Members, value, span_of, IsText, depth, members_depth}
+use Rattle.json_text.specs.Json.{Json, word, number, string, array, object, Members, value, span_of, IsText, depth}
 use Rattle.json_text.specs.Named.{named, named_in}
-use Rattle.json_text.specs.Paths.{Step, key, index, item_at, step_to, value_at, put_named, put_step, put_at}
+use Rattle.json_text.specs.Paths.{Step, key, index, step_to, value_at, put_named, put_step, put_at}
 use Rattle.json_text.specs.Replace.{Edit, replace, RiseFrom, Rise}
 use Rattle.json_text.specs.Tree.{tree_of}
 use Rattle.json_text.proofs.Depths.{members_deep}
@@ -21,7 +21,6 @@ use Rattle.json_nodes.specs.Doc.{Doc, Holds}
 use Rattle.json_nodes.specs.Puts.{member_edits, put_edits, put_members}
 use Rattle.json_nodes.proofs.PutBare.{path_put_bare, members_put_bare}
 use Rattle.json_nodes.proofs.Swapped.{Says, put_swaps, put_rise, rise_in}
-use Rattle.json_nodes.proofs.TwoSwaps.{both}
 use Rattle.rpc_message.specs.Changed.{id_edits, changed_text}
 use Rattle.rpc_message.specs.Envelopes.{by_names, not_null}
 use Rattle.rpc_message.specs.Message.{Id, Message, request, notification, result, error, not_json, not_message, no_name_twice, is_two, is_null, is_error, id_of, response_id, are_params, given, result_tree, request_if, notification_if, called, error_if, outcome, response_with, answered, by_method, message_in, message_of}

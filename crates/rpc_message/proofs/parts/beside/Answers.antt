@@ -1,4 +1,4 @@
-use Rattle.std.proofs.Common.{◌∙◌, ap, sym}
+use Rattle.std.proofs.Common.{◌∙◌, ap}
 use Rattle.json_text.specs.Changes.{edits_of}
 use Rattle.rpc_message.specs.Changed.{is_in_front}
 use Rattle.rpc_message.proofs.Changed.{goes_first, goes_last}
