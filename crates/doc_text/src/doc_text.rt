@@ -47,7 +47,7 @@ impl DocText {
     }
 
     // The text with each change made in what the one before left.
-    fn changed(
+    fn behind(
         &self,
         alloc: Global,
         encoding: Encoding,
@@ -91,10 +91,21 @@ impl Text for DocText {
         tape: &Tape,
         changes: u32,
     ) -> Result<(), ChangeFault> {
-        let changes = read::changes(alloc, tape, changes)?;
-        let text = self.changed(alloc, encoding, changes.as_slice())?;
+        let text = self.changed(alloc, encoding, tape, changes)?;
         *self = text;
         Ok(())
+    }
+
+    fn changed(
+        &self,
+        alloc: Global,
+        encoding: Encoding,
+        tape: &Tape,
+        changes: u32,
+    ) -> Result<Self, ChangeFault> {
+        let changes = read::changes(alloc, tape, changes)?;
+        let text = self.behind(alloc, encoding, changes.as_slice())?;
+        Ok(text)
     }
 
     fn copy(&self, alloc: Global) -> Result<Self, Memory> {
