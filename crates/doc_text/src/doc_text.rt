@@ -46,8 +46,11 @@ impl DocText {
         self.text.as_str()
     }
 
-    // The text with each change made in what the one before left.
-    fn behind(
+    /// The text with each change made in what the one before left.
+    ///
+    /// Changes in rising or falling order of places take time linear in the text and in theirs together; in another order each may take
+    /// time linear in the text.
+    pub fn behind(
         &self,
         alloc: Global,
         encoding: Encoding,

@@ -1,6 +1,7 @@
 //! Where a place is in a list of pieces.
-ghost use Rattle.std.specs.Prelude.{◌≡◌, max, IfOk};
-ghost use Rattle.doc_text.specs.Changes.{offset_in};
+ghost use Rattle.std.specs.Prelude.{◌≡◌, IfOk};
+ghost use Rattle.doc_text.specs.Changes.{offset_in, place_in};
+ghost use Rattle.doc_text.specs.declared.change.Extent.TheVariants.{Part};
 ghost use Rattle.text_pieces.specs.Pieces.{text_of, cut_at, cut_before, IsCut};
 
 use crate::piece::Piece;
@@ -55,8 +56,8 @@ pub fn find(pieces: &[Piece], encoding: Encoding, place: Position) -> Result<Cut
 
 /// Where the range starts and ends. An end before the start stands for the start.
 pub fn find_range(pieces: &[Piece], encoding: Encoding, range: Range) -> Result<(Cut, Cut), Memory>
-    ensures start { IfOk result (λ cuts. cut_at pieces.now cuts.0 ≡ offset_in encoding range.start (text_of pieces.now)) }
-    ensures end { IfOk result (λ cuts. cut_at pieces.now cuts.1 ≡ max (offset_in encoding range.start (text_of pieces.now)) (offset_in encoding range.end (text_of pieces.now))) }
+    ensures start { IfOk result (λ cuts. cut_at pieces.now cuts.0 ≡ (place_in encoding (Part range) (text_of pieces.now)).0) }
+    ensures end { IfOk result (λ cuts. cut_at pieces.now cuts.1 ≡ (place_in encoding (Part range) (text_of pieces.now)).1) }
     ensures start_is { IfOk result (λ cuts. IsCut pieces.now cuts.0) }
     ensures end_is { IfOk result (λ cuts. IsCut pieces.now cuts.1) }
 {

@@ -1,17 +1,22 @@
 //! A text that is kept in pieces.
 ghost use Rattle.std.specs.Prelude.{◌≡◌, ◌++◌, IfOk, IsUtf8};
+ghost use Rattle.doc_text.specs.Changes.{changed_all};
 ghost use Rattle.text_pieces.specs.Pieces.{text_of};
 
 use crate::builder::add_pieces;
 use crate::change::{change_all, share};
 use crate::equal::equal;
+use crate::order::go_one_way;
 use crate::piece::Piece;
-use doc_text::{ChangeFault, Text, changes};
+use doc_text::{ChangeFault, ContentChange, DocText, Text, changes};
 use json_span::Tape;
 use message_body::{Body, Memory};
 use position_codec::Encoding;
 use std::alloc::Global;
 use std::marker::Model;
+
+// From so many changes on, a walk through a text of usual length costs less than each by itself.
+const MANY: usize = 128;
 
 /// The text of a document, kept in pieces of a few thousand bytes.
 ///
@@ -45,6 +50,41 @@ fn whole(alloc: Global, pieces: &[Piece]) -> Result<Vec<u8>, Memory>
         bytes.extend_from_slice(piece.as_str().as_bytes())?;
     }
     Ok(bytes)
+}
+
+// The pieces of a whole text behind changes, by a walk through the text.
+fn change_whole(
+    alloc: Global,
+    encoding: Encoding,
+    pieces: &[Piece],
+    changes: &[ContentChange],
+) -> Result<Vec<Piece>, Memory>
+    ensures { IfOk result (λ after. text_of after.items ≡ changed_all encoding changes.now (text_of pieces.now)) }
+{
+    let bytes = whole(alloc, pieces)?;
+    let text = DocText::new(alloc, bytes.as_slice())?;
+    let after = text.behind(alloc, encoding, changes)?;
+    let mut made = Vec::new(alloc);
+    add_pieces(alloc, encoding, after.as_str(), &mut made)?;
+    Ok(made)
+}
+
+impl PieceText {
+    // The pieces behind changes: many that go one way are made in one walk through the text, and others one by one.
+    fn behind(
+        &self,
+        alloc: Global,
+        encoding: Encoding,
+        changes: &[ContentChange],
+    ) -> Result<Vec<Piece>, Memory>
+        ensures { IfOk result (λ after. text_of after.items ≡ changed_all encoding changes.now self.now) }
+    {
+        if changes.len() >= MANY && go_one_way(changes) {
+            change_whole(alloc, encoding, self.pieces.as_slice(), changes)
+        } else {
+            change_all(alloc, encoding, self.pieces.as_slice(), changes)
+        }
+    }
 }
 
 impl Text for PieceText {
@@ -85,7 +125,7 @@ impl Text for PieceText {
         changes: u32,
     ) -> Result<Self, ChangeFault> {
         let changes = doc_text::changes(alloc, tape, changes)?;
-        let pieces = change_all(alloc, encoding, self.pieces.as_slice(), changes.as_slice())?;
+        let pieces = self.behind(alloc, encoding, changes.as_slice())?;
         Ok(PieceText { pieces })
     }
 
