@@ -10,7 +10,6 @@ use Rattle.json_text.specs.Json.{Json, word, number, string, array, object, valu
 use Rattle.json_text.specs.Named.{named_in}
 use Rattle.json_text.specs.String.{SpellsCharacters}
 use Rattle.json_token.proofs.Scalars.{scalar_characters, utf8_characters}
-use Rattle.json_nodes.specs.declared.node.Node.{Node}
 use Rattle.json_nodes.specs.At.{At, Found}
 use Rattle.json_nodes.specs.Doc.{Doc}
 use Rattle.json_nodes.specs.Nodes.{kind_of}

@@ -7,7 +7,6 @@ use Rattle.json_text.specs.declared.span.Span.{Span}
 use Rattle.json_text.specs.declared.kind.Kind.{Kind}
 use Rattle.json_text.specs.declared.kind.Kind.TheVariants as kind
 use Rattle.json_text.specs.Json.{Json, number, value, span_of}
-use Rattle.json_nodes.specs.declared.node.Node.{Node}
 use Rattle.json_nodes.specs.At.{At, Found}
 use Rattle.json_nodes.specs.Doc.{Doc}
 use Rattle.json_nodes.specs.Nodes.{kind_of}
