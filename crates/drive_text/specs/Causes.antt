@@ -5,11 +5,11 @@ use Rattle.mux_history.specs.declared.cause.Cause.{Cause}
 use Rattle.mux_history.specs.declared.cause.Cause.TheVariants.{Joined, FromEditor, EditorGone, Started, StartFailed, FromServer, ServerGone, Drained, Tick}
 use Rattle.mux_history.specs.declared.cause.Why.{Why}
 use Rattle.mux_history.specs.declared.cause.Why.TheVariants.{End, ReadFault, WriteFault, BadFrame}
-use Rattle.lspmux_program.specs.declared.word.Word.{Word}
-use Rattle.lspmux_program.specs.declared.word.Word.TheVariants as word
-use Rattle.lspmux_program.specs.Marks.{body_of_text}
-use Rattle.lspmux_program.specs.Numbers.{number_of}
-use Rattle.lspmux_program.specs.Options.{then_option}
+use Rattle.drive_text.specs.declared.word.Word.{Word}
+use Rattle.drive_text.specs.declared.word.Word.TheVariants as word
+use Rattle.drive_text.specs.Marks.{body_of_text}
+use Rattle.drive_text.specs.Numbers.{number_of}
+use Rattle.drive_text.specs.Options.{then_option}
 
 -- a text cut at its first space
 pub record Cut : Type 0 where

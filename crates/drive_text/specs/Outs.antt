@@ -3,7 +3,7 @@ use Rattle.std.specs.Prelude.{ℕ, List, [], ◌∷◌, ◌++◌, codes, decimal
 use Rattle.mux_history.specs.declared.entry.Entry.{Entry}
 use Rattle.mux_history.specs.declared.out.Out.{Out}
 use Rattle.mux_history.specs.declared.out.Out.TheVariants.{ToEditor, ToServer, Spawn, CloseEditor, EndServer}
-use Rattle.lspmux_program.specs.Marks.{text_of_body}
+use Rattle.drive_text.specs.Marks.{text_of_body}
 
 -- the line of an out: its head, a body where it has one, and a line feed
 abbrev pub head_of : Out → List ℕ

@@ -1,7 +1,7 @@
 -- Numbers in a line: decimal, without sign and leading zeros, below 2^64.
 use Rattle.std.specs.Prelude.{ℕ, ◌+◌, ◌-◌, ◌*◌, ◌^◌, Bool, true, false, ◌&&◌, List, [], ◌∷◌, nat_eq, nat_le, nat_lt, if◌then◌else◌}
 use Rattle.std.specs.Prelude.{Option, Some, None}
-use Rattle.lspmux_program.specs.Options.{then_option}
+use Rattle.drive_text.specs.Options.{then_option}
 
 -- a number with one more digit behind it
 abbrev pub with_digit : ℕ → ℕ → Option ℕ

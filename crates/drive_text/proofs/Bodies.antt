@@ -2,7 +2,7 @@
 use Rattle.std.proofs.Common.{◌≡◌, ℕ, ◌+◌, ◌<◌, Bool, true, false, nat_eq, List, [], ◌∷◌, ◌++◌, length, drop, get_or, refl, ap, sym, ◌∙◌, append_assoc, add-one, drop-cons, option_map}
 use Rattle.std.specs.Prelude.{Option, Some, None, ◌||◌}
 use Rattle.std.specs.List.{list_any}
-use Rattle.lspmux_program.specs.Marks.{body_from, is_break, is_special, mark_of, marked, text_of_body}
+use Rattle.drive_text.specs.Marks.{body_from, is_break, is_special, mark_of, marked, text_of_body}
 
 -- the front of a body before the rest of it
 abbrev pub onto : List ℕ → Option (List ℕ) → Option (List ℕ)
@@ -57,7 +57,7 @@ plain_text (b ∷ text) e =
     let both : (nat_eq b 94 ≡ false) × (is_break b ≡ false) = or_false (nat_eq b 94) (is_break b) here.0 in
     rw (both.0) (rw (both.1) (ap (option_map (λ r. b ∷ r)) (plain_text text here.1)))
 
-plain_byte : (b : ℕ) → is_special b ≡ false → marked b ≡ b ∷ []
+pub plain_byte : (b : ℕ) → is_special b ≡ false → marked b ≡ b ∷ []
 plain_byte b e =
     let both : (nat_eq b 94 ≡ false) × (is_break b ≡ false) = or_false (nat_eq b 94) (is_break b) e in
     let breaks : (nat_eq b 10 ≡ false) × (nat_eq b 13 ≡ false) = or_false (nat_eq b 10) (nat_eq b 13) both.1 in

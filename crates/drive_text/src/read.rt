@@ -1,11 +1,11 @@
 // Cause lines.
 ghost use Rattle.std.specs.Prelude.{◌≡◌, ℕ, Option, Some, None, IfOk, MatchOption, nat_eq, position};
-ghost use Rattle.lspmux_program.specs.Causes.{Cut, cut_of, Numbered, numbered, with_number, cause_by, cause_of};
+ghost use Rattle.drive_text.specs.Causes.{Cut, cut_of, Numbered, numbered, with_number, cause_by, cause_of};
 ghost use Rattle.mux_history.specs.declared.cause.Cause.{Cause};
 ghost use Rattle.mux_history.specs.declared.cause.Cause.TheVariants.{FromEditor, EditorGone, FromServer, Drained};
-ghost use Rattle.lspmux_program.specs.Marks.{body_of_text};
-ghost use Rattle.lspmux_program.specs.Numbers.{with_digit, is_padded, number_of};
-ghost use Rattle.lspmux_program.specs.Causes.{why_of};
+ghost use Rattle.drive_text.specs.Marks.{body_of_text};
+ghost use Rattle.drive_text.specs.Numbers.{with_digit, is_padded, number_of};
+ghost use Rattle.drive_text.specs.Causes.{why_of};
 
 use crate::marks::body_of_text;
 use crate::word::{Word, why_of, word_of};

@@ -1,8 +1,8 @@
 use Rattle.std.proofs.Common.{rules, ℕ, Vec, Global, ap, sym, ◌∙◌}
 use Rattle.std.proofs.lemmas.Bool.{ne_eqb}
-use Rattle.lspmux_program.proofs.Bodies.{plain_more, begun_more, meant_more}
-use Rattle.lspmux_program.proofs.marks.unmarked.Goals as goal
-use Rattle.lspmux_program.proofs.marks.unmarked.Goals.{then-in_mark+in-Some+in_ok-push, else-in_mark+then-byte-eq94, else-in_mark+else-byte-eq94+else-is_break+in_ok-push-2}
+use Rattle.drive_text.proofs.Bodies.{plain_more, begun_more, meant_more}
+use Rattle.drive_text.proofs.marks.unmarked.Goals as goal
+use Rattle.drive_text.proofs.marks.unmarked.Goals.{then-in_mark+in-Some+in_ok-push, else-in_mark+then-byte-eq94, else-in_mark+else-byte-eq94+else-is_break+in_ok-push-2}
 
 pub loop-byte-preserved : goal.loop-byte-preserved
 loop-byte-preserved c = elim c.if-in_mark.branch [

@@ -1,7 +1,7 @@
 -- Bodies in a line: `^` is written `^^`, a line feed `^n`, a carriage return `^r`.
 use Rattle.std.specs.Prelude.{ℕ, Bool, true, false, ◌||◌, List, [], ◌∷◌, nat_eq, flat_map, option_map, if◌then◌else◌}
 use Rattle.std.specs.Prelude.{Option, Some, None}
-use Rattle.lspmux_program.specs.Options.{then_option}
+use Rattle.drive_text.specs.Options.{then_option}
 
 abbrev pub marked : ℕ → List ℕ
 marked b = if nat_eq b 94 then 94 ∷ 94 ∷ [] else (if nat_eq b 10 then 94 ∷ 110 ∷ [] else (if nat_eq b 13 then 94 ∷ 114 ∷ [] else b ∷ []))

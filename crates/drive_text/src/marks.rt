@@ -1,7 +1,7 @@
 // Marks in the text of a body.
 ghost use Rattle.std.specs.Prelude.{◌≡◌, ◌++◌, IfOk, OnOk};
 ghost use Rattle.std.specs.List.{list_any};
-ghost use Rattle.lspmux_program.specs.Marks.{body_of_text, is_break, is_special, mark_of, marked, text_of_body};
+ghost use Rattle.drive_text.specs.Marks.{body_of_text, is_break, is_special, mark_of, marked, text_of_body};
 
 use message_body::{Body, Memory};
 use std::alloc::Global;

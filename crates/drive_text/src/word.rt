@@ -1,6 +1,6 @@
 // The words of a line.
 ghost use Rattle.std.specs.Prelude.{◌≡◌};
-ghost use Rattle.lspmux_program.specs.Causes.{word_of, why_of};
+ghost use Rattle.drive_text.specs.Causes.{word_of, why_of};
 
 use mux_history::Why;
 

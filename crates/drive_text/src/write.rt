@@ -1,9 +1,9 @@
 // Out lines.
 ghost use Rattle.std.specs.Prelude.{◌≡◌, ◌++◌, IfOk, OnOk, string_bytes};
-ghost use Rattle.lspmux_program.specs.Outs.{head_of, out_line, out_lines};
+ghost use Rattle.drive_text.specs.Outs.{head_of, out_line, out_lines};
 
 use crate::marks::write_body;
-use message_body::Memory;
+use message_body::{Body, Memory};
 use mux_history::{Out, Outs};
 use std::alloc::Global;
 
@@ -33,13 +33,13 @@ fn write_out(alloc: Global, text: &mut Vec<u8>, out: &Out) -> Result<(), Memory>
     Ok(())
 }
 
-/// The out lines of these outs.
-pub fn out_lines(alloc: Global, outs: &Outs) -> Result<Vec<u8>, Memory>
-    ensures { IfOk result (λ text. text.items ≡ out_lines outs.now) }
+/// The lines of these outs, each with its line feed. The time is linear in them.
+pub fn write_outs(alloc: Global, outs: &Outs) -> Result<Body, Memory>
+    ensures { IfOk result (λ text. text ≡ out_lines outs.now) }
 {
     let mut text = Vec::new(alloc);
     for out in outs.as_slice() {
         write_out(alloc, &mut text, out)?;
     }
-    Ok(text)
+    Ok(Body::new(text))
 }

@@ -1,0 +1,7 @@
+pub mod Bodies
+pub mod Decimals
+pub mod Longest
+pub mod Options
+pub mod Spellings
+pub mod Texts
+mod Worked

@@ -1,0 +1,7 @@
+pub mod Causes
+pub mod Forms
+pub mod Marks
+pub mod Numbers
+pub mod Options
+pub mod Outs
+pub mod Spellings
