@@ -1,5 +1,7 @@
 pub mod Bodies
 pub mod Decimals
+pub mod Heads
+pub mod Laws
 pub mod Longest
 pub mod Options
 pub mod Spellings

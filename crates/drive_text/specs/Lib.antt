@@ -1,5 +1,6 @@
 pub mod Causes
 pub mod Forms
+pub mod Laws
 pub mod Marks
 pub mod Numbers
 pub mod Options

@@ -1,5 +1,5 @@
 -- The lines that write outs.
-use Rattle.std.specs.Prelude.{ℕ, List, [], ◌∷◌, ◌++◌, codes, decimal, flat_map}
+use Rattle.std.specs.Prelude.{ℕ, ◌^◌, ◌<◌, List, [], ◌∷◌, ◌++◌, codes, decimal, flat_map}
 use Rattle.mux_history.specs.declared.entry.Entry.{Entry}
 use Rattle.mux_history.specs.declared.out.Out.{Out}
 use Rattle.mux_history.specs.declared.out.Out.TheVariants.{ToEditor, ToServer, Spawn, CloseEditor, EndServer}
@@ -27,3 +27,11 @@ out_lines outs = flat_map out_line outs
 -- the out lines of a history's entries
 abbrev pub outs_text : List Entry → List ℕ
 outs_text history = flat_map (λ entry. out_lines entry.outs) history
+
+-- its numbers are below 2^64, as those of every value of a program are
+abbrev pub HasSmallOutNumbers : Out → Type 0
+HasSmallOutNumbers (ToEditor e body) = e < 2 ^ 64
+HasSmallOutNumbers (ToServer s body) = s < 2 ^ 64
+HasSmallOutNumbers (Spawn s g) = (s < 2 ^ 64) × (g < 2 ^ 64)
+HasSmallOutNumbers (CloseEditor e) = e < 2 ^ 64
+HasSmallOutNumbers (EndServer s) = s < 2 ^ 64

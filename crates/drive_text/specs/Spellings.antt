@@ -1,10 +1,12 @@
 -- How a cause is written: the words of its line, its numbers in decimal, its body with marks.
-use Rattle.std.specs.Prelude.{ℕ, ◌^◌, ◌<◌, List, ◌++◌, codes, decimal}
+use Rattle.std.specs.Prelude.{ℕ, ◌^◌, ◌<◌, List, [], ◌∷◌, ◌++◌, codes, decimal}
+use Rattle.mux_history.specs.declared.entry.Entry.{Entry}
 use Rattle.mux_history.specs.declared.cause.Cause.{Cause}
 use Rattle.mux_history.specs.declared.cause.Cause.TheVariants.{Joined, FromEditor, EditorGone, Started, StartFailed, FromServer, ServerGone, Drained, Tick}
 use Rattle.mux_history.specs.declared.cause.Why.{Why}
 use Rattle.mux_history.specs.declared.cause.Why.TheVariants.{End, ReadFault, WriteFault, BadFrame}
 use Rattle.drive_text.specs.Marks.{text_of_body}
+use Rattle.drive_text.specs.Outs.{out_lines}
 
 abbrev pub spelled_why : Why → List ℕ
 spelled_why End = codes "end"
@@ -35,3 +37,18 @@ HasSmallNumbers (FromServer s body) = s < 2 ^ 64
 HasSmallNumbers (ServerGone s) = s < 2 ^ 64
 HasSmallNumbers (Drained e k) = (e < 2 ^ 64) × (k < 2 ^ 64)
 HasSmallNumbers (Tick t) = t < 2 ^ 64
+
+-- the parts of a cause's line: what stands before a body, and the body
+abbrev pub cause_head : Cause → List ℕ
+cause_head (FromEditor e body) = (codes "ed " ++ decimal e) ++ codes " "
+cause_head (FromServer s body) = (codes "sv " ++ decimal s) ++ codes " "
+cause_head other = spelled other
+
+abbrev pub cause_tail : Cause → List ℕ
+cause_tail (FromEditor e body) = text_of_body body
+cause_tail (FromServer s body) = text_of_body body
+cause_tail other = []
+
+-- the lines of an entry: its cause, its outs, and a point
+abbrev pub entry_lines : Entry → List ℕ
+entry_lines entry = spelled entry.cause ++ 10 ∷ (out_lines entry.outs ++ 46 ∷ 10 ∷ [])

@@ -1,11 +1,13 @@
 //! The lines of `drive` and of journal files: one for each cause and each out of the multiplexer, and made inputs.
 #![tactic(auto)]
 
+mod law;
 mod line;
 mod marks;
 mod read;
 mod word;
 mod write;
 
+pub use law::{causes_law, outs_law};
 pub use line::{LineFault, cause_of_line, read_line};
 pub use write::write_outs;
