@@ -1,6 +1,7 @@
 //! The lines of `drive` and of journal files: one for each cause and each out of the multiplexer, and made inputs.
 #![tactic(auto)]
 
+mod journal;
 mod law;
 mod line;
 mod marks;
@@ -8,6 +9,7 @@ mod read;
 mod word;
 mod write;
 
+pub use journal::LineJournal;
 pub use law::{causes_law, outs_law};
 pub use line::{LineFault, cause_of_line, read_line};
-pub use write::write_outs;
+pub use write::{write_cause_line, write_entry, write_outs};
