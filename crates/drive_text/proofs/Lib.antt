@@ -6,4 +6,5 @@ pub mod Longest
 pub mod Options
 pub mod Spellings
 pub mod Texts
+pub mod Turns
 mod Worked

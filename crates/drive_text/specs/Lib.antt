@@ -1,6 +1,7 @@
 pub mod Causes
 pub mod Forms
 pub mod Laws
+pub mod Made
 pub mod Marks
 pub mod Numbers
 pub mod Options

@@ -4,6 +4,7 @@
 mod journal;
 mod law;
 mod line;
+mod made;
 mod marks;
 mod read;
 mod word;
@@ -12,4 +13,5 @@ mod write;
 pub use journal::LineJournal;
 pub use law::{causes_law, outs_law};
 pub use line::{LineFault, cause_of_line, read_line};
+pub use made::make;
 pub use write::{write_cause_line, write_entry, write_outs};
