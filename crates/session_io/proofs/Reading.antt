@@ -31,7 +31,7 @@ so_far_more old mid new before posts after body f limit gives e = record {
   more = f.more ++ body ∷ [];
   limit = limit ∙ f.limit;
   posts = e ∙ ap (λ l. l ++ posted.Body body ∷ []) f.posts ∙ append_assoc before (bodies f.more) (posted.Body body ∷ []) ∙ ap (λ l. before ++ l) (sym (bodies_append f.more (body ∷ [])));
-  stands = λ fed given s. subst (λ (l : List (List ℕ)). Stands new fed l) (append_assoc given f.more (body ∷ [])) (gives fed (given ++ f.more) (f.stands fed given s))
+  stands = λ fed given s. subst (λ (l : List (List ℕ)). Stands new fed l) (append_assoc given f.more (body ∷ [])) (gives fed (given ++ f.more) (f.stands fed given s));
 }
 
 pub cut_here : (old new : Held) (before after : List Posted) → PostedSoFar old new before after → PostedFrames old new before after frames.Cut
@@ -42,7 +42,7 @@ cut_here old new before after f = record {
   limit = f.limit;
   posts = f.posts;
   stands = λ fed given s. subst (λ (l : List (List ℕ)). Stands new fed (given ++ l)) (sym (append-nil f.more)) (f.stands fed given s);
-  all = λ fed given s. tt
+  all = λ fed given s. tt;
 }
 
 pub cut_lost : (old mid new : Held) (before after : List Posted) (body : List ℕ) → PostedSoFar old mid before after → new.limit ≡ mid.limit
@@ -54,7 +54,7 @@ cut_lost old mid new before after body f limit gives = record {
   limit = limit ∙ f.limit;
   posts = f.posts;
   stands = λ fed given s. subst (λ (l : List (List ℕ)). Stands new fed l) (append_assoc given f.more (body ∷ [])) (gives fed (given ++ f.more) (f.stands fed given s));
-  all = λ fed given s. tt
+  all = λ fed given s. tt;
 }
 
 none_lost : (result : Frames) → LostBy result []
@@ -72,7 +72,7 @@ all_here old mid new before after result f limit stays all = record {
   limit = limit ∙ f.limit;
   posts = f.posts;
   stands = λ fed given s. subst (λ (l : List (List ℕ)). Stands new fed (given ++ l)) (sym (append-nil f.more)) (stays fed (given ++ f.more) (f.stands fed given s));
-  all = λ fed given s. subst (λ (n : ℕ). AllPosted n fed (given ++ f.more) result) f.limit (all fed (given ++ f.more) (f.stands fed given s))
+  all = λ fed given s. subst (λ (n : ℕ). AllPosted n fed (given ++ f.more) result) f.limit (all fed (given ++ f.more) (f.stands fed given s));
 }
 
 pub known_none : (t : Option (List ℕ)) → t ≡ append_known t []
@@ -109,7 +109,7 @@ module _ (limit : ℕ) (r r2 r3 : Held) (t t1 t2 : Option (List ℕ)) (posts pos
         limit_is = p.limit ∙ same ∙ f.limit_is;
         stands = subst (λ (l : List (List ℕ)). Stands r3 (f.fed ++ piece) (f.given ++ l)) (ap (λ l. p.more ++ l) p.losses ∙ append-nil p.more) (p.stands (f.fed ++ piece) f.given s);
         posted = p.posts ∙ ap (λ l. l ++ bodies p.more) f.posted ∙ append_assoc posts (bodies f.given) (bodies p.more) ∙ ap (λ l. posts ++ l) (sym (bodies_append f.given p.more));
-        all = subst (λ (n : ℕ). AllPosted n (f.fed ++ piece) (f.given ++ p.more) frames.Short) (same ∙ f.limit_is) (p.all (f.fed ++ piece) f.given s)
+        all = subst (λ (n : ℕ). AllPosted n (f.fed ++ piece) (f.given ++ p.more) frames.Short) (same ∙ f.limit_is) (p.all (f.fed ++ piece) f.given s);
       }
 
   -- it ended there
@@ -125,7 +125,7 @@ module _ (limit : ℕ) (r r2 r3 : Held) (t t1 t2 : Option (List ℕ)) (posts pos
         read = e ∙ ap (λ x. append_known x piece) f.read ∙ known_more t f.fed piece;
         splits = subst (λ (l : List (List ℕ)). Splits limit (f.fed ++ piece) l all.0) (sym (append-nil (f.given ++ p.more))) all.1.0;
         posted = p.posts ∙ ap (λ l. l ++ bodies p.more) f.posted ∙ append_assoc posts (bodies f.given) (bodies p.more) ∙ ap (λ l. posts ++ l) (sym (bodies_append f.given p.more));
-        stopped = all
+        stopped = all;
       }
 
   pub read_cut : (left : Option (List ℕ)) (before now : ℕ) → ReadSoFar limit r t t1 posts posts1 → ((fed : List ℕ) (given : List (List ℕ)) → Stands r fed given → Stands r2 (fed ++ piece) given) → r2.limit ≡ r.limit → t2 ≡ append_known t1 piece
@@ -138,12 +138,12 @@ module _ (limit : ℕ) (r r2 r3 : Held) (t t1 t2 : Option (List ℕ)) (posts pos
         rest = s.0;
         read = e ∙ ap (λ x. append_known x piece) f.read ∙ known_more t f.fed piece;
         splits =
-          let shape : (f.given ++ (p.more ++ p.lost)) ++ r3.ready ≡ (f.given ++ p.more) ++ (p.lost ++ r3.ready) =
+            let shape : (f.given ++ (p.more ++ p.lost)) ++ r3.ready ≡ (f.given ++ p.more) ++ (p.lost ++ r3.ready) =
             ap (λ l. l ++ r3.ready) (sym (append_assoc f.given p.more p.lost)) ∙ append_assoc (f.given ++ p.more) p.lost r3.ready in
-          let one : Splits r3.limit (f.fed ++ piece) ((f.given ++ p.more) ++ (p.lost ++ r3.ready)) s.0 = subst (λ (l : List (List ℕ)). Splits r3.limit (f.fed ++ piece) l s.0) shape s.1 in
-          subst (λ (n : ℕ). Splits n (f.fed ++ piece) ((f.given ++ p.more) ++ (p.lost ++ r3.ready)) s.0) (p.limit ∙ same ∙ f.limit_is) one;
+            let one : Splits r3.limit (f.fed ++ piece) ((f.given ++ p.more) ++ (p.lost ++ r3.ready)) s.0 = subst (λ (l : List (List ℕ)). Splits r3.limit (f.fed ++ piece) l s.0) shape s.1 in
+            subst (λ (n : ℕ). Splits n (f.fed ++ piece) ((f.given ++ p.more) ++ (p.lost ++ r3.ready)) s.0) (p.limit ∙ same ∙ f.limit_is) one;
         posted = p.posts ∙ ap (λ l. l ++ bodies p.more) f.posted ∙ append_assoc posts (bodies f.given) (bodies p.more) ∙ ap (λ l. posts ++ l) (sym (bodies_append f.given p.more));
-        stopped = tt
+        stopped = tt;
       }
 
 -- a piece was read and not fed
@@ -157,7 +157,7 @@ module _ (limit : ℕ) (r : Held) (t t1 t2 left : Option (List ℕ)) (before now
     read = e ∙ ap (λ x. append_known x piece) f.read ∙ known_more t f.fed piece;
     splits = subst (λ (l : List (List ℕ)). Splits limit (f.fed ++ piece) l (f.all.0 ++ piece)) (sym (append-nil f.given)) (stay limit f.fed piece f.given f.all.0 f.all.1.0);
     posted = f.posted;
-    stopped = tt
+    stopped = tt;
   }
 
   pub read_told : (how : End) → ReadSoFar limit r t t1 posts posts1 → t2 ≡ append_known t1 piece → ReadFrames limit t t2 left before now posts posts1 (stop.Told how)
@@ -169,7 +169,7 @@ module _ (limit : ℕ) (r : Held) (t t1 t2 left : Option (List ℕ)) (before now
     read = e ∙ ap (λ x. append_known x piece) f.read ∙ known_more t f.fed piece;
     splits = subst (λ (l : List (List ℕ)). Splits limit (f.fed ++ piece) l (f.all.0 ++ piece)) (sym (append-nil f.given)) (stay limit f.fed piece f.given f.all.0 f.all.1.0);
     posted = f.posted;
-    stopped = tt
+    stopped = tt;
   }
 
 -- how it ended is posted behind the frames

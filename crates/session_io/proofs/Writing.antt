@@ -44,16 +44,16 @@ module _ (w0 w w1 : Option (List ℕ)) (b0 b b1 : ℕ) (t0 t t1 : List Order) (s
     rest = [];
     took = took_more f.whole f.others f.took took ∙ ap (λ l. t0 ++ body_orders l) (ap (λ l. (f.whole ++ l) ++ body ∷ []) (f.unbroken refl).0 ∙ ap (λ l. l ++ body ∷ []) (append-nil f.whole) ∙ sym (append-nil (f.whole ++ body ∷ [])));
     wrote =
-      let part_is : g.part ≡ framed body = sym (append-nil g.part) ∙ ap (λ l. g.part ++ l) (sym (g.all refl)) ∙ sym g.front in
-      let before : all_framed f.whole ++ f.part ≡ all_framed f.whole = ap (λ l. all_framed f.whole ++ l) (f.unbroken refl).1 ∙ append-nil (all_framed f.whole) in
-      g.wrote ∙ ap (λ x. append_known x g.part) (f.wrote ∙ ap (append_known w0) before) ∙ known_more w0 (all_framed f.whole) g.part
+        let part_is : g.part ≡ framed body = sym (append-nil g.part) ∙ ap (λ l. g.part ++ l) (sym (g.all refl)) ∙ sym g.front in
+        let before : all_framed f.whole ++ f.part ≡ all_framed f.whole = ap (λ l. all_framed f.whole ++ l) (f.unbroken refl).1 ∙ append-nil (all_framed f.whole) in
+        g.wrote ∙ ap (λ x. append_known x g.part) (f.wrote ∙ ap (append_known w0) before) ∙ known_more w0 (all_framed f.whole) g.part
         ∙ ap (append_known w0) (ap (λ l. all_framed f.whole ++ l) (part_is ∙ sym (append-nil (framed body))) ∙ sym (all_framed_append f.whole (body ∷ [])) ∙ sym (append-nil (all_framed (f.whole ++ body ∷ []))));
     front = refl;
     items = items ∙ ap (λ l. l ++ side.Wrote ∷ []) (f.items ∙ ap (λ l. s0 ++ l) (append-nil (replicate (length f.whole) side.Wrote))) ∙ append_assoc s0 (replicate (length f.whole) side.Wrote) (side.Wrote ∷ [])
-      ∙ ap (λ l. s0 ++ l) (sym (wrotes_more f.whole body) ∙ sym (append-nil (replicate (length (f.whole ++ body ∷ [])) side.Wrote)));
+        ∙ ap (λ l. s0 ++ l) (sym (wrotes_more f.whole body) ∙ sym (append-nil (replicate (length (f.whole ++ body ∷ [])) side.Wrote)));
     unbroken = λ _. (refl, refl);
     fault = λ h. absurd cc;
-    later = (let x = f.later in let y = g.later in omega arith)
+    later = (let x = f.later in let y = g.later in omega arith);
   }
 
   -- a body whose write failed
@@ -65,13 +65,13 @@ module _ (w0 w w1 : Option (List ℕ)) (b0 b b1 : ℕ) (t0 t t1 : List Order) (s
     rest = g.rest;
     took = took_more f.whole f.others f.took took ∙ ap (λ l. t0 ++ body_orders l) (ap (λ l. (f.whole ++ l) ++ body ∷ []) (f.unbroken refl).0 ∙ ap (λ l. l ++ body ∷ []) (append-nil f.whole));
     wrote =
-      let before : all_framed f.whole ++ f.part ≡ all_framed f.whole = ap (λ l. all_framed f.whole ++ l) (f.unbroken refl).1 ∙ append-nil (all_framed f.whole) in
-      g.wrote ∙ ap (λ x. append_known x g.part) (f.wrote ∙ ap (append_known w0) before) ∙ known_more w0 (all_framed f.whole) g.part;
+        let before : all_framed f.whole ++ f.part ≡ all_framed f.whole = ap (λ l. all_framed f.whole ++ l) (f.unbroken refl).1 ∙ append-nil (all_framed f.whole) in
+        g.wrote ∙ ap (λ x. append_known x g.part) (f.wrote ∙ ap (append_known w0) before) ∙ known_more w0 (all_framed f.whole) g.part;
     front = append-nil (framed body) ∙ g.front;
     items = items ∙ ap (λ l. l ++ side.Broke ∷ []) (f.items ∙ ap (λ l. s0 ++ l) (append-nil (replicate (length f.whole) side.Wrote))) ∙ append_assoc s0 (replicate (length f.whole) side.Wrote) (side.Broke ∷ []);
     unbroken = λ h. absurd cc;
     fault = λ _. (let x = f.later in let y = g.fault refl in omega arith);
-    later = (let x = f.later in let y = g.later in omega arith)
+    later = (let x = f.later in let y = g.later in omega arith);
   }
 
   -- a body behind a failed write
@@ -87,7 +87,7 @@ module _ (w0 w w1 : Option (List ℕ)) (b0 b b1 : ℕ) (t0 t t1 : List Order) (s
     items = f.items;
     unbroken = λ h. absurd cc;
     fault = f.fault;
-    later = f.later
+    later = f.later;
   }
 
 -- nothing was taken yet
@@ -123,7 +123,7 @@ module _ (w0 w : Option (List ℕ)) (b0 b : ℕ) (t0 t t1 : List Order) (s0 s : 
     fault = f.fault;
     ends = λ cut h. absurd (cc);
     no_body = λ body h. none body (cc);
-    later = f.later
+    later = f.later;
   }
 
   -- the core goes on no more
@@ -141,7 +141,7 @@ module _ (w0 w : Option (List ℕ)) (b0 b : ℕ) (t0 t t1 : List Order) (s0 s : 
     fault = f.fault;
     ends = λ cut. absurd (cc);
     no_body = λ body h. absurd (cc);
-    later = f.later
+    later = f.later;
   }
 
 -- cut off in a body
@@ -154,15 +154,15 @@ cut_in w0 w w1 b0 b b1 t0 t t1 s0 s s1 body f took g = record {
   rest = g.rest;
   took = took_more w0 w w1 b0 b b1 t0 t t1 s0 s s1 body f.whole f.others f.took took ∙ ap (λ l. t0 ++ l) (ap body_orders (ap (λ l. (f.whole ++ l) ++ body ∷ []) (f.unbroken refl).0 ∙ ap (λ l. l ++ body ∷ []) (append-nil f.whole)) ∙ sym (append-nil (body_orders (f.whole ++ body ∷ []))));
   wrote =
-    let before : all_framed f.whole ++ f.part ≡ all_framed f.whole = ap (λ l. all_framed f.whole ++ l) (f.unbroken refl).1 ∙ append-nil (all_framed f.whole) in
-    g.wrote ∙ ap (λ x. append_known x g.part) (f.wrote ∙ ap (append_known w0) before) ∙ known_more w0 (all_framed f.whole) g.part;
+      let before : all_framed f.whole ++ f.part ≡ all_framed f.whole = ap (λ l. all_framed f.whole ++ l) (f.unbroken refl).1 ∙ append-nil (all_framed f.whole) in
+      g.wrote ∙ ap (λ x. append_known x g.part) (f.wrote ∙ ap (append_known w0) before) ∙ known_more w0 (all_framed f.whole) g.part;
   front = append-nil (framed body) ∙ g.front;
   all = λ h. absurd cc;
   items = λ h. absurd cc;
   fault = λ h. absurd cc;
   ends = λ cut. absurd (cc);
   no_body = λ other h. absurd (cc);
-  later = (let x = f.later in let y = g.later in omega arith)
+  later = (let x = f.later in let y = g.later in omega arith);
 }
 
 -- a sink that is closed keeps what was written
