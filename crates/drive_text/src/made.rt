@@ -9,6 +9,7 @@ use mux_history::Cause;
 use std::alloc::Global;
 
 const MULTIPLIER: u128 = 6_364_136_223_846_793_005;
+
 const INCREMENT: u128 = 1_442_695_040_888_963_407;
 
 /// What an editor sends before the turns.
@@ -77,7 +78,10 @@ fn init_body(alloc: Global) -> Result<Body, Memory>
 fn initialized_body(alloc: Global) -> Result<Body, Memory>
     ensures { IfOk result (λ body. body ≡ initialized_body) }
 {
-    body_of(alloc, b"{\"jsonrpc\":\"2.0\",\"method\":\"initialized\",\"params\":{}}")
+    body_of(
+        alloc,
+        b"{\"jsonrpc\":\"2.0\",\"method\":\"initialized\",\"params\":{}}",
+    )
 }
 
 fn open_body(alloc: Global) -> Result<Body, Memory>
@@ -92,13 +96,18 @@ fn open_body(alloc: Global) -> Result<Body, Memory>
 fn result_body(alloc: Global) -> Result<Body, Memory>
     ensures { IfOk result (λ body. body ≡ result_body) }
 {
-    body_of(alloc, b"{\"jsonrpc\":\"2.0\",\"id\":1,\"result\":{\"capabilities\":{}}}")
+    body_of(
+        alloc,
+        b"{\"jsonrpc\":\"2.0\",\"id\":1,\"result\":{\"capabilities\":{}}}",
+    )
 }
 
 fn hover_body(alloc: Global, i: u64) -> Result<Body, Memory>
     ensures { IfOk result (λ body. body ≡ hover_body i) }
 {
-    let text = format!(in alloc; "{{\"jsonrpc\":\"2.0\",\"id\":{i},\"method\":\"textDocument/hover\",\"params\":{{}}}}")?;
+    let text = format!(in alloc;
+        "{{\"jsonrpc\":\"2.0\",\"id\":{i},\"method\":\"textDocument/hover\",\"params\":{{}}}}"
+    )?;
     body_of(alloc, text.as_bytes())
 }
 
@@ -114,7 +123,9 @@ fn full_body(alloc: Global, i: u64) -> Result<Body, Memory>
     ensures { IfOk result (λ body. body ≡ full_body i) }
 {
     let version = i + 1;
-    let text = format!(in alloc; "{{\"jsonrpc\":\"2.0\",\"method\":\"textDocument/didChange\",\"params\":{{\"textDocument\":{{\"uri\":\"file:///d\",\"version\":{version}}},\"contentChanges\":[{{\"text\":\"t{i}\"}}]}}}}")?;
+    let text = format!(in alloc;
+        "{{\"jsonrpc\":\"2.0\",\"method\":\"textDocument/didChange\",\"params\":{{\"textDocument\":{{\"uri\":\"file:///d\",\"version\":{version}}},\"contentChanges\":[{{\"text\":\"t{i}\"}}]}}}}"
+    )?;
     body_of(alloc, text.as_bytes())
 }
 
