@@ -1,6 +1,5 @@
 -- Each cause and each out is written in one way alone.
 use Rattle.std.proofs.Common.{◌≡◌, ℕ, ◌^◌, ◌<◌, ◌≤◌, Bool, true, false, cond, nat_eq, nat_lt, List, [], ◌∷◌, ◌++◌, codes, refl, sym, ap, subst, ◌∙◌, append_assoc, append-nil, arith, option_map}
-use Rattle.std.specs.List.{AllByRecursion}
 use Rattle.std.specs.Prelude.{Option, Some, None, bytes_eq, decimal}
 use Rattle.std.proofs.lemmas.Bool.{ltb-false, le-ltb}
 use Rattle.mux_history.specs.Cores.{body_length}
@@ -13,7 +12,7 @@ use Rattle.drive_text.specs.Laws.{Writes, FormsAreLines, OneCause, SameOuts}
 use Rattle.drive_text.specs.Marks.{body_of_text, text_of_body}
 use Rattle.drive_text.specs.Numbers.{number_of}
 use Rattle.drive_text.specs.Options.{then_option}
-use Rattle.drive_text.specs.Outs.{head_of, tail_of, out_line, out_lines, HasSmallOutNumbers}
+use Rattle.drive_text.specs.Outs.{head_of, tail_of, out_lines, HasSmallOutNumbers}
 use Rattle.drive_text.specs.Spellings.{spelled, HasSmallNumbers}
 use Rattle.drive_text.proofs.Decimals.{number_read, decimal_digits}
 use Rattle.drive_text.proofs.Options.{then_some, none_some}

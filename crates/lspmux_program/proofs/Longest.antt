@@ -1,6 +1,6 @@
 -- A line beyond a length is in no form, or its body is too long.
 use Rattle.std.proofs.Common.{◌≡◌, inl, inr, ℕ, ◌<◌, Bool, true, false, nat_lt, List, [], ◌∷◌, IfSome, length, length-append, refl, arith, option_map}
-use Rattle.std.specs.Prelude.{Option, Some, None, Result, Err}
+use Rattle.std.specs.Prelude.{Option, Some, None, Err}
 use Rattle.std.proofs.lemmas.Bool.Decides.{nat_tests}
 use Rattle.mux_history.specs.Cores.{body_length}
 use Rattle.mux_history.specs.declared.cause.Cause.{Cause}
@@ -9,7 +9,6 @@ use Rattle.drive_text.specs.Causes.{cause_of}
 use Rattle.drive_text.specs.Forms.{within}
 use Rattle.drive_text.specs.Options.{then_option}
 use Rattle.drive_text.proofs.Longest.{cause_length}
-use Rattle.lspmux_program.specs.declared.refusal.Refusal.{Refusal}
 use Rattle.lspmux_program.specs.declared.refusal.Refusal.TheVariants.{Form}
 use Rattle.lspmux_program.specs.Buffers.{BufferView, known_lines, begun_lines, FirstPasses, FirstTooLong}
 use Rattle.lspmux_program.specs.Lines.{Line, longest, onto_line}

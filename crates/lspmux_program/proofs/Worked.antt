@@ -1,6 +1,6 @@
 -- A few inputs worked out by the checker.
 use Rattle.std.proofs.Common.{◌≡◌, [], ◌∷◌, ◌++◌, codes, refl}
-use Rattle.std.specs.Prelude.{Some, None}
+use Rattle.std.specs.Prelude.{Some}
 use Rattle.mux_history.specs.declared.cause.Cause.TheVariants.{Joined}
 use Rattle.lspmux_program.specs.declared.refusal.Refusal.TheVariants.{Form, Absent, Unbuilt}
 use Rattle.lspmux_program.specs.Lines.{lines_of}

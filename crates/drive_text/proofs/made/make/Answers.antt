@@ -1,4 +1,4 @@
-use Rattle.std.proofs.Common.{◌+◌, ◌++◌, map, ap, ◌∙◌, arith, ℕ, List}
+use Rattle.std.proofs.Common.{◌++◌, map, ap, ◌∙◌, arith, ℕ, List}
 use Rattle.drive_text.specs.Made.{opening, step_causes}
 use Rattle.drive_text.specs.Spellings.{spelled}
 use Rattle.drive_text.proofs.Turns.{turns_none, turns_more, state_none, state_more}
