@@ -4,6 +4,8 @@
 
 mod part;
 mod read;
+#[cfg(test)]
+mod tests;
 mod write;
 
 pub use part::{Core, End};
