@@ -9,6 +9,7 @@ use Rattle.position_codec.specs.declared.Encoding.{Encoding}
 use Rattle.position_codec.specs.declared.spot.Spot.{Spot}
 use Rattle.position_codec.specs.declared.spot.Advance.{Advance}
 use Rattle.position_codec.specs.Spots.{Advances, Stops, ahead, spot_behind, spot_first}
+use Rattle.position_codec.proofs.After.{spot_more, stops_more}
 use Rattle.position_codec.proofs.Spots.{Stopped, at_end, at_place, all_ahead, offset_here, offset_before}
 use Rattle.doc_text.specs.declared.change.Position.{Position}
 use Rattle.doc_text.specs.declared.gap.Passed.{Passed}
@@ -40,9 +41,6 @@ follows_utf8 : (e : Encoding) (from m : Spot) (ps : List Passed) → Follows e f
 follows_utf8 e from m [] f = IsUtf8-nil
 follows_utf8 e from m (p ∷ ps) f = IsUtf8-append p.text.now (front_text ps) f.1 (follows_utf8 e (spot_behind e from (chars p.text.now)) m ps f.2)
 
-spot_more : (e : Encoding) (from : Spot) (xs ys : List ℕ) → IsUtf8 xs → spot_behind e from (chars (xs ++ ys)) ≡ spot_behind e (spot_behind e from (chars xs)) (chars ys)
-spot_more e from xs ys u = ap (λ l. spot_behind e from l) (chars-append xs ys u) ∙ fold-append _ from (chars xs) (chars ys)
-
 follows_spot : (e : Encoding) (from m : Spot) (ps : List Passed) → Follows e from ps m → m ≡ spot_behind e from (chars (front_text ps))
 follows_spot e from m [] f = sym f ∙ ap (λ l. spot_behind e from l) (sym chars-nil)
 follows_spot e from m (p ∷ ps) f = follows_spot e (spot_behind e from (chars p.text.now)) m ps f.2 ∙ sym (spot_more e from p.text.now (front_text ps) f.1)
@@ -50,10 +48,6 @@ follows_spot e from m (p ∷ ps) f = follows_spot e (spot_behind e from (chars p
 -- a gap with nothing before it stands in front of the text
 pub follows_first : (e : Encoding) (m : Spot) (ps : List Passed) (k n : ℕ) → Follows e spot_first ps m → ps ≡ [] → ahead m k n ≡ true
 follows_first e m ps k n f z = let s : spot_first ≡ m = subst (λ l. Follows e spot_first l m) z f in subst (λ x. ahead x k n ≡ true) s (all_ahead k n)
-
-stops_more : (e : Encoding) (s : Spot) (k n : ℕ) (cs ds : List ℕ) → Stops e s k n cs → Stops e s k n (cs ++ ds)
-stops_more e s k n [] ds h = absurd h
-stops_more e s k n (c ∷ cs) ds h = h
 
 -- whether something of the first piece is left
 abbrev pub Left : List ℕ → List Piece → List Piece → Type 0

@@ -40,14 +40,17 @@ impl DocText {
     }
 
     /// The text.
-    pub(crate) fn as_str(&self) -> &str
+    pub fn as_str(&self) -> &str
         ensures { result.now ≡ self.now }
     {
         self.text.as_str()
     }
 
-    // The text with each change made in what the one before left.
-    fn changed(
+    /// The text with each change made in what the one before left.
+    ///
+    /// Changes in rising or falling order of places take time linear in the text and in theirs together; in another order each may take
+    /// time linear in the text.
+    pub fn behind(
         &self,
         alloc: Global,
         encoding: Encoding,
@@ -91,10 +94,21 @@ impl Text for DocText {
         tape: &Tape,
         changes: u32,
     ) -> Result<(), ChangeFault> {
-        let changes = read::changes(alloc, tape, changes)?;
-        let text = self.changed(alloc, encoding, changes.as_slice())?;
+        let text = self.changed(alloc, encoding, tape, changes)?;
         *self = text;
         Ok(())
+    }
+
+    fn changed(
+        &self,
+        alloc: Global,
+        encoding: Encoding,
+        tape: &Tape,
+        changes: u32,
+    ) -> Result<Self, ChangeFault> {
+        let changes = read::changes(alloc, tape, changes)?;
+        let text = self.behind(alloc, encoding, changes.as_slice())?;
+        Ok(text)
     }
 
     fn copy(&self, alloc: Global) -> Result<Self, Memory> {

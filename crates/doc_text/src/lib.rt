@@ -14,4 +14,5 @@ mod text;
 pub use change::{ContentChange, Extent, Position, Range};
 pub use doc_text::DocText;
 pub use fault::ChangeFault;
+pub use read::changes;
 pub use text::Text;

@@ -41,6 +41,18 @@ pub trait Text: Sized {
         ensures bad_shape { (t : Json) → At tape.now changes t → result ≡ Err ChangeFault.BadShape → text_behind encoding t (bytes self.old) ≡ None }
         ensures err { OnErr result (bytes self.new ≡ bytes self.old) };
 
+    /// A text with these changes made, which are those of `apply`; this one stays as it is.
+    fn changed(
+        &self,
+        alloc: Global,
+        encoding: Encoding,
+        tape: &Tape,
+        changes: u32,
+    ) -> Result<Self, ChangeFault>
+        requires { changes < length tape.now.nodes }
+        ensures ok { (t : Json) → At tape.now changes t → IfOk result (λ made. text_behind encoding t (bytes self.now) ≡ Some (bytes made)) }
+        ensures bad_shape { (t : Json) → At tape.now changes t → result ≡ Err ChangeFault.BadShape → text_behind encoding t (bytes self.now) ≡ None };
+
     fn copy(&self, alloc: Global) -> Result<Self, Memory>
         ensures { IfOk result (λ copied. bytes copied ≡ bytes self.now) };
 }

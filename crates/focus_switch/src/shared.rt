@@ -133,9 +133,8 @@ impl<T: Text + Drop> Shared<T> {
         let Some(encoding) = self.encoding else {
             return Ok(None)
         };
-        let mut changed = text.copy(self.alloc)?;
-        match changed.apply(self.alloc, encoding, tape, changes) {
-            Ok(()) => Ok(Some(changed)),
+        match text.changed(self.alloc, encoding, tape, changes) {
+            Ok(changed) => Ok(Some(changed)),
             Err(ChangeFault::BadShape) => Ok(None),
             Err(ChangeFault::Memory) => Err(Memory),
         }

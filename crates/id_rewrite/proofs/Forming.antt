@@ -1,13 +1,12 @@
 -- The characters that an identifier's bytes stand for, one after the other.
-use Rattle.std.proofs.Common.{◌≡◌, ℕ, zero, suc, ◌<◌, ◌≤◌, Bool, true, false, cond, ◌&&◌, List, [], ◌∷◌, length, fold, refl, sym, ◌∙◌, ap, ap₂, arith}
+use Rattle.std.proofs.Common.{◌≡◌, ℕ, zero, suc, ◌<◌, ◌≤◌, Bool, true, false, ◌&&◌, List, [], ◌∷◌, length, refl, sym, ◌∙◌, ap, ap₂, arith}
 use Rattle.std.specs.Prelude.{Some, None, bytes_eq, nat_eq}
 use Rattle.std.proofs.lemmas.Bool.Decides.{nat_tests}
 use Rattle.json_text.specs.String.{SpellsCharacters}
 use Rattle.json_token.specs.Characters.{Front, next_character}
 use Rattle.json_token.proofs.Decoding.{next_none, next_some}
 use Rattle.json_token.proofs.Shorter.{next_shorter}
-use Rattle.rpc_message.specs.Ids.{is_quoted}
-use Rattle.id_rewrite.specs.Forms.{characters_of, characters_within, fingerprint, first_then, inner, mix}
+use Rattle.id_rewrite.specs.Forms.{characters_of, characters_within, first_then}
 
 -- as many as there are bytes are enough
 enough : (m n : ℕ) (raw : List ℕ) → length raw ≤ m → length raw ≤ n → characters_within m raw ≡ characters_within n raw
@@ -76,18 +75,3 @@ spelled_is (suc n) raw cs l s = go (next_character raw) refl (λ more ds h t. sp
     go : (f : Front) → next_character raw ≡ f → ((more ds : List ℕ) → length more < length raw → SpellsCharacters ds more → characters_within n more ≡ ds) → first_then f (characters_within n) ≡ cs
     go None e rest = sym (next_none cs raw s e)
     go (Some p) e rest = let r = next_some cs raw p.1 p.0 s e in ap (λ ds. p.0 ∷ ds) (rest p.1 r.0 (next_shorter raw p.1 p.0 e) r.2) ∙ sym r.1
-
--- the hash of what a string's bytes stand for, and of other bytes
-pub of_string : (editor : ℕ) (id : List ℕ) (h : ℕ) → is_quoted id ≡ true → h ≡ fold mix (mix editor 34) (characters_of (inner id)) → h ≡ fingerprint editor id
-unfolding fingerprint
-of_string editor id h q e = e ∙ ap (λ b. fold mix editor (cond b (34 ∷ characters_of (inner id)) id)) (sym q)
-
-pub of_others : (editor : ℕ) (id : List ℕ) (h : ℕ) → is_quoted id ≡ false → h ≡ fold mix editor id → h ≡ fingerprint editor id
-unfolding fingerprint
-of_others editor id h q e = e ∙ ap (λ b. fold mix editor (cond b (34 ∷ characters_of (inner id)) id)) (sym q)
-
-pub mixed_more : (raw rest more : List ℕ) (hash mixed c next : ℕ) → fold mix mixed (characters_of rest) ≡ fold mix hash (characters_of raw) → next_character rest ≡ Some (c, more) → next ≡ mix mixed c → fold mix next (characters_of more) ≡ fold mix hash (characters_of raw)
-mixed_more raw rest more hash mixed c next kept e is = ap (λ h. fold mix h (characters_of more)) is ∙ sym (ap (fold mix mixed) (first_is rest more c e)) ∙ kept
-
-pub mixed_end : (raw rest : List ℕ) (hash mixed : ℕ) → fold mix mixed (characters_of rest) ≡ fold mix hash (characters_of raw) → next_character rest ≡ None → mixed ≡ fold mix hash (characters_of raw)
-mixed_end raw rest hash mixed kept e = sym (ap (fold mix mixed) (none_is rest e)) ∙ kept

@@ -4,7 +4,7 @@ use Rattle.std.specs.Prelude.{Option, Some, None, Result, Ok, Err, IfOk, IsOk, O
 use Rattle.std.specs.Map.{lookup}
 use Rattle.id_rewrite.specs.declared.pending.Pending.{Pending}
 use Rattle.id_rewrite.specs.declared.pending.Numbered.{Numbered}
-use Rattle.id_rewrite.specs.Forms.{fingerprint}
+use Rattle.id_rewrite.specs.Fingerprints.{fingerprint}
 use Rattle.id_rewrite.specs.Slots.{AreKnown, IsKept}
 use Rattle.id_rewrite.specs.Tables.{IsInOrder, Table, pending_of, with_cancelled, without}
 use Rattle.id_rewrite.proofs.Finding.{marked_known, put_known, taken_known}

@@ -1,5 +1,5 @@
 -- What an identifier's bytes stand for (JSON-RPC 2.0, section 4), for any bytes: those of a string by their characters, all others by themselves.
-use Rattle.std.specs.Prelude.{ℕ, zero, suc, ◌+◌, ◌-◌, ◌*◌, ◌%◌, ◌^◌, Bool, List, [], ◌∷◌, fold, length, slice_range, bytes_eq, if◌then◌else◌}
+use Rattle.std.specs.Prelude.{ℕ, zero, suc, ◌-◌, Bool, List, [], ◌∷◌, length, slice_range, bytes_eq, if◌then◌else◌}
 use Rattle.std.specs.Prelude.{None, Some}
 use Rattle.json_token.specs.Characters.{Front, next_character}
 use Rattle.rpc_message.specs.Ids.{is_quoted}
@@ -27,10 +27,3 @@ form id = if is_quoted id then 34 ∷ characters_of (inner id) else id
 
 abbrev pub same_form : List ℕ → List ℕ → Bool
 same_form a b = bytes_eq (form a) (form b)
-
-abbrev pub mix : ℕ → ℕ → ℕ
-mix hash code = (hash * 0x100_0000_01b3 % 2 ^ 64 + code) % 2 ^ 64
-
--- a number of an editor and of what its id stands for
-unfoldable pub fingerprint : ℕ → List ℕ → ℕ
-fingerprint editor id = fold mix editor (form id)

@@ -3,7 +3,7 @@ use Rattle.std.specs.Prelude.{◌≡◌, ℕ, ◌+◌, ◌≤◌, Bool, true, fa
 use Rattle.std.specs.Prelude.{Option, None, Some}
 use Rattle.std.specs.List.{AllByRecursion}
 use Rattle.std.specs.Map.{lookup}
-use Rattle.id_rewrite.specs.Forms.{fingerprint}
+use Rattle.id_rewrite.specs.Fingerprints.{fingerprint}
 use Rattle.id_rewrite.specs.Tables.{IsInOrder, Table}
 use Rattle.id_rewrite.specs.declared.pending.Pending.{Pending}
 use Rattle.id_rewrite.specs.declared.pending.Numbered.{Numbered}

@@ -1,9 +1,11 @@
 //! What the bytes of an identifier stand for, without memory (JSON-RPC 2.0, section 4).
-ghost use Rattle.std.specs.Prelude.{◌≡◌, ◌^◌, ◌<◌, ℕ, List, fold, length, bytes_eq};
-ghost use Rattle.id_rewrite.specs.Forms.{characters_of, fingerprint, form, inner, mix, same_form};
+ghost use Rattle.std.specs.Prelude.{◌≡◌, bytes_eq};
+ghost use Rattle.id_rewrite.specs.Forms.{characters_of, form, inner, same_form};
+ghost use Rattle.id_rewrite.specs.Fingerprints.{Adds, fingerprint, front, word, words};
 
 use json_token::next_character;
 use rpc_message::is_quoted;
+use sha2::{Digest, Sha256};
 
 // What is between the quotation marks of a string.
 fn inner(id: &[u8]) -> &[u8]
@@ -47,44 +49,62 @@ pub fn same_form(a: &[u8], b: &[u8]) -> bool
     }
 }
 
-fn mix(hash: u64, code: u32) -> u64
-    ensures { result ≡ mix hash code }
+// Behind a message, a character in four bytes.
+fn add(hasher: &mut Sha256, character: u32)
+    ensures { Adds hasher.old hasher.new (word character) }
 {
-    hash.wrapping_mul(0x100_0000_01b3)
-        .wrapping_add(u64::from(code))
+    hasher.update(&character.to_be_bytes());
 }
 
-// Behind a hash, the characters that the bytes between a string's quotation marks stand for.
-fn mix_characters(hash: u64, raw: &[u8]) -> u64
-    ensures { result ≡ fold mix hash (characters_of raw.now) }
+// Behind a message, the characters that the bytes between a string's quotation marks stand for.
+fn add_characters(hasher: &mut Sha256, raw: &[u8])
+    ensures { Adds hasher.old hasher.new (words (characters_of raw.now)) }
 {
-    let mut mixed = hash;
     let mut rest = raw;
     while let Some((character, more)) = next_character(rest) {
-        mixed = mix(mixed, u32::from(character));
+        add(hasher, u32::from(character));
         rest = more;
     }
-    mixed
 }
 
-fn mix_bytes(hash: u64, bytes: &[u8]) -> u64
-    ensures { result ≡ fold mix hash bytes.now }
+fn add_bytes(hasher: &mut Sha256, bytes: &[u8])
+    ensures { Adds hasher.old hasher.new (words bytes.now) }
 {
-    let mut mixed = hash;
     for byte in bytes {
-        mixed = mix(mixed, u32::from(*byte));
+        add(hasher, u32::from(*byte));
     }
-    mixed
 }
 
-/// A number of an editor and of what its identifier stands for: the same for identifiers that `same_form` takes for the
-/// same, and seldom for others. Its time is linear in the identifier.
-pub fn fingerprint(editor: u64, id: &[u8]) -> u64
-    ensures { result ≡ fingerprint editor id.now }
+// The number that the first sixteen bytes of a digest write.
+fn front(digest: &[u8; 32]) -> u128
+    ensures { result ≡ front digest.now }
+{
+    match digest.first_chunk::<16>() {
+        Some(bytes) => u128::from_be_bytes(*bytes),
+        None => 0,
+    }
+}
+
+// Behind a message, what an identifier stands for.
+fn add_form(hasher: &mut Sha256, id: &[u8])
+    ensures { Adds hasher.old hasher.new (words (form id.now)) }
 {
     if is_quoted(id) {
-        mix_characters(mix(editor, 34), inner(id))
+        add(hasher, 34);
+        add_characters(hasher, inner(id));
     } else {
-        mix_bytes(editor, id)
+        add_bytes(hasher, id);
     }
+}
+
+/// A number of an editor and of what its identifier stands for, by their SHA-256 digest (FIPS 180-4): the same for
+/// identifiers that `same_form` takes for the same, and, as far as anyone can find, for no others. Its time is linear in
+/// the identifier.
+pub fn fingerprint(editor: u64, id: &[u8]) -> u128
+    ensures { result ≡ fingerprint editor id.now }
+{
+    let mut hasher = Sha256::new();
+    hasher.update(&editor.to_be_bytes());
+    add_form(&mut hasher, id);
+    front(&hasher.finalize())
 }

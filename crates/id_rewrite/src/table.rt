@@ -21,7 +21,7 @@ pub struct IdTable {
     alloc: Global,
     slots: Slots,
     // The numbers of the open requests by their fingerprints, and whether two of these may have been one.
-    numbers: IndexMap<u64, u32>,
+    numbers: IndexMap<u128, u32>,
     doubled: bool,
     // For how many requests there's room in both.
     room: u32,
@@ -41,7 +41,7 @@ impl Model for IdTable {
 }
 
 // Whether a map had no number under a key that was inserted.
-fn is_new(inserted: Result<Option<u32>, AllocFailed<(u64, u32)>>) -> bool
+fn is_new(inserted: Result<Option<u32>, AllocFailed<(u128, u32)>>) -> bool
     ensures { result ≡ true → IfOk inserted (λ old. old ≡ None) × IsOk inserted }
 {
     matches!(inserted, Ok(None))

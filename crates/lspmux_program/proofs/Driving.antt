@@ -15,14 +15,14 @@ use Rattle.lspmux_program.specs.declared.line.LineStop.{LineStop}
 use Rattle.lspmux_program.specs.declared.line.LineStop.TheVariants as line_stop
 use Rattle.lspmux_program.specs.declared.refusal.Refusal.{Refusal}
 use Rattle.lspmux_program.specs.declared.refusal.Refusal.TheVariants.{Form}
-use Rattle.lspmux_program.specs.declared.step.LineFault.{LineFault}
-use Rattle.lspmux_program.specs.declared.step.LineFault.TheVariants as line_fault
+use Rattle.lspmux_program.specs.declared.step.TakeFault.{TakeFault}
+use Rattle.lspmux_program.specs.declared.step.TakeFault.TheVariants as take_fault
 use Rattle.lspmux_program.specs.declared.stop.Stop.{Stop}
 use Rattle.lspmux_program.specs.declared.stop.Stop.TheVariants as stop
 use Rattle.lspmux_program.specs.Buffers.{BufferView, known_lines, onto_known, FirstTooLong, Came, BrokeOff}
 use Rattle.lspmux_program.specs.Faults.{LeavesWritten}
 use Rattle.lspmux_program.specs.Lines.{Line, lines_of, longest}
-use Rattle.lspmux_program.specs.Outs.{out_lines, outs_text}
+use Rattle.drive_text.specs.Outs.{out_lines, outs_text}
 use Rattle.lspmux_program.specs.Runs.{Refused, Outcome, on_reading, reading, reading_bytes, after, drive_from, IsRunOf, TakesFirst, WroteFront}
 use Rattle.lspmux_program.specs.Steps.{IsTaken, LineTaken, LineLeft, untouched, stepped}
 use Rattle.lspmux_program.specs.Stops.{stop_at, fault_at, Consumed, Driving, Gives, StopsAt, Driven}
@@ -279,15 +279,15 @@ module _ {J : Type 0} (told : J → Option (List Entry)) (settings : Settings) (
   first_taken None t = tt
   first_taken (Some lines) t = (t.cause, reading_near d.history bytes next_buffer.used near ∙ t.reads)
 
-  pub faults : (number : ℕ) (fault : LineFault) → number ≡ taken + 1 → LineLeft told d.history bytes hub next v u → (LeavesWritten fault → HubStands told next d.history × (u ≡ v))
-      → ((r : Refusal) → fault ≡ line_fault.Refused r → reading_bytes d.history bytes ≡ Err r) → (fault ≡ line_fault.Journal → IsTaken d.history bytes)
+  pub faults : (number : ℕ) (fault : TakeFault) → number ≡ taken + 1 → LineLeft told d.history bytes hub next v u → (LeavesWritten fault → HubStands told next d.history × (u ≡ v))
+      → ((r : Refusal) → fault ≡ take_fault.Refused r → reading_bytes d.history bytes ≡ Err r) → (fault ≡ take_fault.Journal → IsTaken d.history bytes)
       → Driven told settings input next_left w u next (Err (fault_at number fault))
-  faults number line_fault.Memory n left_line kept refused taken_line = left_at stop.Memory (λ h r. tt) left_line
-  faults number line_fault.Output n left_line kept refused taken_line = left_at stop.Output (λ h r. tt) left_line
-  faults number line_fault.Journal n left_line kept refused taken_line =
+  faults number take_fault.Memory n left_line kept refused taken_line = left_at stop.Memory (λ h r. tt) left_line
+  faults number take_fault.Output n left_line kept refused taken_line = left_at stop.Output (λ h r. tt) left_line
+  faults number take_fault.Journal n left_line kept refused taken_line =
       let k : HubStands told next d.history × (u ≡ v) = kept tt in
       kept_at stop.Journal k.0 k.1 (k.1 ∙ d.wrote, subst (λ rest. IfSome rest (TakesFirst d.history)) (sym first) (first_taken (known_lines next_buffer next_left) (taken_line refl)))
-  faults number (line_fault.Refused r) n left_line kept refused taken_line =
+  faults number (take_fault.Refused r) n left_line kept refused taken_line =
       let k : HubStands told next d.history × (u ≡ v) = kept tt in
       kept_at (stop.Refused number r) k.0 k.1 (
         k.1 ∙ d.wrote,

@@ -13,7 +13,7 @@ use Rattle.lspmux_program.specs.declared.stop.Stop.{Stop}
 use Rattle.lspmux_program.specs.declared.stop.Stop.TheVariants as stop
 use Rattle.lspmux_program.proofs.Driving.{append_both, take_more}
 use Rattle.lspmux_program.specs.Lines.{lines_of}
-use Rattle.lspmux_program.specs.Outs.{outs_text}
+use Rattle.drive_text.specs.Outs.{outs_text}
 use Rattle.session_laws.proofs.Sessions.{sessions_kept}
 use Rattle.lspmux_program.specs.Program.{status_of, fault_line, status_line, refused_line, Ran, Drove, JournalTells, words_line, IsUnrefused, Undisturbed}
 use Rattle.lspmux_program.specs.Reports.{Wrote, Reported, said, unsaid}

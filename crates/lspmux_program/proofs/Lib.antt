@@ -1,8 +1,8 @@
-pub mod Bodies
 pub mod Consumes
 pub mod Cuts
 pub mod Driving
 pub mod Ends
+pub mod Lengths
 pub mod Longest
 pub mod Reports
 pub mod Steps

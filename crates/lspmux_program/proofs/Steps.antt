@@ -9,7 +9,7 @@ use Rattle.mux_history.specs.declared.out.Out.{Out}
 use Rattle.mux_hub.specs.Hubs.{HubView, HubStands}
 use Rattle.mux_model.specs.Rows.{emits, entry_of}
 use Rattle.event_model.specs.Settings.{Settings}
-use Rattle.lspmux_program.specs.Outs.{out_lines}
+use Rattle.drive_text.specs.Outs.{out_lines}
 use Rattle.lspmux_program.specs.Runs.{reading_bytes, after}
 use Rattle.lspmux_program.specs.Steps.{LineTaken, LineLeft, stepped}
 

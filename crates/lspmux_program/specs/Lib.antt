@@ -1,11 +1,6 @@
 pub mod Buffers
-pub mod Causes
 pub mod Faults
 pub mod Lines
-pub mod Marks
-pub mod Numbers
-pub mod Options
-pub mod Outs
 pub mod Program
 pub mod Reports
 pub mod Runs

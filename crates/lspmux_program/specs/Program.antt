@@ -12,7 +12,7 @@ use Rattle.lspmux_program.specs.declared.refusal.Refusal.TheVariants.{Form, Abse
 use Rattle.lspmux_program.specs.declared.stop.Stop.{Stop}
 use Rattle.lspmux_program.specs.declared.stop.Stop.TheVariants as stop
 use Rattle.lspmux_program.specs.Lines.{Line, lines_of}
-use Rattle.lspmux_program.specs.Outs.{outs_text}
+use Rattle.drive_text.specs.Outs.{outs_text}
 use Rattle.lspmux_program.specs.Reports.{Wrote}
 use Rattle.lspmux_program.specs.Stops.{Gives, StopsAt}
 use Rattle.lspmux_program.specs.Runs.{built_in, Refused, drive_of, IsRunOf, IsRunOfRead, TakesFirst, WroteFront}

@@ -4,14 +4,13 @@ use Rattle.std.specs.Prelude.{Option, Some, None, Result, Ok, Err}
 use Rattle.std.specs.Io.KnownBytes.{append_known, prepend_known}
 use Rattle.mux_history.specs.declared.cause.Cause.{Cause}
 use Rattle.mux_history.specs.declared.entry.Entry.{Entry}
-use Rattle.mux_hub.specs.Hubs.{body_length}
 use Rattle.mux_model.specs.Built.{built}
 use Rattle.mux_model.specs.Fits.{fits}
 use Rattle.mux_model.specs.Rows.{entry_of}
 use Rattle.event_model.specs.Settings.{Settings}
 use Rattle.lspmux_program.specs.declared.refusal.Refusal.{Refusal}
 use Rattle.lspmux_program.specs.declared.refusal.Refusal.TheVariants.{Form, Absent, Unbuilt}
-use Rattle.lspmux_program.specs.Causes.{cause_of}
+use Rattle.drive_text.specs.Forms.{cause_within}
 use Rattle.lspmux_program.specs.Lines.{Line, lines_of, ended_lines}
 
 -- the built-in settings
@@ -28,11 +27,11 @@ content = 67108864
 
 abbrev pub judged : List Entry → Option Cause → Result Cause Refusal
 judged history None = Err Form
-judged history (Some cause) = if nat_lt content (body_length cause) then Err Form else (if fits history cause then (if built history cause then Ok cause else Err Unbuilt) else Err Absent)
+judged history (Some cause) = if fits history cause then (if built history cause then Ok cause else Err Unbuilt) else Err Absent
 
 -- the cause that these bytes write, or why the line is refused
 unfoldable pub reading_bytes : List Entry → List ℕ → Result Cause Refusal
-reading_bytes history bytes = judged history (cause_of bytes)
+reading_bytes history bytes = judged history (cause_within content bytes)
 
 -- the same of a line; one in which the input passes 2^40 bytes is in no form
 abbrev pub reading : List Entry → Line → Result Cause Refusal

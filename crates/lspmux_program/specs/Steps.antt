@@ -6,7 +6,7 @@ use Rattle.mux_history.specs.declared.cause.Cause.{Cause}
 use Rattle.mux_history.specs.declared.entry.Entry.{Entry}
 use Rattle.mux_hub.specs.Hubs.{HubView, HubStands}
 use Rattle.mux_model.specs.Rows.{emits}
-use Rattle.lspmux_program.specs.Outs.{out_lines}
+use Rattle.drive_text.specs.Outs.{out_lines}
 use Rattle.lspmux_program.specs.Runs.{reading_bytes, after}
 
 -- its cause was taken and its outs were written

@@ -8,13 +8,13 @@ use Rattle.event_model.specs.Settings.{Settings}
 use Rattle.lspmux_program.specs.declared.line.LineStop.{LineStop}
 use Rattle.lspmux_program.specs.declared.line.LineStop.TheVariants as line_stop
 use Rattle.lspmux_program.specs.declared.refusal.Refusal.TheVariants.{Form}
-use Rattle.lspmux_program.specs.declared.step.LineFault.{LineFault}
-use Rattle.lspmux_program.specs.declared.step.LineFault.TheVariants as line_fault
+use Rattle.lspmux_program.specs.declared.step.TakeFault.{TakeFault}
+use Rattle.lspmux_program.specs.declared.step.TakeFault.TheVariants as take_fault
 use Rattle.lspmux_program.specs.declared.stop.Stop.{Stop}
 use Rattle.lspmux_program.specs.declared.stop.Stop.TheVariants as stop
 use Rattle.lspmux_program.specs.Buffers.{BufferView, unused, known_lines}
 use Rattle.lspmux_program.specs.Lines.{Line, lines_of, ended_lines, ended_from}
-use Rattle.lspmux_program.specs.Outs.{outs_text}
+use Rattle.drive_text.specs.Outs.{outs_text}
 use Rattle.lspmux_program.specs.Runs.{Outcome, drive_from, IsRunOf, IsRunOfRead, TakesFirst, WroteFront}
 
 abbrev pub stop_at : ℕ → LineStop → Stop
@@ -22,11 +22,11 @@ stop_at number line_stop.Memory = stop.Memory
 stop_at number line_stop.Input = stop.Input
 stop_at number line_stop.Passed = stop.Refused number Form
 
-abbrev pub fault_at : ℕ → LineFault → Stop
-fault_at number line_fault.Memory = stop.Memory
-fault_at number line_fault.Journal = stop.Journal
-fault_at number line_fault.Output = stop.Output
-fault_at number (line_fault.Refused refusal) = stop.Refused number refusal
+abbrev pub fault_at : ℕ → TakeFault → Stop
+fault_at number take_fault.Memory = stop.Memory
+fault_at number take_fault.Journal = stop.Journal
+fault_at number take_fault.Output = stop.Output
+fault_at number (take_fault.Refused refusal) = stop.Refused number refusal
 
 -- what was read and used of the input are these lines, each with its line feed
 pub record Consumed (input left : Option (List ℕ)) (buffer : BufferView) (front : List Line) : Type 0 where

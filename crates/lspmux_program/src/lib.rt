@@ -4,15 +4,11 @@
 mod all_lines;
 mod buffer;
 mod line;
-mod marks;
 mod program;
-mod read;
 mod refusal;
 mod report;
 mod step;
 mod stop;
-mod word;
-mod write;
 
 pub use all_lines::drive;
 pub use program::{Outside, lspmux};

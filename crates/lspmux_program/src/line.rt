@@ -44,7 +44,7 @@ impl From<ReadFault> for LineStop {
 }
 
 // The most bytes of a line in a form: two letters, a number of 20 digits, two spaces, and two bytes for each of a body.
-const LONGEST: usize = 24 + 2 * CONTENT;
+const LONGEST: usize = 24 + 2 * CONTENT as usize;
 
 /// A line of the input, without its line feed.
 #[derive(Debug, Drop)]

@@ -10,9 +10,8 @@ ghost use Rattle.lspmux_program.specs.Steps.{IsTaken, LineTaken, LineLeft};
 ghost use Rattle.lspmux_program.specs.Faults.{LeavesWritten};
 ghost use Rattle.lspmux_program.specs.declared.refusal.Refusal.{Refusal};
 
-use crate::read::cause_of;
-use crate::refusal::{Refusal, refusal_of};
-use crate::write::out_lines;
+use crate::refusal::{CONTENT, Refusal, refusal_of};
+use drive_text::{cause_of_line, write_outs};
 use message_body::Memory;
 use mux_history::{Cause, Journal};
 use mux_hub::{Hub, StepFault};
@@ -21,7 +20,7 @@ use std::alloc::Global;
 
 /// Why a line wasn't taken and answered.
 #[derive(Clone, Copy, Debug, PartialEq, Eq)]
-pub enum LineFault {
+pub enum TakeFault {
     /// Memory was wanted.
     Memory,
     /// The journal's append failed.
@@ -32,43 +31,43 @@ pub enum LineFault {
     Refused(Refusal),
 }
 
-impl From<Memory> for LineFault {
+impl From<Memory> for TakeFault {
     ghost use Rattle.std.specs.Prelude.{◌≡◌};
-    ghost use Rattle.lspmux_program.specs.declared.step.LineFault.TheVariants as line_fault;
+    ghost use Rattle.lspmux_program.specs.declared.step.TakeFault.TheVariants as take_fault;
 
-    ghost from_gives = { λ _ e. e ≡ line_fault.Memory };
+    ghost from_gives = { λ _ e. e ≡ take_fault.Memory };
 
     fn from(_: Memory) -> Self {
-        LineFault::Memory
+        TakeFault::Memory
     }
 }
 
-impl From<StepFault> for LineFault {
+impl From<StepFault> for TakeFault {
     ghost use Rattle.std.specs.Prelude.{◌≡◌};
-    ghost use Rattle.lspmux_program.specs.Faults.{line_fault_of};
+    ghost use Rattle.lspmux_program.specs.Faults.{take_fault_of};
 
-    ghost from_gives = { λ fault e. e ≡ line_fault_of fault };
+    ghost from_gives = { λ fault e. e ≡ take_fault_of fault };
 
     fn from(fault: StepFault) -> Self {
         match fault {
-            StepFault::Memory | StepFault::Spent => LineFault::Memory,
-            StepFault::Journal => LineFault::Journal,
+            StepFault::Memory | StepFault::Spent => TakeFault::Memory,
+            StepFault::Journal => TakeFault::Journal,
         }
     }
 }
 
-impl From<Cut> for LineFault {
+impl From<Cut> for TakeFault {
     ghost use Rattle.std.specs.Prelude.{◌≡◌};
-    ghost use Rattle.lspmux_program.specs.declared.step.LineFault.TheVariants as line_fault;
+    ghost use Rattle.lspmux_program.specs.declared.step.TakeFault.TheVariants as take_fault;
 
-    ghost from_gives = { λ _ e. e ≡ line_fault.Output };
+    ghost from_gives = { λ _ e. e ≡ take_fault.Output };
 
     fn from(_: Cut) -> Self {
-        LineFault::Output
+        TakeFault::Output
     }
 }
 
-#[tactic(auto, unfolding(crate::specs::Runs::reading_bytes))]
+#[tactic(auto, unfolding(crate::specs::Runs::reading_bytes), using(crate::proofs::Lengths::same_length))]
 // The cause that a line writes, or why the line is refused. The line isn't kept beside its body.
 fn read_line<J: Journal>(
     alloc: Global,
@@ -81,7 +80,7 @@ fn read_line<J: Journal>(
     ensures is_built { (history : List Entry) → HubStands J.told hub.now history → IfOk result (λ read. IfOk read (λ cause. IsTrue (built history cause))) }
     ensures small { IfOk result (λ read. IfOk read (λ cause. body_length cause ≤ 67108864)) }
 {
-    let read = cause_of(alloc, &line)?;
+    let read = cause_of_line(alloc, &line, CONTENT)?;
     drop(line);
     let Some(cause) = read else {
         return Ok(Err(Refusal::Form));
@@ -98,26 +97,26 @@ pub fn take_line<J: Journal, O: Sink>(
     line: Vec<u8>,
     hub: &mut Hub<J>,
     output: &mut O,
-) -> Result<(), LineFault>
+) -> Result<(), TakeFault>
     requires ready { hub.old.spent ≡ false }
     ensures taken { (history : List Entry) → HubStands J.told hub.old history → OnOk result (LineTaken J.told history line.items hub.old hub.new (O.written output.old) (O.written output.new)) }
-    ensures refused { (history : List Entry) (r : Refusal) → HubStands J.told hub.old history → IsErrOf result (LineFault.Refused r) → reading_bytes history line.items ≡ Err r }
-    ensures entry { (history : List Entry) → HubStands J.told hub.old history → IsErrOf result LineFault.Journal → IsTaken history line.items }
+    ensures refused { (history : List Entry) (r : Refusal) → HubStands J.told hub.old history → IsErrOf result (TakeFault.Refused r) → reading_bytes history line.items ≡ Err r }
+    ensures entry { (history : List Entry) → HubStands J.told hub.old history → IsErrOf result TakeFault.Journal → IsTaken history line.items }
     ensures left { (history : List Entry) → HubStands J.told hub.old history → OnErr result (LineLeft J.told history line.items hub.old hub.new (O.written output.old) (O.written output.new)) }
     ensures kept { (history : List Entry) → HubStands J.told hub.old history → IfErr result (λ fault. LeavesWritten fault → HubStands J.told hub.new history × (O.written output.new ≡ O.written output.old)) }
     ensures settings { hub.new.settings ≡ hub.old.settings }
     ensures ready { OnOk result (hub.new.spent ≡ false) }
-    ensures journal { IsErrOf result LineFault.Journal → Rose (J.faults hub.old.journal) (J.faults hub.new.journal) }
-    ensures output { IsErrOf result LineFault.Output → Rose (O.faults output.old) (O.faults output.new) }
+    ensures journal { IsErrOf result TakeFault.Journal → Rose (J.faults hub.old.journal) (J.faults hub.new.journal) }
+    ensures output { IsErrOf result TakeFault.Output → Rose (O.faults output.old) (O.faults output.new) }
     ensures journal_later { J.faults hub.old.journal ≤ J.faults hub.new.journal }
     ensures output_later { O.faults output.old ≤ O.faults output.new }
 {
     let cause = match read_line(alloc, line, hub)? {
         Ok(cause) => cause,
-        Err(refusal) => return Err(LineFault::Refused(refusal)),
+        Err(refusal) => return Err(TakeFault::Refused(refusal)),
     };
     let outs = hub.step(cause)?;
-    let text = out_lines(alloc, &outs)?;
-    write_whole(output, &text)?;
+    let text = write_outs(alloc, &outs)?;
+    write_whole(output, text.bytes())?;
     Ok(())
 }

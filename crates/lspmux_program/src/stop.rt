@@ -4,7 +4,7 @@ ghost use Rattle.lspmux_program.specs.Stops.{stop_at, fault_at};
 
 use crate::line::LineStop;
 use crate::refusal::Refusal;
-use crate::step::LineFault;
+use crate::step::TakeFault;
 use message_body::Memory;
 
 /// Why a run stops before the end of its input.
@@ -45,13 +45,13 @@ pub fn stop_at(number: u64, stop: LineStop) -> Stop
 }
 
 /// Why the run stops where a line isn't taken and answered.
-pub fn fault_at(number: u64, fault: LineFault) -> Stop
+pub fn fault_at(number: u64, fault: TakeFault) -> Stop
     ensures { result ≡ fault_at number fault }
 {
     match fault {
-        LineFault::Memory => Stop::Memory,
-        LineFault::Journal => Stop::Journal,
-        LineFault::Output => Stop::Output,
-        LineFault::Refused(refusal) => Stop::Refused(number, refusal),
+        TakeFault::Memory => Stop::Memory,
+        TakeFault::Journal => Stop::Journal,
+        TakeFault::Output => Stop::Output,
+        TakeFault::Refused(refusal) => Stop::Refused(number, refusal),
     }
 }

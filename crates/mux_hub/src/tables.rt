@@ -7,12 +7,12 @@ ghost use Rattle.event_model.specs.Stages.{may_start, runs};
 ghost use Rattle.mux_hub.specs.Tables.{joined_in};
 
 use crate::pending::Pending;
-use doc_text::DocText;
 use event_model::{Phase, Stage};
 use focus_switch::Shared;
 use message_body::Body;
 use mux_history::Cause;
 use std::marker::Model;
+use text_pieces::PieceText;
 
 // How many editors joined.
 fn joined_in(phase: Phase) -> u64
@@ -57,7 +57,7 @@ pub struct Tables {
     /// Numbers rising.
     pub pending: Vec<Pending>,
     /// What the editor has open, and what the start was told of it.
-    pub documents: Shared<DocText>,
+    pub documents: Shared<PieceText>,
 }
 
 impl Model for Tables {

@@ -1,5 +1,5 @@
 -- An advance in a text, a character at a time.
-use Rattle.std.proofs.Common.{◌≡◌, ◌⊎◌, inl, inr, ℕ, ◌+◌, ◌*◌, ◌<◌, ◌≤◌, Bool, true, false, List, [], ◌∷◌, ◌++◌, length, take, drop, refl, sym, ap, ◌∙◌, arith, subst}
+use Rattle.std.proofs.Common.{◌≡◌, ◌⊎◌, inl, inr, ℕ, ◌+◌, ◌*◌, ◌<◌, ◌≤◌, Bool, true, false, List, [], ◌∷◌, ◌++◌, length, take, drop, refl, sym, ap, ◌∙◌, arith, subst, append-nil}
 use Rattle.std.specs.Prelude.{IsUtf8}
 use Rattle.std.specs.Char.{len_utf8}
 use Rattle.std.specs.Str.{chars, IsCharBoundary}
@@ -25,14 +25,26 @@ pub record Reading (e : Encoding) (from : Spot) (line character : ℕ) (cs : Lis
 pub reading_starts : (e : Encoding) (from : Spot) (line character : ℕ) (cs : List ℕ) → ahead from line character ≡ true → Reading e from line character cs 0 0 from
 reading_starts e from line character cs h = record { whole = omega arith; here = refl; ahead = h; few = omega arith }
 
+-- the spot behind one character more
+pub behind_on : (e : Encoding) (from : Spot) (cs : List ℕ) (n m c : ℕ) (spot next : Spot) → spot ≡ spot_behind e from (take n cs) → Next cs n c → m ≡ n + 1 → next ≡ spot_past e spot c → next ≡ spot_behind e from (take m cs)
+behind_on e from cs n m c spot next r h k p =
+    let t : spot_behind e from (take m cs) ≡ spot_past e (spot_behind e from (take n cs)) c = ap (λ i. spot_behind e from (take i cs)) k ∙ (fold_more (spot_past e) from cs n c h.0 ∙ ap (λ d. spot_past e (spot_behind e from (take n cs)) d) (sym h.1)) in
+    p ∙ (ap (λ s. spot_past e s c) r ∙ sym t)
+
+-- the spot behind all of them
+pub behind_all : (e : Encoding) (from : Spot) (cs : List ℕ) (n : ℕ) (spot : Spot) → spot ≡ spot_behind e from (take n cs) → length cs ≤ n → spot ≡ spot_behind e from cs
+behind_all e from cs n spot r h =
+    let d : drop n cs ≡ [] = at_drop_all (λ l. l) cs n h in
+    let t : take n cs ≡ cs = sym (append-nil (take n cs)) ∙ (ap (λ l. take n cs ++ l) (sym d) ∙ take-append-drop n cs) in
+    r ∙ ap (λ l. spot_behind e from l) t
+
 pub reading_on : (e : Encoding) (from : Spot) (line character : ℕ) (cs : List ℕ) (n m offset more c : ℕ) (spot next : Spot) → Reading e from line character cs n offset spot → Next cs n c → m ≡ n + 1 → next ≡ spot_past e spot c → ahead next line character ≡ true
     → next.line + next.column ≤ spot.line + spot.column + 4 → more ≡ len_utf8 c → 1 ≤ more → Reading e from line character cs m (offset + more) next
 reading_on e from line character cs n m offset more c spot next r h k p a f g one =
     let b = bytes_turn cs n m c h k in
-    let t : spot_behind e from (take m cs) ≡ spot_past e (spot_behind e from (take n cs)) c = ap (λ i. spot_behind e from (take i cs)) k ∙ (fold_more (spot_past e) from cs n c h.0 ∙ ap (λ d. spot_past e (spot_behind e from (take n cs)) d) (sym h.1)) in
     record {
       whole = omega (arith, b, r.whole, g);
-      here = p ∙ (ap (λ s. spot_past e s c) r.here ∙ sym t);
+      here = behind_on e from cs n m c spot next r.here h k p;
       ahead = a;
       few = omega (arith, f, r.few, one);
     }
@@ -98,8 +110,8 @@ module _ {e : Encoding} {from : Spot} {line character : ℕ} {bs : List ℕ} {n 
   }
 
   -- cut off, all passed, or at the place
-  pub advances_some : 512 ≤ offset → Advances e from line character bs (made offset spot false)
-  advances_some h = advances_by false (λ x. absurd (cc)) (λ x. inr (omega (arith, h)))
+  pub advances_some : 0 < offset → Advances e from line character bs (made offset spot false)
+  advances_some h = advances_by false (λ x. absurd (cc)) (λ x. inr h)
 
   pub advances_all : length (chars bs) ≤ n → Advances e from line character bs (made offset spot false)
   advances_all h = advances_by false (λ x. absurd (cc)) (λ x. inl (let b : bytes (drop n (chars bs)) ≡ 0 = at_drop_all bytes (chars bs) n h in let w = bytes_chars bs u in omega (arith, w, b, r.whole)))

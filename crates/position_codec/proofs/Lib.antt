@@ -1,3 +1,4 @@
+pub mod After
 pub mod Boundaries
 pub mod Cut
 mod Advancing

@@ -23,6 +23,10 @@ spot_past e s c =
 abbrev pub spot_behind : Encoding → Spot → List ℕ → Spot
 spot_behind e s cs = fold (spot_past e) s cs
 
+-- behind a text that leads from the first spot, or the first behind a `\r`, to the spot t
+abbrev pub spot_after : Spot → Spot → Spot
+spot_after s t = spot_at (s.line + t.line) (if t.line == 0 then s.column + t.column else t.column) t.returned
+
 -- is the place at this line and character not before the spot
 abbrev pub ahead : Spot → ℕ → ℕ → Bool
 ahead s line character = nat_lt s.line line || ((s.line == line) && nat_le s.column character)

@@ -1,6 +1,7 @@
 //! How far a text was read, by its lines and units.
-ghost use Rattle.std.specs.Prelude.{◌≡◌, ◌≤◌, ◌<◌, ◌+◌, ◌*◌, ◌^◌, length, true, IfSome, IfNone};
-ghost use Rattle.position_codec.specs.Spots.{Advances, ahead, spot_first, spot_past};
+ghost use Rattle.std.specs.Prelude.{◌≡◌, ◌⊎◌, ◌≤◌, ◌<◌, ◌+◌, ◌*◌, ◌^◌, length, true, false, IfSome, IfNone};
+ghost use Rattle.std.specs.Str.{chars};
+ghost use Rattle.position_codec.specs.Spots.{Advances, ahead, spot_first, spot_past, spot_behind, spot_after};
 
 use crate::{Encoding, ends_line, units};
 
@@ -92,12 +93,46 @@ impl Spot {
         ensures some { IfSome result (λ a. Advances encoding self line character text.now a) }
         ensures none { IfNone result (2 ^ 64 ≤ self.line + self.column + 4 * length text.now + 4) }
     {
+        self.advance_within(encoding, line, character, text, MOST)
+    }
+
+    /// Goes on from here as `advance` does, but stops only at the place or at the end of the text.
+    pub fn advance_to(
+        self,
+        encoding: Encoding,
+        line: u32,
+        character: u32,
+        text: &str,
+    ) -> Option<Advance>
+        requires { ahead self line character ≡ true }
+        ensures some { IfSome result (λ a. Advances encoding self line character text.now a) }
+        ensures whole { IfSome result (λ a. a.stopped ≡ false → a.offset ≡ length text.now) }
+        ensures none { IfNone result (2 ^ 64 ≤ self.line + self.column + 4 * length text.now + 4) }
+    {
+        self.advance_within(encoding, line, character, text, usize::MAX)
+    }
+
+    // Goes on from here, and stops at the place, at the end of the text, or behind the most bytes.
+    fn advance_within(
+        self,
+        encoding: Encoding,
+        line: u32,
+        character: u32,
+        text: &str,
+        most: usize,
+    ) -> Option<Advance>
+        requires ahead { ahead self line character ≡ true }
+        requires most { 0 < most }
+        ensures some { IfSome result (λ a. Advances encoding self line character text.now a) }
+        ensures whole { IfSome result (λ a. a.stopped ≡ false → (a.offset ≡ length text.now) ⊎ (most ≤ a.offset)) }
+        ensures none { IfNone result (2 ^ 64 ≤ self.line + self.column + 4 * length text.now + 4) }
+    {
         // The length of the text bounds the offset.
         let _size = text.len();
         let mut spot = self;
         let mut offset = 0;
         for c in text.chars() {
-            if offset >= MOST {
+            if offset >= most {
                 return Some(Advance {
                     offset,
                     spot,
@@ -119,6 +154,36 @@ impl Spot {
             offset,
             spot,
             stopped: false,
+        })
+    }
+
+    /// The spot behind a text that is read from here on. None where a count has no room.
+    pub fn behind(self, encoding: Encoding, text: &str) -> Option<Spot>
+        ensures some { IfSome result (λ s. s ≡ spot_behind encoding self (chars text.now)) }
+    {
+        let mut spot = self;
+        for c in text.chars() {
+            spot = spot.past(encoding, c)?;
+        }
+        Some(spot)
+    }
+
+    /// The spot where one comes from here by a text that leads to the other spot from a first one, which returned where this one did.
+    /// None where a count has no room.
+    pub fn after(self, other: Spot) -> Option<Spot>
+        ensures some { IfSome result (λ s. s ≡ spot_after self other) }
+        ensures none { IfNone result (2 ^ 64 ≤ self.line + other.line + self.column + other.column) }
+    {
+        let line = self.line.checked_add(other.line)?;
+        let column = if other.line == 0 {
+            self.column.checked_add(other.column)?
+        } else {
+            other.column
+        };
+        Some(Spot {
+            line,
+            column,
+            returned: other.returned,
         })
     }
 }

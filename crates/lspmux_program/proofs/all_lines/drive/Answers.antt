@@ -2,7 +2,7 @@ use Rattle.std.proofs.Common.{arith, refl, ap, ◌∙◌, ◌+◌}
 use Rattle.std.proofs.lemmas.Result.{err_from_is_err_and}
 use Rattle.std.specs.Prelude.{Err}
 use Rattle.lspmux_program.specs.declared.line.LineStop.{LineStop}
-use Rattle.lspmux_program.specs.declared.step.LineFault.{LineFault}
+use Rattle.lspmux_program.specs.declared.step.TakeFault.{TakeFault}
 use Rattle.lspmux_program.proofs.Driving.{begins, goes_on, ends, ends_behind, stops, faults, never_begins}
 use Rattle.lspmux_program.proofs.all_lines.drive.Goals as goal
 
@@ -47,8 +47,8 @@ returns-in-Err-take_line-clause-driven g c =
     first
     small (c.lines.taken + 1) c.in-Err-take_line.fault refl (c.in-Err-take_line.ensures.left c.lines.invariant.driving.history c.lines.invariant.driving.stands)
     (c.in-Err-take_line.ensures.kept c.lines.invariant.driving.history c.lines.invariant.driving.stands)
-    (λ r e. c.in-Err-take_line.ensures.refused c.lines.invariant.driving.history r c.lines.invariant.driving.stands (ap (λ (s : LineFault). Err s) e))
-    (λ e. c.in-Err-take_line.ensures.entry c.lines.invariant.driving.history c.lines.invariant.driving.stands (ap (λ (s : LineFault). Err s) e)))
+    (λ r e. c.in-Err-take_line.ensures.refused c.lines.invariant.driving.history r c.lines.invariant.driving.stands (ap (λ (s : TakeFault). Err s) e))
+    (λ e. c.in-Err-take_line.ensures.entry c.lines.invariant.driving.history c.lines.invariant.driving.stands (ap (λ (s : TakeFault). Err s) e)))
 
 pub returns-then-is_last-clause-driven : goal.returns-then-is_last-clause-driven
 returns-then-is_last-clause-driven g c =

@@ -1,7 +1,7 @@
 use Rattle.std.proofs.Common.{◌∙◌, ◌<◌, cond, nat_eq, sym, ap, subst}
 use Rattle.std.specs.Prelude.{Some}
 use Rattle.std.specs.Map.{lookup}
-use Rattle.id_rewrite.specs.Forms.{fingerprint}
+use Rattle.id_rewrite.specs.Fingerprints.{fingerprint}
 use Rattle.id_rewrite.specs.Tables.{Table}
 use Rattle.id_rewrite.proofs.Keeping.{new_key, put_kept}
 use Rattle.id_rewrite.proofs.table.IdTable.put.Goals as goal

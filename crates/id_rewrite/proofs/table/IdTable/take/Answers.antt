@@ -1,5 +1,5 @@
 use Rattle.std.proofs.Common.{◌∙◌, ap}
-use Rattle.id_rewrite.specs.Forms.{fingerprint}
+use Rattle.id_rewrite.specs.Fingerprints.{fingerprint}
 use Rattle.id_rewrite.proofs.Keeping.{none_kept, take_kept}
 use Rattle.id_rewrite.proofs.table.IdTable.take.Goals as goal
 

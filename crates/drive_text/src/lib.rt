@@ -1,0 +1,20 @@
+//! The lines of `drive` and of journal files: one for each cause and each out of the multiplexer, and made inputs.
+#![tactic(auto)]
+
+mod journal;
+mod law;
+mod line;
+mod made;
+mod marks;
+mod read;
+mod word;
+mod write;
+
+pub use journal::LineJournal;
+pub use law::{causes_law, outs_law};
+pub use line::{LineFault, cause_of_line, read_line};
+pub use made::make;
+pub use write::{write_cause_line, write_entry, write_outs};
+
+#[cfg(test)]
+mod tests;

@@ -1,6 +1,0 @@
-use Rattle.std.proofs.Common.{◌≡◌, false, ◌++◌, drop, option_map}
-use Rattle.lspmux_program.specs.Marks.{body_from}
-use Rattle.lspmux_program.proofs.marks.unmarked.Given as goal
-
-abbrev pub invariant-loop-byte : goal.invariant-loop-byte
-invariant-loop-byte l = body_from false l.text ≡ option_map (λ rest. l.bytes.items ++ rest) (body_from l.in_mark (drop l.byte-index l.text))

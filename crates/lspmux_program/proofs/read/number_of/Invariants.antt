@@ -1,6 +1,0 @@
-use Rattle.std.proofs.Common.{◌≡◌, drop}
-use Rattle.lspmux_program.specs.Numbers.{digits_from}
-use Rattle.lspmux_program.proofs.read.number_of.Given as goal
-
-abbrev pub invariant-loop-digit : goal.invariant-loop-digit
-invariant-loop-digit l = digits_from 0 l.text ≡ digits_from l.number (drop l.digit-index l.text)

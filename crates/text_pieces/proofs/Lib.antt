@@ -1,0 +1,4 @@
+mod Counting
+mod Finding
+mod Joined
+mod Same

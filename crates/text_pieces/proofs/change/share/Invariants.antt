@@ -1,0 +1,6 @@
+use Rattle.std.proofs.Common.{◌≡◌, take}
+use Rattle.text_pieces.specs.Pieces.{text_of}
+use Rattle.text_pieces.proofs.change.share.Given as goal
+
+abbrev pub invariant-loop-piece : goal.invariant-loop-piece
+invariant-loop-piece l = text_of l.shared.items ≡ text_of (take l.piece-index l.pieces)

@@ -1,0 +1,14 @@
+//! The texts of documents, kept in pieces, so that a small change costs little of a long text.
+#![tactic(auto)]
+
+mod builder;
+mod change;
+mod cut;
+mod equal;
+mod order;
+mod piece;
+mod piece_text;
+#[cfg(test)]
+mod tests;
+
+pub use piece_text::PieceText;

@@ -1,0 +1,107 @@
+//! A piece of a text, which knows what it adds to a place.
+ghost use Rattle.std.specs.Prelude.{◌≡◌, IfOk, IfSome, IsUtf8};
+ghost use Rattle.std.specs.Str.{chars};
+ghost use Rattle.position_codec.specs.Spots.{spot_behind};
+
+use message_body::Memory;
+use position_codec::{Encoding, Spot};
+use std::alloc::Global;
+use std::marker::Model;
+use std::sync::Arc;
+
+/// A piece of a text, which contracts see as its bytes. Texts share their pieces.
+#[derive(Drop)]
+pub struct Piece {
+    text: Arc<String, Global>,
+    /// By what the spots count.
+    encoding: Encoding,
+    /// Where the piece leads from the first spot of a text.
+    fresh: Spot,
+    /// Where it leads from there behind a `\r`, to which a `\n` at its head belongs.
+    returned: Spot,
+}
+
+impl Model for Piece {
+    ghost use Rattle.std.specs.Prelude.{ℕ, List};
+    ghost use Rattle.std.specs.Arc.{arc_value};
+    ghost use Rattle.text_pieces.specs.Counts.{Counted};
+
+    ghost Value = { List ℕ };
+
+    ghost view = { λ p. (arc_value p.text).bytes.items };
+
+    ghost invariant = { λ p. Counted p.encoding (arc_value p.text).bytes.items p.fresh p.returned };
+}
+
+impl Piece {
+    /// A piece of this text, counted by the encoding. The time is linear in the text.
+    pub fn new(alloc: Global, encoding: Encoding, text: &str) -> Result<Piece, Memory>
+        ensures { IfOk result (λ piece. piece ≡ text.now) }
+    {
+        let Some(fresh) = Spot::first().behind(encoding, text) else {
+            return Err(Memory)
+        };
+        let behind_return = Spot {
+            line: 0,
+            column: 0,
+            returned: true,
+        };
+        let Some(returned) = behind_return.behind(encoding, text) else {
+            return Err(Memory)
+        };
+        let text = Arc::new(alloc, String::from_str(alloc, text)?)?;
+        Ok(Piece {
+            text,
+            encoding,
+            fresh,
+            returned,
+        })
+    }
+
+    /// The piece's text.
+    pub fn as_str(&self) -> &str
+        ensures text { result.now ≡ self.now }
+        ensures utf8 { IsUtf8 self.now }
+    {
+        self.text.as_str()
+    }
+
+    /// The same piece, without a copy of its text.
+    pub fn share(&self) -> Result<Piece, Memory>
+        ensures { IfOk result (λ piece. piece ≡ self.now) }
+    {
+        Ok(Piece {
+            text: Arc::try_clone(&self.text)?,
+            encoding: self.encoding,
+            fresh: self.fresh,
+            returned: self.returned,
+        })
+    }
+
+    /// The same piece, counted by the encoding.
+    pub fn counted(&self, alloc: Global, encoding: Encoding) -> Result<Piece, Memory>
+        ensures { IfOk result (λ piece. piece ≡ self.now) }
+    {
+        if self.encoding == encoding {
+            self.share()
+        } else {
+            Piece::new(alloc, encoding, self.as_str())
+        }
+    }
+
+    /// The spot behind the piece, where this one is in front of it. It takes constant time by the encoding that the piece counts by.
+    pub fn pass(&self, encoding: Encoding, spot: Spot) -> Option<Spot>
+        ensures some { IfSome result (λ next. next ≡ spot_behind encoding spot (chars self.now)) }
+        ensures utf8 { IsUtf8 self.now }
+    {
+        let text = self.text.as_str();
+        if self.encoding != encoding {
+            return spot.behind(encoding, text);
+        }
+        if spot.returned {
+            spot.after(self.returned)
+        } else {
+            spot.after(self.fresh)
+        }
+    }
+}
