@@ -20,7 +20,7 @@ use Rattle.group_words.specs.Houses.{time_behind}
 use Rattle.group_words.proofs.Frames.{touches_groups, names_home, groups_stay, home_stays}
 use Rattle.id_rewrite.specs.Tables.{Table}
 use Rattle.mux_tables.specs.declared.tables.Start.{Start}
-use Rattle.mux_tables.specs.Forwarded.{Forwarding, forwarding_behind, forwarding_of, forwards, moves_ids, numbered}
+use Rattle.group_rows.specs.Forwarded.{Forwarding, forwarding_behind, forwarding_of, forwards, moves_ids, numbered}
 use Rattle.mux_tables.specs.Stands.{EditorsStand, GroupsStand, OriginsStand, IdsAt, IdsStand, Part, of_life, of_ids, PartStands, LastStands}
 
 pub itself : (n : ℕ) → nat_eq n n ≡ true

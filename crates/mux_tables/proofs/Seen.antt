@@ -18,8 +18,8 @@ use Rattle.group_words.specs.Houses.{editors_in, home_of}
 use Rattle.id_rewrite.specs.Tables as tables
 use Rattle.mux_tables.specs.declared.tables.Start.{Start}
 use Rattle.mux_tables.specs.declared.tables.Tables.{Tables}
-use Rattle.mux_tables.specs.Forwarded as forwarded
-use Rattle.mux_tables.specs.Forwarded.{forwarding_of}
+use Rattle.group_rows.specs.Forwarded as forwarded
+use Rattle.group_rows.specs.Forwarded.{forwarding_of}
 use Rattle.mux_tables.specs.Stands.{Stands, group_in, is_over, number_in, of_ids, of_life, phase_in, start_for, those_in}
 use Rattle.mux_tables.proofs.IdMoves.{numbers_mapped}
 use Rattle.mux_tables.proofs.Lists.{editors_for, runs_so}

@@ -22,7 +22,7 @@ use Rattle.event_model.specs.Members.{named_of}
 use Rattle.restart_replay.specs.Standings.{Standing, moved, stopped}
 use Rattle.mux_tables.specs.declared.tables.Start.{Start}
 use Rattle.mux_tables.specs.declared.tables.Tables.{Tables}
-use Rattle.mux_tables.specs.Forwarded.{forwarding_of, is_written, moves_ids}
+use Rattle.group_rows.specs.Forwarded.{forwarding_of, is_written, moves_ids}
 use Rattle.mux_tables.specs.Stands.{Part, of_life, of_ids, PartStands, Sends, Stands, forwarded_of, number_in}
 use Rattle.mux_tables.proofs.Frames.{groups_stand, itself, part_quiet}
 use Rattle.mux_tables.proofs.IdMoves.{cancelled_ids, sent_as, sent_ids}

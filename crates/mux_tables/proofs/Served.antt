@@ -21,7 +21,7 @@ use Rattle.id_rewrite.specs.Tables.{Table, IsInOrder, pending_of, without}
 use Rattle.restart_replay.specs.Standings.{Standing, moved}
 use Rattle.mux_tables.specs.declared.tables.Start.{Start}
 use Rattle.mux_tables.specs.declared.tables.Tables.{Tables}
-use Rattle.mux_tables.specs.Forwarded.{Forwarding, forwarding_behind, forwarding_of, is_under}
+use Rattle.group_rows.specs.Forwarded.{Forwarding, forwarding_behind, forwarding_of, is_under}
 use Rattle.mux_tables.specs.Stands.{Exits, IdsAt, NamesAt, Part, of_life, of_ids, PartStands, Stands, begun_at, forwarded_as, number_in}
 use Rattle.mux_tables.proofs.Exits.{lost_groups, refused_groups}
 use Rattle.mux_tables.proofs.Frames.{itself, groups_stand, names_editor, names_start, spawns, ticks}

@@ -23,7 +23,7 @@ use Rattle.id_rewrite.specs.Tables.{IsInOrder}
 use Rattle.restart_replay.specs.Standings.{spawned}
 use Rattle.mux_tables.specs.declared.tables.Start.{Start}
 use Rattle.mux_tables.specs.declared.tables.Tables.{Tables}
-use Rattle.mux_tables.specs.Forwarded.{forwarding_behind}
+use Rattle.group_rows.specs.Forwarded.{forwarding_behind}
 use Rattle.mux_tables.specs.Stands.{OriginsStand, IdsAt, IdsStand, Part, of_life, of_ids, PartStands, blank, LastStands, LastsStand, Stands}
 use Rattle.mux_tables.proofs.Frames.{groups_stand, itself, last_stands, life_alone, part_apart}
 use Rattle.mux_tables.proofs.Lasts.{Last, known, same_place}

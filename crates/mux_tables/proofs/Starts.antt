@@ -15,7 +15,7 @@ use Rattle.group_table.specs.Tables as group_tables
 use Rattle.restart_replay.specs.Standings.{Standing}
 use Rattle.mux_tables.specs.declared.tables.Start.{Start}
 use Rattle.mux_tables.specs.declared.tables.Tables.{Tables}
-use Rattle.mux_tables.specs.Forwarded.{forwarding_behind, forwarding_of}
+use Rattle.group_rows.specs.Forwarded.{forwarding_behind, forwarding_of}
 use Rattle.mux_tables.specs.Stands.{GroupsStand, IdsAt, IdsStand, Part, of_life, of_ids, PartStands, Stands, number_in}
 use Rattle.mux_tables.proofs.Frames.{names_start, names_editor, spawns, ticks, touches, part_quiet}
 use Rattle.mux_tables.proofs.IdMoves.{ids_more}

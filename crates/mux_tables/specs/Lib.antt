@@ -1,2 +1,1 @@
-pub mod Forwarded
 pub mod Stands

@@ -27,7 +27,7 @@ use Rattle.id_rewrite.specs.Tables.{Table, IsInOrder}
 use Rattle.restart_replay.specs.Standings.{Standing, moved}
 use Rattle.mux_tables.specs.declared.tables.Start.{Start}
 use Rattle.mux_tables.specs.declared.tables.Tables.{Tables}
-use Rattle.mux_tables.specs.Forwarded.{Forwarded, Forwarding, forwarding_of, names}
+use Rattle.group_rows.specs.Forwarded.{Forwarded, Forwarding, forwarding_of, names}
 
 -- the editors: how many joined, and of each its phase and its group
 abbrev pub phase_in : Option Session → Phase

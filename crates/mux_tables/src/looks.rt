@@ -6,7 +6,7 @@ ghost use Rattle.event_model.specs.Settings.{Settings};
 ghost use Rattle.event_model.specs.Stages.{is_ready, life_of};
 ghost use Rattle.group_words.specs.Houses.{editors_in, home_of};
 ghost use Rattle.mux_tables.specs.declared.tables.Start.{Start};
-ghost use Rattle.mux_tables.specs.Forwarded.{forwarding_of, numbers_of};
+ghost use Rattle.group_rows.specs.Forwarded.{forwarding_of, numbers_of};
 ghost use Rattle.mux_tables.specs.Stands.{Stands, is_over, number_in, start_for};
 
 use crate::tables::{Start, Tables};

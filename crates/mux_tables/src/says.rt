@@ -14,7 +14,7 @@ ghost use Rattle.event_model.specs.Members.{named_of};
 ghost use Rattle.rpc_message.specs.Message as message;
 ghost use Rattle.rpc_message.specs.Message.{Id, message_of};
 ghost use Rattle.mux_tables.specs.declared.tables.Start.{Start};
-ghost use Rattle.mux_tables.specs.Forwarded.{is_written, moves_ids};
+ghost use Rattle.group_rows.specs.Forwarded.{is_written, moves_ids};
 ghost use Rattle.mux_tables.specs.Stands.{Keeps, Sends, Stands, Welcomes, number_in};
 
 use crate::requests::{keep, mark};

@@ -11,7 +11,7 @@ ghost use Rattle.group_words.specs.Houses.{is_first_error};
 ghost use Rattle.mux_history.specs.declared.cause.Cause.TheVariants.{FromServer, ServerGone, StartFailed, Started};
 ghost use Rattle.rpc_message.specs.Message.{message_of};
 ghost use Rattle.mux_tables.specs.declared.tables.Start.{Start};
-ghost use Rattle.mux_tables.specs.Forwarded.{forwarding_of, is_under};
+ghost use Rattle.group_rows.specs.Forwarded.{forwarding_of, is_under};
 ghost use Rattle.mux_tables.specs.Stands.{Exits, NamesAt, Stands, any_in, begun_at, forwarded_as, number_in};
 
 use crate::requests::{answer, forget};
