@@ -1,0 +1,3 @@
+pub mod Syncing
+pub mod SyncHeld
+pub mod Touching
