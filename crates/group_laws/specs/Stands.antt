@@ -1,0 +1,26 @@
+-- When the documents that are kept of a group stand for the events.
+use Rattle.std.specs.Prelude.{◌≡◌, ℕ, List}
+use Rattle.std.specs.Prelude.{Option, Some}
+use Rattle.position_codec.specs.declared.Encoding.{Encoding}
+use Rattle.document_model.specs.Orderly.{AllSpelt, Orderly}
+use Rattle.document_laws.specs.Follows.{Held, texts_in}
+use Rattle.event_model.specs.Event.{Event}
+use Rattle.event_model.specs.Settings.{Settings}
+use Rattle.focus_switch.specs.Documents.{Documents}
+use Rattle.mux_model.specs.Documents as starts
+use Rattle.mux_model.specs.Documents.{held_at}
+use Rattle.group_rows.specs.Texts.{encoding_of, texts_of}
+
+-- what its editors have open, and how positions count
+pub record TextsStand (settings : Settings) (g : ℕ) (d : Documents) (events : List Event) : Type 0 where
+  pub texts : texts_of settings g events ≡ texts_in d
+  pub encoding : encoding_of g events ≡ d.encoding
+  pub orderly : Orderly (texts_in d)
+  pub spelt : AllSpelt d.opens
+
+-- and what a ready start of its has
+pub record HeldStands (s : ℕ) (code : Encoding) (d : Documents) (events : List Event) : Type 0 where
+  pub start : d.start ≡ Some s
+  pub known : d.encoding ≡ Some code
+  pub given : starts.encoding_of s events ≡ Some code
+  pub held : Held d (λ u. held_at s u events)
