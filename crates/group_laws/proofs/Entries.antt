@@ -102,7 +102,7 @@ module _ (settings : Settings) (g s e : ℕ) (code : Encoding) (before : List Ev
     texts = ap (λ xs. texts_of settings g (behind after_cause xs)) are ∙ (texts_told settings g s after_cause bodies speak ∙ (heard_texts ∙ sym now));
     encoding = ap (λ xs. encoding_of g (behind after_cause xs)) are ∙ (encoding_told g s after_cause bodies ∙ (encoding_stays g before (heard (FromEditor e body)) refl ∙ (texts.encoding ∙ sym stays.encoding)));
     orderly = subst Orderly (sym now) (orderly_behind d.encoding e (saying_by method params) (texts_in d) texts.orderly);
-    spelt = subst (λ (x : Texts). AllSpelt x.opens) (sym now ) (subst (λ m. AllSpelt (texts_behind d.encoding e (saying_of m) (texts_in d)).opens) reads (texts_spelt d.encoding e body (texts_in d) texts.spelt));
+    spelt = subst (λ (x : Texts). AllSpelt x.opens) (sym now) (subst (λ m. AllSpelt (texts_behind d.encoding e (saying_of m) (texts_in d)).opens) reads (texts_spelt d.encoding e body (texts_in d) texts.spelt));
   }
 
   held_now : (u : List ℕ) → held_at s u (behind after_cause step.outs) ≡ told_outs d.encoding u (held_at s u before) step.outs

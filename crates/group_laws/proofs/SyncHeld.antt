@@ -57,14 +57,14 @@ turned o p h = go (nat_eq p.editor o.editor) refl (bytes_eq p.uri o.uri) refl h
     go true j true k h = absurd (let z : true ≡ false = h in cc)
     go false j true k h = and_left (nat_eq o.editor p.editor) (bytes_eq o.uri p.uri) (same_way p.editor o.editor ∙ j)
 
-abbrev IsFound : List Open → Open → Type 0
+abbrev pub IsFound : List Open → Open → Type 0
 IsFound os o = find (is_open_at o.editor o.uri) os ≡ Some o
 
 behind_first : (o : Open) (os ps : List Open) → AllByRecursion (λ (p : Open). is_open_at o.editor o.uri p ≡ false) ps → AllByRecursion (IsFound os) ps → AllByRecursion (IsFound (o ∷ os)) ps
 behind_first o os [] once found = tt
 behind_first o os (p ∷ ps) once found = (ap (λ b. cond b (Some o) (find (is_open_at p.editor p.uri) os)) (turned o p once.0) ∙ found.0, behind_first o os ps once.1 found.1)
 
-all_found : (os : List Open) → Once os → AllByRecursion (IsFound os) os
+pub all_found : (os : List Open) → Once os → AllByRecursion (IsFound os) os
 all_found [] once = tt
 all_found (o ∷ os) once = (ap (λ b. cond b (Some o) (find (is_open_at o.editor o.uri) os)) (itself_at o), behind_first o os os once.0 (all_found os once.1))
 

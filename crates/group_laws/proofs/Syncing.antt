@@ -70,7 +70,7 @@ apart e o p h a b = go (bytes_eq p.uri o.uri) (nat_eq p.editor o.editor) (both p
     go c true q r = r
     go c false q r = absurd (let z : true ≡ false = sym q in cc)
 
-map_append : (f : List ℕ → Out) (xs ys : List (List ℕ)) → map f (xs ++ ys) ≡ map f xs ++ map f ys
+pub map_append : (f : List ℕ → Out) (xs ys : List (List ℕ)) → map f (xs ++ ys) ≡ map f xs ++ map f ys
 map_append f [] ys = refl
 map_append f (x ∷ xs) ys = ap (λ zs. f x ∷ zs) (map_append f xs ys)
 
