@@ -43,7 +43,7 @@ speaking_aside b h = let k : Spoken (message_of b) = spoken (message_of b) h in
     ap is_synced k.is ∙ ap (λ t. not (t || is_aside k.method)) (ap (λ m. speaks (saying_of m)) (sym k.is) ∙ h)
 
 -- the outs are behind the events one after the other
-first_behind : (events : List Event) (x : Out) (xs : List Out) → behind events (x ∷ xs) ≡ behind (events ++ said x ∷ []) xs
+pub first_behind : (events : List Event) (x : Out) (xs : List Out) → behind events (x ∷ xs) ≡ behind (events ++ said x ∷ []) xs
 first_behind events x xs = behind_more events (x ∷ []) xs
 
 pub texts_told : (settings : Settings) (g s : ℕ) (events : List Event) (bodies : List (List ℕ)) → AllSpeak bodies → texts_of settings g (behind events (to s bodies)) ≡ texts_of settings g events

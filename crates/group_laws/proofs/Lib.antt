@@ -1,4 +1,5 @@
 pub mod Asking
+pub mod Beginning
 pub mod Documents
 pub mod Entries
 pub mod ReplayHeld
