@@ -3,6 +3,7 @@ pub mod Beginning
 pub mod Documents
 pub mod Entries
 pub mod ReplayHeld
+pub mod Others
 pub mod Replaying
 pub mod Syncing
 pub mod SyncHeld
