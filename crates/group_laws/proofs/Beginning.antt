@@ -6,7 +6,7 @@ use Rattle.std.specs.Option.{option_map_or}
 use Rattle.mux_history.specs.declared.cause.Cause.TheVariants.{FromServer}
 use Rattle.mux_history.specs.declared.out.Out.{Out}
 use Rattle.mux_history.specs.declared.out.Out.TheVariants.{ToEditor, ToServer}
-use Rattle.rpc_message.specs.Message.{Message, message_of}
+use Rattle.rpc_message.specs.Message.{message_of}
 use Rattle.position_codec.specs.declared.Encoding.{Encoding}
 use Rattle.document_model.specs.Helds.{HeldText}
 use Rattle.document_model.specs.Bodies.{open_text}
@@ -16,7 +16,7 @@ use Rattle.document_model.specs.Sayings.{nothing, saying_of}
 use Rattle.document_model.specs.Texts.{Texts}
 use Rattle.document_model.proofs.Spoken.{AllSpeak, sent_open_speaks}
 use Rattle.document_model.proofs.Spelt.{latest_spelt}
-use Rattle.document_laws.specs.Follows.{Held, texts_in, told_outs}
+use Rattle.document_laws.specs.Follows.{texts_in, told_outs}
 use Rattle.event_model.specs.Event.{Event, behind, heard, said, with_cause}
 use Rattle.event_model.specs.Settings.{Settings}
 use Rattle.event_model.specs.Spawns.{group_of}
@@ -25,10 +25,8 @@ use Rattle.event_model.proofs.Frames.{one_more}
 use Rattle.event_model.proofs.Turns.{behind_more}
 use Rattle.focus_switch.specs.Documents.{Documents}
 use Rattle.focus_switch.specs.Rows.{ready_row}
-use Rattle.mux_model.specs.Documents as starts
 use Rattle.mux_model.specs.Documents.{Sent, encoding_by, held_at, sent_behind, sent_of}
 use Rattle.mux_model.proofs.DocumentFolds.{sent_encoding}
-use Rattle.group_words.specs.Houses.{is_home}
 use Rattle.group_rows.specs.Texts.{encoding_of, is_synced, texts_of}
 use Rattle.group_rows.specs.Rows as rows
 use Rattle.group_rows.proofs.Frames.{encoding_more, encoding_stays, texts_stay}

@@ -1,5 +1,5 @@
 -- E12 to E14 over the documents of a group: the steps are the rows, and what is kept of the group stands for the events behind the entry.
-use Rattle.std.proofs.Common.{◌≡◌, ℕ, ◌<◌, ◌^◌, true, false, List, [], map, Option, Some, None, IsUtf8, refl, sym, ap, ap₂, subst, ◌∙◌}
+use Rattle.std.proofs.Common.{◌≡◌, ℕ, ◌<◌, ◌^◌, true, List, [], map, Option, Some, None, IsUtf8, refl, sym, ap, ap₂, subst, ◌∙◌}
 use Rattle.json_text.specs.Json.{Json}
 use Rattle.json_text.specs.Tree.{tree_of}
 use Rattle.mux_history.specs.declared.cause.Cause.TheVariants.{FromEditor}
@@ -9,7 +9,7 @@ use Rattle.rpc_message.specs.Message.{message_in, message_of, notification}
 use Rattle.document_model.specs.Helds.{HeldText}
 use Rattle.document_model.specs.Opens.{Open, holder_beside}
 use Rattle.document_model.specs.Orderly.{IsSpelt, AllSpelt, Orderly}
-use Rattle.document_model.specs.Rows.{sent_open, sent_change, sent_close}
+use Rattle.document_model.specs.Rows.{sent_change, sent_close}
 use Rattle.document_model.specs.Sayings.{Saying, opens, changes, closes, misshapen, nothing, saying_by, saying_of}
 use Rattle.document_model.specs.Texts.{Texts, texts_behind, opened, found, changed}
 use Rattle.document_model.proofs.ScalarTrees.{MayHold}

@@ -1,17 +1,17 @@
 -- A whole entry in which a start is told of documents: what is kept of the group stands for the events behind it.
-use Rattle.std.proofs.Common.{◌≡◌, ℕ, Bool, true, false, not, ◌&&◌, ◌||◌, List, [], ◌∷◌, ◌++◌, map, fold, nat_eq, codes, refl, sym, ◌∙◌, ap, ap₂, subst, append-nil, arith}
-use Rattle.std.specs.Prelude.{Option, Some, None, bytes_eq}
+use Rattle.std.proofs.Common.{◌≡◌, ℕ, true, false, not, ◌||◌, List, [], ◌∷◌, ◌++◌, map, nat_eq, refl, sym, ◌∙◌, ap, ap₂, subst, append-nil, arith}
+use Rattle.std.specs.Prelude.{Option, Some}
 use Rattle.std.proofs.lemmas.Bool.Decides.{nat_tests}
 use Rattle.json_text.specs.Json.{Json}
 use Rattle.mux_history.specs.declared.cause.Cause.TheVariants.{FromEditor}
 use Rattle.mux_history.specs.declared.out.Out.{Out}
 use Rattle.mux_history.specs.declared.out.Out.TheVariants.{ToServer}
-use Rattle.rpc_message.specs.Message.{Message, message_of, notification}
+use Rattle.rpc_message.specs.Message.{message_of, notification}
 use Rattle.position_codec.specs.declared.Encoding.{Encoding}
 use Rattle.document_model.specs.Helds.{HeldText, told}
 use Rattle.document_model.specs.Opens.{holder}
 use Rattle.document_model.specs.Orderly.{AllSpelt, Orderly}
-use Rattle.document_model.specs.Sayings.{Saying, saying_by, saying_of, speaks}
+use Rattle.document_model.specs.Sayings.{saying_by, saying_of, speaks}
 use Rattle.document_model.specs.Texts.{Texts, texts_behind}
 use Rattle.document_model.proofs.Orders.{orderly_behind}
 use Rattle.document_model.proofs.Spelt.{texts_spelt}
@@ -19,7 +19,7 @@ use Rattle.document_model.proofs.Spoken.{AllSpeak, Speaks}
 use Rattle.document_model.proofs.Written.{Spoken, spoken}
 use Rattle.document_laws.specs.Follows.{Held, Matches, texts_in, told_outs}
 use Rattle.document_laws.proofs.Sends.{Stays}
-use Rattle.event_model.specs.Event.{Event, behind, did, heard, said, took, with_cause}
+use Rattle.event_model.specs.Event.{Event, behind, heard, said, with_cause}
 use Rattle.event_model.specs.Phases.{desk_of, is_served}
 use Rattle.event_model.specs.Settings.{Settings}
 use Rattle.event_model.proofs.Turns.{behind_more}

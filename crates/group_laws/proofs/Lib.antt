@@ -2,6 +2,8 @@ pub mod Asking
 pub mod Beginning
 pub mod Documents
 pub mod Entries
+pub mod Leaving
+pub mod Left
 pub mod ReplayHeld
 pub mod Others
 pub mod Replaying

@@ -1,5 +1,5 @@
 -- What is kept of another group stays behind a whole entry.
-use Rattle.std.proofs.Common.{◌≡◌, ℕ, Bool, true, false, List, [], ◌∷◌, ◌++◌, map, nat_eq, refl, sym, ◌∙◌, ap, subst, append-nil}
+use Rattle.std.proofs.Common.{◌≡◌, ℕ, false, List, [], ◌∷◌, ◌++◌, nat_eq, refl, sym, ◌∙◌, ap, subst, append-nil}
 use Rattle.std.specs.Prelude.{Option, Some, None}
 use Rattle.mux_history.specs.declared.cause.Cause.TheVariants.{FromEditor, FromServer}
 use Rattle.mux_history.specs.declared.out.Out.{Out}
@@ -8,12 +8,10 @@ use Rattle.rpc_message.specs.Message.{message_of}
 use Rattle.position_codec.specs.declared.Encoding.{Encoding}
 use Rattle.document_model.specs.Helds.{HeldText}
 use Rattle.event_model.specs.Event.{Event, behind, heard, said, with_cause}
-use Rattle.event_model.specs.Phases.{desk_of, is_served}
 use Rattle.event_model.specs.Settings.{Settings}
 use Rattle.event_model.specs.Spawns.{group_behind, group_of}
 use Rattle.event_model.proofs.Frames.{one_more}
 use Rattle.focus_switch.specs.Documents.{Documents}
-use Rattle.mux_model.specs.Documents as starts
 use Rattle.mux_model.specs.Documents.{Sent, held_at, sent_behind, sent_of}
 use Rattle.mux_model.proofs.DocumentFolds.{sent_encoding}
 use Rattle.group_words.specs.Houses.{home_of, is_home}

@@ -1,16 +1,14 @@
 -- Behind the replay a start has each holder's text, with version 1, and no other document.
-use Rattle.std.proofs.Common.{◌≡◌, ℕ, Bool, true, false, cond, List, [], ◌∷◌, ◌++◌, map, fold, refl, sym, ◌∙◌, ap, ap₂, subst}
+use Rattle.std.proofs.Common.{◌≡◌, ℕ, Bool, true, false, cond, List, [], ◌∷◌, ◌++◌, fold, refl, sym, ◌∙◌, ap, subst}
 use Rattle.std.specs.Prelude.{Option, Some, None, bytes_eq, ◌||◌}
 use Rattle.std.specs.List.{AllByRecursion, list_any}
 use Rattle.std.specs.Option.{option_map_or}
 use Rattle.std.proofs.lemmas.List.Sums.{fold-append}
-use Rattle.std.proofs.lemmas.Slice.Eq.{bytes_eq-Decides}
-use Rattle.mux_history.specs.declared.out.Out.TheVariants.{ToServer}
 use Rattle.position_codec.specs.declared.Encoding.{Encoding}
 use Rattle.document_model.specs.Bodies.{open_text}
 use Rattle.document_model.specs.Helds.{HeldText}
 use Rattle.document_model.specs.Opens.{Open, holder}
-use Rattle.document_model.specs.Orderly.{AllSpelt, IsSpelt, Once}
+use Rattle.document_model.specs.Orderly.{AllSpelt, Once}
 use Rattle.document_model.specs.Texts.{Texts}
 use Rattle.document_model.proofs.Holders.{bytes_same, pick}
 use Rattle.document_model.proofs.Spelt.{latest_spelt}

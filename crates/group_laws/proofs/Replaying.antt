@@ -1,5 +1,5 @@
 -- X4: a start that is ready is told of each document that is open, and then has each holder's text.
-use Rattle.std.proofs.Common.{◌≡◌, ℕ, Bool, true, false, cond, List, [], ◌∷◌, ◌++◌, map, find, fold, refl, sym, ◌∙◌, ap, ap₂, subst, append_assoc, append-nil}
+use Rattle.std.proofs.Common.{◌≡◌, ℕ, Bool, true, false, cond, List, [], ◌∷◌, ◌++◌, map, fold, refl, sym, ◌∙◌, ap, ap₂, append_assoc, append-nil}
 use Rattle.std.specs.Prelude.{Option, Some, None, bytes_eq, ◌||◌}
 use Rattle.std.specs.List.{AllByRecursion, list_any}
 use Rattle.std.specs.Option.{option_map_or}
@@ -7,7 +7,7 @@ use Rattle.mux_history.specs.declared.out.Out.{Out}
 use Rattle.mux_history.specs.declared.out.Out.TheVariants.{ToServer}
 use Rattle.position_codec.specs.declared.Encoding.{Encoding}
 use Rattle.document_model.specs.Bodies.{open_text}
-use Rattle.document_model.specs.Opens.{Open, holder, is_open_at}
+use Rattle.document_model.specs.Opens.{Open, holder}
 use Rattle.document_model.specs.Orderly.{Once}
 use Rattle.document_model.proofs.Holders.{bytes_same, found_holder}
 use Rattle.focus_switch.specs.declared.telling.Telling.{Telling}
@@ -15,7 +15,7 @@ use Rattle.focus_switch.specs.declared.telling.Telling.TheVariants.{Opens}
 use Rattle.focus_switch.specs.Documents.{Documents, version_held}
 use Rattle.focus_switch.specs.Rows.{Step, nothing, send, each, replayed, replay_sends, replay_all, ready_row}
 use Rattle.document_laws.specs.Follows.{texts_in}
-use Rattle.document_laws.proofs.Sends.{Kept, Stays, bodies_of, latest_of, all_there, send_keeps, send_outs, send_version, send_version_other}
+use Rattle.document_laws.proofs.Sends.{Kept, Stays, latest_of, all_there, send_keeps, send_outs, send_version, send_version_other}
 use Rattle.group_rows.specs.Rows as rows
 use Rattle.group_laws.proofs.Syncing.{kept_then, map_append, same_kept}
 use Rattle.group_laws.proofs.SyncHeld.{IsFound, all_found}

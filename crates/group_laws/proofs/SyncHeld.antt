@@ -5,7 +5,6 @@ use Rattle.std.specs.List.{AllByRecursion}
 use Rattle.std.proofs.lemmas.Bool.Decides.{nat_tests}
 use Rattle.std.proofs.lemmas.List.Sums.{fold-append}
 use Rattle.std.proofs.lemmas.Slice.Eq.{bytes_eq-Decides}
-use Rattle.mux_history.specs.declared.out.Out.TheVariants.{ToServer}
 use Rattle.position_codec.specs.declared.Encoding.{Encoding}
 use Rattle.document_model.specs.Opens.{Open, holder, holds, is_open_at}
 use Rattle.document_model.specs.Orderly.{IsSpelt, Once}
@@ -19,7 +18,7 @@ use Rattle.document_laws.specs.Follows.{Held, Matches, told_outs}
 use Rattle.document_laws.proofs.Sends.{Kept, bodies_of, by_match, other_way, send_keeps, send_version, send_version_other, told_bodies, told_sent, version_behind}
 use Rattle.document_laws.proofs.Tellings.{Follows, differ_follows}
 use Rattle.group_rows.specs.Rows as rows
-use Rattle.group_laws.proofs.Syncing.{Same, all_keep, all_same, apart, kept_then, rest_same, same_kept, sends_of, sync_outs}
+use Rattle.group_laws.proofs.Syncing.{Same, all_keep, all_same, kept_then, rest_same, same_kept, sends_of, sync_outs}
 use Rattle.group_laws.proofs.Touching.{Nowhere, holder_apart, holder_touched, none_nowhere, nowhere_behind}
 
 all_map : (P Q : Open → Type 0) (os : List Open) → ((o : Open) → P o → Q o) → AllByRecursion P os → AllByRecursion Q os

@@ -1,6 +1,6 @@
 -- Before a message of an editor goes on: what the start is sent, and what stays.
-use Rattle.std.proofs.Common.{◌≡◌, ℕ, ◌+◌, Bool, true, false, cond, not, ◌&&◌, List, [], ◌∷◌, ◌++◌, map, filter, flat_map, fold, nat_eq, refl, sym, ◌∙◌, ap, ap₂, subst, append_assoc, append-nil, arith}
-use Rattle.std.specs.Prelude.{Option, Some, None, bytes_eq}
+use Rattle.std.proofs.Common.{◌≡◌, ℕ, Bool, true, false, cond, ◌&&◌, List, [], ◌∷◌, ◌++◌, map, filter, flat_map, fold, nat_eq, refl, sym, ◌∙◌, ap, ap₂, append_assoc, append-nil, arith}
+use Rattle.std.specs.Prelude.{Option, Some, bytes_eq}
 use Rattle.std.specs.List.{AllByRecursion}
 use Rattle.std.proofs.lemmas.Bool.Decides.{nat_tests}
 use Rattle.mux_history.specs.declared.out.Out.{Out}
@@ -8,10 +8,8 @@ use Rattle.mux_history.specs.declared.out.Out.TheVariants.{ToServer}
 use Rattle.document_model.specs.Opens.{Open, holder, is_open_at}
 use Rattle.document_model.specs.Orderly.{Once}
 use Rattle.document_model.specs.Helds.{HeldText}
-use Rattle.document_model.specs.Texts.{Texts}
-use Rattle.focus_switch.specs.declared.telling.Telling.{Telling}
 use Rattle.focus_switch.specs.Documents.{Documents, version_held}
-use Rattle.focus_switch.specs.Rows.{Step, nothing, send, differing, each, synced, sync_sends, sync_row}
+use Rattle.focus_switch.specs.Rows.{Step, nothing, send, each, synced, sync_sends, sync_row}
 use Rattle.document_laws.specs.Follows.{Held, texts_in}
 use Rattle.document_laws.proofs.Sends.{Kept, Stays, bodies_of, by_match, send_keeps, send_outs, send_version_other}
 use Rattle.document_laws.proofs.Tellings.{differ_sent}

@@ -1,6 +1,6 @@
 -- When the documents that are kept of a group stand for the events.
 use Rattle.std.specs.Prelude.{◌≡◌, ℕ, List}
-use Rattle.std.specs.Prelude.{Option, Some}
+use Rattle.std.specs.Prelude.{Some}
 use Rattle.position_codec.specs.declared.Encoding.{Encoding}
 use Rattle.document_model.specs.Orderly.{AllSpelt, Orderly}
 use Rattle.document_laws.specs.Follows.{Held, texts_in}

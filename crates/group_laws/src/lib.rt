@@ -1,3 +1,3 @@
-//! What the rows of the documents that a group shares send and keep where a message of an editor goes on: they are those of the
+//! What the rows of the documents that a group shares send and keep, entry by entry: they are those of the
 //! routing table over several editors.
 #![tactic(auto)]

@@ -1,22 +1,18 @@
 -- What is open at the editors of a group, and how positions count there, one event further.
-use Rattle.std.proofs.Common.{◌≡◌, ℕ, Bool, true, false, cond, not, ◌&&◌, List, [], ◌∷◌, ◌++◌, map, nat_eq, refl, ap, ◌∙◌, append-nil}
-use Rattle.std.specs.Prelude.{Option, Some, None, codes}
-use Rattle.std.specs.List.{AllByRecursion}
+use Rattle.std.proofs.Common.{◌≡◌, ℕ, Bool, true, false, ◌&&◌, List, [], ◌∷◌, ◌++◌, refl, ◌∙◌}
+use Rattle.std.specs.Prelude.{Option, None}
 use Rattle.mux_history.specs.declared.cause.Cause.TheVariants.{FromEditor, EditorGone, FromServer}
 use Rattle.mux_history.specs.declared.out.Out.TheVariants.{ToServer, CloseEditor}
-use Rattle.rpc_message.specs.Message.{Message, message_of}
+use Rattle.rpc_message.specs.Message.{Message}
 use Rattle.position_codec.specs.declared.Encoding.{Encoding}
-use Rattle.document_model.specs.Opens.{Open}
-use Rattle.document_model.specs.Orderly.{IsSpelt, AllSpelt}
 use Rattle.document_model.specs.Texts.{Texts, no_texts}
 use Rattle.event_model.specs.Event.{Event, took, did}
 use Rattle.event_model.specs.Settings.{Settings}
 use Rattle.event_model.specs.Spawns.{group_of}
 use Rattle.event_model.proofs.Frames.{never}
 use Rattle.group_words.specs.Houses.{is_home}
-use Rattle.group_words.specs.Past.{past}
 use Rattle.group_words.proofs.Frames.{past_more}
-use Rattle.group_rows.specs.Texts.{encoding_next, encoding_of, is_synced, texts_next, texts_of, touched_at}
+use Rattle.group_rows.specs.Texts.{encoding_next, encoding_of, is_synced, texts_next, texts_of}
 
 and_left : (a b : Bool) → a ≡ false → (a && b) ≡ false
 and_left true b h = never h

@@ -1,6 +1,6 @@
 -- What the routing table gives over two editors and over two groups, worked out by the checker.
-use Rattle.std.proofs.Common.{◌≡◌, [], ◌∷◌, codes, refl}
-use Rattle.std.specs.Prelude.{Some, None}
+use Rattle.std.proofs.Common.{◌≡◌, ℕ, List, [], ◌∷◌, codes, refl}
+use Rattle.std.specs.Prelude.{Some}
 use Rattle.std.specs.Fmt.{digits}
 use Rattle.std.specs.Str.{chars}
 use Rattle.json.specs.Print.{escape_byte}
@@ -11,6 +11,9 @@ use Rattle.rpc_message.specs.Message.{message_of, no_name_twice, is_integer, mem
 use Rattle.rpc_message.specs.Texts.{with_id_text}
 use Rattle.group_words.specs.Example.{with_groups}
 use Rattle.group_rows.specs.Example.{all_outs, events_behind, too_early, too_early_outs, two_editors, two_editors_outs, both_ask, both_ask_outs, switching, switching_outs, changing, changing_outs, closing, closing_outs, two_groups, an_exit, texts_in, touches_in}
+use Rattle.event_model.specs.Event.{Event}
+use Rattle.mux_model.specs.Documents.{held_at}
+use Rattle.group_rows.specs.Rows.{leave_bodies}
 use Rattle.group_rows.specs.Texts.{encoding_of, texts_of}
 
 requests_come_too_early : all_outs too_early ≡ too_early_outs
@@ -56,3 +59,19 @@ each_group_has_its_encoding = refl
 the_encoding_outlives_the_start : encoding_of 0 an_exit ≡ Some Utf8
 unfolding computes message_of named no_name_twice is_integer member_bytes with_id_text escape_byte digits
 the_encoding_outlives_the_start = refl
+
+-- what a start is told where an editor of its group leaves
+abbrev left_bodies : ℕ → ℕ → ℕ → List Event → List (List ℕ)
+left_bodies g s e events = let os = (texts_of (with_groups 8) g events).opens in leave_bodies (with_groups 8).limits.versions (λ u. held_at s u events) e os os
+
+the_holder_leaves : left_bodies 0 0 1 (events_behind (with_groups 8) [] switching) ≡ codes "{\"jsonrpc\":\"2.0\",\"method\":\"textDocument/didChange\",\"params\":{\"textDocument\":{\"uri\":\"file:///u\",\"version\":5},\"contentChanges\":[{\"text\":\"a\"}]}}" ∷ []
+unfolding computes message_of named no_name_twice is_integer member_bytes with_id_text escape_byte digits
+the_holder_leaves = refl
+
+another_editor_leaves : left_bodies 0 0 0 (events_behind (with_groups 8) [] switching) ≡ []
+unfolding computes message_of named no_name_twice is_integer member_bytes with_id_text escape_byte digits
+another_editor_leaves = refl
+
+the_last_one_leaves : left_bodies 1 1 1 (events_behind (with_groups 8) [] two_groups) ≡ codes "{\"jsonrpc\":\"2.0\",\"method\":\"textDocument/didClose\",\"params\":{\"textDocument\":{\"uri\":\"file:///u\"}}}" ∷ []
+unfolding computes message_of named no_name_twice is_integer member_bytes with_id_text escape_byte digits
+the_last_one_leaves = refl

@@ -63,6 +63,13 @@ synced versions o (Some h) = differing versions o h
 abbrev pub sync_bodies : ℕ → (List ℕ → Option HeldText) → ℕ → List Open → List (List ℕ)
 sync_bodies versions held e os = flat_map (λ (o : Open). synced versions o (held o.uri)) (filter (λ (o : Open). nat_eq o.editor e) os)
 
+-- L1: an editor that leaves closes each of its documents, in the order of opening
+abbrev pub left : ℕ → ℕ → List Open → Option HeldText → Open → List (List ℕ)
+left versions e all held o = sent_close versions o.uri (holder_beside e o.uri all) held
+
+abbrev pub leave_bodies : ℕ → (List ℕ → Option HeldText) → ℕ → List Open → List Open → List (List ℕ)
+leave_bodies versions held e all os = flat_map (λ (o : Open). left versions e all (held o.uri) o) (filter (λ (o : Open). nat_eq o.editor e) os)
+
 -- X4: each document that is open, in the order of its earliest opening, with the holder's language and text
 abbrev pub replay_bodies : List (List ℕ) → List Open → List Open → List (List ℕ)
 replay_bodies told all [] = []

@@ -1,7 +1,6 @@
 -- What the editors of a group have open, by the history (LSP 3.17, Text Document Synchronization).
-use Rattle.std.specs.Prelude.{ℕ, ◌+◌, Bool, false, not, ◌&&◌, ◌||◌, List, [], map, filter, fold, codes, nat_eq, bytes_eq, if◌then◌else◌}
+use Rattle.std.specs.Prelude.{ℕ, ◌+◌, Bool, false, not, ◌&&◌, ◌||◌, List, [], map, fold, codes, nat_eq, bytes_eq, if◌then◌else◌}
 use Rattle.std.specs.Prelude.{Option, Some, None}
-use Rattle.json_text.specs.Json.{Json}
 use Rattle.mux_history.specs.declared.cause.Cause.TheVariants.{FromEditor, EditorGone, FromServer}
 use Rattle.mux_history.specs.declared.out.Out.TheVariants.{ToServer, CloseEditor}
 use Rattle.rpc_message.specs.Message.{Message, request, notification}
