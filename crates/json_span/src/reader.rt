@@ -2,6 +2,7 @@
 ghost use Rattle.std.specs.Prelude.{◌≡◌, ℕ, ◌+◌, ◌^◌, ◌<◌, ◌≤◌, ◌++◌, ◌∷◌, [], length, drop, slice_range, MatchResult, IfOk, IfSome, IsTrue, IsUtf8, Ok};
 ghost use Rattle.std.specs.List.{prefix_len};
 ghost use Rattle.json_text.specs.Json.{is_space};
+ghost use Rattle.json_token.specs.StringMoves.{string_move};
 ghost use Rattle.json_span.specs.Machine.{start, node_at, leaf, opens, closes, begins, first_item, next_key, first_key, colon, continues, behind, in_word, in_number, in_text, in_key, step, finish, read, ends_with, first_in, next_in};
 ghost use Rattle.json_span.specs.Views.{state_of, Gives, Reads, Fits, Crosses};
 ghost use Rattle.json_span.specs.Classes.{class_of};
@@ -106,7 +107,19 @@ fn string_run_end(part: Part, text: Option<&str>, bytes: &[u8], at: usize) -> us
     }
 }
 
-// White space is rare in most texts, so the first byte is looked at by itself.
+// What the next byte does to a string of which this part has been read: behind a run it is mostly the quotation mark that ends it.
+#[tactic(auto, unfolding(json_token::specs::StringMoves::plain_move))]
+#[inline(always)]
+fn moved(part: Part, byte: u8) -> Move
+    ensures { result ≡ string_move part byte }
+{
+    if byte == b'"' && matches!(part, Part::Plain) {
+        return Move::Ends;
+    }
+    string_move(part, byte)
+}
+
+// White space is rare in most texts, and one blank is the most frequent: the first two bytes are looked at by themselves.
 #[inline(always)]
 fn blank_end(bytes: &[u8], at: usize) -> usize
     requires { at ≤ length bytes.now }
@@ -115,6 +128,9 @@ fn blank_end(bytes: &[u8], at: usize) -> usize
 {
     if at < bytes.len() && bytes[at] > b' ' {
         return at;
+    }
+    if bytes.len() - at > 1 && bytes[at] == b' ' && bytes[at + 1] > b' ' {
+        return at + 1;
     }
     space_end(bytes, at)
 }
@@ -134,6 +150,7 @@ impl Reader {
     }
 
     // The next node, of a value that ends before `to`, as far as is known.
+    #[inline(always)]
     fn push(&mut self, kind: Kind, from: u32, to: usize) -> Result<(), JsonFault>
         requires small { to < 2 ^ 32 }
         requires few { length self.old.nodes.items < 2 ^ 31 }
@@ -408,8 +425,8 @@ impl Reader {
             Mode::After => self.behind(at, class_of(byte)),
             Mode::InWord(from, begun) => self.in_word(at, from, word_move(begun, byte)),
             Mode::InNumber(from, part) => self.in_number(at, from, byte, number_move(part, byte)),
-            Mode::InText(from, part) => self.in_text(at, from, string_move(part, byte)),
-            Mode::InKey(from, part) => self.in_key(at, from, string_move(part, byte)),
+            Mode::InText(from, part) => self.in_text(at, from, moved(part, byte)),
+            Mode::InKey(from, part) => self.in_key(at, from, moved(part, byte)),
         }
     }
 
