@@ -59,6 +59,13 @@ impl Outs {
         self.list.as_slice()
     }
 
+    /// The outs as a list of their own, without a copy.
+    pub fn into_vec(self) -> Vec<Out>
+        ensures { result.items ≡ self }
+    {
+        self.list
+    }
+
     /// Puts `out` behind the list. Running out of memory leaves the list as it was and drops `out`.
     pub fn push(&mut self, out: Out) -> Result<(), Memory>
         ensures ok { OnOk result (self.new ≡ self.old ++ out ∷ []) }

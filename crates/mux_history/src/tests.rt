@@ -31,6 +31,7 @@ fn outs_stand_in_their_order(rt: HostRuntime) -> Result<(), Fail> {
     assert!(rt; matches!(copied.get(1), Some(Out::CloseEditor(1))));
     assert!(rt; matches!(copied.as_slice(), [_, _, Out::EndServer(0)]));
     assert!(rt; copied.get(3).is_none());
+    assert_eq!(rt; copied.into_vec().len(), 3);
     Ok(())
 }
 
