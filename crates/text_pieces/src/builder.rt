@@ -2,32 +2,25 @@
 ghost use Rattle.std.specs.Prelude.{◌≡◌, ◌++◌, [], IfOk, OnOk};
 ghost use Rattle.text_pieces.specs.Pieces.{text_of, builder_text};
 
+use crate::limits::Limits;
 use crate::piece::Piece;
 use message_body::Memory;
 use position_codec::Encoding;
 use std::alloc::Global;
 
-// No piece is longer.
-const MOST: usize = 4096;
-
-// What is longer is cut behind so many bytes, or up to three fewer.
-const USUAL: usize = 3072;
-
-// A shorter piece is joined with the one beside it, so that the pieces stay few.
-const LEAST: usize = 1024;
-
-/// Puts a text behind pieces, cut into further ones. The time is linear in the text.
+/// Puts a text behind pieces, cut into further ones by the limits. The time is linear in the text.
 pub fn add_pieces(
     alloc: Global,
     encoding: Encoding,
+    limits: Limits,
     text: &str,
     pieces: &mut Vec<Piece>,
 ) -> Result<(), Memory>
     ensures { OnOk result (text_of pieces.new.items ≡ text_of pieces.old.items ++ text.now) }
 {
     let mut rest = text;
-    while rest.len() > MOST {
-        let at = rest.floor_char_boundary(USUAL);
+    while rest.len() > limits.most {
+        let at = rest.floor_char_boundary(limits.usual);
         if at == 0 {
             break;
         }
@@ -45,6 +38,7 @@ pub fn add_pieces(
 #[derive(Drop)]
 pub struct Builder {
     encoding: Encoding,
+    limits: Limits,
     pieces: Vec<Piece>,
     /// What isn't yet cut into pieces.
     uncut: String,
@@ -52,11 +46,17 @@ pub struct Builder {
 
 impl Builder {
     /// Nothing, with room for so many pieces.
-    pub fn new(alloc: Global, encoding: Encoding, count: usize) -> Result<Builder, Memory>
+    pub fn new(
+        alloc: Global,
+        encoding: Encoding,
+        limits: Limits,
+        count: usize,
+    ) -> Result<Builder, Memory>
         ensures { IfOk result (λ builder. builder_text builder ≡ []) }
     {
         Ok(Builder {
             encoding,
+            limits,
             pieces: Vec::with_capacity(alloc, count)?,
             uncut: String::new(alloc),
         })
@@ -70,14 +70,12 @@ impl Builder {
         Ok(())
     }
 
-    /// Puts a piece behind what was built, and shares it where neither it nor what is in front of it is too short.
+    /// Puts a piece behind what was built, and shares it where what isn't yet cut is long enough to stand by itself.
     pub fn push_piece(&mut self, alloc: Global, piece: &Piece) -> Result<(), Memory>
         ensures { OnOk result (builder_text self.new ≡ builder_text self.old ++ piece.now) }
     {
-        let text = piece.as_str();
-        let short = self.uncut.len() < LEAST || text.len() < LEAST;
-        if short && !self.uncut.is_empty() {
-            return self.push_str(text);
+        if !self.uncut.is_empty() && self.uncut.len() < self.limits.least {
+            return self.push_str(piece.as_str());
         }
         self.close(alloc)?;
         self.pieces.push(piece.counted(alloc, self.encoding)?)?;
@@ -105,10 +103,11 @@ impl Builder {
         if self.uncut.is_empty() {
             return Ok(());
         }
-        if self.uncut.len() < LEAST {
+        if self.uncut.len() < self.limits.least {
             self.join_last(alloc)?;
         }
-        add_pieces(alloc, self.encoding, self.uncut.as_str(), &mut self.pieces)?;
+        let text = self.uncut.as_str();
+        add_pieces(alloc, self.encoding, self.limits, text, &mut self.pieces)?;
         self.uncut.clear();
         Ok(())
     }

@@ -6,7 +6,8 @@ ghost use Rattle.text_pieces.specs.Pieces.{text_of, builder_text, cut_at, IsCut}
 
 use crate::builder::{Builder, add_pieces};
 use crate::cut::{Cut, find_range};
-use crate::piece::Piece;
+use crate::limits::Limits;
+use crate::piece::{Piece, length};
 use doc_text::{ContentChange, Extent, Range};
 use message_body::Memory;
 use position_codec::Encoding;
@@ -75,7 +76,8 @@ fn replaced(
     ensures { IfOk result (λ after. text_of after.items ≡ changed encoding (record { extent = Part range; text = text.now }) (text_of pieces.now)) }
 {
     let (start, end) = find_range(pieces, encoding, range)?;
-    let mut builder = Builder::new(alloc, encoding, pieces.len())?;
+    let limits = Limits::of(length(pieces).saturating_add(text.len()));
+    let mut builder = Builder::new(alloc, encoding, limits, pieces.len())?;
     add_before(alloc, &mut builder, pieces, start)?;
     builder.push_str(text)?;
     add_behind(alloc, &mut builder, pieces, end)?;
@@ -95,7 +97,7 @@ fn change(
     match change.extent {
         Extent::Whole => {
             let mut after = Vec::new(alloc);
-            add_pieces(alloc, encoding, text, &mut after)?;
+            add_pieces(alloc, encoding, Limits::of(text.len()), text, &mut after)?;
             Ok(after)
         }
         Extent::Part(range) => replaced(alloc, encoding, pieces, range, text),

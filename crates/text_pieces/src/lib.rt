@@ -5,6 +5,7 @@ mod builder;
 mod change;
 mod cut;
 mod equal;
+mod limits;
 mod order;
 mod piece;
 mod piece_text;

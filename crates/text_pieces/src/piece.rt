@@ -2,6 +2,7 @@
 ghost use Rattle.std.specs.Prelude.{◌≡◌, IfOk, IfSome, IsUtf8};
 ghost use Rattle.std.specs.Str.{chars};
 ghost use Rattle.position_codec.specs.Spots.{spot_behind};
+ghost use Rattle.text_pieces.specs.Pieces.{text_of};
 
 use message_body::Memory;
 use position_codec::{Encoding, Spot};
@@ -104,4 +105,15 @@ impl Piece {
             spot.after(self.fresh)
         }
     }
+}
+
+/// How many bytes the pieces have together, which are a text; the greatest number where there are more.
+pub fn length(pieces: &[Piece]) -> usize
+    ensures { IsUtf8 (text_of pieces.now) }
+{
+    let mut length: usize = 0;
+    for piece in pieces {
+        length = length.saturating_add(piece.as_str().len());
+    }
+    length
 }

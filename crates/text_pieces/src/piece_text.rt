@@ -6,8 +6,9 @@ ghost use Rattle.text_pieces.specs.Pieces.{text_of};
 use crate::builder::add_pieces;
 use crate::change::{change_all, share};
 use crate::equal::equal;
+use crate::limits::Limits;
 use crate::order::go_one_way;
-use crate::piece::Piece;
+use crate::piece::{Piece, length};
 use doc_text::{ChangeFault, ContentChange, DocText, Text, changes};
 use json_span::Tape;
 use message_body::{Body, Memory};
@@ -18,10 +19,11 @@ use std::marker::Model;
 // From so many changes on, a walk through a text of usual length costs less than each by itself.
 const MANY: usize = 128;
 
-/// The text of a document, kept in pieces of a few thousand bytes.
+/// The text of a document, kept in pieces that are longer in a longer text.
 ///
-/// A small change in a text of n bytes takes some n / 3,000 short steps, and reads and writes a few pieces. A text and its copies share
-/// the pieces that they have in common. Positions may count by another encoding from one call to the next; a change of it reads the text once.
+/// A small change in a text of n bytes takes some √n short steps, and reads and writes a few pieces of some √n bytes, or of 4,096 in a
+/// short text; `Limits` says why that stays so. A text and its copies share the pieces that they have in common. Positions may count by
+/// another encoding from one call to the next; a change of it reads the text once.
 #[derive(Drop)]
 pub struct PieceText {
     pieces: Vec<Piece>,
@@ -41,11 +43,7 @@ fn whole(alloc: Global, pieces: &[Piece]) -> Result<Vec<u8>, Memory>
     ensures ok { IfOk result (λ bytes. bytes.items ≡ text_of pieces.now) }
     ensures utf8 { IsUtf8 (text_of pieces.now) }
 {
-    let mut size: usize = 0;
-    for piece in pieces {
-        size = size.saturating_add(piece.as_str().len());
-    }
-    let mut bytes = Vec::with_capacity(alloc, size)?;
+    let mut bytes = Vec::with_capacity(alloc, length(pieces))?;
     for piece in pieces {
         bytes.extend_from_slice(piece.as_str().as_bytes())?;
     }
@@ -65,7 +63,8 @@ fn change_whole(
     let text = DocText::new(alloc, bytes.as_slice())?;
     let after = text.behind(alloc, encoding, changes)?;
     let mut made = Vec::new(alloc);
-    add_pieces(alloc, encoding, after.as_str(), &mut made)?;
+    let limits = Limits::of(after.as_str().len());
+    add_pieces(alloc, encoding, limits, after.as_str(), &mut made)?;
     Ok(made)
 }
 
@@ -93,7 +92,8 @@ impl Text for PieceText {
     fn new(alloc: Global, text: &[u8]) -> Result<Self, Memory> {
         let text = std::str::from_utf8(text).unwrap();
         let mut pieces = Vec::new(alloc);
-        add_pieces(alloc, Encoding::Utf16, text, &mut pieces)?;
+        let limits = Limits::of(text.len());
+        add_pieces(alloc, Encoding::Utf16, limits, text, &mut pieces)?;
         Ok(PieceText { pieces })
     }
 

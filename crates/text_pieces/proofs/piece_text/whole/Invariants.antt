@@ -1,10 +1,6 @@
 use Rattle.std.proofs.Common.{◌≡◌, take}
-use Rattle.std.specs.Prelude.{IsUtf8}
 use Rattle.text_pieces.specs.Pieces.{text_of}
 use Rattle.text_pieces.proofs.piece_text.whole.Given as goal
 
 abbrev pub invariant-loop-piece : goal.invariant-loop-piece
-invariant-loop-piece l = IsUtf8 (text_of (take l.piece-index l.pieces))
-
-abbrev pub invariant-loop-piece-2 : goal.invariant-loop-piece-2
-invariant-loop-piece-2 l = l.bytes.items ≡ text_of (take l.piece-index l.pieces)
+invariant-loop-piece l = l.bytes.items ≡ text_of (take l.piece-index l.pieces)
