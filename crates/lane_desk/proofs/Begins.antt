@@ -48,7 +48,7 @@ pub begin_next : (orders : List (LaneName × Order)) (seats after : Seats) (s : 
     → Gives (give (lane.Server i) (order.Begin s) (begin_seat s) (with_orders orders after)) orders' seats' → Began orders seats orders' seats'
 begin_next orders seats after s rest i orders' seats' w f a g = record {
   same = ap₂ (λ x y. begin_all (with_orders x y)) g.orders_are g.seats_are ∙ ap (λ x. begin_all (give (lane.Server i) (order.Begin s) (begin_seat s) (with_orders orders x))) a ∙ sym (begin_one (with_orders orders seats) s rest i w f);
-  fewer = ap (λ (x : Seats). length x.waiting + 1) g.seats_are ∙ ap (λ (x : Seats). length x.waiting + 1) a ∙ (let n : length (s ∷ rest) ≡ length rest + 1 = omega arith in sym (ap length w ∙ n))
+  fewer = ap (λ (x : Seats). length x.waiting + 1) g.seats_are ∙ ap (λ (x : Seats). length x.waiting + 1) a ∙ (let n : length (s ∷ rest) ≡ length rest + 1 = omega arith in sym (ap length w ∙ n));
 }
 
 -- an entry's orders: that of a session that is over, those of the outs, and those of the starts that begin
@@ -65,5 +65,5 @@ pub gives_all : (seats : Seats) (l : LaneName) (side : Bool) (k : Kind) (outs : 
 gives_all seats l side k outs closed first heard given behind all last c f h g b =
     let begun : with_orders first heard ≡ with_done (done_if k closed) l heard = ap (λ o. with_orders o heard) f ∙ seats_alone l heard k closed in
     let entry : with_orders given behind ≡ fold give_out (with_done (done_if k (seat_of l seats).closed) l (record (on_seat l (moved side k) seats) { joined = joined_by k seats.joined })) outs =
-        ap₂ with_orders g.orders_are g.seats_are ∙ ap (λ x. fold give_out x outs) (begun ∙ ap₂ (λ x y. with_done (done_if k x) l y) c h) in
+    ap₂ with_orders g.orders_are g.seats_are ∙ ap (λ x. fold give_out x outs) (begun ∙ ap₂ (λ x y. with_done (done_if k x) l y) c h) in
     record { orders_are = b.orders_are ∙ ap (λ (x : Given). (begin_all x).orders) entry; seats_are = b.seats_are ∙ ap (λ (x : Given). (begin_all x).seats) entry }

@@ -1,5 +1,5 @@
 -- A deck that has done nothing, and one that goes on no more.
-use Rattle.std.proofs.Common.{◌≡◌, ℕ, ◌≤◌, ◌+◌, ◌-◌, ◌^◌, Bool, true, false, not, min, List, [], refl, sym, ap, ◌∙◌, arith, Option, Some, None}
+use Rattle.std.proofs.Common.{◌≡◌, ℕ, ◌≤◌, Bool, true, false, not, List, [], ◌++◌, refl, sym, ap, arith, Option, Some, None}
 use Rattle.outside_io.specs.Faults.{Rose}
 use Rattle.mux_history.specs.declared.entry.Entry.{Entry}
 use Rattle.mux_history.specs.declared.steps.StepFault.{StepFault}
@@ -12,9 +12,13 @@ use Rattle.lane_desk.proofs.Turns.{kept_over}
 
 pub kept_new : {K : Type 0} (stands : K → List Entry → Type 0) (n m : ℕ) (core : K) (ends : List HubSide) (seats : Seats) → stands core [] → AllUnused ends → seats ≡ start n m → Kept stands n m true core ends seats
 kept_new stands n m core ends seats s u e = record {
-  deeds = []; fair = tt; stands_for = s; more = None; none_more = λ _. refl;
-  ends_are = λ i x at. let w = u i x at in record { posted = w.posted; sides = w.sides; rest = []; pushed = sym (ap (λ ys. ys) w.pushed); whole = λ _. refl };
-  seats_are = λ _. e
+  deeds = [];
+  fair = tt;
+  stands_for = s;
+  more = None;
+  none_more = λ _. refl;
+  ends_are = λ i x at. let w = u i x at in record { posted = w.posted; sides = w.sides; rest = []; pushed = sym (ap (λ ys. ys ++ []) w.pushed); whole = λ _. refl };
+  seats_are = λ _. e;
 }
 
 pub kept_fail : {K : Type 0} (stands : K → List Entry → Type 0) (n m : ℕ) (spent : Bool) (core : K) (ends : List HubSide) (seats : Seats) → Kept stands n m (not spent) core ends seats → Kept stands n m false core ends seats

@@ -1,13 +1,13 @@
 -- What a write of one place does to all places.
-use Rattle.std.proofs.Common.{◌≡◌, ◌≢◌, ℕ, zero, suc, ◌<◌, ◌≤◌, ◌+◌, ◌-◌, ◌==◌, nat_lt, if◌then◌else◌, List, [], ◌∷◌, ◌++◌, Bool, true, false, cond, length, map, slice_get, slice_set, refl, sym, ap, ◌∙◌, subst, ⊎_elim, ◌⊎◌, inl, inr, arith, append_assoc, append-nil, Option, Some, None}
+use Rattle.std.proofs.Common.{◌≡◌, ◌≢◌, ℕ, zero, suc, ◌<◌, ◌≤◌, ◌+◌, ◌-◌, ◌==◌, nat_lt, if◌then◌else◌, List, [], ◌∷◌, ◌++◌, Bool, true, false, length, map, slice_get, slice_set, refl, sym, ap, ◌∙◌, subst, ⊎_elim, ◌⊎◌, inl, inr, arith, append_assoc, append-nil, Some}
 use Rattle.std.proofs.lemmas.Option.{slice_get_within}
-use Rattle.std.proofs.lemmas.Bool.Decides.{nat_tests, eqb_tells}
+use Rattle.std.proofs.lemmas.Bool.Decides.{nat_tests}
 use Rattle.lane_lists.specs.declared.item.LaneName.{LaneName}
 use Rattle.lane_lists.specs.declared.item.LaneName.TheVariants as lane
 use Rattle.lane_lists.specs.declared.item.Order.{Order}
 use Rattle.lane_lists.specs.Deeds.{only, same_lane}
 use Rattle.lane_queue.specs.Ends.{HubSide}
-use Rattle.lane_desk.specs.Desks.{Became, Dealt, Each, Ids, Pairwise, Pushed, Same, ids}
+use Rattle.lane_desk.specs.Desks.{Became, Dealt, Each, Pairwise, Pushed, Same, ids}
 use Rattle.lane_desk.specs.Places.{IsIn, name, place}
 
 module _ {X : Type 0} where
@@ -38,16 +38,16 @@ pub became : (i : ℕ) (R : HubSide → HubSide → Type 0) (S : ℕ → HubSide
 became i R S old new b mine others = record {
   len = ap length b.is ∙ length_set old i b.after;
   each = λ j p q at at'.
-    let at'' : slice_get (slice_set old i b.after) j ≡ Some q = subst (λ (l : List HubSide). slice_get l j ≡ Some q) b.is at' in
-    ⊎_elim
+      let at'' : slice_get (slice_set old i b.after) j ≡ Some q = subst (λ (l : List HubSide). slice_get l j ≡ Some q) b.is at' in
+      ⊎_elim
       (λ (t : (j ≡ i) × (b.after ≡ q)).
-        let was : slice_get old j ≡ Some b.before = subst (λ (k : ℕ). slice_get old k ≡ Some b.before) (sym t.0) b.was in
-        let same : b.before ≡ p = cc in
-        subst (λ (k : ℕ). S k p q) (sym t.0) (subst (λ (x : HubSide). S i x q) same (subst (λ (x : HubSide). S i b.before x) t.1 (mine b.before b.after b.was b.how))))
+      let was : slice_get old j ≡ Some b.before = subst (λ (k : ℕ). slice_get old k ≡ Some b.before) (sym t.0) b.was in
+      let same : b.before ≡ p = cc in
+      subst (λ (k : ℕ). S k p q) (sym t.0) (subst (λ (x : HubSide). S i x q) same (subst (λ (x : HubSide). S i b.before x) t.1 (mine b.before b.after b.was b.how))))
       (λ (t : (j ≢ i) × (slice_get old j ≡ Some q)).
-        let same : p ≡ q = cc in
-        subst (λ (x : HubSide). S j p x) same (others j p t.0 at))
-      (get_set old i j b.after q at'')
+      let same : p ≡ q = cc in
+      subst (λ (x : HubSide). S j p x) same (others j p t.0 at))
+      (get_set old i j b.after q at'');
 }
 
 -- what two changes do one after the other
@@ -56,9 +56,9 @@ pub chained : (R S T : ℕ → HubSide → HubSide → Type 0) (a b c : List Hub
 chained R S T a b c f g both = record {
   len = g.len ∙ f.len;
   each = λ i p r at at'.
-    let within = slice_get_within a i p at in
-    let there = get_there b i (let e = f.len in omega arith) in
-    both i p there.0 r within (f.each i p there.0 at there.1) (g.each i there.0 r there.1 at')
+      let within = slice_get_within a i p at in
+      let there = get_there b i (let e = f.len in omega arith) in
+      both i p there.0 r within (f.each i p there.0 at there.1) (g.each i there.0 r there.1 at');
 }
 
 -- a fact of each place goes through
@@ -87,17 +87,17 @@ pub tells : (n m i : ℕ) (l : LaneName) → i ≤ n + m → IsIn n m l → same
 tells n m i (lane.Editor j) h k =
     elim (nat_lt i n) as (λ b. nat_lt i n ≡ b → same_lane (if b then lane.Editor i else if nat_lt i (n + m) then lane.Server (i - n) else lane.Ticker) (lane.Editor j) ≡ (i == j)) [
       | true ↦ λ t. refl
-      | false ↦ λ t. elim (nat_lt i (n + m)) as (λ b. same_lane (if b then lane.Server (i - n) else lane.Ticker) (lane.Editor j) ≡ (i == j)) [ | true ↦ grind (arith, nat_tests) | false ↦ grind (arith, nat_tests) ]
+      | false ↦ λ t. elim (nat_lt i (n + m)) as (λ b. same_lane (if b then lane.Server (i - n) else lane.Ticker) (lane.Editor j) ≡ (i == j)) [ true ↦ grind (arith, nat_tests) | false ↦ grind (arith, nat_tests) ]
     ] refl
 tells n m i (lane.Server j) h k =
     elim (nat_lt i n) as (λ b. nat_lt i n ≡ b → same_lane (if b then lane.Editor i else if nat_lt i (n + m) then lane.Server (i - n) else lane.Ticker) (lane.Server j) ≡ (i == n + j)) [
       | true ↦ λ t. grind (arith, nat_tests)
-      | false ↦ λ t. elim (nat_lt i (n + m)) as (λ b. nat_lt i (n + m) ≡ b → same_lane (if b then lane.Server (i - n) else lane.Ticker) (lane.Server j) ≡ (i == n + j)) [ | true ↦ λ u. grind (arith, nat_tests) | false ↦ λ u. grind (arith, nat_tests) ] refl
+      | false ↦ λ t. elim (nat_lt i (n + m)) as (λ b. nat_lt i (n + m) ≡ b → same_lane (if b then lane.Server (i - n) else lane.Ticker) (lane.Server j) ≡ (i == n + j)) [ true ↦ λ u. grind (arith, nat_tests) | false ↦ λ u. grind (arith, nat_tests) ] refl
     ] refl
 tells n m i lane.Ticker h k =
     elim (nat_lt i n) as (λ b. nat_lt i n ≡ b → same_lane (if b then lane.Editor i else if nat_lt i (n + m) then lane.Server (i - n) else lane.Ticker) lane.Ticker ≡ (i == n + m)) [
       | true ↦ λ t. grind (arith, nat_tests)
-      | false ↦ λ t. elim (nat_lt i (n + m)) as (λ b. nat_lt i (n + m) ≡ b → same_lane (if b then lane.Server (i - n) else lane.Ticker) lane.Ticker ≡ (i == n + m)) [ | true ↦ λ u. grind (arith, nat_tests) | false ↦ λ u. grind (arith, nat_tests) ] refl
+      | false ↦ λ t. elim (nat_lt i (n + m)) as (λ b. nat_lt i (n + m) ≡ b → same_lane (if b then lane.Server (i - n) else lane.Ticker) lane.Ticker ≡ (i == n + m)) [ true ↦ λ u. grind (arith, nat_tests) | false ↦ λ u. grind (arith, nat_tests) ] refl
     ] refl
 
 -- nothing is given
@@ -110,7 +110,7 @@ all_same i old new b = became i Same (λ _. Same) old new b (λ p q at s. s) (λ
 pub none_given : (n m : ℕ) (given : List (LaneName × Order)) (places : List HubSide) → Pairwise (λ i. Dealt (name n m i) given given true) places places
 none_given n m given places = record {
   len = refl;
-  each = λ i p q at at'. let same : p ≡ q = cc in subst (λ (x : HubSide). Dealt (name n m i) given given true p x) same record { ids = refl; posted = refl; sides = refl; rest = []; pushed = ap (λ l. l ++ only (name n m i) given) (append-nil p.orders.pushed); whole = λ _. refl }
+  each = λ i p q at at'. let same : p ≡ q = cc in subst (λ (x : HubSide). Dealt (name n m i) given given true p x) same record { ids = refl; posted = refl; sides = refl; rest = []; pushed = ap (λ l. l ++ only (name n m i) given) (append-nil p.orders.pushed); whole = λ _. refl };
 }
 
 -- one order more, or none
@@ -122,9 +122,12 @@ pub record Stepped (l : LaneName) (before after : List (LaneName × Order)) (q r
 
 dealt_more : (l : LaneName) (given before after : List (LaneName × Order)) (p q r : HubSide) → Dealt l given before true p q → Stepped l before after q r → Dealt l given after true p r
 dealt_more l given before after p q r d s = record {
-  ids = s.ids ∙ d.ids; posted = s.posted ∙ d.posted; sides = s.sides ∙ d.sides; rest = [];
+  ids = s.ids ∙ d.ids;
+  posted = s.posted ∙ d.posted;
+  sides = s.sides ∙ d.sides;
+  rest = [];
   pushed = ap (λ ys. ys ++ only l after) (append-nil r.orders.pushed) ∙ s.pushed ∙ sym (ap (λ ys. ys ++ only l before) (ap (λ ys. q.orders.pushed ++ ys) (d.whole refl) ∙ append-nil q.orders.pushed)) ∙ d.pushed;
-  whole = λ _. refl
+  whole = λ _. refl;
 }
 
 same_test : (i j : ℕ) → j ≡ i → (i == j) ≡ true
@@ -143,15 +146,21 @@ module _ (n m : ℕ) (given left : List (LaneName × Order)) (l : LaneName) (o :
   pub deal_one : (a b c : List HubSide) → length a ≡ n + m + 1 → Pairwise (λ i. Dealt (name n m i) given ahead true) a b → IsIn n m l × Became (place n m l) (Pushed o) b c → Pairwise (λ i. Dealt (name n m i) given left true) a c
   deal_one a b c e f k =
       chained (λ i. Dealt (name n m i) given ahead true) (λ i. Stepped (name n m i) ahead left) (λ i. Dealt (name n m i) given left true) a b c f
-        (became (place n m l) (Pushed o) (λ i. Stepped (name n m i) ahead left) b c k.1
-          (λ q r at t. record {
-            ids = t.ids; posted = t.posted; sides = t.sides;
-            pushed = ap (λ ys. ys ++ only (name n m (place n m l)) left) t.pushed ∙ append_assoc q.orders.pushed (o ∷ []) (only (name n m (place n m l)) left)
-              ∙ ap (λ t. q.orders.pushed ++ gave (place n m l) t) (sym (tells n m (place n m l) l (bound at) k.0 ∙ same_test (place n m l) (place n m l) refl)) })
-          (λ j q apart at. record {
-            ids = refl; posted = refl; sides = refl;
-            pushed = ap (λ t. q.orders.pushed ++ gave j t) (sym (tells n m j l (bound at) k.0 ∙ other_test (place n m l) j apart)) }))
-        (λ i p q r within d s. dealt_more (name n m i) given ahead left p q r d s)
+      (became (place n m l) (Pushed o) (λ i. Stepped (name n m i) ahead left) b c k.1
+      (λ q r at t. record {
+        ids = t.ids;
+        posted = t.posted;
+        sides = t.sides;
+        pushed = ap (λ ys. ys ++ only (name n m (place n m l)) left) t.pushed ∙ append_assoc q.orders.pushed (o ∷ []) (only (name n m (place n m l)) left)
+            ∙ ap (λ t. q.orders.pushed ++ gave (place n m l) t) (sym (tells n m (place n m l) l (bound at) k.0 ∙ same_test (place n m l) (place n m l) refl));
+      })
+      (λ j q apart at. record {
+        ids = refl;
+        posted = refl;
+        sides = refl;
+        pushed = ap (λ t. q.orders.pushed ++ gave j t) (sym (tells n m j l (bound at) k.0 ∙ other_test (place n m l) j apart));
+      }))
+      (λ i p q r within d s. dealt_more (name n m i) given ahead left p q r d s)
     where
       bound : {j : ℕ} {q : HubSide} → slice_get b j ≡ Some q → j ≤ n + m
       bound {j} {q} at = let h = slice_get_within b j q at in let w = f.len in omega arith
@@ -159,15 +168,19 @@ module _ (n m : ℕ) (given left : List (LaneName × Order)) (l : LaneName) (o :
   pub deal_stop : (a b c : List HubSide) → Pairwise (λ i. Dealt (name n m i) given ahead true) a b → Pairwise (λ _. Same) b c → Pairwise (λ i. Dealt (name n m i) given [] false) a c
   deal_stop a b c f g = chained (λ i. Dealt (name n m i) given ahead true) (λ _. Same) (λ i. Dealt (name n m i) given [] false) a b c f g
       (λ i p q r within d s. record {
-        ids = s.ids ∙ d.ids; posted = s.posted ∙ d.posted; sides = s.sides ∙ d.sides; rest = only (name n m i) ahead;
+        ids = s.ids ∙ d.ids;
+        posted = s.posted ∙ d.posted;
+        sides = s.sides ∙ d.sides;
+        rest = only (name n m i) ahead;
         pushed = append-nil (r.orders.pushed ++ only (name n m i) ahead) ∙ ap (λ ys. ys ++ only (name n m i) ahead) s.pushed ∙ sym (ap (λ ys. ys ++ only (name n m i) ahead) (ap (λ ys. q.orders.pushed ++ ys) (d.whole refl) ∙ append-nil q.orders.pushed)) ∙ d.pushed;
-        whole = λ e. absurd cc })
+        whole = λ e. absurd cc;
+      })
 
 -- where no order could be given
 pub none_dealt : (n m : ℕ) (given : List (LaneName × Order)) (places : List HubSide) → Pairwise (λ i. Dealt (name n m i) given [] false) places places
 none_dealt n m given places = record {
   len = refl;
-  each = λ i p q at at'. let same : p ≡ q = cc in subst (λ (x : HubSide). Dealt (name n m i) given [] false p x) same record { ids = refl; posted = refl; sides = refl; rest = only (name n m i) given; pushed = append-nil (p.orders.pushed ++ only (name n m i) given); whole = λ e. absurd cc }
+  each = λ i p q at at'. let same : p ≡ q = cc in subst (λ (x : HubSide). Dealt (name n m i) given [] false p x) same record { ids = refl; posted = refl; sides = refl; rest = only (name n m i) given; pushed = append-nil (p.orders.pushed ++ only (name n m i) given); whole = λ e. absurd cc };
 }
 
 pub became_ids : (i : ℕ) (R : HubSide → HubSide → Type 0) (old new : List HubSide) → Became i R old new → ((p q : HubSide) → R p q → ids q ≡ ids p) → map ids new ≡ map ids old

@@ -1,5 +1,5 @@
 -- What one turn leaves: a deed more, or a spent deck.
-use Rattle.std.proofs.Common.{◌≡◌, ◌≢◌, ℕ, ◌<◌, ◌≤◌, ◌+◌, ◌==◌, if◌then◌else◌, List, [], ◌∷◌, ◌++◌, Bool, true, false, not, IsTrue, fold, length, map, slice_get, refl, sym, ap, ◌∙◌, subst, arith, append_assoc, append-nil, Option, Some, None}
+use Rattle.std.proofs.Common.{◌≡◌, ◌≢◌, ℕ, ◌+◌, ◌==◌, if◌then◌else◌, List, [], ◌∷◌, ◌++◌, Bool, true, false, not, IsTrue, fold, length, map, refl, sym, ap, ◌∙◌, subst, arith, append-nil, Option, Some, None}
 use Rattle.std.proofs.lemmas.Option.{slice_get_within}
 use Rattle.std.proofs.lemmas.Bool.Decides.{nat_tests}
 use Rattle.std.proofs.lemmas.List.Sums.{fold-append}
@@ -8,7 +8,6 @@ use Rattle.mux_history.specs.declared.cause.Cause.TheVariants as cause
 use Rattle.mux_history.specs.declared.entry.Entry.{Entry}
 use Rattle.mux_history.specs.declared.out.Out.{Out}
 use Rattle.lane_lists.specs.declared.item.LaneName.{LaneName}
-use Rattle.lane_lists.specs.declared.item.Order.{Order}
 use Rattle.lane_lists.specs.declared.item.Item.{Item}
 use Rattle.lane_lists.specs.declared.item.Item.TheVariants as item
 use Rattle.lane_lists.specs.declared.item.Posted.TheVariants as posted
@@ -16,7 +15,7 @@ use Rattle.lane_lists.specs.declared.item.Side.TheVariants as side
 use Rattle.lane_lists.specs.declared.item.Meaning.TheVariants as meant
 use Rattle.lane_lists.specs.Seats as lists
 use Rattle.lane_lists.specs.Seats.{Seats, give_out, meaning, on_seat, seat_item, seat_of}
-use Rattle.lane_lists.specs.Deeds.{Deed, Meant, behind, begin_all, entries, entries_by, given, given_entry, only, orders, orders_by, posted_in, posts, posts_by, same_lane, seats_of, side_in, sides, sides_by, start, with_done}
+use Rattle.lane_lists.specs.Deeds.{Deed, behind, begin_all, entries, entries_by, given, given_entry, only, orders, orders_by, posted_in, posts, posts_by, same_lane, seats_of, side_in, sides, sides_by, start, with_done}
 use Rattle.lane_lists.proofs.Gathers.{fair_more, gather_more}
 use Rattle.lane_queue.specs.Ends.{HubSide}
 use Rattle.lane_desk.specs.declared.kinds.Kind.{Kind}
@@ -80,11 +79,11 @@ module _ (n m : ℕ) (l : LaneName) (x : Item) (k : IsIn n m l) where
   pub took_each : (old new : List HubSide) → length old ≡ n + m + 1 → Became (place n m l) (Took x) old new → Pairwise (λ i. TookAt (name n m i) l x) old new
   took_each old new e b = became (place n m l) (Took x) (λ i. TookAt (name n m i) l x) old new b
       (λ p q at t.
-        let here : same_lane (name n m (place n m l)) l ≡ true = tells n m (place n m l) l (let h = slice_get_within old (place n m l) p at in omega arith) k ∙ same_test (place n m l) (place n m l) refl in
-        record { posted = t.posted ∙ ap (λ b. p.posted.taken ++ (if b then posted_in x else [])) (sym here); sides = t.sides ∙ ap (λ b. p.sides.taken ++ (if b then side_in x else [])) (sym here); pushed = t.pushed })
+      let here : same_lane (name n m (place n m l)) l ≡ true = tells n m (place n m l) l (let h = slice_get_within old (place n m l) p at in omega arith) k ∙ same_test (place n m l) (place n m l) refl in
+      record { posted = t.posted ∙ ap (λ b. p.posted.taken ++ (if b then posted_in x else [])) (sym here); sides = t.sides ∙ ap (λ b. p.sides.taken ++ (if b then side_in x else [])) (sym here); pushed = t.pushed })
       (λ j p apart at.
-        let there : same_lane (name n m j) l ≡ false = tells n m j l (let h = slice_get_within old j p at in omega arith) k ∙ other_test (place n m l) j apart in
-        record { posted = sym (append-nil p.posted.taken) ∙ ap (λ b. p.posted.taken ++ (if b then posted_in x else [])) (sym there); sides = sym (append-nil p.sides.taken) ∙ ap (λ b. p.sides.taken ++ (if b then side_in x else [])) (sym there); pushed = refl })
+      let there : same_lane (name n m j) l ≡ false = tells n m j l (let h = slice_get_within old j p at in omega arith) k ∙ other_test (place n m l) j apart in
+      record { posted = sym (append-nil p.posted.taken) ∙ ap (λ b. p.posted.taken ++ (if b then posted_in x else [])) (sym there); sides = sym (append-nil p.sides.taken) ∙ ap (λ b. p.sides.taken ++ (if b then side_in x else [])) (sym there); pushed = refl })
 
 -- what one more deed adds
 module _ (n m : ℕ) (deeds : List Deed) (l : LaneName) (x : Item) (entry : Option Entry) where
@@ -107,18 +106,26 @@ module _ {K : Type 0} (stands : K → List Entry → Type 0) (n m : ℕ) where
   -- a deck that goes on no more
   pub kept_over : (core : K) (ends : List HubSide) (seats seats' : Seats) → Kept stands n m true core ends seats → Kept stands n m false core ends seats'
   kept_over core ends seats seats' k = record {
-    deeds = k.deeds; fair = k.fair; stands_for = k.stands_for; more = k.more; none_more = λ e. absurd cc;
+    deeds = k.deeds;
+    fair = k.fair;
+    stands_for = k.stands_for;
+    more = k.more;
+    none_more = λ e. absurd cc;
     ends_are = λ i x at. let w = k.ends_are i x at in record { posted = w.posted; sides = w.sides; rest = w.rest; pushed = w.pushed; whole = λ e. absurd cc };
-    seats_are = λ e. absurd cc
+    seats_are = λ e. absurd cc;
   }
 
   -- nothing was there
   pub kept_same : (core : K) (place : ℕ) (old new : List HubSide) (seats : Seats) → Became place Same old new → Kept stands n m true core old seats → Kept stands n m true core new seats
   kept_same core place old new seats b k = record {
-    deeds = k.deeds; fair = k.fair; stands_for = k.stands_for; more = k.more; none_more = k.none_more;
+    deeds = k.deeds;
+    fair = k.fair;
+    stands_for = k.stands_for;
+    more = k.more;
+    none_more = k.none_more;
     ends_are = through (λ i x. EndsAre n m k.deeds k.more true (name n m i) x) (λ i x. EndsAre n m k.deeds k.more true (name n m i) x) (λ _. Same) old new (all_same place old new b) k.ends_are
-      (λ i p q within s w. record { posted = s.posted ∙ w.posted; sides = s.sides ∙ w.sides; rest = w.rest; pushed = w.pushed ∙ ap (λ ys. ys ++ w.rest) (sym s.pushed); whole = w.whole });
-    seats_are = k.seats_are
+        (λ i p q within s w. record { posted = s.posted ∙ w.posted; sides = s.sides ∙ w.sides; rest = w.rest; pushed = w.pushed ∙ ap (λ ys. ys ++ w.rest) (sym s.pushed); whole = w.whole });
+    seats_are = k.seats_are;
   }
 
   module _ (l : LaneName) (x : Item) (is_in : IsIn n m l) (old new : List HubSide) (size : length old ≡ n + m + 1) (b : Became (place n m l) (Took x) old new) where
@@ -128,13 +135,20 @@ module _ {K : Type 0} (stands : K → List Entry → Type 0) (n m : ℕ) where
     -- an item that gave nothing
     pub kept_stray : (core core' : K) (seats seats' : Seats) → ((history : List Entry) → stands core history → stands core' history) → Kept stands n m true core old seats → Kept stands n m false core' new seats'
     kept_stray core core' seats seats' go k = record {
-      deeds = k.deeds; fair = k.fair; stands_for = go (entries n m k.deeds) k.stands_for; more = Some (l, x); none_more = λ e. absurd cc;
+      deeds = k.deeds;
+      fair = k.fair;
+      stands_for = go (entries n m k.deeds) k.stands_for;
+      more = Some (l, x);
+      none_more = λ e. absurd cc;
       ends_are = through (λ i z. EndsAre n m k.deeds k.more true (name n m i) z) (λ i z. EndsAre n m k.deeds (Some (l, x)) false (name n m i) z) (λ i. TookAt (name n m i) l x) old new each k.ends_are
-        (λ i p q within t w. record {
-          posted = t.posted ∙ ap (λ ys. ys ++ (if same_lane (name n m i) l then posted_in x else [])) (w.posted ∙ ap (λ o. posts n m (name n m i) k.deeds ++ posted_at (name n m i) o) (k.none_more refl) ∙ append-nil (posts n m (name n m i) k.deeds));
-          sides = t.sides ∙ ap (λ ys. ys ++ (if same_lane (name n m i) l then side_in x else [])) (w.sides ∙ ap (λ o. sides n m (name n m i) k.deeds ++ side_at (name n m i) o) (k.none_more refl) ∙ append-nil (sides n m (name n m i) k.deeds));
-          rest = w.rest; pushed = w.pushed ∙ ap (λ ys. ys ++ w.rest) (sym t.pushed); whole = λ e. absurd cc });
-      seats_are = λ e. absurd cc
+          (λ i p q within t w. record {
+            posted = t.posted ∙ ap (λ ys. ys ++ (if same_lane (name n m i) l then posted_in x else [])) (w.posted ∙ ap (λ o. posts n m (name n m i) k.deeds ++ posted_at (name n m i) o) (k.none_more refl) ∙ append-nil (posts n m (name n m i) k.deeds));
+            sides = t.sides ∙ ap (λ ys. ys ++ (if same_lane (name n m i) l then side_in x else [])) (w.sides ∙ ap (λ o. sides n m (name n m i) k.deeds ++ side_at (name n m i) o) (k.none_more refl) ∙ append-nil (sides n m (name n m i) k.deeds));
+            rest = w.rest;
+            pushed = w.pushed ∙ ap (λ ys. ys ++ w.rest) (sym t.pushed);
+            whole = λ e. absurd cc;
+          });
+      seats_are = λ e. absurd cc;
     }
 
     -- the ends behind a deed, whose orders are still to be pushed
@@ -148,7 +162,8 @@ module _ {K : Type 0} (stands : K → List Entry → Type 0) (n m : ℕ) where
         (λ i p q within t w. record {
           posted = t.posted ∙ ap (λ ys. ys ++ (if same_lane (name n m i) l then posted_in x else [])) (w.posted ∙ ap (λ o. posts n m (name n m i) k.deeds ++ posted_at (name n m i) o) (k.none_more refl) ∙ append-nil (posts n m (name n m i) k.deeds)) ∙ sym (more_posts n m k.deeds l x entry (name n m i));
           sides = t.sides ∙ ap (λ ys. ys ++ (if same_lane (name n m i) l then side_in x else [])) (w.sides ∙ ap (λ o. sides n m (name n m i) k.deeds ++ side_at (name n m i) o) (k.none_more refl) ∙ append-nil (sides n m (name n m i) k.deeds)) ∙ sym (more_sides n m k.deeds l x entry (name n m i));
-          pushed = ap (λ ys. ys ++ only (name n m i) (given (seats_of n m k.deeds) record { lane = l; item = x; entry = entry }).orders) (t.pushed ∙ sym (w.pushed ∙ ap (λ ys. p.orders.pushed ++ ys) (w.whole refl) ∙ append-nil p.orders.pushed)) ∙ sym (more_orders n m k.deeds l x entry (name n m i)) })
+          pushed = ap (λ ys. ys ++ only (name n m i) (given (seats_of n m k.deeds) record { lane = l; item = x; entry = entry }).orders) (t.pushed ∙ sym (w.pushed ∙ ap (λ ys. p.orders.pushed ++ ys) (w.whole refl) ∙ append-nil p.orders.pushed)) ∙ sym (more_orders n m k.deeds l x entry (name n m i));
+        })
 
     -- a late item
     pub kept_silent : (core : K) (seats seats' : Seats) → meaning seats l x ≡ meant.Silent → seats' ≡ on_seat l (marked (mark_of x)) seats → Kept stands n m true core old seats → Kept stands n m true core new seats'
@@ -158,12 +173,16 @@ module _ {K : Type 0} (stands : K → List Entry → Type 0) (n m : ℕ) where
           deeds = k.deeds ++ deed ∷ [];
           fair = fair_more (start n m) k.deeds deed k.fair (subst (λ (z : Seats). meaning z l x ≡ meant.Silent) was silent);
           stands_for = subst (λ (h : List Entry). stands core h) (sym (gather_more entries_by (start n m) k.deeds deed ∙ append-nil (entries n m k.deeds))) k.stands_for;
-          more = None; none_more = λ _. refl;
+          more = None;
+          none_more = λ _. refl;
           ends_are = λ i q at. let w = ends_behind core seats None k i q at in record {
             posted = w.posted ∙ sym (append-nil (posts n m (name n m i) (k.deeds ++ deed ∷ [])));
             sides = w.sides ∙ sym (append-nil (sides n m (name n m i) (k.deeds ++ deed ∷ [])));
-            rest = []; pushed = sym w.pushed; whole = λ _. refl };
-          seats_are = λ _. s ∙ sym (item_marked x l seats) ∙ ap (λ z. on_seat l (λ y. seat_item y x) z) was ∙ sym (more_seats n m k.deeds l x None)
+            rest = [];
+            pushed = sym w.pushed;
+            whole = λ _. refl;
+          };
+          seats_are = λ _. s ∙ sym (item_marked x l seats) ∙ ap (λ z. on_seat l (λ y. seat_item y x) z) was ∙ sym (more_seats n m k.deeds l x None);
         }
 
     -- what the core did
@@ -176,21 +195,23 @@ module _ {K : Type 0} (stands : K → List Entry → Type 0) (n m : ℕ) where
         let deed : Deed = record { lane = l; item = x; entry = Some entry } in
         let was : seats ≡ seats_of n m k.deeds = k.seats_are refl in
         let gives : given_by (on_seat l (marked (mark_of x)) seats) l (is_side (mark_of x)) (kind_of c) outs ≡ given (seats_of n m k.deeds) deed =
-            ap (λ z. given_by z l (is_side (mark_of x)) (kind_of c) outs) (sym (item_marked x l seats)) ∙ sym (given_is x l (on_seat l (λ y. seat_item y x) seats) outs c) ∙ ap (λ z. given z deed) was in
+        ap (λ z. given_by z l (is_side (mark_of x)) (kind_of c) outs) (sym (item_marked x l seats)) ∙ sym (given_is x l (on_seat l (λ y. seat_item y x) seats) outs c) ∙ ap (λ z. given z deed) was in
         record {
           deeds = k.deeds ++ deed ∷ [];
           fair = fair_more (start n m) k.deeds deed k.fair (subst (λ (z : Seats). meaning z l x ≡ meant.Means c) was means);
           stands_for = subst (λ (h : List Entry). stands core' h) (sym (gather_more entries_by (start n m) k.deeds deed)) (go (entries n m k.deeds) k.stands_for);
-          more = None; none_more = λ _. refl;
+          more = None;
+          none_more = λ _. refl;
           ends_are = through (λ i q. Behind k.deeds (Some entry) (name n m i) q) (λ i q. EndsAre n m (k.deeds ++ deed ∷ []) None all (name n m i) q)
-            (λ i. Dealt (name n m i) (given_by (on_seat l (marked (mark_of x)) seats) l (is_side (mark_of x)) (kind_of c) outs).orders [] all) new last dealt (ends_behind core seats (Some entry) k)
-            (λ i q r within d w. record {
-              posted = d.posted ∙ w.posted ∙ sym (append-nil (posts n m (name n m i) (k.deeds ++ deed ∷ [])));
-              sides = d.sides ∙ w.sides ∙ sym (append-nil (sides n m (name n m i) (k.deeds ++ deed ∷ [])));
-              rest = d.rest;
-              pushed = sym w.pushed ∙ ap (λ (g : lists.Given). q.orders.pushed ++ only (name n m i) g.orders) (sym gives) ∙ sym d.pushed ∙ append-nil (r.orders.pushed ++ d.rest);
-              whole = d.whole });
-          seats_are = λ a. lanes a ∙ ap (λ (g : lists.Given). g.seats) gives ∙ sym (more_seats n m k.deeds l x (Some entry))
+              (λ i. Dealt (name n m i) (given_by (on_seat l (marked (mark_of x)) seats) l (is_side (mark_of x)) (kind_of c) outs).orders [] all) new last dealt (ends_behind core seats (Some entry) k)
+              (λ i q r within d w. record {
+                posted = d.posted ∙ w.posted ∙ sym (append-nil (posts n m (name n m i) (k.deeds ++ deed ∷ [])));
+                sides = d.sides ∙ w.sides ∙ sym (append-nil (sides n m (name n m i) (k.deeds ++ deed ∷ [])));
+                rest = d.rest;
+                pushed = sym w.pushed ∙ ap (λ (g : lists.Given). q.orders.pushed ++ only (name n m i) g.orders) (sym gives) ∙ sym d.pushed ∙ append-nil (r.orders.pushed ++ d.rest);
+                whole = d.whole;
+              });
+          seats_are = λ a. lanes a ∙ ap (λ (g : lists.Given). g.seats) gives ∙ sym (more_seats n m k.deeds l x (Some entry));
         }
 
 -- the core gave an entry, and its orders were given
@@ -200,9 +221,9 @@ pub did_give : {K : Type 0} (stands : K → List Entry → Type 0) (n m : ℕ) (
     → Acted stands n m l x c (not spent) core core' old new seats seats'
 did_give stands n m l x c gave spent core core' old new seats mid seats' k outs s e f go dealt lanes =
     let d : Pairwise (λ i. Dealt (name n m i) (given_by (on_seat l (marked x) seats) l (is_side x) (kind_of c) outs).orders [] gave) old new =
-        subst (λ (z : Seats). Pairwise (λ i. Dealt (name n m i) (given_by z l (is_side x) (kind_of c) outs).orders [] gave) old new) e (subst (λ (y : Kind). Pairwise (λ i. Dealt (name n m i) (given_by mid l (is_side x) y outs).orders [] gave) old new) f dealt) in
+    subst (λ (z : Seats). Pairwise (λ i. Dealt (name n m i) (given_by z l (is_side x) (kind_of c) outs).orders [] gave) old new) e (subst (λ (y : Kind). Pairwise (λ i. Dealt (name n m i) (given_by mid l (is_side x) y outs).orders [] gave) old new) f dealt) in
     subst (λ (b : Bool). Acted stands n m l x c b core core' old new seats seats') (sym s)
-      (Did outs go d (λ t. lanes t ∙ ap (λ (g : lists.Given). g.seats) (ap (λ z. given_by z l (is_side x) k outs) e ∙ ap (λ y. given_by (on_seat l (marked x) seats) l (is_side x) y outs) f)))
+    (Did outs go d (λ t. lanes t ∙ ap (λ (g : lists.Given). g.seats) (ap (λ z. given_by z l (is_side x) k outs) e ∙ ap (λ y. given_by (on_seat l (marked x) seats) l (is_side x) y outs) f)))
 
 pub acted_ids : {K : Type 0} (stands : K → List Entry → Type 0) (n m : ℕ) (l : LaneName) (x : Mark) (c : Cause) (all : Bool) (core core' : K) (old new : List HubSide) (seats seats' : Seats) → Acted stands n m l x c all core core' old new seats seats' → map ids new ≡ map ids old
 acted_ids stands n m l x c all core core' old new seats seats' (Did outs go dealt lanes) = same_ids (λ i. Dealt (name n m i) (given_by (on_seat l (marked x) seats) l (is_side x) (kind_of c) outs).orders [] all) old new dealt (λ i p q d. d.ids)

@@ -1,5 +1,5 @@
 -- What an entry gives, by its cause's kind and its outs.
-use Rattle.std.specs.Prelude.{◌≡◌, ℕ, Bool, List, ◌∷◌, fold}
+use Rattle.std.specs.Prelude.{◌≡◌, Bool, List, fold}
 use Rattle.mux_history.specs.declared.out.Out.{Out}
 use Rattle.lane_lists.specs.declared.item.LaneName.{LaneName}
 use Rattle.lane_lists.specs.declared.item.Order.{Order}

@@ -19,8 +19,11 @@ pub trait Naming {
     ghost use Rattle.lane_desk.specs.Desks.{Ids};
 
     ghost queues: { List Ids };
+
     ghost editors: { ℕ };
+
     ghost servers: { ℕ };
+
     ghost before: { ℕ };
 }
 

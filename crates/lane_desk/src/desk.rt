@@ -240,8 +240,6 @@ pub fn take_turn<K: Steps, R: Wait>(
             Turned::on()
         }
         Meaning::Stray => Turned::over(None),
-        Meaning::Means(cause) => {
-            act(rt, counts, core, ends, seats, Taken { lane, mark }, cause)
-        }
+        Meaning::Means(cause) => { act(rt, counts, core, ends, seats, Taken { lane, mark }, cause) }
     }
 }

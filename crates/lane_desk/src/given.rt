@@ -10,7 +10,6 @@ ghost use Rattle.lane_desk.specs.Kinds.{done_if};
 ghost use Rattle.lane_desk.specs.Givens.{Gives, given_by, with_orders};
 ghost use Rattle.lane_desk.specs.Places.{IsLane};
 
-
 use crate::kinds::Kind;
 use crate::seats::{Seats, at, begin_at, close_at, free_place, owe_at, place_of};
 use lane_lists::{LaneName, Order};

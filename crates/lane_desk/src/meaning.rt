@@ -52,7 +52,11 @@ fn late(tail: bool) -> Meaning
     ensures means { result ≡ late tail }
     ensures small { IsSmall result }
 {
-    if tail { Meaning::Silent } else { Meaning::Stray }
+    if tail {
+        Meaning::Silent
+    } else {
+        Meaning::Stray
+    }
 }
 
 fn ended_by(editor: u64, why: Why) -> Meaning

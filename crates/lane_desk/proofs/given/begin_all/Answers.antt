@@ -1,5 +1,4 @@
-use Rattle.std.proofs.Common.{rules, ◌≡◌, ◌∷◌, ◌∙◌, arith, ap, sym, Some}
-use Rattle.lane_lists.specs.Seats.{Seats}
+use Rattle.std.proofs.Common.{rules, ◌≡◌, ◌∷◌, ◌∙◌, arith, Some}
 use Rattle.lane_lists.specs.Seats.{free_place}
 use Rattle.lane_desk.proofs.Begins.{begin_next}
 use Rattle.lane_desk.proofs.given.begin_all.Goals as goal
