@@ -1,0 +1,33 @@
+-- A deck that has done nothing, and one that goes on no more.
+use Rattle.std.proofs.Common.{◌≡◌, ℕ, ◌≤◌, Bool, true, false, not, List, [], ◌++◌, refl, sym, ap, arith, Option, Some, None}
+use Rattle.outside_io.specs.Faults.{Rose}
+use Rattle.mux_history.specs.declared.entry.Entry.{Entry}
+use Rattle.mux_history.specs.declared.steps.StepFault.{StepFault}
+use Rattle.mux_history.specs.declared.steps.StepFault.TheVariants as fault
+use Rattle.lane_lists.specs.Seats.{Seats}
+use Rattle.lane_lists.specs.Deeds.{start}
+use Rattle.lane_queue.specs.Ends.{HubSide}
+use Rattle.lane_desk.specs.Desks.{AllUnused, Faulted, Kept}
+use Rattle.lane_desk.proofs.Turns.{kept_over}
+
+pub kept_new : {K : Type 0} (stands : K → List Entry → Type 0) (n m : ℕ) (core : K) (ends : List HubSide) (seats : Seats) → stands core [] → AllUnused ends → seats ≡ start n m → Kept stands n m true core ends seats
+kept_new stands n m core ends seats s u e = record {
+  deeds = [];
+  fair = tt;
+  stands_for = s;
+  more = None;
+  none_more = λ _. refl;
+  ends_are = λ i x at. let w = u i x at in record { posted = w.posted; sides = w.sides; rest = []; pushed = sym (ap (λ ys. ys ++ []) w.pushed); whole = λ _. refl };
+  seats_are = λ _. e;
+}
+
+pub kept_fail : {K : Type 0} (stands : K → List Entry → Type 0) (n m : ℕ) (spent : Bool) (core : K) (ends : List HubSide) (seats : Seats) → Kept stands n m (not spent) core ends seats → Kept stands n m false core ends seats
+kept_fail stands n m true core ends seats k = k
+kept_fail stands n m false core ends seats k = kept_over stands n m core ends seats seats k
+
+pub rose_from : (before now last : ℕ) → before ≤ now → Rose now last → Rose before last
+rose_from before now last h r = omega arith
+
+-- a step more
+pub faulted_more : (before now last : ℕ) (was why : Option StepFault) → Faulted before now was → now ≤ last → (why ≡ Some fault.Journal → Rose now last) → Faulted before last why
+faulted_more before now last was why f l j = record { later = (let a = f.later in omega arith); journal = λ e. rose_from before now last f.later (j e) }

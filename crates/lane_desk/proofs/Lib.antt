@@ -1,0 +1,4 @@
+pub mod Begins
+pub mod Ends
+pub mod Turns
+pub mod Decks

@@ -1,0 +1,230 @@
+-- What one turn leaves: a deed more, or a spent deck.
+use Rattle.std.proofs.Common.{◌≡◌, ◌≢◌, ℕ, ◌+◌, ◌==◌, if◌then◌else◌, List, [], ◌∷◌, ◌++◌, Bool, true, false, not, IsTrue, fold, length, map, refl, sym, ap, ◌∙◌, subst, arith, append-nil, Option, Some, None}
+use Rattle.std.proofs.lemmas.Option.{slice_get_within}
+use Rattle.std.proofs.lemmas.Bool.Decides.{nat_tests}
+use Rattle.std.proofs.lemmas.List.Sums.{fold-append}
+use Rattle.mux_history.specs.declared.cause.Cause.{Cause}
+use Rattle.mux_history.specs.declared.cause.Cause.TheVariants as cause
+use Rattle.mux_history.specs.declared.entry.Entry.{Entry}
+use Rattle.mux_history.specs.declared.out.Out.{Out}
+use Rattle.lane_lists.specs.declared.item.LaneName.{LaneName}
+use Rattle.lane_lists.specs.declared.item.Item.{Item}
+use Rattle.lane_lists.specs.declared.item.Item.TheVariants as item
+use Rattle.lane_lists.specs.declared.item.Posted.TheVariants as posted
+use Rattle.lane_lists.specs.declared.item.Side.TheVariants as side
+use Rattle.lane_lists.specs.declared.item.Meaning.TheVariants as meant
+use Rattle.lane_lists.specs.Seats as lists
+use Rattle.lane_lists.specs.Seats.{Seats, give_out, meaning, on_seat, seat_item, seat_of}
+use Rattle.lane_lists.specs.Deeds.{Deed, behind, begin_all, entries, entries_by, given, given_entry, only, orders, orders_by, posted_in, posts, posts_by, same_lane, seats_of, side_in, sides, sides_by, start, with_done}
+use Rattle.lane_lists.proofs.Gathers.{fair_more, gather_more}
+use Rattle.lane_queue.specs.Ends.{HubSide}
+use Rattle.lane_desk.specs.declared.kinds.Kind.{Kind}
+use Rattle.lane_desk.specs.declared.kinds.Kind.TheVariants as kind
+use Rattle.lane_desk.specs.declared.kinds.Mark.{Mark}
+use Rattle.lane_desk.specs.Kinds.{done_if, is_side, kind_of, mark_of, marked, moved}
+use Rattle.lane_desk.specs.Givens.{given_by}
+use Rattle.lane_desk.specs.Places.{IsIn, name, place}
+use Rattle.lane_desk.specs.Desks.{Acted, Became, Dealt, Did, Each, EndsAre, Failed, Kept, Pairwise, Same, Took, ids, posted_at, side_at}
+use Rattle.lane_desk.proofs.Ends.{all_same, became, same_ids, tells, through}
+
+-- an item and a cause by what they leave
+side_same : (i : Item) → is_side (mark_of i) ≡ lists.is_side i
+side_same (item.Side side.Wrote) = refl
+side_same (item.Side side.Broke) = refl
+side_same (item.Posted posted.Link) = refl
+side_same (item.Posted posted.Up) = refl
+side_same (item.Posted posted.NoStart) = refl
+side_same (item.Posted (posted.Body body)) = refl
+side_same (item.Posted (posted.Ended w)) = refl
+side_same (item.Posted (posted.Tick t)) = refl
+
+pub item_marked : (i : Item) (l : LaneName) (s : Seats) → on_seat l (λ x. seat_item x i) s ≡ on_seat l (marked (mark_of i)) s
+item_marked (item.Side side.Wrote) l s = refl
+item_marked (item.Side side.Broke) l s = refl
+item_marked (item.Posted posted.Link) l s = refl
+item_marked (item.Posted posted.Up) l s = refl
+item_marked (item.Posted posted.NoStart) l s = refl
+item_marked (item.Posted (posted.Body body)) l s = refl
+item_marked (item.Posted (posted.Ended w)) l s = refl
+item_marked (item.Posted (posted.Tick t)) l s = refl
+
+module _ (i : Item) (l : LaneName) (s : Seats) (outs : List Out) where
+  abbrev gone : Bool → lists.Given
+  gone b = begin_all (fold give_out (with_done (done_if kind.Goes (seat_of l s).closed) l (record (on_seat l (moved b kind.Goes) s) { joined = s.joined })) outs)
+
+  pub given_is : (c : Cause) → given_entry s l i (Some record { cause = c; outs = outs }) ≡ given_by s l (is_side (mark_of i)) (kind_of c) outs
+  given_is (cause.Joined e) = refl
+  given_is (cause.FromEditor e body) = refl
+  given_is (cause.EditorGone e w) = sym (ap gone (side_same i))
+  given_is (cause.Started n) = refl
+  given_is (cause.StartFailed n) = sym (ap gone (side_same i))
+  given_is (cause.FromServer n body) = refl
+  given_is (cause.ServerGone n) = sym (ap gone (side_same i))
+  given_is (cause.Drained e k) = refl
+  given_is (cause.Tick t) = refl
+
+-- an item taken of one lane
+pub record TookAt (l taken : LaneName) (x : Item) (p q : HubSide) : Type 0 where
+  pub posted : q.posted.taken ≡ p.posted.taken ++ (if same_lane l taken then posted_in x else [])
+  pub sides : q.sides.taken ≡ p.sides.taken ++ (if same_lane l taken then side_in x else [])
+  pub pushed : q.orders.pushed ≡ p.orders.pushed
+
+same_test : (i j : ℕ) → j ≡ i → (i == j) ≡ true
+same_test i j h = grind (arith, nat_tests)
+
+other_test : (i j : ℕ) → j ≢ i → (j == i) ≡ false
+other_test i j h = grind (arith, nat_tests)
+
+module _ (n m : ℕ) (l : LaneName) (x : Item) (k : IsIn n m l) where
+  pub took_each : (old new : List HubSide) → length old ≡ n + m + 1 → Became (place n m l) (Took x) old new → Pairwise (λ i. TookAt (name n m i) l x) old new
+  took_each old new e b = became (place n m l) (Took x) (λ i. TookAt (name n m i) l x) old new b
+      (λ p q at t.
+      let here : same_lane (name n m (place n m l)) l ≡ true = tells n m (place n m l) l (let h = slice_get_within old (place n m l) p at in omega arith) k ∙ same_test (place n m l) (place n m l) refl in
+      record { posted = t.posted ∙ ap (λ b. p.posted.taken ++ (if b then posted_in x else [])) (sym here); sides = t.sides ∙ ap (λ b. p.sides.taken ++ (if b then side_in x else [])) (sym here); pushed = t.pushed })
+      (λ j p apart at.
+      let there : same_lane (name n m j) l ≡ false = tells n m j l (let h = slice_get_within old j p at in omega arith) k ∙ other_test (place n m l) j apart in
+      record { posted = sym (append-nil p.posted.taken) ∙ ap (λ b. p.posted.taken ++ (if b then posted_in x else [])) (sym there); sides = sym (append-nil p.sides.taken) ∙ ap (λ b. p.sides.taken ++ (if b then side_in x else [])) (sym there); pushed = refl })
+
+-- what one more deed adds
+module _ (n m : ℕ) (deeds : List Deed) (l : LaneName) (x : Item) (entry : Option Entry) where
+  abbrev deed : Deed
+  deed = record { lane = l; item = x; entry = entry }
+
+  more_posts : (k : LaneName) → posts n m k (deeds ++ deed ∷ []) ≡ posts n m k deeds ++ (if same_lane k l then posted_in x else [])
+  more_posts k = gather_more (posts_by k) (start n m) deeds deed
+
+  more_sides : (k : LaneName) → sides n m k (deeds ++ deed ∷ []) ≡ sides n m k deeds ++ (if same_lane k l then side_in x else [])
+  more_sides k = gather_more (sides_by k) (start n m) deeds deed
+
+  more_orders : (k : LaneName) → orders n m k (deeds ++ deed ∷ []) ≡ orders n m k deeds ++ only k (given (seats_of n m deeds) deed).orders
+  more_orders k = gather_more (orders_by k) (start n m) deeds deed
+
+  more_seats : seats_of n m (deeds ++ deed ∷ []) ≡ (given (seats_of n m deeds) deed).seats
+  more_seats = fold-append behind (start n m) deeds (deed ∷ [])
+
+module _ {K : Type 0} (stands : K → List Entry → Type 0) (n m : ℕ) where
+  -- a deck that goes on no more
+  pub kept_over : (core : K) (ends : List HubSide) (seats seats' : Seats) → Kept stands n m true core ends seats → Kept stands n m false core ends seats'
+  kept_over core ends seats seats' k = record {
+    deeds = k.deeds;
+    fair = k.fair;
+    stands_for = k.stands_for;
+    more = k.more;
+    none_more = λ e. absurd cc;
+    ends_are = λ i x at. let w = k.ends_are i x at in record { posted = w.posted; sides = w.sides; rest = w.rest; pushed = w.pushed; whole = λ e. absurd cc };
+    seats_are = λ e. absurd cc;
+  }
+
+  -- nothing was there
+  pub kept_same : (core : K) (place : ℕ) (old new : List HubSide) (seats : Seats) → Became place Same old new → Kept stands n m true core old seats → Kept stands n m true core new seats
+  kept_same core place old new seats b k = record {
+    deeds = k.deeds;
+    fair = k.fair;
+    stands_for = k.stands_for;
+    more = k.more;
+    none_more = k.none_more;
+    ends_are = through (λ i x. EndsAre n m k.deeds k.more true (name n m i) x) (λ i x. EndsAre n m k.deeds k.more true (name n m i) x) (λ _. Same) old new (all_same place old new b) k.ends_are
+        (λ i p q within s w. record { posted = s.posted ∙ w.posted; sides = s.sides ∙ w.sides; rest = w.rest; pushed = w.pushed ∙ ap (λ ys. ys ++ w.rest) (sym s.pushed); whole = w.whole });
+    seats_are = k.seats_are;
+  }
+
+  module _ (l : LaneName) (x : Item) (is_in : IsIn n m l) (old new : List HubSide) (size : length old ≡ n + m + 1) (b : Became (place n m l) (Took x) old new) where
+    abbrev each : Pairwise (λ i. TookAt (name n m i) l x) old new
+    each = took_each n m l x is_in old new size b
+
+    -- an item that gave nothing
+    pub kept_stray : (core core' : K) (seats seats' : Seats) → ((history : List Entry) → stands core history → stands core' history) → Kept stands n m true core old seats → Kept stands n m false core' new seats'
+    kept_stray core core' seats seats' go k = record {
+      deeds = k.deeds;
+      fair = k.fair;
+      stands_for = go (entries n m k.deeds) k.stands_for;
+      more = Some (l, x);
+      none_more = λ e. absurd cc;
+      ends_are = through (λ i z. EndsAre n m k.deeds k.more true (name n m i) z) (λ i z. EndsAre n m k.deeds (Some (l, x)) false (name n m i) z) (λ i. TookAt (name n m i) l x) old new each k.ends_are
+          (λ i p q within t w. record {
+            posted = t.posted ∙ ap (λ ys. ys ++ (if same_lane (name n m i) l then posted_in x else [])) (w.posted ∙ ap (λ o. posts n m (name n m i) k.deeds ++ posted_at (name n m i) o) (k.none_more refl) ∙ append-nil (posts n m (name n m i) k.deeds));
+            sides = t.sides ∙ ap (λ ys. ys ++ (if same_lane (name n m i) l then side_in x else [])) (w.sides ∙ ap (λ o. sides n m (name n m i) k.deeds ++ side_at (name n m i) o) (k.none_more refl) ∙ append-nil (sides n m (name n m i) k.deeds));
+            rest = w.rest;
+            pushed = w.pushed ∙ ap (λ ys. ys ++ w.rest) (sym t.pushed);
+            whole = λ e. absurd cc;
+          });
+      seats_are = λ e. absurd cc;
+    }
+
+    -- the ends behind a deed, whose orders are still to be pushed
+    pub record Behind (deeds : List Deed) (entry : Option Entry) (k : LaneName) (q : HubSide) : Type 0 where
+      pub posted : q.posted.taken ≡ posts n m k (deeds ++ record { lane = l; item = x; entry = entry } ∷ [])
+      pub sides : q.sides.taken ≡ sides n m k (deeds ++ record { lane = l; item = x; entry = entry } ∷ [])
+      pub pushed : q.orders.pushed ++ only k (given (seats_of n m deeds) record { lane = l; item = x; entry = entry }).orders ≡ orders n m k (deeds ++ record { lane = l; item = x; entry = entry } ∷ [])
+
+    pub ends_behind : (core : K) (seats : Seats) (entry : Option Entry) (k : Kept stands n m true core old seats) → Each (λ i q. Behind k.deeds entry (name n m i) q) new
+    ends_behind core seats entry k = through (λ i z. EndsAre n m k.deeds k.more true (name n m i) z) (λ i q. Behind k.deeds entry (name n m i) q) (λ i. TookAt (name n m i) l x) old new each k.ends_are
+        (λ i p q within t w. record {
+          posted = t.posted ∙ ap (λ ys. ys ++ (if same_lane (name n m i) l then posted_in x else [])) (w.posted ∙ ap (λ o. posts n m (name n m i) k.deeds ++ posted_at (name n m i) o) (k.none_more refl) ∙ append-nil (posts n m (name n m i) k.deeds)) ∙ sym (more_posts n m k.deeds l x entry (name n m i));
+          sides = t.sides ∙ ap (λ ys. ys ++ (if same_lane (name n m i) l then side_in x else [])) (w.sides ∙ ap (λ o. sides n m (name n m i) k.deeds ++ side_at (name n m i) o) (k.none_more refl) ∙ append-nil (sides n m (name n m i) k.deeds)) ∙ sym (more_sides n m k.deeds l x entry (name n m i));
+          pushed = ap (λ ys. ys ++ only (name n m i) (given (seats_of n m k.deeds) record { lane = l; item = x; entry = entry }).orders) (t.pushed ∙ sym (w.pushed ∙ ap (λ ys. p.orders.pushed ++ ys) (w.whole refl) ∙ append-nil p.orders.pushed)) ∙ sym (more_orders n m k.deeds l x entry (name n m i));
+        })
+
+    -- a late item
+    pub kept_silent : (core : K) (seats seats' : Seats) → meaning seats l x ≡ meant.Silent → seats' ≡ on_seat l (marked (mark_of x)) seats → Kept stands n m true core old seats → Kept stands n m true core new seats'
+    kept_silent core seats seats' silent s k =
+        let deed : Deed = record { lane = l; item = x; entry = None } in
+        let was : seats ≡ seats_of n m k.deeds = k.seats_are refl in record {
+          deeds = k.deeds ++ deed ∷ [];
+          fair = fair_more (start n m) k.deeds deed k.fair (subst (λ (z : Seats). meaning z l x ≡ meant.Silent) was silent);
+          stands_for = subst (λ (h : List Entry). stands core h) (sym (gather_more entries_by (start n m) k.deeds deed ∙ append-nil (entries n m k.deeds))) k.stands_for;
+          more = None;
+          none_more = λ _. refl;
+          ends_are = λ i q at. let w = ends_behind core seats None k i q at in record {
+            posted = w.posted ∙ sym (append-nil (posts n m (name n m i) (k.deeds ++ deed ∷ [])));
+            sides = w.sides ∙ sym (append-nil (sides n m (name n m i) (k.deeds ++ deed ∷ [])));
+            rest = [];
+            pushed = sym w.pushed;
+            whole = λ _. refl;
+          };
+          seats_are = λ _. s ∙ sym (item_marked x l seats) ∙ ap (λ z. on_seat l (λ y. seat_item y x) z) was ∙ sym (more_seats n m k.deeds l x None);
+        }
+
+    -- what the core did
+    pub kept_acted : (c : Cause) (all : Bool) (core core' : K) (last : List HubSide) (seats seats' : Seats) → meaning seats l x ≡ meant.Means c → Acted stands n m l (mark_of x) c all core core' new last seats seats'
+        → Kept stands n m true core old seats → Kept stands n m all core' last seats'
+    kept_acted c all core core' last seats seats' means (Failed a go same) k =
+        subst (λ (b : Bool). Kept stands n m b core' last seats') (sym a) (subst (λ (z : List HubSide). Kept stands n m false core' z seats') (sym same) (kept_stray core core' seats seats' go k))
+    kept_acted c all core core' last seats seats' means (Did outs go dealt lanes) k =
+        let entry : Entry = record { cause = c; outs = outs } in
+        let deed : Deed = record { lane = l; item = x; entry = Some entry } in
+        let was : seats ≡ seats_of n m k.deeds = k.seats_are refl in
+        let gives : given_by (on_seat l (marked (mark_of x)) seats) l (is_side (mark_of x)) (kind_of c) outs ≡ given (seats_of n m k.deeds) deed =
+        ap (λ z. given_by z l (is_side (mark_of x)) (kind_of c) outs) (sym (item_marked x l seats)) ∙ sym (given_is x l (on_seat l (λ y. seat_item y x) seats) outs c) ∙ ap (λ z. given z deed) was in
+        record {
+          deeds = k.deeds ++ deed ∷ [];
+          fair = fair_more (start n m) k.deeds deed k.fair (subst (λ (z : Seats). meaning z l x ≡ meant.Means c) was means);
+          stands_for = subst (λ (h : List Entry). stands core' h) (sym (gather_more entries_by (start n m) k.deeds deed)) (go (entries n m k.deeds) k.stands_for);
+          more = None;
+          none_more = λ _. refl;
+          ends_are = through (λ i q. Behind k.deeds (Some entry) (name n m i) q) (λ i q. EndsAre n m (k.deeds ++ deed ∷ []) None all (name n m i) q)
+              (λ i. Dealt (name n m i) (given_by (on_seat l (marked (mark_of x)) seats) l (is_side (mark_of x)) (kind_of c) outs).orders [] all) new last dealt (ends_behind core seats (Some entry) k)
+              (λ i q r within d w. record {
+                posted = d.posted ∙ w.posted ∙ sym (append-nil (posts n m (name n m i) (k.deeds ++ deed ∷ [])));
+                sides = d.sides ∙ w.sides ∙ sym (append-nil (sides n m (name n m i) (k.deeds ++ deed ∷ [])));
+                rest = d.rest;
+                pushed = sym w.pushed ∙ ap (λ (g : lists.Given). q.orders.pushed ++ only (name n m i) g.orders) (sym gives) ∙ sym d.pushed ∙ append-nil (r.orders.pushed ++ d.rest);
+                whole = d.whole;
+              });
+          seats_are = λ a. lanes a ∙ ap (λ (g : lists.Given). g.seats) gives ∙ sym (more_seats n m k.deeds l x (Some entry));
+        }
+
+-- the core gave an entry, and its orders were given
+pub did_give : {K : Type 0} (stands : K → List Entry → Type 0) (n m : ℕ) (l : LaneName) (x : Mark) (c : Cause) (gave spent : Bool) (core core' : K) (old new : List HubSide) (seats mid seats' : Seats) (k : Kind) (outs : List Out)
+    → not spent ≡ gave → mid ≡ on_seat l (marked x) seats → k ≡ kind_of c → ((history : List Entry) → stands core history → stands core' (history ++ record { cause = c; outs = outs } ∷ []))
+    → Pairwise (λ i. Dealt (name n m i) (given_by mid l (is_side x) k outs).orders [] gave) old new → (IsTrue gave → seats' ≡ (given_by mid l (is_side x) k outs).seats)
+    → Acted stands n m l x c (not spent) core core' old new seats seats'
+did_give stands n m l x c gave spent core core' old new seats mid seats' k outs s e f go dealt lanes =
+    let d : Pairwise (λ i. Dealt (name n m i) (given_by (on_seat l (marked x) seats) l (is_side x) (kind_of c) outs).orders [] gave) old new =
+    subst (λ (z : Seats). Pairwise (λ i. Dealt (name n m i) (given_by z l (is_side x) (kind_of c) outs).orders [] gave) old new) e (subst (λ (y : Kind). Pairwise (λ i. Dealt (name n m i) (given_by mid l (is_side x) y outs).orders [] gave) old new) f dealt) in
+    subst (λ (b : Bool). Acted stands n m l x c b core core' old new seats seats') (sym s)
+    (Did outs go d (λ t. lanes t ∙ ap (λ (g : lists.Given). g.seats) (ap (λ z. given_by z l (is_side x) k outs) e ∙ ap (λ y. given_by (on_seat l (marked x) seats) l (is_side x) y outs) f)))
+
+pub acted_ids : {K : Type 0} (stands : K → List Entry → Type 0) (n m : ℕ) (l : LaneName) (x : Mark) (c : Cause) (all : Bool) (core core' : K) (old new : List HubSide) (seats seats' : Seats) → Acted stands n m l x c all core core' old new seats seats' → map ids new ≡ map ids old
+acted_ids stands n m l x c all core core' old new seats seats' (Did outs go dealt lanes) = same_ids (λ i. Dealt (name n m i) (given_by (on_seat l (marked x) seats) l (is_side x) (kind_of c) outs).orders [] all) old new dealt (λ i p q d. d.ids)
+acted_ids stands n m l x c all core core' old new seats seats' (Failed a go same) = ap (map ids) same

@@ -1,0 +1,5 @@
+pub mod Kinds
+pub mod Places
+pub mod Givens
+pub mod Smalls
+pub mod Desks

@@ -1,0 +1,195 @@
+// The core and the ends of all lanes behind a lock.
+ghost use Rattle.std.specs.Prelude.{◌≡◌, ◌<◌, ◌≤◌, ◌+◌, [], IfErr, length, map, not};
+ghost use Rattle.lane_lists.specs.Seats as lists;
+ghost use Rattle.lane_desk.specs.Desks.{AllUnused, Faulted, Kept, ids};
+
+use crate::desk::{Counts, take_turn};
+use crate::seats::Seats;
+use lane_lists::LaneName;
+use lane_queue::HubEnds;
+use mux_history::{StepFault, Steps};
+use std::alloc::Global;
+use std::marker::{Model, PhantomData};
+use std::sync::{Mutex, Wait};
+
+/// Which deck it is: the queues of its lanes in their order (the editors', the servers', the ticker's), how many of them are
+/// editors' and servers', and the count of its core's journal at the start.
+pub trait Naming {
+    ghost use Rattle.std.specs.Prelude.{List, ℕ};
+    ghost use Rattle.lane_desk.specs.Desks.{Ids};
+
+    ghost queues: { List Ids };
+
+    ghost editors: { ℕ };
+
+    ghost servers: { ℕ };
+
+    ghost before: { ℕ };
+}
+
+/// What a try to take an item gave.
+#[derive(Clone, Copy, Debug, PartialEq, Eq)]
+pub enum Took {
+    Item,
+    Nothing,
+    /// The core goes on no more.
+    Over,
+}
+
+/// What lies under the lock.
+#[derive(Drop)]
+pub struct Desk<K: Steps + Drop, N: Naming> {
+    counts: Counts,
+    core: K,
+    ends: Vec<HubEnds>,
+    seats: Seats,
+    spent: bool,
+    why: Option<StepFault>,
+    of: PhantomData<N>,
+}
+
+impl<K: Steps + Drop, N: Naming> Model for Desk<K, N> {
+    ghost use Rattle.std.specs.Prelude.{◌≡◌, ◌<◌, ◌+◌, ◌^◌, length, map, not};
+    ghost use Rattle.lane_desk.specs.Desks.{DeskView, Faulted, Kept, ids};
+
+    ghost Value = { DeskView K };
+
+    ghost view = { λ d. record { core = d.core; spent = d.spent; why = d.why; ends = d.ends.items; seats = d.seats } };
+
+    ghost invariant = { λ d. Kept K.stands N.editors N.servers (not d.spent) d.core d.ends.items d.seats × (map ids d.ends.items ≡ N.queues) × Faulted N.before (K.faults d.core) d.why
+        × (d.counts.editors ≡ N.editors) × (d.counts.servers ≡ N.servers) × (N.editors + N.servers < 2 ^ 63) × (length d.ends.items ≡ N.editors + N.servers + 1) };
+}
+
+impl<K: Steps + Drop, N: Naming> Desk<K, N> {
+    /// Takes one item of a lane, and does what it means.
+    pub fn take<R: Wait>(&mut self, rt: &R, lane: LaneName) -> Took {
+        if self.spent {
+            return Took::Over;
+        }
+        let turned = take_turn(
+            rt,
+            self.counts,
+            &mut self.core,
+            &mut self.ends,
+            &mut self.seats,
+            lane,
+        );
+        self.spent = turned.spent;
+        self.why = turned.why;
+        if turned.took {
+            Took::Item
+        } else if turned.spent {
+            Took::Over
+        } else {
+            Took::Nothing
+        }
+    }
+
+    /// The core goes on no more.
+    pub fn fail(&mut self) {
+        self.spent = true;
+    }
+}
+
+/// The core and the ends of all lanes behind a lock. Each time the lock is free, the core stands for the entries of one list of
+/// deeds, and what was taken and pushed at the ends is what that list says.
+pub struct Deck<K: Steps + Drop, N: Naming> {
+    desk: Mutex<Desk<K, N>>,
+}
+
+/// What a deck leaves.
+#[derive(Drop)]
+pub struct Closed<K: Steps + Drop> {
+    pub core: K,
+    /// The ends of the lanes, in their order.
+    pub ends: Vec<HubEnds>,
+    /// The core goes on no more.
+    pub spent: bool,
+    /// The fault of its last step, where it had one.
+    pub why: Option<StepFault>,
+}
+
+impl<K: Steps + Drop, N: Naming> Deck<K, N> {
+    /// A deck over a core without a history and the ends of lanes that nothing went through: so many editors' lanes, then so
+    /// many servers', then the ticker's. Want of memory hands core and ends back.
+    pub fn new(
+        alloc: Global,
+        core: K,
+        editors: u32,
+        servers: u32,
+        ends: Vec<HubEnds>,
+    ) -> Result<Deck<K, N>, (K, Vec<HubEnds>)>
+        requires core { K.stands core [] }
+        requires unused { AllUnused ends.items }
+        requires count { length ends.items ≡ editors + servers + 1 }
+        requires queues { map ids ends.items ≡ N.queues }
+        requires editors { editors ≡ N.editors }
+        requires servers { servers ≡ N.servers }
+        requires before { K.faults core ≡ N.before }
+        ensures { IfErr result (λ back. (back.0 ≡ core) × (back.1 ≡ ends)) }
+    {
+        let Ok(seats) = Seats::new(alloc, editors, servers) else {
+            return Err((core, ends));
+        };
+        let desk = Desk {
+            counts: Counts {
+                editors: editors as usize,
+                servers: servers as usize,
+            },
+            core,
+            ends,
+            seats,
+            spent: false,
+            why: None,
+            of: PhantomData,
+        };
+        Ok(Deck {
+            desk: Mutex::new(desk),
+        })
+    }
+
+    /// Takes what it finds in a lane's queues. False says that the core goes on no more.
+    pub fn pump<R: Wait>(&self, rt: &R, lane: LaneName) -> bool {
+        let mut goes_on = false;
+        for _ in rt.forever() {
+            match self.desk.lock(rt).take(rt, lane) {
+                Took::Item => {}
+                Took::Nothing => {
+                    goes_on = true;
+                    break;
+                }
+                Took::Over => break,
+            }
+        }
+        goes_on
+    }
+
+    /// A lane wanted memory: the core goes on no more.
+    pub fn fail<R: Wait>(&self, rt: &R) {
+        self.desk.lock(rt).fail();
+    }
+
+    /// The core and the ends. It waits for nobody.
+    pub fn close(self) -> Closed<K>
+        ensures kept { (seats : lists.Seats) × Kept K.stands N.editors N.servers (not result.spent) result.core result.ends.items seats }
+        ensures queues { map ids result.ends.items ≡ N.queues }
+        ensures faults { Faulted N.before (K.faults result.core) result.why }
+    {
+        let Deck { desk } = self;
+        let Desk {
+            counts: _,
+            core,
+            ends,
+            seats: _,
+            spent,
+            why,
+            of: _,
+        } = desk.into_inner();
+        Closed {
+            core,
+            ends,
+            spent,
+            why,
+        }
+    }
+}

@@ -1,0 +1,245 @@
+// What lies under the deck's lock.
+ghost use Rattle.std.specs.Prelude.{◌≡◌, ◌<◌, ◌≤◌, ◌+◌, ◌^◌, [], IfSome, IsTrue, MatchBool, MatchOption, None, Some, length, map, true, false, not};
+ghost use Rattle.outside_io.specs.Faults.{Rose};
+ghost use Rattle.mux_history.specs.Cores.{body_length};
+ghost use Rattle.lane_desk.specs.Desks.{Acted, Became, Dealt, Kept, Pairwise, Pushed, Same, Took, ids};
+ghost use Rattle.lane_desk.specs.Givens.{given_by};
+ghost use Rattle.lane_desk.specs.Kinds.{is_side};
+ghost use Rattle.lane_desk.specs.Places.{IsIn, IsLane, name, place};
+
+use crate::given::Orders;
+use crate::kinds::{Kind, Mark, is_side, kind_of, mark_of};
+use crate::seats::Seats;
+use lane_lists::{Item, LaneName, Meaning, Order};
+use lane_queue::HubEnds;
+use mux_history::{Cause, Outs, StepFault, Steps};
+use std::sync::Wait;
+
+// Takes an item of a lane: first what is said of its orders.
+fn take_of<R: Wait>(rt: &R, ends: &mut HubEnds) -> Option<Item>
+    ensures { MatchOption result (Same ends.old ends.new) (λ x. Took x ends.old ends.new) }
+{
+    if let Some(side) = ends.next_side(rt) {
+        return Some(Item::Side(side));
+    }
+    match ends.next(rt) {
+        Some(posted) => Some(Item::Posted(posted)),
+        None => None,
+    }
+}
+
+// Takes an item of the lane at this place.
+fn take_item<R: Wait>(rt: &R, ends: &mut Vec<HubEnds>, place: usize) -> Option<Item>
+    requires { place < length ends.old.items }
+    ensures { MatchOption result (Became place Same ends.old.items ends.new.items) (λ x. Became place (Took x) ends.old.items ends.new.items) }
+{
+    take_of(rt, &mut ends[place])
+}
+
+// Pushes an order of the lane at this place.
+fn push_order<R: Wait>(rt: &R, ends: &mut Vec<HubEnds>, place: usize, order: Order) -> bool
+    requires { place < length ends.old.items }
+    ensures { MatchBool result (Became place (Pushed order) ends.old.items ends.new.items) (Became place Same ends.old.items ends.new.items) }
+{
+    ends[place].push(rt, order).is_ok()
+}
+
+/// How many lanes of editors and of servers there are.
+#[derive(Clone, Copy)]
+pub struct Counts {
+    pub editors: usize,
+    pub servers: usize,
+}
+
+// The place of the ends of this lane; none of a lane that isn't there.
+fn place_of(counts: Counts, lane: LaneName) -> Option<usize>
+    requires { counts.editors + counts.servers < 2 ^ 63 }
+    ensures { IfSome result (λ i. (i ≡ place counts.editors counts.servers lane) × IsIn counts.editors counts.servers lane) }
+{
+    match lane {
+        LaneName::Editor(i) if (i as usize) < counts.editors => Some(i as usize),
+        LaneName::Server(i) if (i as usize) < counts.servers => Some(counts.editors + i as usize),
+        LaneName::Ticker => Some(counts.editors + counts.servers),
+        _ => None,
+    }
+}
+
+// Pushes one order.
+#[tactic(auto, using(crate::proofs::Ends::all_same, crate::proofs::Ends::same_self))]
+fn give<R: Wait>(
+    rt: &R,
+    counts: Counts,
+    ends: &mut Vec<HubEnds>,
+    lane: LaneName,
+    order: Order,
+) -> bool
+    requires counts { counts.editors + counts.servers < 2 ^ 63 }
+    requires ends { length ends.old.items ≡ counts.editors + counts.servers + 1 }
+    ensures { MatchBool result (IsIn counts.editors counts.servers lane × Became (place counts.editors counts.servers lane) (Pushed order) ends.old.items ends.new.items) (Pairwise (λ _. Same) ends.old.items ends.new.items) }
+{
+    match place_of(counts, lane) {
+        Some(place) => push_order(rt, ends, place, order),
+        None => false,
+    }
+}
+
+// Pushes the orders, each at its lane, up to one that memory is wanted for.
+#[tactic(auto, using(crate::proofs::Ends::deal_one, crate::proofs::Ends::deal_stop, crate::proofs::Ends::none_given))]
+fn deal<R: Wait>(rt: &R, counts: Counts, ends: &mut Vec<HubEnds>, orders: Orders) -> bool
+    requires counts { counts.editors + counts.servers < 2 ^ 63 }
+    requires ends { length ends.old.items ≡ counts.editors + counts.servers + 1 }
+    ensures { Pairwise (λ i. Dealt (name counts.editors counts.servers i) orders.items [] result) ends.old.items ends.new.items }
+{
+    for (lane, order) in orders {
+        if !give(rt, counts, ends, lane, order) {
+            return false;
+        }
+    }
+    true
+}
+
+/// What a turn did.
+#[derive(Clone, Copy)]
+pub struct Turned {
+    /// An item was taken, and the core goes on.
+    pub took: bool,
+    /// The core goes on no more.
+    pub spent: bool,
+    /// The fault of its step, where it had one.
+    pub why: Option<StepFault>,
+}
+
+impl Turned {
+    // Nothing was there.
+    fn nothing() -> Turned
+        ensures { result ≡ record { took = false; spent = false; why = None } }
+    {
+        Turned {
+            took: false,
+            spent: false,
+            why: None,
+        }
+    }
+
+    // The core goes on no more.
+    fn over(why: Option<StepFault>) -> Turned
+        ensures { result ≡ record { took = false; spent = true; why = why } }
+    {
+        Turned {
+            took: false,
+            spent: true,
+            why,
+        }
+    }
+
+    // An item was taken.
+    fn on() -> Turned
+        ensures { result ≡ record { took = true; spent = false; why = None } }
+    {
+        Turned {
+            took: true,
+            spent: false,
+            why: None,
+        }
+    }
+}
+
+/// Where an item was taken, and what it leaves.
+#[derive(Clone, Copy)]
+pub struct Taken {
+    pub lane: LaneName,
+    pub mark: Mark,
+}
+
+// Gives the orders of an entry.
+fn give_entry<R: Wait>(
+    rt: &R,
+    counts: Counts,
+    ends: &mut Vec<HubEnds>,
+    seats: &mut Seats,
+    taken: Taken,
+    kind: Kind,
+    outs: Outs,
+) -> bool
+    requires counts { counts.editors + counts.servers < 2 ^ 63 }
+    requires ends { length ends.old.items ≡ counts.editors + counts.servers + 1 }
+    requires lane { IsLane taken.lane seats.old }
+    ensures dealt { Pairwise (λ i. Dealt (name counts.editors counts.servers i) (given_by seats.old taken.lane (is_side taken.mark) kind outs).orders [] result) ends.old.items ends.new.items }
+    ensures seats { IsTrue result → seats.new ≡ (given_by seats.old taken.lane (is_side taken.mark) kind outs).seats }
+{
+    let Ok(orders) = seats.give(taken.lane, is_side(taken.mark), kind, outs) else {
+        return false;
+    };
+    deal(rt, counts, ends, orders)
+}
+
+// Has the core take a cause, and gives what it orders.
+fn act<K: Steps, R: Wait>(
+    rt: &R,
+    counts: Counts,
+    core: &mut K,
+    ends: &mut Vec<HubEnds>,
+    seats: &mut Seats,
+    taken: Taken,
+    cause: Cause,
+) -> Turned
+    requires small { body_length cause ≤ 268435456 }
+    requires counts { counts.editors + counts.servers < 2 ^ 63 }
+    requires ends { length ends.old.items ≡ counts.editors + counts.servers + 1 }
+    requires lane { IsLane taken.lane seats.old }
+    ensures acted { Acted K.stands counts.editors counts.servers taken.lane taken.mark cause (not result.spent) core.old core.new ends.old.items ends.new.items seats.old seats.new }
+    ensures later { K.faults core.old ≤ K.faults core.new }
+    ensures journal { result.why ≡ Some StepFault.Journal → Rose (K.faults core.old) (K.faults core.new) }
+{
+    if !core.fits(&cause) {
+        return Turned::over(None);
+    }
+    let kind = kind_of(&cause);
+    seats.mark(taken.lane, taken.mark);
+    let outs = match core.step(cause) {
+        Ok(outs) => outs,
+        Err(why) => return Turned::over(Some(why)),
+    };
+    if give_entry(rt, counts, ends, seats, taken, kind, outs) {
+        Turned::on()
+    } else {
+        Turned::over(None)
+    }
+}
+
+/// Takes one item of a lane, and does what it means.
+pub fn take_turn<K: Steps, R: Wait>(
+    rt: &R,
+    counts: Counts,
+    core: &mut K,
+    ends: &mut Vec<HubEnds>,
+    seats: &mut Seats,
+    lane: LaneName,
+) -> Turned
+    requires counts { counts.editors + counts.servers < 2 ^ 63 }
+    requires ends { length ends.old.items ≡ counts.editors + counts.servers + 1 }
+    requires kept { Kept K.stands counts.editors counts.servers true core.old ends.old.items seats.old }
+    ensures kept { Kept K.stands counts.editors counts.servers (not result.spent) core.new ends.new.items seats.new }
+    ensures ids { map ids ends.new.items ≡ map ids ends.old.items }
+    ensures later { K.faults core.old ≤ K.faults core.new }
+    ensures journal { result.why ≡ Some StepFault.Journal → Rose (K.faults core.old) (K.faults core.new) }
+{
+    let Some(place) = place_of(counts, lane) else {
+        return Turned::over(None);
+    };
+    if !seats.has(lane) {
+        return Turned::over(None);
+    }
+    let Some(item) = take_item(rt, ends, place) else {
+        return Turned::nothing();
+    };
+    let mark = mark_of(&item);
+    match seats.meaning(lane, item) {
+        Meaning::Silent => {
+            seats.mark(lane, mark);
+            Turned::on()
+        }
+        Meaning::Stray => Turned::over(None),
+        Meaning::Means(cause) => { act(rt, counts, core, ends, seats, Taken { lane, mark }, cause) }
+    }
+}
