@@ -12,6 +12,7 @@ use Rattle.event_model.specs.declared.stage.Stage.{Stage}
 use Rattle.event_model.specs.declared.stage.Stage.TheVariants.{Ready}
 use Rattle.event_model.specs.Does.{Does}
 use Rattle.event_model.specs.Event.{Event, behind, requests, said}
+use Rattle.event_model.specs.Row.{Row}
 use Rattle.event_model.specs.Settings.{Settings}
 use Rattle.event_model.proofs.Frames.{never}
 use Rattle.event_model.proofs.Places.{same_item}
@@ -24,7 +25,7 @@ use Rattle.group_rows.proofs.Frames.{encoding_stays}
 use Rattle.group_laws.proofs.Entries.{first_behind, texts_told}
 use Rattle.mux_tables.specs.declared.tables.Start.{Start}
 use Rattle.mux_tables.specs.declared.tables.Tables.{Tables}
-use Rattle.mux_tables.specs.Documents.{AllStand, AllTell, DocumentsStand, SharedStands, nothing_owed, owes, to}
+use Rattle.mux_tables.specs.Documents.{AllStand, AllTell, DocumentsStand, Owed, SharedStands, nothing_owed, owes, to}
 use Rattle.mux_tables.specs.Stands.{Stands, number_in}
 use Rattle.mux_tables.proofs.DocumentEvents.{shared_beside, shared_next}
 use Rattle.mux_tables.proofs.DocumentFrames.{sent_apart}
@@ -46,6 +47,16 @@ owes_none g j = go (nat_eq g j)
     go : (b : Bool) → ◌≡◌ {A = List (List ℕ)} (if b then [] else []) []
     go true = refl
     go false = refl
+
+-- a group that owes nothing
+pub owes_nothing : (settings : Settings) (t : Tables) (g : ℕ) (events : List Event) → DocumentsStand settings (owes g []) t events → DocumentsStand settings nothing_owed t events
+owes_nothing settings t g events ds =
+    documents_all settings (owes g []) nothing_owed t t events events (record { texts = λ j l k. k; encoding = λ j l. refl; starts = λ n l. l; sent = λ n l u. refl }) refl refl refl (λ j z d there k. subst (λ w. SharedStands settings events w j z.life.start z.life.stage d) (owes_none g j) k) ds
+
+-- what an out does to each of the two relations, it does to both
+pub all_does : {row : Row} (settings : Settings) (t u : Tables) (owed after : Owed) (base : List Event) (xs ys : List Out) → Does (λ t events. Stands settings t events) row base t xs u ys
+    → (Stands settings t (behind base xs) → DocumentsStand settings owed t (behind base xs) → DocumentsStand settings after u (behind base ys)) → Does (λ k events. AllStand settings k events) row base (t, owed) xs (u, after) ys
+all_does {row} settings t u owed after base xs ys d go = record { done = λ k. let one = d.done k.0 in record { outs = one.outs; stands = (one.stands, go k.0 k.1) } }
 
 pub number_there : (xs : List Start) (g : ℕ) (x : Start) → slice_get xs g ≡ Some x → slice_get (map number_in xs) g ≡ Some x.life.start
 number_there [] g x h = cc
@@ -112,10 +123,7 @@ module _ (settings : Settings) (t : Tables) (g : ℕ) (x : Start) (at : slice_ge
       k.start.tell.0
 
   all_paid : (bodies : List (List ℕ)) (events : List Event) → Stands settings t events → DocumentsStand settings (owes g bodies) t events → Stands settings t (behind events (to s bodies)) × DocumentsStand settings nothing_owed t (behind events (to s bodies))
-  all_paid [] events st ds = subst (λ es. Stands settings t es × DocumentsStand settings nothing_owed t es) (sym (append-nil events)) (
-    st,
-    documents_all settings (owes g []) nothing_owed t t events events (record { texts = λ j l k. k; encoding = λ j l. refl; starts = λ n l. l; sent = λ n l u. refl }) refl refl refl (λ j z d there k. subst (λ w. SharedStands settings events w j z.life.start z.life.stage d) (owes_none g j) k) ds,
-  )
+  all_paid [] events st ds = subst (λ es. Stands settings t es × DocumentsStand settings nothing_owed t es) (sym (append-nil events)) (st, owes_nothing settings t g events ds)
   all_paid (body ∷ bodies) events st ds =
       let h = first_tells body bodies events ds in
       subst (λ es. Stands settings t es × DocumentsStand settings nothing_owed t es) (sym (first_behind events (ToServer s body) (to s bodies)))
