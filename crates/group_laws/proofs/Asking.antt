@@ -67,7 +67,7 @@ module _ (e turn : ℕ) where
       go true k = omega arith
       go false k = omega arith
 
-  spelt_touched : (os : List Open) → AllSpelt os → AllSpelt (map f os)
+  pub spelt_touched : (os : List Open) → AllSpelt os → AllSpelt (map f os)
   spelt_touched [] h = tt
   spelt_touched (o ∷ os) h = (go (nat_eq o.editor e), spelt_touched os h.1)
     where
@@ -88,7 +88,7 @@ synced_speaks : (versions : ℕ) (o : Open) (h : Option HeldText) → versions <
 synced_speaks versions o None small spelt = tt
 synced_speaks versions o (Some h) small spelt = sent_open_speaks versions o (Some h) small spelt
 
-sync_speaks : (versions e : ℕ) (held : List ℕ → Option HeldText) (os : List Open) → versions < 2 ^ 32 → AllSpelt os → AllSpeak (rows.sync_bodies versions held e os)
+pub sync_speaks : (versions e : ℕ) (held : List ℕ → Option HeldText) (os : List Open) → versions < 2 ^ 32 → AllSpelt os → AllSpeak (rows.sync_bodies versions held e os)
 sync_speaks versions e held [] small spelt = tt
 sync_speaks versions e held (o ∷ os) small spelt = go (nat_eq o.editor e) (sync_speaks versions e held os small spelt.1)
   where

@@ -62,7 +62,7 @@ sent_tell s u code k events (ToEditor n body ∷ xs) h e = ap (sent_of s u) (fir
 sent_tell s u code k events (other ∷ xs) h e = absurd h.0
 
 -- the bodies of a replay tell of documents
-replay_speaks : (told : List (List ℕ)) (all os : List Open) → AllSpelt all → AllSpeak (rows.replay_bodies told all os)
+pub replay_speaks : (told : List (List ℕ)) (all os : List Open) → AllSpelt all → AllSpeak (rows.replay_bodies told all os)
 replay_speaks told all [] spelt = tt
 replay_speaks told all (o ∷ os) spelt = go (list_any (bytes_eq o.uri) told) (holder o.uri all) refl (replay_speaks told all os spelt) (replay_speaks (o.uri ∷ told) all os spelt)
   where

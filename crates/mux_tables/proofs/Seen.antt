@@ -1,5 +1,5 @@
 -- What the tables tell of the events, as the code has it.
-use Rattle.std.proofs.Common.{◌≡◌, ℕ, zero, suc, ◌<◌, ◌≤◌, Bool, true, ◌&&◌, List, [], ◌∷◌, map, length, get_or, refl, ap, sym, subst, ◌∙◌, arith, inl, inr, ◌⊎◌, if◌then◌else◌}
+use Rattle.std.proofs.Common.{◌≡◌, ℕ, zero, suc, ◌<◌, ◌≤◌, true, List, [], ◌∷◌, map, length, get_or, ap, sym, subst, ◌∙◌, arith, inl, inr, ◌⊎◌}
 use Rattle.std.specs.Prelude.{Option, Some, None, slice_get}
 use Rattle.std.specs.Option.{option_and_then}
 use Rattle.std.proofs.lemmas.Option.{slice_get-get_or, slice_get_past}
@@ -12,7 +12,6 @@ use Rattle.event_model.specs.Settings.{Settings}
 use Rattle.event_model.specs.Spawns.{start_of}
 use Rattle.event_model.specs.Stages.{Life, life_of}
 use Rattle.event_model.proofs.Places.{same_item}
-use Rattle.editor_session.specs.declared.session.Session.{Session}
 use Rattle.editor_session.specs.Sessions.{absent, numbers_of, runs_in, session_of}
 use Rattle.group_words.specs.Houses.{editors_in, home_of}
 use Rattle.id_rewrite.specs.Tables as tables
@@ -20,7 +19,7 @@ use Rattle.mux_tables.specs.declared.tables.Start.{Start}
 use Rattle.mux_tables.specs.declared.tables.Tables.{Tables}
 use Rattle.group_rows.specs.Forwarded as forwarded
 use Rattle.group_rows.specs.Forwarded.{forwarding_of}
-use Rattle.mux_tables.specs.Stands.{Stands, group_in, is_over, number_in, of_ids, of_life, phase_in, start_for, those_in}
+use Rattle.mux_tables.specs.Stands.{Stands, group_in, is_over, number_in, of_ids, of_life, phase_in, start_for}
 use Rattle.mux_tables.proofs.IdMoves.{numbers_mapped}
 use Rattle.mux_tables.proofs.Lists.{editors_for, runs_so}
 use Rattle.mux_tables.proofs.Starts.{read_here, start_at_place}

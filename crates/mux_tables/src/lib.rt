@@ -1,6 +1,7 @@
 //! The tables of editors, groups and starts, and what each event does to them.
 #![tactic(auto)]
 
+mod documents;
 mod hears;
 mod looks;
 mod requests;

@@ -1,25 +1,32 @@
 // What each out does to the tables.
-ghost use Rattle.std.specs.Prelude.{◌≡◌, ◌≢◌, ◌<◌, ◌≤◌, ◌^◌, ◌++◌, ◌∷◌, [], ℕ, List, map, Option, Some, false, true, length, OnOk, codes, bytes_eq, slice_get, nat_eq};
+ghost use Rattle.std.specs.Prelude.{◌≡◌, ◌≢◌, ◌<◌, ◌≤◌, ◌^◌, ◌++◌, ◌∷◌, [], ℕ, List, map, Option, Some, false, true, length, IfOk, OnOk, codes, bytes_eq, slice_get, nat_eq};
 ghost use Rattle.event_model.specs.declared.stage.Stage.TheVariants.{Ended, Ready};
 ghost use Rattle.event_model.specs.Does.{Does};
 ghost use Rattle.event_model.specs.Event.{Event, behind, requests};
 ghost use Rattle.event_model.specs.Phases.{phase_closed};
 ghost use Rattle.event_model.specs.Requests.{is_own};
-ghost use Rattle.event_model.specs.Row.{send};
+ghost use Rattle.event_model.specs.Row.{look, send, ◌⨾◌};
 ghost use Rattle.event_model.specs.Settings.{Settings};
+ghost use Rattle.group_words.specs.Houses.{home_of};
 ghost use Rattle.group_words.specs.Rows.{spawn};
+ghost use Rattle.mux_model.specs.Rows.{to_start};
 ghost use Rattle.json_text.specs.Json.{Json};
 ghost use Rattle.mux_history.specs.declared.out.Out.TheVariants.{CloseEditor, EndServer, ToEditor, ToServer};
 ghost use Rattle.event_model.specs.Members.{named_of};
 ghost use Rattle.rpc_message.specs.Message as message;
 ghost use Rattle.rpc_message.specs.Message.{Id, message_of};
 ghost use Rattle.mux_tables.specs.declared.tables.Start.{Start};
+ghost use Rattle.document_model.specs.Sayings.{nothing, saying_of};
 ghost use Rattle.group_rows.specs.Forwarded.{is_written, moves_ids};
-ghost use Rattle.mux_tables.specs.Stands.{Keeps, Sends, Stands, Welcomes, number_in};
+ghost use Rattle.group_rows.specs.Texts.{is_synced, worker_of};
+ghost use Rattle.mux_tables.specs.Documents.{AllStand, DocumentsStand, Leaves, Owed, nothing_owed, owes, syncing, to};
+ghost use Rattle.mux_tables.specs.Stands.{Keeps, Sends, Stands, Welcomes, number_in, start_for};
 
+use crate::documents::{leave, sync, unready};
 use crate::requests::{keep, mark};
 use crate::tables::{Start, Tables};
 use event_model::Phase;
+use focus_switch::Shared;
 use id_rewrite::{IdTable, Pending};
 use message_body::{Body, Memory};
 use mux_history::{Out, Outs};
@@ -40,7 +47,8 @@ impl Tables {
     /// A body goes to an editor, which it leaves in its phase.
     #[tactic(auto, using(crate::proofs::Said::told_does))]
     pub fn tell(&self, outs: &mut Outs, e: u64, body: Body) -> Result<(), Memory>
-        ensures { (settings : Settings) (base : List Event) → Keeps e body (behind base outs.old) → OnOk result (Does (λ t events. Stands settings t events) (send (ToEditor e body)) base self.now outs.old self.now outs.new) }
+        ensures does { (settings : Settings) (base : List Event) → Keeps e body (behind base outs.old) → OnOk result (Does (λ t events. Stands settings t events) (send (ToEditor e body)) base self.now outs.old self.now outs.new) }
+        ensures documents { (settings : Settings) (owed : Owed) (base : List Event) → DocumentsStand settings owed self.now (behind base outs.old) → OnOk result (DocumentsStand settings owed self.now (behind base outs.new)) }
     {
         outs.push(Out::ToEditor(e, body))?;
         Ok(())
@@ -49,32 +57,47 @@ impl Tables {
     /// The result of its `initialize` goes to an editor that waits.
     pub fn welcome(&mut self, outs: &mut Outs, e: u64, body: Body) -> Result<(), Memory>
         requires { e < length self.old.editors }
-        ensures { (settings : Settings) (base : List Event) → Welcomes e body (behind base outs.old) → OnOk result (Does (λ t events. Stands settings t events) (send (ToEditor e body)) base self.old outs.old self.new outs.new) }
+        ensures does { (settings : Settings) (base : List Event) → Welcomes e body (behind base outs.old) → OnOk result (Does (λ t events. Stands settings t events) (send (ToEditor e body)) base self.old outs.old self.new outs.new) }
+        ensures documents { (settings : Settings) (owed : Owed) (base : List Event) → DocumentsStand settings owed self.old (behind base outs.old) → OnOk result (DocumentsStand settings owed self.new (behind base outs.new)) }
     {
         self.editors.set(e, Phase::Answered);
         outs.push(Out::ToEditor(e, body))?;
         Ok(())
     }
 
-    /// An editor's link is to be ended; its group may be idle from now on.
-    pub fn close(&mut self, outs: &mut Outs, e: u64) -> Result<(), Memory>
+    /// An editor's link is to be ended; its group may be idle from now on, and its documents are closed: the bodies that the group's
+    /// start is owed for them. Where the answer is an error the tables stand for nothing any more.
+    pub fn close(&mut self, alloc: Global, outs: &mut Outs, e: u64) -> Result<Outs, Memory>
         requires { e < length self.old.editors }
         ensures lasts { self.new.lasts ≡ self.old.lasts }
         ensures does { (settings : Settings) (base : List Event) → OnOk result (Does (λ t events. Stands settings t events) (send (CloseEditor e)) base self.old outs.old self.new outs.new) }
+        ensures documents { (settings : Settings) (base : List Event) → Stands settings self.old (behind base outs.old) → DocumentsStand settings nothing_owed self.old (behind base outs.old)
+            → IfOk result (λ owed. Leaves settings (behind base outs.old) e (home_of settings e (behind base outs.old)) (start_for settings e (behind base outs.old)) owed self.new (behind base outs.new)) }
     {
         let phase = self.editors.phase(e);
         let home = self.editors.group(e);
         self.editors.set(e, closed(phase));
         self.empty(home, phase.is_begun())?;
+        let owed = leave(alloc, &mut self.documents, home, e)?;
         outs.push(Out::CloseEditor(e))?;
+        Ok(owed)
+    }
+
+    /// The group's last start, which is ready, is sent the bodies that it is owed.
+    pub fn pay(&self, outs: &mut Outs, owed: Outs) -> Result<(), Memory>
+        ensures { (settings : Settings) (base : List Event) (g : ℕ) (x : Start) (bodies : List (List ℕ)) → slice_get self.now.lasts.items g ≡ Some x → x.life.stage ≡ Ready → owed ≡ to x.life.start bodies
+            → OnOk result (Does (λ k events. AllStand settings k events) (to_start x.life.start bodies) base (self.now, owes g bodies) outs.old (self.now, nothing_owed) outs.new) }
+    {
+        outs.append(owed)?;
         Ok(())
     }
 
     /// A body that is no editor's request, no `$/cancelRequest` and no `shutdown` goes to the group's last start.
     pub fn notify(&self, outs: &mut Outs, g: usize, text: Body) -> Result<(), Memory>
         requires { g < length self.now.lasts.items }
-        ensures { (settings : Settings) (base : List Event) (s : ℕ) → slice_get (map number_in self.now.lasts.items) g ≡ Some s → requests (codes "shutdown") (message_of text) ≡ false → moves_ids (message_of text) ≡ false
+        ensures does { (settings : Settings) (base : List Event) (s : ℕ) → slice_get (map number_in self.now.lasts.items) g ≡ Some s → requests (codes "shutdown") (message_of text) ≡ false → moves_ids (message_of text) ≡ false
             → OnOk result (Does (λ t events. Stands settings t events) (send (ToServer s text)) base self.now outs.old self.now outs.new) }
+        ensures documents { (settings : Settings) (owed : Owed) (base : List Event) → saying_of (message_of text) ≡ nothing → is_synced (message_of text) ≡ false → DocumentsStand settings owed self.now (behind base outs.old) → OnOk result (DocumentsStand settings owed self.now (behind base outs.new)) }
     {
         outs.push(Out::ToServer(self.lasts[g].life.start(), text))?;
         Ok(())
@@ -109,12 +132,48 @@ impl Tables {
         Ok(())
     }
 
+    /// E10: an editor's request goes to the group's last start, which is ready, under the next number: `text` is its body under that
+    /// number, and `id` what the editor called it. Before it the start is sent the editor's text of each of its documents, where it has
+    /// another. Where the answer is an error the tables stand for nothing any more.
+    pub fn ask(
+        &mut self,
+        alloc: Global,
+        outs: &mut Outs,
+        g: usize,
+        e: u64,
+        id: Body,
+        text: Body,
+    ) -> Result<(), Memory>
+        requires group { g < length self.old.lasts.items }
+        requires left { (x : Start) → slice_get self.old.lasts.items g ≡ Some x → x.ids.next < x.ids.limit }
+        requires ready { (x : Start) → slice_get self.old.lasts.items g ≡ Some x → x.life.stage ≡ Ready }
+        ensures starts { OnOk result (map number_in self.new.lasts.items ≡ map number_in self.old.lasts.items) }
+        ensures does { (settings : Settings) (base : List Event) (s : ℕ) (name : Id) (method : List ℕ) (ps : Option Json) → slice_get (map number_in self.old.lasts.items) g ≡ Some s → message_of text ≡ message.request name method ps → is_own method ≡ false → Sends s e id (behind base outs.old) → worker_of (behind base outs.old) ≡ Some e
+            → OnOk result (Does (λ k events. AllStand settings k events) (look (λ now. to_start s (syncing settings now g s e) ⨾ send (ToServer s text))) base (self.old, nothing_owed) outs.old (self.new, nothing_owed) outs.new) }
+    {
+        let told = sync(alloc, &mut self.documents, g, e)?;
+        outs.append(told)?;
+        let last = &mut self.lasts[g];
+        let asked = Pending {
+            editor: e,
+            id,
+            work: None,
+            partial: None,
+            cancelled: false,
+        };
+        keep(&mut last.ids, asked)?;
+        outs.push(Out::ToServer(last.life.start(), text))?;
+        Ok(())
+    }
+
     /// The request of a number is cancelled at the group's last start: `text` is the notification `$/cancelRequest` that names it.
     pub fn cancel(&mut self, outs: &mut Outs, g: usize, n: u32, text: Body) -> Result<(), Memory>
         requires { g < length self.old.lasts.items }
         ensures starts { OnOk result (map number_in self.new.lasts.items ≡ map number_in self.old.lasts.items) }
         ensures does { (settings : Settings) (base : List Event) (s : ℕ) (method : List ℕ) (ps : Option Json) → slice_get (map number_in self.old.lasts.items) g ≡ Some s → message_of text ≡ message.notification method ps → bytes_eq method (codes "$/cancelRequest") ≡ true
             → ((k : ℕ) → k < 2 ^ 32 → is_written (named_of (codes "id") ps) k ≡ nat_eq k n) → OnOk result (Does (λ t events. Stands settings t events) (send (ToServer s text)) base self.old outs.old self.new outs.new) }
+        ensures documents { (settings : Settings) (owed : Owed) (base : List Event) (method : List ℕ) (ps : Option Json) → message_of text ≡ message.notification method ps → bytes_eq method (codes "$/cancelRequest") ≡ true
+            → DocumentsStand settings owed self.old (behind base outs.old) → OnOk result (DocumentsStand settings owed self.new (behind base outs.new)) }
     {
         let last = &mut self.lasts[g];
         mark(&mut last.ids, n);
@@ -129,8 +188,11 @@ impl Tables {
         ensures starts { OnOk result (map number_in self.new.lasts.items ≡ map number_in self.old.lasts.items) }
         ensures does { (settings : Settings) (base : List Event) (s : ℕ) (name : Id) (ps : Option Json) → slice_get (map number_in self.old.lasts.items) g ≡ Some s → message_of text ≡ message.request name (codes "shutdown") ps
             → OnOk result (Does (λ t events. Stands settings t events) (send (ToServer s text)) base self.old outs.old self.new outs.new) }
+        ensures documents { (settings : Settings) (owed : Owed) (base : List Event) (name : Id) (ps : Option Json) → message_of text ≡ message.request name (codes "shutdown") ps
+            → DocumentsStand settings owed self.old (behind base outs.old) → OnOk result (DocumentsStand settings owed self.new (behind base outs.new)) }
     {
         let now = self.time;
+        unready(&mut self.documents, g);
         let last = &mut self.lasts[g];
         last.life.stop(n, now);
         outs.push(Out::ToServer(last.life.start(), text))?;
@@ -143,7 +205,9 @@ impl Tables {
         requires runs { (x : Start) → slice_get self.old.lasts.items g ≡ Some x → x.life.stage ≢ Ended }
         ensures starts { OnOk result (map number_in self.new.lasts.items ≡ map number_in self.old.lasts.items) }
         ensures does { (settings : Settings) (base : List Event) (s : ℕ) → slice_get (map number_in self.old.lasts.items) g ≡ Some s → OnOk result (Does (λ t events. Stands settings t events) (send (EndServer s)) base self.old outs.old self.new outs.new) }
+        ensures documents { (settings : Settings) (owed : Owed) (base : List Event) → DocumentsStand settings owed self.old (behind base outs.old) → OnOk result (DocumentsStand settings owed self.new (behind base outs.new)) }
     {
+        unready(&mut self.documents, g);
         let last = &mut self.lasts[g];
         last.life.end();
         outs.push(Out::EndServer(last.life.start()))?;
@@ -152,14 +216,18 @@ impl Tables {
 
     /// A start is spawned for a new group: the next one.
     pub fn found(&mut self, alloc: Global, outs: &mut Outs) -> Result<(), Memory>
-        requires { 2 ≤ self.old.requests }
-        ensures { (settings : Settings) (base : List Event) → OnOk result (Does (λ t events. Stands settings t events) (spawn (length self.old.lasts.items)) base self.old outs.old self.new outs.new) }
+        requires limit { 2 ≤ self.old.requests }
+        requires versions { 1 ≤ self.old.versions }
+        ensures does { (settings : Settings) (base : List Event) → OnOk result (Does (λ t events. Stands settings t events) (spawn (length self.old.lasts.items)) base self.old outs.old self.new outs.new) }
+        ensures documents { (settings : Settings) (owed : Owed) (base : List Event) → Stands settings self.old (behind base outs.old) → DocumentsStand settings owed self.old (behind base outs.old) → OnOk result (DocumentsStand settings owed self.new (behind base outs.new)) }
     {
         let s = self.origins.len() as u64;
         let g = self.lasts.len() as u64;
         let life = Life::new(s, g);
         let ids = IdTable::new(alloc, self.requests);
+        let documents = Shared::new(alloc, self.versions);
         self.origins.push(g)?;
+        self.documents.push(documents)?;
         self.lasts.push(Start {
             life,
             started: false,
@@ -174,7 +242,8 @@ impl Tables {
         requires limit { 2 ≤ self.old.requests }
         requires group { g < length self.old.lasts.items }
         requires ended { (x : Start) → slice_get self.old.lasts.items g ≡ Some x → x.life.stage ≡ Ended }
-        ensures { (settings : Settings) (base : List Event) → OnOk result (Does (λ t events. Stands settings t events) (spawn g) base self.old outs.old self.new outs.new) }
+        ensures does { (settings : Settings) (base : List Event) → OnOk result (Does (λ t events. Stands settings t events) (spawn g) base self.old outs.old self.new outs.new) }
+        ensures documents { (settings : Settings) (owed : Owed) (base : List Event) → Stands settings self.old (behind base outs.old) → DocumentsStand settings owed self.old (behind base outs.old) → OnOk result (DocumentsStand settings owed self.new (behind base outs.new)) }
     {
         let s = self.origins.len() as u64;
         let life = Life::new(s, g as u64);

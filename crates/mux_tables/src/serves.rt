@@ -1,25 +1,32 @@
 // What each cause about a start does to the tables.
-ghost use Rattle.std.specs.Prelude.{◌≡◌, ◌≢◌, ◌<◌, ◌≤◌, ◌^◌, IfOk, OnOk, ◌++◌, ◌∷◌, [], ℕ, List, map, Some, false, true, length, nat_lt, option_map, slice_get, find, MatchOption, ◌&&◌};
-ghost use Rattle.event_model.specs.declared.stage.Stage.TheVariants.{Ended, Initializing};
+ghost use Rattle.std.specs.Prelude.{◌≡◌, ◌≢◌, ◌<◌, ◌≤◌, ◌^◌, IfOk, OnOk, ◌++◌, ◌∷◌, [], ℕ, List, map, Some, false, true, length, nat_lt, option_map, slice_get, slice_set, find, MatchOption, ◌&&◌};
+ghost use Rattle.event_model.specs.declared.stage.Stage.TheVariants.{Ended, Initializing, Spawning};
 ghost use Rattle.event_model.specs.Event.{Event, heard};
 ghost use Rattle.event_model.specs.Phases.{needs_server};
 ghost use Rattle.event_model.specs.Requests.{answered_id};
 ghost use Rattle.group_words.specs.declared.kept.Kept.{Kept};
 ghost use Rattle.event_model.specs.Settings.{Settings};
+ghost use Rattle.focus_switch.specs.Documents.{Documents};
+ghost use Rattle.focus_switch.specs.Rows.{unready_row};
 ghost use Rattle.event_model.specs.Stages.{is_first_result, is_initializing};
 ghost use Rattle.group_words.specs.Houses.{is_first_error};
 ghost use Rattle.mux_history.specs.declared.cause.Cause.TheVariants.{FromServer, ServerGone, StartFailed, Started};
 ghost use Rattle.rpc_message.specs.Message.{message_of};
 ghost use Rattle.mux_tables.specs.declared.tables.Start.{Start};
+ghost use Rattle.mux_model.specs.Documents.{encoding_by};
+ghost use Rattle.mux_tables.specs.Documents.{DocumentsStand, Owed, nothing_owed, owes, replaying, to};
 ghost use Rattle.group_rows.specs.Forwarded.{forwarding_of, is_under};
 ghost use Rattle.mux_tables.specs.Stands.{Exits, NamesAt, Stands, any_in, begun_at, forwarded_as, number_in};
 
+use crate::documents::{ready, unready};
 use crate::requests::{answer, forget};
 use crate::seats::{end_at, lose};
 use crate::tables::Tables;
 use event_model::Stage;
 use id_rewrite::{IdTable, Pending};
 use message_body::Memory;
+use mux_history::Outs;
+use position_codec::Encoding;
 use restart_replay::Life;
 use std::alloc::Global;
 
@@ -43,31 +50,47 @@ impl Tables {
     /// The program of the group's last start runs.
     pub fn hear_started(&mut self, g: usize)
         requires { g < length self.old.lasts.items }
-        ensures { (settings : Settings) (events : List Event) (s : ℕ) → slice_get (map number_in self.old.lasts.items) g ≡ Some s → Stands settings self.old events → Stands settings self.new (events ++ heard (Started s) ∷ []) }
+        ensures stands { (settings : Settings) (events : List Event) (s : ℕ) → slice_get (map number_in self.old.lasts.items) g ≡ Some s → Stands settings self.old events → Stands settings self.new (events ++ heard (Started s) ∷ []) }
+        ensures documents { (settings : Settings) (owed : Owed) (events : List Event) (s : ℕ) → DocumentsStand settings owed self.old events → DocumentsStand settings owed self.new (events ++ heard (Started s) ∷ []) }
     {
         let last = &mut self.lasts[g];
         begin(&mut last.life);
         last.started = true;
     }
 
-    /// S2: the group's last start gave the result of its `initialize`; `n` is the number that its id writes.
-    pub fn hear_result(&mut self, g: usize, n: Option<u32>)
+    /// S2: the group's last start gave the result of its `initialize`, and counts positions in this encoding; `n` is the number that
+    /// its id writes. The bodies that it is owed for the documents that are open. Where the answer is an error the tables stand for
+    /// nothing any more.
+    pub fn hear_result(
+        &mut self,
+        alloc: Global,
+        g: usize,
+        n: Option<u32>,
+        encoding: Encoding,
+    ) -> Result<Outs, Memory>
         requires group { g < length self.old.lasts.items }
         requires stage { (x : Start) → slice_get self.old.lasts.items g ≡ Some x → x.life.stage ≡ Initializing }
-        ensures { (settings : Settings) (events : List Event) (s : ℕ) (body : List ℕ) → slice_get (map number_in self.old.lasts.items) g ≡ Some s → is_first_result (message_of body) ≡ true → NamesAt (answered_id (message_of body)) n
-            → Stands settings self.old events → Stands settings self.new (events ++ heard (FromServer s body) ∷ []) }
+        ensures stands { (settings : Settings) (events : List Event) (s : ℕ) (body : List ℕ) → slice_get (map number_in self.old.lasts.items) g ≡ Some s → is_first_result (message_of body) ≡ true → NamesAt (answered_id (message_of body)) n
+            → Stands settings self.old events → OnOk result (Stands settings self.new (events ++ heard (FromServer s body) ∷ [])) }
+        ensures documents { (settings : Settings) (events : List Event) (s : ℕ) (body : List ℕ) → slice_get (map number_in self.old.lasts.items) g ≡ Some s → encoding_by (message_of body) ≡ Some encoding → Stands settings self.old events → DocumentsStand settings nothing_owed self.old events
+            → IfOk result (λ owed. (owed ≡ to s (replaying settings events g)) × DocumentsStand settings (owes g (replaying settings events g)) self.new (events ++ heard (FromServer s body) ∷ [])) }
     {
         let last = &mut self.lasts[g];
         last.life.result();
         forget(&mut last.ids, n);
+        let start = last.life.start();
+        let owed = ready(alloc, &mut self.documents, g, start, encoding)?;
+        Ok(owed)
     }
 
     /// S3: the group's last start refuses its `initialize`; the group ends. `n` is the number that its id writes.
     pub fn hear_refusal(&mut self, g: usize, n: Option<u32>)
         requires group { g < length self.old.lasts.items }
         requires stage { (x : Start) → slice_get self.old.lasts.items g ≡ Some x → x.life.stage ≡ Initializing }
-        ensures { (settings : Settings) (events : List Event) (s : ℕ) (body : List ℕ) → slice_get (map number_in self.old.lasts.items) g ≡ Some s → is_first_error (message_of body) ≡ true → NamesAt (answered_id (message_of body)) n
+        ensures stands { (settings : Settings) (events : List Event) (s : ℕ) (body : List ℕ) → slice_get (map number_in self.old.lasts.items) g ≡ Some s → is_first_error (message_of body) ≡ true → NamesAt (answered_id (message_of body)) n
             → Stands settings self.old events → Stands settings self.new (events ++ heard (FromServer s body) ∷ []) }
+        ensures documents { (settings : Settings) (owed : Owed) (events : List Event) (s : ℕ) (body : List ℕ) → slice_get (map number_in self.old.lasts.items) g ≡ Some s → is_first_error (message_of body) ≡ true
+            → Stands settings self.old events → DocumentsStand settings owed self.old events → DocumentsStand settings owed self.new (events ++ heard (FromServer s body) ∷ []) }
     {
         end_at(&mut self.groups, g as u64);
         let last = &mut self.lasts[g];
@@ -88,10 +111,13 @@ impl Tables {
         requires group { g < length self.old.lasts.items }
         requires runs { (x : Start) → slice_get self.old.lasts.items g ≡ Some x → x.life.stage ≢ Ended }
         requires room { (x : Kept) → slice_get self.old.groups.groups g ≡ Some x → x.exits < 2 ^ 63 }
-        ensures { (z : Start) → slice_get self.old.lasts.items g ≡ Some z → OnOk result (Exits restarts self.old g z self.new) }
+        ensures exits { (z : Start) → slice_get self.old.lasts.items g ≡ Some z → OnOk result (Exits restarts self.old g z self.new) }
+        ensures documents { (d : Documents) → slice_get self.old.documents.items g ≡ Some d → OnOk result (self.new.documents.items ≡ slice_set self.old.documents.items g (unready_row d)) }
+        ensures versions { self.new.versions ≡ self.old.versions }
     {
         let wanted = self.needs_server(g as u64)?;
         lose(&mut self.groups, g as u64, wanted, restarts);
+        unready(&mut self.documents, g);
         let last = &mut self.lasts[g];
         last.life.over();
         last.ids = IdTable::new(alloc, self.requests);
@@ -106,7 +132,8 @@ impl Tables {
         requires group { g < length self.old.lasts.items }
         requires runs { (x : Start) → slice_get self.old.lasts.items g ≡ Some x → x.life.stage ≢ Ended }
         requires room { (x : Kept) → slice_get self.old.groups.groups g ≡ Some x → x.exits < 2 ^ 63 }
-        ensures { (settings : Settings) (events : List Event) (s : ℕ) → settings.limits.restarts ≡ restarts → slice_get (map number_in self.old.lasts.items) g ≡ Some s → Stands settings self.old events → OnOk result (Stands settings self.new (events ++ heard (ServerGone s) ∷ [])) }
+        ensures stands { (settings : Settings) (events : List Event) (s : ℕ) → settings.limits.restarts ≡ restarts → slice_get (map number_in self.old.lasts.items) g ≡ Some s → Stands settings self.old events → OnOk result (Stands settings self.new (events ++ heard (ServerGone s) ∷ [])) }
+        ensures documents { (settings : Settings) (owed : Owed) (events : List Event) (s : ℕ) → DocumentsStand settings owed self.old events → OnOk result (DocumentsStand settings owed self.new (events ++ heard (ServerGone s) ∷ [])) }
     {
         self.exit(alloc, restarts, g)?;
         Ok(())
@@ -118,7 +145,8 @@ impl Tables {
         requires group { g < length self.old.lasts.items }
         requires runs { (x : Start) → slice_get self.old.lasts.items g ≡ Some x → x.life.stage ≢ Ended }
         requires room { (x : Kept) → slice_get self.old.groups.groups g ≡ Some x → x.exits < 2 ^ 63 }
-        ensures { (settings : Settings) (events : List Event) (s : ℕ) → settings.limits.restarts ≡ restarts → slice_get (map number_in self.old.lasts.items) g ≡ Some s → Stands settings self.old events → OnOk result (Stands settings self.new (events ++ heard (StartFailed s) ∷ [])) }
+        ensures stands { (settings : Settings) (events : List Event) (s : ℕ) → settings.limits.restarts ≡ restarts → slice_get (map number_in self.old.lasts.items) g ≡ Some s → Stands settings self.old events → OnOk result (Stands settings self.new (events ++ heard (StartFailed s) ∷ [])) }
+        ensures documents { (settings : Settings) (owed : Owed) (events : List Event) (s : ℕ) → DocumentsStand settings owed self.old events → OnOk result (DocumentsStand settings owed self.new (events ++ heard (StartFailed s) ∷ [])) }
     {
         self.exit(alloc, restarts, g)?;
         Ok(())
@@ -131,6 +159,8 @@ impl Tables {
         ensures moves { (settings : Settings) (events : List Event) (s : ℕ) (body : List ℕ) (x : Start) → slice_get self.old.lasts.items g ≡ Some x → slice_get (map number_in self.old.lasts.items) g ≡ Some s
             → (is_first_result (message_of body) && is_initializing x.life.stage) ≡ false → (is_first_error (message_of body) && is_initializing x.life.stage) ≡ false → NamesAt (answered_id (message_of body)) n
             → Stands settings self.old events → Stands settings self.new (events ++ heard (FromServer s body) ∷ []) }
+        ensures documents { (settings : Settings) (owed : Owed) (events : List Event) (s : ℕ) (body : List ℕ) (x : Start) → slice_get self.old.lasts.items g ≡ Some x → slice_get (map number_in self.old.lasts.items) g ≡ Some s
+            → (is_first_result (message_of body) && is_initializing x.life.stage) ≡ false → x.life.stage ≢ Spawning → Stands settings self.old events → DocumentsStand settings owed self.old events → DocumentsStand settings owed self.new (events ++ heard (FromServer s body) ∷ []) }
         ensures found { (settings : Settings) (events : List Event) (s k : ℕ) → slice_get (map number_in self.old.lasts.items) g ≡ Some s → n ≡ Some k → Stands settings self.old events → find (is_under k) (forwarding_of s events).open_requests ≡ option_map (forwarded_as k) result }
         ensures editors { self.new.editors ≡ self.old.editors }
     {

@@ -1,13 +1,16 @@
 // What the multiplexer keeps.
 ghost use Rattle.std.specs.Prelude.{◌≡◌, ◌≤◌, []};
 ghost use Rattle.event_model.specs.Settings.{Settings};
+ghost use Rattle.mux_tables.specs.Documents.{DocumentsStand, nothing_owed};
 ghost use Rattle.mux_tables.specs.Stands.{Stands};
 
 use editor_session::Editors;
+use focus_switch::Shared;
 use group_table::Groups;
 use id_rewrite::IdTable;
 use restart_replay::Life;
 use std::alloc::Global;
+use text_pieces::PieceText;
 
 /// What is kept of the last start of one group: where it stands, whether its program ever ran, and the requests that it has to
 /// answer.
@@ -31,17 +34,22 @@ pub struct Tables {
     pub lasts: Vec<Start>,
     /// The group of each start, by the start's number.
     pub origins: Vec<u64>,
+    /// The documents of each group, by the group's number; they stay where a start is followed by another.
+    pub documents: Vec<Shared<PieceText>>,
     /// The number at which requests end.
     pub requests: u32,
+    /// The versions that a document has at most at a start.
+    pub versions: u32,
 }
 
 impl Tables {
     /// Nothing was heard: at most `groups` groups live at once, each idle one for `idle` seconds, and the numbers of requests end
-    /// below `requests`.
-    #[tactic(auto, using(crate::proofs::Begins::begins))]
-    pub fn new(alloc: Global, groups: u32, idle: u64, requests: u32) -> Tables
+    /// below `requests`, and a document has at most `versions` versions at a start.
+    #[tactic(auto, using(crate::proofs::Begins::begins, crate::proofs::DocumentBegins::documents_begin))]
+    pub fn new(alloc: Global, groups: u32, idle: u64, requests: u32, versions: u32) -> Tables
         requires { 2 ≤ requests }
-        ensures { (settings : Settings) → settings.limits.groups ≡ groups → settings.limits.idle ≡ idle → settings.limits.requests ≡ requests → Stands settings result [] }
+        ensures stands { (settings : Settings) → settings.limits.groups ≡ groups → settings.limits.idle ≡ idle → settings.limits.requests ≡ requests → Stands settings result [] }
+        ensures documents { (settings : Settings) → settings.limits.versions ≡ versions → DocumentsStand settings nothing_owed result [] }
     {
         Tables {
             editors: Editors::new(alloc),
@@ -49,7 +57,9 @@ impl Tables {
             time: 0,
             lasts: Vec::new(alloc),
             origins: Vec::new(alloc),
+            documents: Vec::new(alloc),
             requests,
+            versions,
         }
     }
 }

@@ -1,8 +1,18 @@
 -- The editor is closed.
+use Rattle.std.proofs.Common.{List, ap, subst}
+use Rattle.focus_switch.specs.Documents.{Documents}
+use Rattle.focus_switch.specs.Rows.{leave_row}
+use Rattle.mux_tables.specs.Documents.{StepFrom}
 use Rattle.mux_tables.proofs.Said.{close_does}
+use Rattle.mux_tables.proofs.DocumentLeft.{closed_documents}
 use Rattle.mux_tables.proofs.tables.Tables.close.Goals as goal
 
 pub returns-clause-does : goal.returns-clause-does
 returns-clause-does c = λ settings base.
-    close_does settings c.args.self.now c.empty.new.self c.args.outs.now c.push.new.self base c.args.e c.set.new.self c.phase-phase.result c.closed.result c.group-home.result c.is_begun.result c.requires c.phase-phase.ensures.phase c.group-home.ensures c.closed.ensures c.is_begun.ensures c.set.ensures
+    close_does settings c.args.self.now _ c.args.outs.now c.push.new.self base c.args.e c.set.new.self c.phase-phase.result c.closed.result c.group-home.result c.is_begun.result c.requires c.phase-phase.ensures.phase c.group-home.ensures c.closed.ensures c.is_begun.ensures c.set.ensures
     c.in_ok-empty.ensures.editors c.in_ok-empty.ensures.time c.in_ok-empty.ensures.lasts c.in_ok-empty.ensures.origins c.in_ok-empty.ensures.requests c.in_ok-empty.ensures.groups c.in_ok-push.ensures.ok
+
+pub returns-clause-documents : goal.returns-clause-documents
+returns-clause-documents c = λ settings base st ds.
+    closed_documents settings c.args.self.now _ base c.args.outs.now c.push.new.self c.args.e c.group-home.result c.in_ok-owed.owed c.requires c.group-home.ensures c.in_ok-empty.ensures.lasts c.in_ok-empty.ensures.versions
+    (subst (λ (v : List Documents). StepFrom (leave_row c.args.e) c.group-home.result v c.in_ok-owed.owed c.leave.new.documents.items) (ap (λ v. v.items) c.in_ok-empty.ensures.documents) c.in_ok-owed.ensures) c.in_ok-push.ensures.ok st ds

@@ -11,8 +11,8 @@ use Rattle.mux_tables.proofs.tables.Tables.exit.Goals as goal
 pub over-requires : goal.over-requires
 over-requires c = c.requires.runs c.index_mut-last.result.now (read_here c.args.self.now.lasts.items c.args.g c.index_mut-last.result.now c.requires.group c.index_mut-last.ensures.value)
 
-pub returns : goal.returns
-returns c = λ z at.
+pub returns-clause-exits : goal.returns-clause-exits
+returns-clause-exits c = λ z at.
     let e = read_same c.args.self.now.lasts.items c.args.g c.index_mut-last.result.now z c.requires.group c.index_mut-last.ensures.value at in
     record {
       groups = c.lose.ensures ∙ ap (λ b. with_groups (changed c.args.g (exit_of c.args.restarts b) c.args.self.now.groups.groups) c.args.self.now.groups) c.in_ok-wanted.ensures;
@@ -29,3 +29,6 @@ returns c = λ z at.
       origins = refl;
       requests = refl;
     }
+
+pub returns-clause-documents : goal.returns-clause-documents
+returns-clause-documents c = c.unready.ensures

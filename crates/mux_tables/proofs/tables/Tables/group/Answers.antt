@@ -1,5 +1,5 @@
 -- An editor's group.
-use Rattle.std.proofs.Common.{sym, ◌∙◌, arith}
+use Rattle.std.proofs.Common.{arith}
 use Rattle.mux_tables.proofs.Seen.{placed_here, placed_past}
 use Rattle.mux_tables.proofs.tables.Tables.group.Goals as goal
 

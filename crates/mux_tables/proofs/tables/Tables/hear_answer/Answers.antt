@@ -1,6 +1,8 @@
 -- A message that doesn't answer `initialize`.
 use Rattle.std.proofs.Common.{refl}
 use Rattle.mux_tables.proofs.Served.{answer_moves, answer_found, found_of}
+use Rattle.mux_tables.proofs.DocumentHeard.{answer_documents_by}
+use Rattle.rpc_message.specs.Message.{message_of}
 use Rattle.mux_tables.proofs.tables.Tables.hear_answer.Goals as goal
 
 pub returns-clause-moves : goal.returns-clause-moves
@@ -9,3 +11,7 @@ returns-clause-moves c = λ settings events s body x is at result error named st
 
 pub returns-clause-found : goal.returns-clause-found
 returns-clause-found c = λ settings events s k at is st. answer_found settings c.args.self.now events c.args.g s k c.index_mut-last.result.now c.answer.result at c.requires c.index_mut-last.ensures.value (found_of c.args.n k c.answer.result c.index_mut-last.result.now.ids.requests is c.answer.ensures.value) st
+
+pub returns-clause-documents : goal.returns-clause-documents
+returns-clause-documents c = λ settings owed events s body x is at later runs st ds.
+    answer_documents_by settings owed c.args.self.now _ events c.args.g s x c.index_mut-last.result.now (record c.index_mut-last.result.now { ids = c.answer.new.ids }) body (message_of body) is at c.requires c.index_mut-last.ensures.value later runs refl refl refl refl st ds

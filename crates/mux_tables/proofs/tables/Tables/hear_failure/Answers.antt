@@ -1,6 +1,13 @@
 -- The program couldn't be run.
 use Rattle.mux_tables.proofs.Served.{failure_heard}
+use Rattle.mux_tables.proofs.DocumentSaid.{failure_documents}
+use Rattle.event_model.proofs.Places.{item_at}
 use Rattle.mux_tables.proofs.tables.Tables.hear_failure.Goals as goal
 
-pub returns : goal.returns
-returns c = λ settings events s e at st. failure_heard settings c.args.self.now c.exit.new.self events c.args.g s c.args.restarts e at c.requires.group c.in_ok-exit.ensures st
+pub returns-clause-stands : goal.returns-clause-stands
+returns-clause-stands c = λ settings events s e at st. failure_heard settings c.args.self.now c.exit.new.self events c.args.g s c.args.restarts e at c.requires.group c.in_ok-exit.ensures.exits st
+
+pub returns-clause-documents : goal.returns-clause-documents
+returns-clause-documents c = λ settings owed events s ds.
+    let z = item_at c.args.self.now.lasts.items c.args.g c.requires.group in
+    failure_documents settings owed c.args.restarts c.args.self.now c.exit.new.self events c.args.g s z.0 z.1 (c.in_ok-exit.ensures.exits z.0 z.1) c.in_ok-exit.ensures.versions c.in_ok-exit.ensures.documents ds

@@ -2,9 +2,18 @@
 use Rattle.std.proofs.Common.{refl}
 use Rattle.mux_tables.proofs.Starts.{read_here}
 use Rattle.mux_tables.proofs.Served.{refusal_moves}
+use Rattle.mux_tables.proofs.DocumentHeard.{answer_documents, error_only, initializing_runs}
+use Rattle.event_model.specs.Stages.{is_initializing}
+use Rattle.rpc_message.specs.Message.{message_of}
 use Rattle.mux_tables.proofs.tables.Tables.hear_refusal.Goals as goal
 
-pub returns : goal.returns
-returns c = λ settings events s body at first named st.
+pub returns-clause-stands : goal.returns-clause-stands
+returns-clause-stands c = λ settings events s body at first named st.
     refusal_moves settings c.args.self.now _ events c.args.g s c.index_mut-last.result.now body c.args.n c.forget.new.ids at c.requires.group c.index_mut-last.ensures.value (c.requires.stage c.index_mut-last.result.now (read_here c.args.self.now.lasts.items c.args.g c.index_mut-last.result.now c.requires.group c.index_mut-last.ensures.value)) first named
     c.forget.ensures.requests c.forget.ensures.next c.forget.ensures.limit c.forget.ensures.order refl refl c.end_at.ensures refl refl refl st
+
+pub returns-clause-documents : goal.returns-clause-documents
+returns-clause-documents c = λ settings owed events s body at first st ds.
+    let z = c.index_mut-last.result.now in
+    let stage = c.requires.stage z (read_here c.args.self.now.lasts.items c.args.g z c.requires.group c.index_mut-last.ensures.value) in
+    answer_documents settings owed c.args.self.now _ events c.args.g s z (record z { ids = c.forget.new.ids }) body (message_of body) at c.requires.group c.index_mut-last.ensures.value (error_only (message_of body) first (is_initializing z.life.stage)) (initializing_runs z.life.stage stage) refl refl refl refl st ds

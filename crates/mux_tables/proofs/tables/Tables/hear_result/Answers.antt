@@ -2,9 +2,17 @@
 use Rattle.std.proofs.Common.{refl}
 use Rattle.mux_tables.proofs.Starts.{read_here}
 use Rattle.mux_tables.proofs.Served.{result_moves}
+use Rattle.rpc_message.specs.Message.{message_of}
+use Rattle.mux_tables.proofs.DocumentReady.{ready_documents}
 use Rattle.mux_tables.proofs.tables.Tables.hear_result.Goals as goal
 
-pub returns : goal.returns
-returns c = λ settings events s body at first named st.
+pub returns-clause-stands : goal.returns-clause-stands
+returns-clause-stands c = λ settings events s body at first named st.
     result_moves settings c.args.self.now _ events c.args.g s c.index_mut-last.result.now body c.args.n c.result.new.self c.forget.new.ids at c.requires.group c.index_mut-last.ensures.value (c.requires.stage c.index_mut-last.result.now (read_here c.args.self.now.lasts.items c.args.g c.index_mut-last.result.now c.requires.group c.index_mut-last.ensures.value)) first named c.result.ensures
     c.forget.ensures.requests c.forget.ensures.next c.forget.ensures.limit c.forget.ensures.order refl refl refl refl refl refl st
+
+pub returns-clause-documents : goal.returns-clause-documents
+returns-clause-documents c = λ settings events s body at gives st ds.
+    let z = c.index_mut-last.result.now in
+    ready_documents settings c.args.self.now _ events c.args.g s c.start-start.result c.args.encoding z (record z { life = c.result.new.self; ids = c.forget.new.ids }) body (message_of body) c.in_ok-owed.owed at c.requires.group c.index_mut-last.ensures.value (c.requires.stage z (read_here c.args.self.now.lasts.items c.args.g z c.requires.group c.index_mut-last.ensures.value))
+    gives c.result.ensures c.start-start.ensures refl refl c.in_ok-owed.ensures st ds

@@ -1,6 +1,11 @@
 -- A body that no table of a start speaks of.
 use Rattle.mux_tables.proofs.Sent.{notify_does}
+use Rattle.std.proofs.Common.{refl}
+use Rattle.mux_tables.proofs.DocumentSaid.{notified_documents}
 use Rattle.mux_tables.proofs.tables.Tables.notify.Goals as goal
 
-pub returns : goal.returns
-returns c = λ settings base s at runs counts. notify_does settings c.args.self.now c.args.outs.now c.push.new.self base c.args.g s c.start.result c.index.result.now c.args.text at c.requires c.index.ensures runs counts c.start.ensures c.in_ok-push.ensures.ok
+pub returns-clause-does : goal.returns-clause-does
+returns-clause-does c = λ settings base s at runs counts. notify_does settings c.args.self.now c.args.outs.now c.push.new.self base c.args.g s c.start.result c.index.result.now c.args.text at c.requires c.index.ensures runs counts c.start.ensures c.in_ok-push.ensures.ok
+
+pub returns-clause-documents : goal.returns-clause-documents
+returns-clause-documents c = λ settings owed base silent aside ds. notified_documents settings owed c.args.self.now c.args.self.now base c.args.outs.now c.push.new.self c.start.result c.args.text silent aside refl refl refl c.in_ok-push.ensures.ok ds

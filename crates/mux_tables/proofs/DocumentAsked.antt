@@ -1,0 +1,253 @@
+-- E10: a request goes to a ready start behind a sync.
+use Rattle.std.proofs.Common.{◌≡◌, ℕ, ◌≤◌, ◌<◌, ◌^◌, ◌+◌, Bool, true, false, not, List, [], ◌∷◌, ◌++◌, length, map, fold, get_or, nat_eq, codes, refl, sym, ap, ap₂, subst, ◌∙◌, append-nil, append_assoc, arith, if◌then◌else◌}
+use Rattle.std.specs.Prelude.{Option, Some, None, bytes_eq, slice_get, slice_set}
+use Rattle.std.specs.List.{AllByRecursion}
+use Rattle.std.proofs.lemmas.Bool.{ne_eqb}
+use Rattle.std.proofs.lemmas.Option.{slice_get_within}
+use Rattle.json_text.specs.Json.{Json}
+use Rattle.mux_history.specs.declared.out.Out.{Out}
+use Rattle.mux_history.specs.declared.out.Out.TheVariants.{ToEditor, ToServer, Spawn, CloseEditor, EndServer}
+use Rattle.rpc_message.specs.Message.{Id, Message, message_of, notification, request}
+use Rattle.document_model.specs.Opens.{Open}
+use Rattle.document_model.specs.Orderly.{AllSpelt, Orderly}
+use Rattle.document_model.specs.Sayings.{saying_of, speaks}
+use Rattle.document_model.specs.Texts.{Texts}
+use Rattle.document_laws.specs.Follows.{texts_in, told_outs}
+use Rattle.event_model.specs.declared.stage.Stage.{Stage}
+use Rattle.event_model.specs.declared.stage.Stage.TheVariants.{Ready}
+use Rattle.event_model.specs.Does.{Does}
+use Rattle.event_model.specs.Event.{Event, behind, said}
+use Rattle.event_model.specs.Requests.{is_own}
+use Rattle.event_model.specs.Members.{named_of}
+use Rattle.event_model.specs.Phases.{desk_of, is_served}
+use Rattle.event_model.specs.Row.{look, send, ◌⨾◌}
+use Rattle.event_model.specs.Settings.{Settings}
+use Rattle.event_model.specs.Spawns.{group_of, starts_behind, starts_of}
+use Rattle.event_model.proofs.Frames.{never, one_more, outs_more, outs_still}
+use Rattle.event_model.proofs.Turns.{behind_more, does_entry}
+use Rattle.focus_switch.specs.Documents.{Documents}
+use Rattle.focus_switch.specs.Rows.{sync_row}
+use Rattle.mux_model.specs.Documents.{Sent, held_at, sent_of}
+use Rattle.mux_model.specs.Rows.{to_start}
+use Rattle.mux_model.proofs.DocumentFolds.{outs_to_start, sent_encoding}
+use Rattle.group_words.specs.Houses.{home_of, is_home}
+use Rattle.group_rows.specs.Forwarded.{Forwarding, cancelled_by, forwarding_behind, forwarding_of, forwards}
+use Rattle.group_rows.specs.Rows as rows
+use Rattle.group_rows.specs.Texts.{is_synced, texts_of, touch_all, touched_at, worker_behind, worker_of}
+use Rattle.group_rows.proofs.Frames.{encoding_stays, texts_apart, texts_more}
+use Rattle.group_laws.specs.Stands.{HeldStands}
+use Rattle.group_laws.proofs.Asking.{spelt_touched, sync_speaks, touch_orderly}
+use Rattle.group_laws.proofs.Entries.{all_told, encoding_told, first_behind, held_same, known_sent, texts_told}
+use Rattle.group_laws.proofs.SyncHeld.{sync_held}
+use Rattle.group_laws.proofs.Syncing.{sync_outs, sync_stays, sync_texts}
+use Rattle.id_rewrite.specs.declared.pending.Pending.{Pending}
+use Rattle.id_rewrite.specs.Tables.{Table, IsInOrder}
+use Rattle.mux_tables.specs.declared.tables.Start.{Start}
+use Rattle.mux_tables.specs.declared.tables.Tables.{Tables}
+use Rattle.mux_tables.specs.Documents.{AllStand, AllTell, DocumentsStand, IsOwned, SharedStands, StepAt, Told, nothing_owed, syncing, to}
+use Rattle.mux_tables.specs.Stands.{Sends, Stands, forwarded_of, number_in}
+use Rattle.mux_tables.proofs.DocumentEvents.{shared_beside}
+use Rattle.mux_tables.proofs.DocumentFrames.{all_owned, owner_stays, sent_apart, sent_silent, shared_stays, start_stays}
+use Rattle.mux_tables.proofs.DocumentMoves.{Rest, documents_at, documents_set, starts_kept}
+use Rattle.mux_tables.proofs.DocumentOwed.{stands_told}
+use Rattle.mux_tables.proofs.Frames.{itself}
+use Rattle.mux_tables.proofs.IdMoves.{sent_as}
+use Rattle.mux_tables.proofs.Lasts.{apart, known}
+use Rattle.mux_tables.proofs.Sent.{forward_does}
+use Rattle.mux_tables.proofs.Starts.{read_here, start_at_place}
+
+-- bodies to a start leave whose message is at work, and what other groups have
+still_at_work : (w : Option ℕ) (x : Out) → worker_behind w (said x) ≡ w
+still_at_work w (ToEditor e body) = refl
+still_at_work w (ToServer s body) = refl
+still_at_work w (Spawn s g) = refl
+still_at_work w (CloseEditor e) = refl
+still_at_work w (EndServer s) = refl
+
+worker_stays : (events : List Event) (xs : List Out) → worker_of (behind events xs) ≡ worker_of events
+worker_stays events xs = outs_more worker_behind None (worker_of events) events xs refl ∙ outs_still worker_behind (worker_of events) xs (still_at_work (worker_of events))
+
+beside_all : (settings : Settings) (owed : List (List ℕ)) (j n s : ℕ) (stage : Stage) (c : Documents) (bodies : List (List ℕ)) (events : List Event) → AllTell bodies → nat_eq s n ≡ false → SharedStands settings events owed j n stage c → SharedStands settings (behind events (to s bodies)) owed j n stage c
+beside_all settings owed j n s stage c [] events h off k = subst (λ es. SharedStands settings es owed j n stage c) (sym (append-nil events)) k
+beside_all settings owed j n s stage c (body ∷ bodies) events h off k = subst (λ es. SharedStands settings es owed j n stage c) (sym (first_behind events (ToServer s body) (to s bodies)))
+    (beside_all settings owed j n s stage c bodies (events ++ said (ToServer s body) ∷ []) h.1 off (shared_beside settings events owed j n stage c s body h.0 off k))
+
+owned_told : (settings : Settings) (j s : ℕ) (o : Open) (bodies : List (List ℕ)) (events : List Event) → IsOwned settings events j o → IsOwned settings (behind events (to s bodies)) j o
+owned_told settings j s o [] events k = subst (λ es. IsOwned settings es j o) (sym (append-nil events)) k
+owned_told settings j s o (body ∷ bodies) events k = subst (λ es. IsOwned settings es j o) (sym (first_behind events (ToServer s body) (to s bodies))) (owned_told settings j s o bodies (events ++ said (ToServer s body) ∷ []) (owner_stays settings events j o (said (ToServer s body)) refl k))
+
+starts_told : (s : ℕ) (bodies : List (List ℕ)) (n : ℕ) → fold starts_behind n (map said (to s bodies)) ≡ n
+starts_told s [] n = refl
+starts_told s (body ∷ bodies) n = starts_told s bodies n
+
+sent_beside : (n s : ℕ) (u : List ℕ) (bodies : List (List ℕ)) (events : List Event) → nat_eq s n ≡ false → sent_of n u (behind events (to s bodies)) ≡ sent_of n u events
+sent_beside n s u [] events off = ap (sent_of n u) (append-nil events)
+sent_beside n s u (body ∷ bodies) events off = ap (sent_of n u) (first_behind events (ToServer s body) (to s bodies)) ∙ (sent_beside n s u bodies (events ++ said (ToServer s body) ∷ []) off ∙ sent_apart n s u body (message_of body) events off)
+
+-- an editor touches its documents, which stay its own
+touched_owned : (P : Open → Type 0) (e turn : ℕ) (os : List Open) → ((o p : Open) → o.editor ≡ p.editor → P o → P p) → AllByRecursion P os → AllByRecursion P (map (touched_at e turn) os)
+touched_owned P e turn [] f h = tt
+touched_owned P e turn (o ∷ os) f h = (go (nat_eq o.editor e), touched_owned P e turn os f h.1)
+  where
+    go : (b : Bool) → P (if b then record o { touched = turn } else o)
+    go true = f o (record o { touched = turn }) refl h.0
+    go false = h.0
+
+-- whose request is at work, behind bodies that tell of documents
+sender_told : (n s : ℕ) (bodies : List (List ℕ)) (events : List Event) (e : ℕ) (id : List ℕ) → AllTell bodies → Sends n e id events → Sends n e id (behind events (to s bodies))
+sender_told n s [] events e id h k = subst (λ es. Sends n e id es) (sym (append-nil events)) k
+sender_told n s (body ∷ bodies) events e id h k = subst (λ es. Sends n e id es) (sym (first_behind events (ToServer s body) (to s bodies)))
+    (sender_told n s bodies (events ++ said (ToServer s body) ∷ []) e id h.1 (ap (λ (x : Forwarding). x.sender) (one_more (forwarding_behind n) _ _ events (said (ToServer s body)) refl) ∙ (keeps (nat_eq s n) (forwarding_of n events) (message_of body) h.0 ∙ k)))
+  where
+    sent_by : (x : Forwarding) (m : Message) → speaks (saying_of m) ≡ true → (forwards x m).sender ≡ x.sender
+    sent_by x (notification method ps) h = go (bytes_eq method (codes "$/cancelRequest"))
+      where
+        go : (b : Bool) → (if b then record { sender = x.sender; next = x.next; open_requests = map (cancelled_by (named_of (codes "id") ps)) x.open_requests } else x).sender ≡ x.sender
+        go true = refl
+        go false = refl
+    sent_by x other h = never (sym h)
+
+    keeps : (b : Bool) (x : Forwarding) (m : Message) → speaks (saying_of m) ≡ true → (if b then forwards x m else x).sender ≡ x.sender
+    keeps true x m h = sent_by x m h
+    keeps false x m h = refl
+
+module _ (settings : Settings) (t : Tables) (now : List Event) (g e : ℕ) (z : Start) (d : Documents) (text method : List ℕ) (name : Id) (ps : Option Json) (at : slice_get t.lasts.items g ≡ Some z) (has : slice_get t.documents.items g ≡ Some d) (ready : z.life.stage ≡ Ready)
+    (says : message_of text ≡ request name method ps) (goes : is_own method ≡ false) (works : worker_of now ≡ Some e) (st : Stands settings t now) (ds : DocumentsStand settings nothing_owed t now) where
+  abbrev s : ℕ
+  s = z.life.start
+
+  was : SharedStands settings now [] g s Ready d
+  was = subst (λ (q : Stage). SharedStands settings now [] g s q d) ready (ds.each g z d at has)
+
+  few : d.versions < 2 ^ 32
+  few = subst (λ n. n < 2 ^ 32) (sym (was.versions ∙ ds.versions)) ds.range
+
+  holds : HeldStands s was.start.code d now
+  holds = subst (λ es. HeldStands s was.start.code d es) (append-nil now) was.start.holds
+
+  abbrev bodies : List (List ℕ)
+  bodies = rows.sync_bodies d.versions (λ u. held_at s u now) e d.opens
+
+  pub bodies_are : (sync_row e d).outs ≡ to s bodies
+  bodies_are = sync_outs s e d (λ u. held_at s u now) holds.start holds.held was.texts.orderly.once
+
+  pub row_bodies : syncing settings now g s e ≡ bodies
+  row_bodies = ap₂ (λ n (x : Texts). rows.sync_bodies n (λ u. held_at s u now) e x.opens) (sym was.versions) was.texts.texts
+
+  pub tell : AllTell bodies
+  tell = sync_speaks d.versions e (λ u. held_at s u now) d.opens few was.texts.spelt
+
+  abbrev mid : List Event
+  mid = behind now (to s bodies)
+
+  abbrev last : List Event
+  last = mid ++ said (ToServer s text) ∷ []
+
+  pub mid_stands : Stands settings t mid
+  mid_stands = stands_told settings t g z at bodies now tell st
+
+  synced : is_synced (message_of text) ≡ true
+  synced = ap is_synced says ∙ ap not goes
+
+  here : group_of s mid ≡ Some g
+  here = (mid_stands.lasts.each g z at).home
+
+  last_texts : texts_of settings g last ≡ texts_in (sync_row e d).after
+  last_texts = texts_more settings g mid (said (ToServer s text)) ∙ (rw (here, itself g, synced, worker_stays now (to s bodies) ∙ works) (ap (touch_all (Some e)) (texts_told settings g s now bodies tell ∙ was.texts.texts)) ∙ sym (sync_texts e d))
+
+  mid_sent : (u : List ℕ) → sent_of s u mid ≡ record { encoding = Some was.start.code; held = told_outs (Some was.start.code) u (held_at s u now) (to s bodies) }
+  mid_sent u = all_told s u was.start.code (held_at s u now) bodies now (known_sent s u was.start.code now holds.given)
+
+  last_sent : (u : List ℕ) → sent_of s u last ≡ record { encoding = Some was.start.code; held = told_outs (Some was.start.code) u (held_at s u now) (to s bodies) }
+  last_sent u = sent_silent s s u text (message_of text) mid (ap saying_of says) ∙ mid_sent u
+
+  told_last : Told s [] (sync_row e d).after last
+  told_last = record {
+    code = was.start.code;
+    tell = tt;
+    holds = subst (λ es. HeldStands s was.start.code (sync_row e d).after es) (sym (append-nil last)) (record {
+      start = (sync_stays e d).start ∙ holds.start;
+      known = (sync_stays e d).encoding ∙ holds.known;
+      given = sym (sent_encoding s [] last) ∙ ap (λ (x : Sent). x.encoding) (last_sent []);
+      held = held_same (sync_row e d).after (λ u. told_outs d.encoding u (held_at s u now) (sync_row e d).outs) (λ u. held_at s u last)
+          (λ u. ap₂ (λ c xs. told_outs c u (held_at s u now) xs) holds.known bodies_are ∙ sym (ap (λ (x : Sent). x.held) (last_sent u)))
+          (sync_held s e d (λ u. held_at s u now) holds.start holds.held was.start.code holds.known few was.texts.orderly.once was.texts.orderly.turns was.texts.spelt);
+    });
+  }
+
+  last_owner : (j : ℕ) (o : Open) → IsOwned settings now j o → IsOwned settings last j o
+  last_owner j o k = owner_stays settings mid j o (said (ToServer s text)) refl (owned_told settings j s o bodies now k)
+
+  pub now_shared : SharedStands settings last [] g s Ready (sync_row e d).after
+  now_shared = record {
+    texts = record {
+      texts = last_texts;
+      encoding = encoding_stays g mid (said (ToServer s text)) refl ∙ (encoding_told g s now bodies ∙ (was.texts.encoding ∙ sym (sync_stays e d).encoding));
+      orderly = subst Orderly (sym (sync_texts e d)) (touch_orderly e (texts_in d) was.texts.orderly);
+      spelt = subst (λ (x : Texts). AllSpelt x.opens) (sym (sync_texts e d)) (spelt_touched e d.turn d.opens was.texts.spelt);
+    };
+    versions = (sync_stays e d).versions ∙ was.versions;
+    owned = subst (λ (x : Texts). AllByRecursion (IsOwned settings last g) x.opens) (sym (sync_texts e d)) (touched_owned (IsOwned settings last g) e d.turn d.opens
+        (λ o p same k. (ap (λ n. home_of settings n last) (sym same) ∙ k.0, ap (λ n. is_served (desk_of n last).phase) (sym same) ∙ k.1)) (all_owned (IsOwned settings now g) (IsOwned settings last g) d.opens (last_owner g) was.owned));
+    start = told_last;
+  }
+
+  pub other_last : (j n : ℕ) (stage : Stage) (c : Documents) → nat_eq g j ≡ false → nat_eq s n ≡ false → SharedStands settings now [] j n stage c → SharedStands settings last [] j n stage c
+  other_last j n stage c away off h = shared_stays settings mid last [] j n stage c (texts_apart settings j s text (message_of text) mid (ap (is_home j) here ∙ away)) (encoding_stays j mid (said (ToServer s text)) refl)
+      (start_stays n [] c mid last (λ u. sent_silent n s u text (message_of text) mid (ap saying_of says)) stage) (λ q. all_owned (IsOwned settings mid j) (IsOwned settings last j) c.opens (λ o k. owner_stays settings mid j o (said (ToServer s text)) refl k) q)
+      (beside_all settings [] j n s stage c bodies now tell off h)
+
+  pub last_rest : Rest settings t now last
+  last_rest =
+      let within = slice_get_within t.lasts.items g z at in
+      let old = known t.requests t.origins.items now g z st.origins (st.lasts.each g z at) in
+      record {
+        texts = λ j l k. texts_apart settings j s text (message_of text) mid (ap (is_home j) here ∙ ne_eqb g j (λ q. absurd (omega (arith, q, l, within)))) ∙ (texts_told settings j s now bodies tell ∙ k);
+        encoding = λ j l. encoding_stays j mid (said (ToServer s text)) refl ∙ encoding_told j s now bodies;
+        starts = λ n l. subst (λ m. m ≤ n) (outs_more starts_behind 0 (starts_of now) now (to s bodies) refl ∙ starts_told s bodies (starts_of now)) (starts_kept mid (said (ToServer s text)) refl n l);
+        sent = λ n l u. sent_silent n s u text (message_of text) mid (ap saying_of says) ∙ sent_beside n s u bodies now (ne_eqb s n (λ q. absurd (omega (arith, q, l, old))));
+      }
+
+-- all tables behind it, and what was sent before the request
+asked : (settings : Settings) (t u : Tables) (now : List Event) (g s e : ℕ) (z : Start) (d : Documents) (ids : Table) (pending : Pending) (text id method : List ℕ) (name : Id) (ps : Option Json) → slice_get (map number_in t.lasts.items) g ≡ Some s → g < length t.lasts.items → z ≡ get_or t.lasts.items g z
+    → z.life.stage ≡ Ready → message_of text ≡ request name method ps → is_own method ≡ false → Sends s e id now → worker_of now ≡ Some e → forwarded_of (record { number = z.ids.next; pending = pending }) ≡ sent_as (record { editor = e; id = id }) z.ids.next
+    → ids.requests ≡ z.ids.requests ++ record { number = z.ids.next; pending = pending } ∷ [] → ids.next ≡ z.ids.next + 1 → ids.limit ≡ z.ids.limit → IsInOrder ids
+    → u.lasts.items ≡ slice_set t.lasts.items g (record z { ids = ids }) → u.editors ≡ t.editors → u.groups ≡ t.groups → u.time ≡ t.time → u.origins ≡ t.origins → u.requests ≡ t.requests → u.versions ≡ t.versions
+    → slice_get t.documents.items g ≡ Some d → u.documents.items ≡ slice_set t.documents.items g (sync_row e d).after → Stands settings t now → DocumentsStand settings nothing_owed t now
+    → ((sync_row e d).outs ≡ to s (syncing settings now g s e)) × AllStand settings (u, nothing_owed) (behind (behind now (to s (syncing settings now g s e))) (ToServer s text ∷ []))
+asked settings t u now g s e z d ids pending text id method name ps at within read ready says own sends works kept put next limit order set es gs time os r vs has docs st ds =
+    let here : slice_get t.lasts.items g ≡ Some z = read_here t.lasts.items g z within read in
+    let number : z.life.start ≡ s = start_at_place t.lasts.items g s z here at in
+    let mid = behind now (to z.life.start (rows.sync_bodies d.versions (λ u. held_at z.life.start u now) e d.opens)) in
+    let last = mid ++ said (ToServer z.life.start text) ∷ [] in
+    let sends_on : Sends z.life.start e id mid = sender_told z.life.start z.life.start (rows.sync_bodies d.versions (λ u. held_at z.life.start u now) e d.opens) now e id (tell settings t now g e z d text method name ps here has ready says own works st ds) (subst (λ n. Sends n e id now) (sym number) sends) in
+    let docs_last : DocumentsStand settings nothing_owed u last = documents_set settings nothing_owed nothing_owed t u now last (last_rest settings t now g e z d text method name ps here has ready says own works st ds) vs g z (record z { ids = ids }) d (sync_row e d).after here has set docs
+    (λ _. subst (λ (q : Stage). SharedStands settings last [] g z.life.start q (sync_row e d).after) (sym ready) (now_shared settings t now g e z d text method name ps here has ready says own works st ds))
+    (λ j w c off there h. other_last settings t now g e z d text method name ps here has ready says own works st ds j w.life.start w.life.stage c (ne_eqb g j (λ q. off (sym q))) (apart t.requests now g j z w off (st.lasts.each g z here) (st.lasts.each j w there)) h) ds in
+    let stands_last : Stands settings u last = (does_entry (mid_stands settings t now g e z d text method name ps here has ready says own works st ds)
+    (forward_does settings t u [] (ToServer z.life.start text ∷ []) mid g z.life.start z.life.start e z ids pending text id method name ps (subst (λ n. slice_get (map number_in t.lasts.items) g ≡ Some n) (sym number) at) within read says own
+    (subst (λ es. Sends z.life.start e id es) (sym (append-nil mid)) sends_on) kept put next limit order set es gs time os r refl refl)).stands in
+    subst (λ n. ((sync_row e d).outs ≡ to n (syncing settings now g n e)) × AllStand settings (u, nothing_owed) (behind (behind now (to n (syncing settings now g n e))) (ToServer n text ∷ []))) number (
+      bodies_are settings t now g e z d text method name ps here has ready says own works st ds ∙ ap (to z.life.start) (sym (row_bodies settings t now g e z d text method name ps here has ready says own works st ds)),
+      subst (λ bs. AllStand settings (u, nothing_owed) (behind (behind now (to z.life.start bs)) (ToServer z.life.start text ∷ []))) (sym (row_bodies settings t now g e z d text method name ps here has ready says own works st ds)) (stands_last, docs_last),
+    )
+
+pub asked_does : (settings : Settings) (t u : Tables) (xs ys told : List Out) (base : List Event) (g s start e : ℕ) (z : Start) (ids : Table) (pending : Pending) (text id method : List ℕ) (name : Id) (ps : Option Json) → slice_get (map number_in t.lasts.items) g ≡ Some s → g < length t.lasts.items → z ≡ get_or t.lasts.items g z
+    → z.life.stage ≡ Ready → message_of text ≡ request name method ps → is_own method ≡ false → Sends s e id (behind base xs) → worker_of (behind base xs) ≡ Some e → forwarded_of (record { number = z.ids.next; pending = pending }) ≡ sent_as (record { editor = e; id = id }) z.ids.next
+    → ids.requests ≡ z.ids.requests ++ record { number = z.ids.next; pending = pending } ∷ [] → ids.next ≡ z.ids.next + 1 → ids.limit ≡ z.ids.limit → IsInOrder ids
+    → u.lasts.items ≡ slice_set t.lasts.items g (record z { ids = ids }) → u.editors ≡ t.editors → u.groups ≡ t.groups → u.time ≡ t.time → u.origins ≡ t.origins → u.requests ≡ t.requests → u.versions ≡ t.versions
+    → StepAt (sync_row e) g (slice_get t.documents.items g) t.documents.items told u.documents.items → start ≡ z.life.start → ys ≡ (xs ++ told) ++ ToServer start text ∷ []
+    → Does (λ k events. AllStand settings k events) (look (λ now. to_start s (syncing settings now g s e) ⨾ send (ToServer s text))) base (t, nothing_owed) xs (u, nothing_owed) ys
+asked_does settings t u xs ys told base g s start e z ids pending text id method name ps at within read ready says own sends works kept put next limit order set es gs time os r vs does is said_so = record {
+  done = λ k.
+      let here : slice_get t.lasts.items g ≡ Some z = read_here t.lasts.items g z within read in
+      let number : z.life.start ≡ s = start_at_place t.lasts.items g s z here at in
+      let d = documents_at settings nothing_owed t (behind base xs) g z here k.1 in
+      let made : StepAt (sync_row e) g (Some d.0) t.documents.items told u.documents.items = subst (λ o. StepAt (sync_row e) g o t.documents.items told u.documents.items) d.1 does in
+      let ran = asked settings t u (behind base xs) g s e z d.0 ids pending text id method name ps at within read ready says own sends works kept put next limit order set es gs time os r vs d.1 made.1 k.0 k.1 in
+      let all : ys ≡ xs ++ (to s (syncing settings (behind base xs) g s e) ++ ToServer s text ∷ []) = said_so ∙ (ap (λ n. (xs ++ told) ++ ToServer n text ∷ []) (is ∙ number) ∙ (append_assoc xs told (ToServer s text ∷ []) ∙ ap (λ ws. xs ++ (ws ++ ToServer s text ∷ [])) (made.0 ∙ ran.0))) in
+      record {
+        outs = all ∙ ap (λ ws. xs ++ (ws ++ ToServer s text ∷ [])) (sym (outs_to_start s (syncing settings (behind base xs) g s e) (behind base xs)));
+        stands = subst (λ es. AllStand settings (u, nothing_owed) es) (sym (ap (behind base) all ∙ (behind_more base xs (to s (syncing settings (behind base xs) g s e) ++ ToServer s text ∷ []) ∙ behind_more (behind base xs) (to s (syncing settings (behind base xs) g s e)) (ToServer s text ∷ [])))) ran.1;
+      };
+}

@@ -1,0 +1,254 @@
+-- An editor leaves: what is kept of its documents, and what the start is owed.
+use Rattle.std.proofs.Common.{◌≡◌, ℕ, zero, suc, ◌≤◌, ◌<◌, ◌^◌, Bool, true, false, not, ◌&&◌, List, [], ◌∷◌, ◌++◌, length, filter, nat_eq, codes, refl, sym, ap, ap₂, subst, ◌∙◌, append-nil, arith, if◌then◌else◌}
+use Rattle.std.specs.Prelude.{Option, Some, None, slice_get}
+use Rattle.std.specs.List.{AllByRecursion}
+use Rattle.std.specs.Option.{option_and_then}
+use Rattle.std.proofs.lemmas.Bool.{ne_eqb}
+use Rattle.std.proofs.lemmas.Bool.Decides.{nat_tests}
+use Rattle.std.proofs.lemmas.Option.{slice_get-get_or}
+use Rattle.mux_history.specs.declared.cause.Cause.TheVariants.{EditorGone, FromEditor}
+use Rattle.mux_history.specs.declared.cause.Why.{Why}
+use Rattle.mux_history.specs.declared.out.Out.{Out}
+use Rattle.mux_history.specs.declared.out.Out.TheVariants.{CloseEditor}
+use Rattle.rpc_message.specs.Message.{Message}
+use Rattle.document_model.specs.Opens.{Open}
+use Rattle.document_model.specs.Texts.{Texts, no_texts}
+use Rattle.event_model.specs.declared.stage.Stage.{Stage}
+use Rattle.event_model.specs.declared.stage.Stage.TheVariants.{Unspawned, Spawning, Initializing, Ready, Stopping, Ending, Ended}
+use Rattle.event_model.specs.Event.{Event, behind, heard, requests, said, took}
+use Rattle.event_model.specs.Phases.{desk_of, is_served}
+use Rattle.event_model.specs.Settings.{Settings}
+use Rattle.event_model.specs.Spawns.{start_of}
+use Rattle.event_model.specs.Stages.{Life, is_ready, life_of}
+use Rattle.event_model.proofs.Frames.{never}
+use Rattle.event_model.proofs.Turns.{behind_more}
+use Rattle.editor_session.specs.Sessions.{absent, session_of}
+use Rattle.focus_switch.specs.Documents.{Documents}
+use Rattle.focus_switch.specs.Rows.{leave_row}
+use Rattle.mux_model.specs.Documents.{held_at, sent_of, without_editor}
+use Rattle.group_words.specs.Houses.{home_of, is_home}
+use Rattle.group_rows.specs.Rows as rows
+use Rattle.group_rows.specs.Texts.{encoding_of, texts_heard, texts_of}
+use Rattle.group_rows.proofs.Frames.{encoding_stays, texts_more, touches_encoding}
+use Rattle.group_laws.specs.Stands.{HeldStands}
+use Rattle.group_laws.proofs.Entries.{known_sent}
+use Rattle.group_laws.proofs.Leaving.{leave_orderly, leave_outs, leave_silent, leave_speaks, leave_spelt, leave_stays, leave_texts}
+use Rattle.group_laws.proofs.Left.{left_held}
+use Rattle.mux_tables.specs.declared.tables.Start.{Start}
+use Rattle.mux_tables.specs.declared.tables.Tables.{Tables}
+use Rattle.mux_tables.specs.Documents.{AllTell, DocumentsStand, IsOwned, Leaves, SharedStands, StartTold, StepAt, StepFrom, leaving, nothing_owed, owes, to}
+use Rattle.mux_tables.specs.Stands.{Stands, group_in, of_life, start_for}
+use Rattle.mux_tables.proofs.DocumentFrames.{all_owned, owner_stays, parts, sent_stays, shared_stays, start_stays, touches_sent, untold_stays}
+use Rattle.mux_tables.proofs.DocumentMoves.{Rest, documents_all, documents_at, documents_set, set_same, starts_kept}
+use Rattle.mux_tables.proofs.DocumentOwed.{owes_here, owes_there}
+use Rattle.mux_tables.proofs.Frames.{itself, spawns}
+
+kept_owners : (e : ℕ) (P Q : Open → Type 0) (os : List Open) → ((o : Open) → nat_eq o.editor e ≡ false → P o → Q o) → AllByRecursion P os → AllByRecursion Q (filter (λ (o : Open). not (nat_eq o.editor e)) os)
+kept_owners e P Q [] f h = tt
+kept_owners e P Q (o ∷ os) f h = go (nat_eq o.editor e) refl (kept_owners e P Q os f h.1)
+  where
+    go : (b : Bool) → nat_eq o.editor e ≡ b → AllByRecursion Q (filter (λ (p : Open). not (nat_eq p.editor e)) os) → AllByRecursion Q (if not b then o ∷ filter (λ (p : Open). not (nat_eq p.editor e)) os else filter (λ (p : Open). not (nat_eq p.editor e)) os)
+    go true k rest = rest
+    go false k rest = (f o k h.0, rest)
+
+-- its own group
+module _ (settings : Settings) (events later : List Event) (e g s : ℕ) (d : Documents) (removed : texts_of settings g later ≡ without_editor e (texts_of settings g events)) (kept : encoding_of g later ≡ encoding_of g events) (same : (u : List ℕ) → sent_of s u later ≡ sent_of s u events)
+    (owners : (o : Open) → nat_eq o.editor e ≡ false → IsOwned settings events g o → IsOwned settings later g o) (few : d.versions < 2 ^ 32) where
+  abbrev bodies : List (List ℕ)
+  bodies = leaving settings events g s e
+
+  abbrev raw : List (List ℕ)
+  raw = rows.leave_bodies d.versions (λ u. held_at s u events) e d.opens d.opens
+
+  abbrev LeftShared : Stage → Type 0
+  LeftShared stage = SharedStands settings later bodies g s stage (leave_row e d).after × ((leave_row e d).outs ≡ to s bodies)
+
+  left_with : (stage : Stage) → StartTold stage s bodies (leave_row e d).after later → SharedStands settings events [] g s stage d → SharedStands settings later bodies g s stage (leave_row e d).after
+  left_with stage start h = record {
+    texts = record { texts = removed ∙ (ap (without_editor e) h.texts.texts ∙ sym (leave_texts e d)); encoding = kept ∙ (h.texts.encoding ∙ sym (leave_stays e d).encoding); orderly = leave_orderly e d h.texts.orderly; spelt = leave_spelt e d h.texts.spelt };
+    versions = (leave_stays e d).versions ∙ h.versions;
+    owned = subst (λ (x : Texts). AllByRecursion (IsOwned settings later g) x.opens) (sym (leave_texts e d)) (kept_owners e (IsOwned settings events g) (IsOwned settings later g) d.opens owners h.owned);
+    start = start;
+  }
+
+  silent : (stage : Stage) → (life_of s events).stage ≡ stage → is_ready stage ≡ false → d.start ≡ None → (leave_row e d).outs ≡ to s bodies
+  silent stage at h none = let empty : bodies ≡ [] = rw (ap is_ready at ∙ h) refl in leave_silent e d none ∙ sym (ap (to s) empty)
+
+  left_idle : (stage : Stage) → (life_of s events).stage ≡ stage → is_ready stage ≡ false → d.start ≡ None → StartTold stage s bodies (leave_row e d).after later → SharedStands settings events [] g s stage d → LeftShared stage
+  left_idle stage at idle none start h = (left_with stage start h, silent stage at idle none)
+
+  no_start : d.start ≡ None → (leave_row e d).after.start ≡ None
+  no_start h = (leave_stays e d).start ∙ h
+
+  pub left_shared : (stage : Stage) → (life_of s events).stage ≡ stage → SharedStands settings events [] g s stage d → LeftShared stage
+  left_shared Spawning at h = left_idle Spawning at refl h.start.0 (no_start h.start.0, untold_stays s [] d events later same h.start.1) h
+  left_shared Initializing at h = left_idle Initializing at refl h.start.0 (no_start h.start.0, untold_stays s [] d events later same h.start.1) h
+  left_shared Unspawned at h = left_idle Unspawned at refl h.start (no_start h.start) h
+  left_shared Stopping at h = left_idle Stopping at refl h.start (no_start h.start) h
+  left_shared Ending at h = left_idle Ending at refl h.start (no_start h.start) h
+  left_shared Ended at h = left_idle Ended at refl h.start (no_start h.start) h
+  left_shared Ready at h =
+      let holds : HeldStands s h.start.code d events = subst (λ es. HeldStands s h.start.code d es) (append-nil events) h.start.holds in
+      let is : bodies ≡ raw = rw (ap is_ready at) (ap₂ (λ n (x : Texts). rows.leave_bodies n (λ u. held_at s u events) e x.opens x.opens) (sym h.versions) h.texts.texts) in
+      let outs : (leave_row e d).outs ≡ to s raw = leave_outs s e h.start.code d (λ u. held_at s u events) holds.start holds.known few holds.held h.texts.orderly h.texts.spelt in
+      let all : (leave_row e d).outs ≡ to s bodies = outs ∙ ap (to s) (sym is) in (
+        left_with Ready (record {
+          code = h.start.code;
+          tell = subst AllTell (sym is) (leave_speaks s e h.start.code d (λ u. held_at s u events) holds.start holds.known few holds.held h.texts.orderly h.texts.spelt);
+          holds = subst (λ xs. HeldStands s h.start.code (leave_row e d).after (behind later xs)) all
+              (left_held settings g e d events later h.texts removed kept s h.start.code [] few tt holds (λ u. same u ∙ known_sent s u h.start.code events holds.given));
+        }) h,
+        all,
+      )
+
+pub past_get : {X : Type 0} (xs : List X) (g : ℕ) → length xs ≤ g → slice_get xs g ≡ None
+past_get [] g h = refl
+past_get (x ∷ xs) zero h = absurd (omega arith)
+past_get (x ∷ xs) (suc g) h = past_get xs g (omega arith)
+
+pub get_past : {X : Type 0} (xs : List X) (g : ℕ) → slice_get xs g ≡ None → length xs ≤ g
+get_past [] g h = omega arith
+get_past (x ∷ xs) zero h = absurd (clash h)
+  where
+    clash : {X : Type 0} {x : X} → ◌≡◌ {A = Option X} (Some x) None → ⊥
+    clash e = cc
+get_past (x ∷ xs) (suc g) h = let k = get_past xs g h in omega (arith, k)
+
+-- all groups
+module _ (settings : Settings) (t u : Tables) (events later : List Event) (e : ℕ) (home : Option ℕ) (outs : List Out) (is : home_of settings e events ≡ home) (ls : u.lasts.items ≡ t.lasts.items) (vs : u.versions ≡ t.versions)
+    (rest : Rest settings t events later) (st : Stands settings t events)
+    (away : (j s : ℕ) (stage : Stage) (c : Documents) → is_home j home ≡ false → SharedStands settings events [] j s stage c → SharedStands settings later [] j s stage c)
+    (removed : (g : ℕ) → home ≡ Some g → texts_of settings g later ≡ without_editor e (texts_of settings g events)) (kept : (g : ℕ) → encoding_of g later ≡ encoding_of g events) (same : (s : ℕ) (u : List ℕ) → sent_of s u later ≡ sent_of s u events)
+    (owners : (g : ℕ) (o : Open) → nat_eq o.editor e ≡ false → IsOwned settings events g o → IsOwned settings later g o) where
+  nobody : ((j : ℕ) (x : Start) → slice_get t.lasts.items j ≡ Some x → is_home j home ≡ false) → u.documents.items ≡ t.documents.items → DocumentsStand settings nothing_owed t events → DocumentsStand settings nothing_owed u later
+  nobody none ds s = documents_all settings nothing_owed nothing_owed t u events later rest vs ls ds (λ j x c at h. away j x.life.start x.life.stage c (none j x at) h) s
+
+  left_at : (g : ℕ) → home ≡ Some g → (o : Option Start) → slice_get t.lasts.items g ≡ o → StepAt (leave_row e) g (slice_get t.documents.items g) t.documents.items outs u.documents.items → DocumentsStand settings nothing_owed t events → Leaves settings events e (Some g) (start_of g events) outs u later
+  left_at g own None at left s =
+      let long : length t.lasts.items ≤ g = get_past t.lasts.items g at in
+      let still : StepAt (leave_row e) g None t.documents.items outs u.documents.items = subst (λ o. StepAt (leave_row e) g o t.documents.items outs u.documents.items) (past_get t.documents.items g (subst (λ n. n ≤ g) (sym s.count) long)) left in
+      subst (λ o. Leaves settings events e (Some g) o outs u later) (sym (st.lasts.none g long)) (still.0, nobody (λ j x there. ap (is_home j) own ∙ ne_eqb g j (λ q. other j x there (sym q))) still.1 s)
+    where
+      clash : {x : Start} → ◌≡◌ {A = Option Start} None (Some x) → ⊥
+      clash k = cc
+
+      other : (j : ℕ) (x : Start) → slice_get t.lasts.items j ≡ Some x → j ≡ g → ⊥
+      other j x there q = clash (sym at ∙ (ap (slice_get t.lasts.items) (sym q) ∙ there))
+  left_at g own (Some x) at left s =
+      let d = documents_at settings nothing_owed t events g x at s in
+      let moved : StepAt (leave_row e) g (Some d.0) t.documents.items outs u.documents.items = subst (λ o. StepAt (leave_row e) g o t.documents.items outs u.documents.items) d.1 left in
+      let stage : (life_of x.life.start events).stage ≡ x.life.stage = ap (λ (l : Life). l.stage) ((st.lasts.each g x at).parts of_life) in
+      let was : SharedStands settings events [] g x.life.start x.life.stage d.0 = s.each g x d.0 at d.1 in
+      let few : d.0.versions < 2 ^ 32 = subst (λ n. n < 2 ^ 32) (sym (was.versions ∙ s.versions)) s.range in
+      let b = leaving settings events g x.life.start e in
+      let go = left_shared settings events later e g x.life.start d.0 (removed g own) (kept g) (same x.life.start) (owners g) few x.life.stage stage was in
+      subst (λ o. Leaves settings events e (Some g) o outs u later) (sym (st.lasts.each g x at).start) (
+        moved.0 ∙ go.1,
+        documents_set settings nothing_owed (owes g b) t u events later rest vs g x x d.0 (leave_row e d.0).after at d.1 (ls ∙ sym (set_same t.lasts.items g x at)) moved.1
+            (λ _. subst (λ w. SharedStands settings later w g x.life.start x.life.stage (leave_row e d.0).after) (sym (owes_here g b)) go.0)
+            (λ j z c off there h. subst (λ w. SharedStands settings later w j z.life.start z.life.stage c) (sym (owes_there g j b off)) (away j z.life.start z.life.stage c (ap (is_home j) own ∙ ne_eqb g j (λ q. off (sym q))) h)) s,
+      )
+
+  left_from : (o : Option ℕ) → home ≡ o → StepFrom (leave_row e) o t.documents.items outs u.documents.items → DocumentsStand settings nothing_owed t events → Leaves settings events e o (option_and_then (λ g. start_of g events) o) outs u later
+  left_from None own left s = (left.0, nobody (λ j x at. ap (is_home j) own) left.1 s)
+  left_from (Some g) own left s = left_at g own (slice_get t.lasts.items g) refl left s
+
+  pub left_documents : StepFrom (leave_row e) home t.documents.items outs u.documents.items → DocumentsStand settings nothing_owed t events → Leaves settings events e (home_of settings e events) (start_for settings e events) outs u later
+  left_documents left s = subst (λ o. Leaves settings events e o (option_and_then (λ g. start_of g events) o) outs u later) (sym is) (left_from home refl left s)
+
+-- an editor has no documents where it isn't at home
+none_left : (e : ℕ) (os : List Open) → AllByRecursion (λ (o : Open). nat_eq o.editor e ≡ false) os → filter (λ (o : Open). not (nat_eq o.editor e)) os ≡ os
+none_left e [] h = refl
+none_left e (o ∷ os) h = go (nat_eq o.editor e) h.0 (none_left e os h.1)
+  where
+    go : (b : Bool) → b ≡ false → filter (λ (p : Open). not (nat_eq p.editor e)) os ≡ os → (if not b then o ∷ filter (λ (p : Open). not (nat_eq p.editor e)) os else filter (λ (p : Open). not (nat_eq p.editor e)) os) ≡ o ∷ os
+    go true k rest = never k
+    go false k rest = ap (λ ps. o ∷ ps) rest
+
+elsewhere : (settings : Settings) (events : List Event) (e g : ℕ) (o : Open) → is_home g (home_of settings e events) ≡ false → IsOwned settings events g o → nat_eq o.editor e ≡ false
+elsewhere settings events e g o h k = go (nat_eq o.editor e) refl
+  where
+    go : (b : Bool) → nat_eq o.editor e ≡ b → b ≡ false
+    go false q = refl
+    go true q = let w : o.editor ≡ e = grind (arith, nat_tests) in never (sym (itself g) ∙ (ap (is_home g) (sym (subst (λ n. home_of settings n events ≡ Some g) w k.0)) ∙ h))
+
+pub home_seen : (settings : Settings) (t : Tables) (events : List Event) (e : ℕ) (home : Option ℕ) → e < length t.editors → home ≡ (session_of t.editors e).group → Stands settings t events → home_of settings e events ≡ home
+home_seen settings t events e home l is st = st.house.editors.home e ∙ (ap group_in (slice_get-get_or t.editors e absent l) ∙ sym is)
+
+other_way : (a b : ℕ) → nat_eq a b ≡ false → nat_eq b a ≡ false
+other_way a b h = grind (arith, nat_tests)
+
+-- its link is gone, or is to be ended
+module _ (settings : Settings) (t u : Tables) (events : List Event) (ev : Event) (e : ℕ) (home : Option ℕ) (outs : List Out) (leaves : (g : ℕ) → texts_of settings g (events ++ ev ∷ []) ≡ without_editor e (texts_of settings g events)) (encodes : touches_encoding ev ≡ false) (sends : touches_sent ev ≡ false) (spawn : spawns ev ≡ false)
+    (names : (n : ℕ) → nat_eq e n ≡ false → parts n ev ≡ false) (is : home_of settings e events ≡ home) (ls : u.lasts.items ≡ t.lasts.items) (vs : u.versions ≡ t.versions) (st : Stands settings t events) where
+  abbrev later : List Event
+  later = events ++ ev ∷ []
+
+  owner : (g : ℕ) (o : Open) → nat_eq o.editor e ≡ false → IsOwned settings events g o → IsOwned settings later g o
+  owner g o off k = owner_stays settings events g o ev (names o.editor (other_way o.editor e off)) k
+
+  away : (j s : ℕ) (stage : Stage) (c : Documents) → is_home j home ≡ false → SharedStands settings events [] j s stage c → SharedStands settings later [] j s stage c
+  away j s stage c off h =
+      let none : AllByRecursion (λ (o : Open). nat_eq o.editor e ≡ false) c.opens = all_owned (IsOwned settings events j) (λ (o : Open). nat_eq o.editor e ≡ false) c.opens (λ o k. elsewhere settings events e j o (ap (is_home j) is ∙ off) k) h.owned in
+      shared_stays settings events later [] j s stage c
+      (leaves j ∙ (ap (without_editor e) h.texts.texts ∙ (ap (λ (os : List Open). record { turn = c.turn; opens = os }) (none_left e c.opens none) ∙ sym h.texts.texts)))
+      (encoding_stays j events ev encodes) (start_stays s [] c events later (λ w. sent_stays s w events ev sends) stage)
+      (λ k. both_owned (λ (o : Open). nat_eq o.editor e ≡ false) (IsOwned settings events j) (IsOwned settings later j) c.opens (owner j) none k) h
+    where
+      both_owned : (N P Q : Open → Type 0) (os : List Open) → ((o : Open) → N o → P o → Q o) → AllByRecursion N os → AllByRecursion P os → AllByRecursion Q os
+      both_owned N P Q [] f n k = tt
+      both_owned N P Q (o ∷ os) f n k = (f o n.0 k.0, both_owned N P Q os f n.1 k.1)
+
+  rest : Rest settings t events later
+  rest = record {
+    texts = λ g l h. leaves g ∙ ap (without_editor e) h;
+    encoding = λ g l. encoding_stays g events ev encodes;
+    starts = starts_kept events ev spawn;
+    sent = λ s l w. sent_stays s w events ev sends;
+  }
+
+  leave_documents : StepFrom (leave_row e) home t.documents.items outs u.documents.items → DocumentsStand settings nothing_owed t events → Leaves settings events e (home_of settings e events) (start_for settings e events) outs u later
+  leave_documents left s = left_documents settings t u events later e home outs is ls vs rest st away (λ g own. leaves g) (λ g. encoding_stays g events ev encodes) (λ s w. sent_stays s w events ev sends) owner left s
+
+pub gone_documents : (settings : Settings) (t u : Tables) (events : List Event) (e : ℕ) (why : Why) (home : Option ℕ) (outs : List Out) → e < length t.editors → home ≡ (session_of t.editors e).group → u.lasts ≡ t.lasts → u.versions ≡ t.versions → StepFrom (leave_row e) home t.documents.items outs u.documents.items
+    → Stands settings t events → DocumentsStand settings nothing_owed t events → Leaves settings events e (home_of settings e events) (start_for settings e events) outs u (events ++ heard (EditorGone e why) ∷ [])
+gone_documents settings t u events e why home outs l is ls vs left st s = leave_documents settings t u events (heard (EditorGone e why)) e home outs (λ g. texts_more settings g events (heard (EditorGone e why))) refl refl refl (λ n h. h) (home_seen settings t events e home l is st) (ap (λ v. v.items) ls) vs st left s
+
+pub closed_documents : (settings : Settings) (t u : Tables) (base : List Event) (xs ys : List Out) (e : ℕ) (home : Option ℕ) (owed : List Out) → e < length t.editors → home ≡ (session_of t.editors e).group → u.lasts ≡ t.lasts → u.versions ≡ t.versions → StepFrom (leave_row e) home t.documents.items owed u.documents.items → ys ≡ xs ++ CloseEditor e ∷ []
+    → Stands settings t (behind base xs) → DocumentsStand settings nothing_owed t (behind base xs) → Leaves settings (behind base xs) e (home_of settings e (behind base xs)) (start_for settings e (behind base xs)) owed u (behind base ys)
+closed_documents settings t u base xs ys e home owed l is ls vs left said_so st s =
+    subst (λ es. Leaves settings (behind base xs) e (home_of settings e (behind base xs)) (start_for settings e (behind base xs)) owed u es) (sym (ap (behind base) said_so ∙ behind_more base xs (CloseEditor e ∷ [])))
+    (leave_documents settings t u (behind base xs) (said (CloseEditor e)) e home owed (λ g. texts_more settings g (behind base xs) (said (CloseEditor e))) refl refl refl (λ n h. h) (home_seen settings t (behind base xs) e home l is st) (ap (λ v. v.items) ls) vs st left s)
+
+-- E9: it asks to shut down
+module _ (settings : Settings) (t u : Tables) (events : List Event) (e : ℕ) (body : List ℕ) (m : Message) (home : Option ℕ) (outs : List Out) (served : is_served (desk_of e events).phase ≡ true) (asks : requests (codes "shutdown") m ≡ true) (is : home_of settings e events ≡ home) (ls : u.lasts.items ≡ t.lasts.items) (vs : u.versions ≡ t.versions) (st : Stands settings t events) where
+  abbrev down : List Event
+  down = events ++ took (FromEditor e body) m ∷ []
+
+  stays_there : (j : ℕ) → is_home j home ≡ false → texts_of settings j down ≡ texts_of settings j events
+  stays_there j off = texts_more settings j events (took (FromEditor e body) m) ∙ rw (ap (is_home j) is ∙ off) refl
+
+  down_owner : (g : ℕ) (o : Open) → nat_eq o.editor e ≡ false → IsOwned settings events g o → IsOwned settings down g o
+  down_owner g o off k = owner_stays settings events g o (took (FromEditor e body) m) (ap (λ b. b && requests (codes "shutdown") m) (other_way o.editor e off)) k
+
+  down_away : (j s : ℕ) (stage : Stage) (c : Documents) → is_home j home ≡ false → SharedStands settings events [] j s stage c → SharedStands settings down [] j s stage c
+  down_away j s stage c off h = shared_stays settings events down [] j s stage c (stays_there j off) (encoding_stays j events (took (FromEditor e body) m) refl) (start_stays s [] c events down (λ w. sent_stays s w events (took (FromEditor e body) m) refl) stage)
+      (all_owned (IsOwned settings events j) (IsOwned settings down j) c.opens (λ o k. down_owner j o (elsewhere settings events e j o (ap (is_home j) is ∙ off) k) k)) h
+
+  down_removed : (g : ℕ) → home ≡ Some g → texts_of settings g down ≡ without_editor e (texts_of settings g events)
+  down_removed g own = texts_more settings g events (took (FromEditor e body) m) ∙ rw (ap (is_home g) (is ∙ own) ∙ itself g, served, asks) refl
+
+  down_rest : Rest settings t events down
+  down_rest = record {
+    texts = λ g l h. texts_more settings g events (took (FromEditor e body) m) ∙ either g (is_home g (home_of settings e events) && is_served (desk_of e events).phase) (texts_of settings g events) h;
+    encoding = λ g l. encoding_stays g events (took (FromEditor e body) m) refl;
+    starts = starts_kept events (took (FromEditor e body) m) refl;
+    sent = λ s l w. sent_stays s w events (took (FromEditor e body) m) refl;
+  }
+    where
+      either : (g : ℕ) (b : Bool) (x : Texts) → x ≡ no_texts → (if b then texts_heard g events e m x else x) ≡ no_texts
+      either g true x h = rw asks (ap (without_editor e) h)
+      either g false x h = h
+
+  pub shutdown_documents : StepFrom (leave_row e) home t.documents.items outs u.documents.items → DocumentsStand settings nothing_owed t events → Leaves settings events e (home_of settings e events) (start_for settings e events) outs u down
+  shutdown_documents left s = left_documents settings t u events down e home outs is ls vs down_rest st down_away down_removed (λ g. encoding_stays g events (took (FromEditor e body) m) refl) (λ s w. sent_stays s w events (took (FromEditor e body) m) refl) down_owner left s

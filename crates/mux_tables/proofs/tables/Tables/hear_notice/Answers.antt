@@ -1,0 +1,18 @@
+-- An editor says something of a document.
+use Rattle.std.proofs.Common.{refl, sym, ◌∙◌}
+use Rattle.document_model.specs.Sayings.{saying_of}
+use Rattle.group_laws.specs.Steps.{document_step}
+use Rattle.rpc_message.specs.Message.{message_of}
+use Rattle.mux_tables.proofs.DocumentLeft.{home_seen}
+use Rattle.mux_tables.proofs.DocumentNoticed.{noticed_from, noticed_documents}
+use Rattle.mux_tables.proofs.Heard.{heard_moves}
+use Rattle.mux_tables.proofs.tables.Tables.hear_notice.Goals as goal
+
+pub returns-clause-stands : goal.returns-clause-stands
+returns-clause-stands c = λ settings events body st stays goes step. heard_moves settings c.args.self.now _ events c.args.e body c.args.phase c.requires.editor c.set.ensures refl refl refl refl stays step refl goes st
+
+pub returns-clause-documents : goal.returns-clause-documents
+returns-clause-documents c = λ settings events body method params g s read reads served home starts st ds.
+    noticed_documents settings events g s c.args.e body method params reads home served c.args.self.now _ c.in_ok-owed.owed starts refl refl
+    (noticed_from (λ d. document_step c.args.e body (saying_of (message_of body)) d) c.group-home.result g c.args.self.now.documents.items c.in_ok-owed.owed c.note.new.documents.items
+    (sym (home_seen settings c.args.self.now events c.args.e c.group-home.result c.requires.editor c.group-home.ensures st) ∙ home) (c.in_ok-owed.ensures body read)) st ds
