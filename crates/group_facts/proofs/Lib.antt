@@ -1,0 +1,10 @@
+pub mod AnswerRows
+pub mod DocumentRow
+pub mod Facts
+pub mod Forwards
+pub mod PlacingRow
+pub mod RequestRow
+pub mod SharedRows
+pub mod Table
+pub mod Tellings
+pub mod Why
