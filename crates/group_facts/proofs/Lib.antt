@@ -2,9 +2,12 @@ pub mod AnswerRows
 pub mod DocumentRow
 pub mod Facts
 pub mod Forwards
+pub mod Opened
+pub mod Plain
 pub mod PlacingRow
 pub mod RequestRow
 pub mod SharedRows
 pub mod Table
 pub mod Tellings
 pub mod Why
+pub mod Written
