@@ -1,7 +1,11 @@
 pub mod AnswerRows
+pub mod Askers
 pub mod DocumentRow
 pub mod Facts
 pub mod Forwards
+pub mod Known
+pub mod Levels
+pub mod Numbers
 pub mod Opened
 pub mod Plain
 pub mod PlacingRow
@@ -9,5 +13,6 @@ pub mod RequestRow
 pub mod SharedRows
 pub mod Table
 pub mod Tellings
+pub mod Waiting
 pub mod Why
 pub mod Written

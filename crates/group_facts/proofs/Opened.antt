@@ -2,7 +2,7 @@
 use Rattle.std.proofs.Common.{◌≡◌, ℕ, ◌+◌, ◌<◌, Bool, true, false, not, cond, List, [], ◌∷◌, ◌++◌, map, filter, nat_eq, Option, Some, None, refl, sym, ◌∙◌, subst, arith}
 use Rattle.std.specs.List.{AllByRecursion}
 use Rattle.document_model.specs.Opens.{Open, is_open_at}
-use Rattle.document_model.specs.Orderly.{AllSpelt, IsSpelt, Once, Orderly}
+use Rattle.document_model.specs.Orderly.{AllSpelt, IsSpelt, Once}
 use Rattle.document_model.specs.Sayings.{saying_of}
 use Rattle.document_model.specs.Texts.{Texts, texts_behind}
 use Rattle.document_model.proofs.Orders.{orderly_behind, orderly_none}

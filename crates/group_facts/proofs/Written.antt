@@ -1,9 +1,8 @@
 -- The daemon's own `initialize` to the starts of each group is a request with the number 1.
-use Rattle.std.proofs.Common.{◌≡◌, ℕ, zero, suc, ◌+◌, ◌≤◌, Bool, true, false, not, ◌&&◌, cond, List, [], ◌∷◌, ◌++◌, length, nat_eq, bytes_eq, codes, if◌then◌else◌, Option, Some, None, refl, sym, ◌∙◌, ap, ap₂, subst}
+use Rattle.std.proofs.Common.{◌≡◌, ℕ, zero, suc, Bool, true, false, not, ◌&&◌, List, [], ◌∷◌, ◌++◌, bytes_eq, codes, if◌then◌else◌, Option, Some, None, refl, sym, ◌∙◌, ap₂, subst}
 use Rattle.std.specs.List.{AllByRecursion}
 use Rattle.std.proofs.lemmas.Bool.{and_parts}
 use Rattle.std.proofs.lemmas.Slice.Eq.{bytes_eq-Decides}
-use Rattle.json_text.specs.Json.{Json}
 use Rattle.mux_history.specs.declared.cause.Cause.{Cause}
 use Rattle.mux_history.specs.declared.cause.Cause.TheVariants.{Joined, FromEditor, Started, FromServer}
 use Rattle.mux_history.specs.declared.out.Out.{Out}
@@ -11,8 +10,8 @@ use Rattle.mux_history.specs.declared.out.Out.TheVariants.{CloseEditor}
 use Rattle.rpc_message.specs.Message.{Message, request, notification, result, error, not_json, not_message, Id, integer, text, message_of}
 use Rattle.event_model.specs.declared.phase.Phase.{Phase}
 use Rattle.event_model.specs.declared.phase.Phase.TheVariants.{Absent, New, Waiting, Answered, Running, Down, Closed, Gone}
-use Rattle.event_model.specs.Event.{Event, did, heard, said, with_cause, requests}
-use Rattle.event_model.specs.Phases.{desk_of, is_begun}
+use Rattle.event_model.specs.Event.{Event, heard, said, with_cause}
+use Rattle.event_model.specs.Phases.{desk_of}
 use Rattle.event_model.specs.Requests.{open_of, is_open}
 use Rattle.event_model.specs.Settings.{Settings}
 use Rattle.event_model.specs.Spawns.{group_of}
@@ -22,7 +21,7 @@ use Rattle.mux_facts.proofs.Lists.{all_join}
 use Rattle.group_words.specs.declared.kept.Kept.{Kept}
 use Rattle.group_words.specs.declared.placed.Placed.{Placed}
 use Rattle.group_words.specs.declared.placed.Placed.TheVariants.{Joins, New as Founds, Evicts, TooMany}
-use Rattle.group_words.specs.Houses.{at_group, declared_for, emptied, groups_hear, groups_left, groups_of, groups_refused, has_editor, house_of, idle_if_live, is_first_error, key_for, placed_for, places, stops, time_of}
+use Rattle.group_words.specs.Houses.{at_group, declared_for, emptied, groups_hear, groups_of, house_of, idle_if_live, is_first_error, key_for, placed_for, places, stops}
 use Rattle.group_words.specs.Keys.{Common}
 use Rattle.group_words.specs.Placing.{busy, changed, end_where, ended, founded, is_live, with_editor}
 use Rattle.group_words.specs.Rows.{initialize_of}
