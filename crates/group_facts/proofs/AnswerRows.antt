@@ -30,7 +30,7 @@ use Rattle.mux_model.specs.Rows.{below, to_start}
 use Rattle.mux_model.proofs.DocumentFolds.{outs_to_start}
 use Rattle.mux_facts.specs.Allowed.{is_response}
 use Rattle.mux_facts.specs.Ranges.{InRange}
-use Rattle.mux_facts.proofs.Bodies.{passed_says, welcome_says}
+use Rattle.mux_facts.proofs.Bodies.{IsResponseTo, is_result, is_error, passed_says, welcome_says}
 use Rattle.mux_facts.proofs.Folds.{desk_more, life_more, opens_more}
 use Rattle.mux_facts.proofs.Lists.{found_is}
 use Rattle.mux_facts.proofs.Reasons.{Because, by_nothing, by_send, by_then, by_choose, by_look, by_on}
@@ -45,11 +45,11 @@ use Rattle.group_words.specs.Rows.{shown_of}
 use Rattle.group_rows.specs.Forwarded.{Forwarded, answered_by, forwarding_of}
 use Rattle.group_rows.specs.Rows.{first_result, from_server, replay_bodies, response_row, result_in, started, waiting_in, welcome}
 use Rattle.group_rows.specs.Texts.{texts_of}
-use Rattle.group_facts.proofs.Facts.{AllForwarded, IsAsker, IsForwarded, IsWritten, Opened, Untold, Written}
+use Rattle.group_facts.specs.Facts.{AllForwarded, IsAsker, IsForwarded, IsWaiting, IsWritten, Opened, Untold, Written}
 use Rattle.group_facts.proofs.Forwards.{Still, still_notified, still_now}
 use Rattle.group_facts.proofs.SharedRows.{AllTold, replay_told}
 use Rattle.group_facts.proofs.Tellings.{Calm, tells_row}
-use Rattle.group_facts.proofs.Why.{IsPassing, IsWaiting, Why, begins, greeted, greets, passes, welcomes}
+use Rattle.group_facts.specs.Why.{IsPassing, Why, begins, greeted, greets, passes, welcomes}
 
 -- the numbers below, counted up
 range_last : (a n : ℕ) → range_with_len a (suc n) ≡ range_with_len a n ++ (a + n) ∷ []
@@ -73,6 +73,10 @@ answers_only (notification method params) f fs h = absurd (nobody_found fs f h)
 answers_only not_json f fs h = absurd (nobody_found fs f h)
 answers_only not_message f fs h = absurd (nobody_found fs f h)
 
+response_is : (id : Id) (m : Message) → IsResponseTo id m → (is_response m ≡ true) × (answered_id m ≡ Some id)
+response_is id m (is_result r e) = (ap is_response e, ap answered_id e)
+response_is id m (is_error x e) = (ap is_response e, ap answered_id e)
+
 get_all : {X : Type 0} (P : X → Type 0) (xs : List X) (i : ℕ) (x : X) → AllByRecursion P xs → slice_get xs i ≡ Some x → P x
 get_all P [] i x h e = absurd (cc)
 get_all P (y ∷ xs) zero x h e = subst P (let same : y ≡ x = cc in same) h.0
@@ -92,6 +96,8 @@ module _ (settings : Settings) (range : InRange settings) (before : List Event) 
       passing : (f : Forwarded) → find (answered_by (answered_id (message_of body))) (forwarding_of s before).open_requests ≡ Some f → is_there (desk_of f.editor before).phase ≡ true → IsPassing before (FromServer s body) now f.editor (with_id_text body f.id)
       passing f found there =
           let k : IsAsker before f.editor f.id = found_is (IsForwarded before) (answered_by (answered_id (message_of body))) f (forwarding_of s before).open_requests (all s) found in
+          let p : (is_response (message_of (with_id_text body f.id)) ≡ true) × (answered_id (message_of (with_id_text body f.id)) ≡ Some k.id)
+              = response_is k.id (message_of (with_id_text body f.id)) (passed_says body f.id k.id (answers_only (message_of body) f (forwarding_of s before).open_requests found) k.text) in
           record {
             start = s;
             answer = body;
@@ -104,7 +110,8 @@ module _ (settings : Settings) (range : InRange settings) (before : List Event) 
             late = ap (λ (d : Desk). is_early d.phase) (desk_more f.editor before (heard (FromServer s body))) ∙ k.late;
             text = k.text;
             bytes = refl;
-            says = passed_says body f.id k.id (answers_only (message_of body) f (forwarding_of s before).open_requests found) k.text;
+            response = p.0;
+            answers = p.1;
           }
 
   -- S2

@@ -25,11 +25,11 @@ use Rattle.mux_facts.proofs.Why.{is_early}
 use Rattle.mux_facts.proofs.Words.{number_same}
 use Rattle.group_rows.specs.Forwarded.{Forwarded, Forwarding, Sender, answered_by, forwarding_behind, forwarding_of, forwards, numbered}
 use Rattle.group_facts.specs.Built.{built_behind}
-use Rattle.group_facts.proofs.Facts.{AllForwarded, IsAsker, IsForwarded}
+use Rattle.group_facts.specs.Facts.{AllForwarded, IsAsker, IsForwarded}
 use Rattle.group_facts.proofs.Forwards.{forwarding_more, notified_all}
 use Rattle.group_facts.proofs.Levels.{each_start}
 use Rattle.group_facts.proofs.Numbers.{forwarding_other, forwarding_sent}
-use Rattle.group_facts.proofs.Why.{IsForward, WhyToServer, begins, greets, forwarded, tells, shuts}
+use Rattle.group_facts.specs.Why.{IsForward, WhyToServer, begins, greets, forwarded, tells, shuts}
 
 -- An editor that got its result stays one that did
 

@@ -25,10 +25,10 @@ use Rattle.mux_facts.proofs.Reasons.{Because, by_nothing, by_choose, by_on}
 use Rattle.mux_facts.proofs.Tellings.{sent_more}
 use Rattle.group_rows.specs.Rows.{changed_bodies, closed_bodies, document_at, document_bodies, document_row}
 use Rattle.group_rows.specs.Texts.{encoding_of, texts_of}
-use Rattle.group_facts.proofs.Facts.{IsOpened, Opened}
+use Rattle.group_facts.specs.Facts.{IsOpened, Opened}
 use Rattle.group_facts.proofs.Forwards.{still_now}
 use Rattle.group_facts.proofs.Tellings.{Calm, Tells, close_told, differing_told, open_told, switched_told, tells_none, tells_row, versioned_told}
-use Rattle.group_facts.proofs.Why.{Why, stays}
+use Rattle.group_facts.specs.Why.{Why, stays}
 
 module _ (settings : Settings) (range : InRange settings) (before : List Event) (e : ℕ) (body : List ℕ) (s : ℕ) where
   abbrev pub now : List Event

@@ -33,7 +33,8 @@ use Rattle.group_rows.specs.Rows.{outs_of}
 use Rattle.group_facts.specs.Built.{built_behind}
 use Rattle.group_facts.specs.Legal.{Legal, LegalFrom}
 use Rattle.group_facts.proofs.Askers.{asked_said, asked_sent, asked_took}
-use Rattle.group_facts.proofs.Facts.{Base, Facts, Mid, Steady, is_unready, is_up}
+use Rattle.group_facts.specs.Facts.{is_unready, is_up}
+use Rattle.group_facts.proofs.Facts.{Base, Facts, Mid, Steady}
 use Rattle.group_facts.proofs.Forwards.{forwarding_more}
 use Rattle.group_facts.proofs.Levels.{Fresh, unbegun_falls, unready_falls, up_falls}
 use Rattle.group_facts.proofs.Numbers.{bounded_said, bounded_sent, bounded_took, spawn_fresh, unbegun_said, unbegun_sent, unbegun_took, untold_said, untold_sent, untold_took}
@@ -41,7 +42,7 @@ use Rattle.group_facts.proofs.Opened.{opened_did, opened_none, opened_took}
 use Rattle.group_facts.proofs.Plain.{plain_did, plain_none, plain_took}
 use Rattle.group_facts.proofs.Table.{reasons}
 use Rattle.group_facts.proofs.Waiting.{waiting_closed, waiting_rests, waiting_said, waiting_told, waiting_took}
-use Rattle.group_facts.proofs.Why.{Why, is_starting}
+use Rattle.group_facts.specs.Why.{Why, is_starting}
 use Rattle.group_facts.proofs.Written.{written_did, written_took}
 
 module _ (settings : Settings) where
@@ -199,14 +200,14 @@ module _ (settings : Settings) where
         (with_cause before cause) (outs_of settings before cause) (reasons settings range before h cause built).why (here_took before cause fits built h) in
         record { base = last.base; steady = (last.mid).steady; waiting = waiting_rests settings before cause (last.mid).waiting }
 
-    no_facts : Facts settings []
+    pub no_facts : Facts settings []
     no_facts = record {
       base = record { opened = opened_none settings; plain = plain_none; written = tt };
       steady = record { starts = λ s le. refl; unbegun = λ s un. (refl, refl); untold = λ s un u. refl; bounded = λ s up. (omega arith, omega arith); editors = λ e le. refl; asked = λ s. tt };
       waiting = λ e. tt;
     }
 
-    one_entry : (before : List Entry) (entry : Entry) → IsTrue (fits_behind (events_of before) entry.cause) → IsTrue (built_behind settings (events_of before) entry.cause)
+    pub one_entry : (before : List Entry) (entry : Entry) → IsTrue (fits_behind (events_of before) entry.cause) → IsTrue (built_behind settings (events_of before) entry.cause)
         → entry.outs ≡ outs_of settings (events_of before) entry.cause → Facts settings (events_of before) → Facts settings (events_of (before ++ entry ∷ []))
     one_entry before entry fits built outs h = subst (Facts settings) (sym (events_more before entry)) (subst (λ z. Facts settings (behind (with_cause (events_of before) entry.cause) z)) (sym outs)
         (entry_keeps (events_of before) entry.cause fits built h))

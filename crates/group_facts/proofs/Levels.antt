@@ -12,7 +12,7 @@ use Rattle.mux_facts.proofs.FactLaws.{hears_back, started_back, told_not}
 use Rattle.mux_facts.proofs.Folds.{life_more}
 use Rattle.mux_facts.proofs.Known.{is_unbegun}
 use Rattle.mux_facts.proofs.Words.{number_same}
-use Rattle.group_facts.proofs.Facts.{is_unready, is_up}
+use Rattle.group_facts.specs.Facts.{is_unready, is_up}
 
 -- a test that a start passes until it comes to a stage, and never again
 pub record Falls (test : Stage → Bool) : Type 0 where

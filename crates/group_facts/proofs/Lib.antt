@@ -1,6 +1,7 @@
 pub mod AnswerRows
 pub mod Askers
 pub mod DocumentRow
+pub mod Everywhere
 pub mod Facts
 pub mod Forwards
 pub mod Known
@@ -14,5 +15,4 @@ pub mod SharedRows
 pub mod Table
 pub mod Tellings
 pub mod Waiting
-pub mod Why
 pub mod Written

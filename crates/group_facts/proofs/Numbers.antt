@@ -25,10 +25,11 @@ use Rattle.mux_facts.proofs.Tellings.{sent_more}
 use Rattle.mux_facts.proofs.Words.{number_same, same_number}
 use Rattle.group_rows.specs.Forwarded.{Forwarding, forwarding_of, forwards, numbered}
 use Rattle.group_facts.specs.Built.{built_behind}
-use Rattle.group_facts.proofs.Facts.{Bounded, Facts, Unbegun, Untold, is_unready, is_up}
+use Rattle.group_facts.specs.Facts.{Bounded, Unbegun, Untold, is_unready, is_up}
+use Rattle.group_facts.proofs.Facts.{Facts}
 use Rattle.group_facts.proofs.Forwards.{forwarding_more, notified_next}
 use Rattle.group_facts.proofs.Levels.{Fresh, Step, each_start, level_more, unbegun_falls, unready_falls, up_falls}
-use Rattle.group_facts.proofs.Why.{IsBeginning, IsForward, WhyToServer, begins, greets, forwarded, tells, shuts}
+use Rattle.group_facts.specs.Why.{IsBeginning, IsForward, WhyToServer, begins, greets, forwarded, tells, shuts}
 
 -- A cause leaves the numbers and the documents alone
 

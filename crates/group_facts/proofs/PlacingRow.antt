@@ -28,9 +28,9 @@ use Rattle.group_words.specs.declared.placed.Placed.TheVariants.{Joins, New as F
 use Rattle.group_words.specs.Houses.{groups_of, placed_for}
 use Rattle.group_words.specs.Rows.{answer_with, end_group, end_start, initialize_row, placed_row}
 use Rattle.group_rows.specs.Forwarded.{forwarding_of}
-use Rattle.group_facts.proofs.Facts.{Bounded, IsPlain, Plain, turned_away}
+use Rattle.group_facts.specs.Facts.{Bounded, IsPlain, IsWaiting, Plain, turned_away}
 use Rattle.group_facts.proofs.RequestRow.{R, asked, desk_taken, either_desk}
-use Rattle.group_facts.proofs.Why.{IsWaiting, is_starting, shuts, turns_away, welcomes}
+use Rattle.group_facts.specs.Why.{is_starting, shuts, turns_away, welcomes}
 
 -- the daemon's own `shutdown`
 shutdown_says : (n : ℕ) → n < 2 ^ 128 → message_of (request_text n (codes "shutdown") None) ≡ request (integer (decimal n)) (codes "shutdown") None

@@ -13,7 +13,7 @@ use Rattle.event_model.proofs.Frames.{never}
 use Rattle.mux_facts.proofs.Table.{FirstResult, first_result_is}
 use Rattle.group_words.specs.Rows.{result_behind, result_of}
 use Rattle.group_facts.specs.Built.{built_behind}
-use Rattle.group_facts.proofs.Facts.{IsPlain, Plain}
+use Rattle.group_facts.specs.Facts.{IsPlain, Plain}
 use Rattle.group_facts.proofs.Table.{first_shown}
 
 result_more : (s : ℕ) (events : List Event) (event : Event) → result_of s (events ++ event ∷ []) ≡ result_behind s (result_of s events) event

@@ -33,12 +33,12 @@ use Rattle.group_rows.specs.Forwarded.{Forwarding, forwarding_of, sender_of}
 use Rattle.group_rows.specs.Rows.{answer_error, can_ask, forward, request_at, request_row, sync_bodies, sync_row}
 use Rattle.group_rows.specs.Texts.{texts_of}
 use Rattle.group_facts.specs.Built.{is_plain}
-use Rattle.group_facts.proofs.Facts.{Opened}
+use Rattle.group_facts.specs.Facts.{Opened}
 use Rattle.group_facts.proofs.DocumentRow.{calm_now, held_still}
 use Rattle.group_facts.proofs.Forwards.{forwarding_more}
 use Rattle.group_facts.proofs.SharedRows.{AllTold, Held, sync_told}
 use Rattle.group_facts.proofs.Tellings.{Calm, tells_row}
-use Rattle.group_facts.proofs.Why.{IsForward, Why, forwarded, refuses}
+use Rattle.group_facts.specs.Why.{IsForward, Why, forwarded, refuses}
 
 -- a request of class Other is neither `initialize` nor `shutdown`
 pub plain_other : (method : List ℕ) → is_plain method ≡ true → is_own method ≡ false

@@ -30,7 +30,7 @@ use Rattle.mux_facts.proofs.Reasons.{Because, Reasons, reasons_both}
 use Rattle.mux_facts.proofs.Tellings.{Says, closed_not, sent_more, version_at, versions_at}
 use Rattle.mux_facts.proofs.Words.{same_number}
 use Rattle.group_facts.proofs.Forwards.{Still, still_notified}
-use Rattle.group_facts.proofs.Why.{Turn, Why, stays, greeted, tells}
+use Rattle.group_facts.specs.Why.{Turn, Why, stays, greeted, tells}
 
 -- a further event of s
 turn_more : (before : List Event) (cause : Cause) (events : List Event) (s : ℕ) (body : List ℕ) → Turn before cause events s → Turn before cause (events ++ said (ToServer s body) ∷ []) s

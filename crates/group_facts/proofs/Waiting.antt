@@ -23,8 +23,9 @@ use Rattle.group_words.specs.declared.placed.Placed.{Placed}
 use Rattle.group_words.specs.declared.placed.Placed.TheVariants.{Joins, New as Founds, Evicts, TooMany}
 use Rattle.group_words.specs.Houses.{groups_of, placed_for, places}
 use Rattle.group_rows.specs.Rows.{outs_of}
-use Rattle.group_facts.proofs.Facts.{OthersWait, is_too_many, turned_away}
-use Rattle.group_facts.proofs.Why.{IsRefusal, WhyToEditor, rejects, refuses, turns_away, welcomes, passes}
+use Rattle.group_facts.specs.Facts.{is_too_many, turned_away}
+use Rattle.group_facts.proofs.Facts.{OthersWait}
+use Rattle.group_facts.specs.Why.{IsRefusal, WhyToEditor, rejects, refuses, turns_away, welcomes, passes}
 
 -- one event more
 wait_more : (e : ℕ) (events : List Event) (event : Event) → WaitsAt (desk_behind e (desk_of e events) event) (open_behind e (open_of e events) event) → WaitsAt (desk_of e (events ++ event ∷ [])) (open_of e (events ++ event ∷ []))

@@ -27,7 +27,7 @@ use Rattle.group_words.specs.Placing.{busy, changed, end_where, ended, founded, 
 use Rattle.group_words.specs.Rows.{initialize_of}
 use Rattle.group_words.proofs.Frames.{groups_more, groups_stay, touches_groups}
 use Rattle.group_facts.specs.Built.{built_as, built_behind, built_from_editor, is_own_initialize, is_plain, opens_well}
-use Rattle.group_facts.proofs.Facts.{IsWritten, Written}
+use Rattle.group_facts.specs.Facts.{IsWritten, Written}
 
 abbrev All : List Kept → Type 0
 All groups = AllByRecursion IsWritten groups

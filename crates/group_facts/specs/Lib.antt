@@ -1,2 +1,4 @@
 pub mod Built
+pub mod Facts
 pub mod Legal
+pub mod Why

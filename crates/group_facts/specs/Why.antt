@@ -1,10 +1,12 @@
 -- Why each out of the routing table over several editors and groups is sent, with what is known at its place: `before` are the events before the entry, `events` those before the out.
-use Rattle.std.proofs.Common.{◌≡◌, ℕ, Bool, true, false, List, Option, Some, None, nat_lt, [], ◌∷◌, ◌++◌, codes, decimal}
-use Rattle.std.specs.Prelude.{find}
+use Rattle.std.specs.Prelude.{◌≡◌, ℕ, Bool, true, false, ◌&&◌, List, [], ◌∷◌, ◌++◌, find, nat_eq, nat_lt, codes, decimal}
+use Rattle.std.specs.Prelude.{Option, Some, None}
+use Rattle.std.specs.Option.{option_map}
 use Rattle.json_text.specs.Json.{Json}
 use Rattle.document_model.specs.Sayings.{saying_of, speaks}
 use Rattle.mux_history.specs.declared.cause.Cause.{Cause}
 use Rattle.mux_history.specs.declared.cause.Cause.TheVariants.{Started, FromServer, FromEditor}
+use Rattle.mux_history.specs.declared.entry.Entry.{Entry}
 use Rattle.mux_history.specs.declared.out.Out.{Out}
 use Rattle.mux_history.specs.declared.out.Out.TheVariants.{ToEditor, ToServer, Spawn, CloseEditor, EndServer}
 use Rattle.rpc_message.specs.Message.{request, Id, message_of, notification, result, error, integer}
@@ -13,21 +15,36 @@ use Rattle.rpc_message.specs.ValueTexts.{IsIdText}
 use Rattle.event_model.specs.declared.phase.Phase.TheVariants.{Waiting}
 use Rattle.event_model.specs.declared.stage.Stage.{Stage}
 use Rattle.event_model.specs.declared.stage.Stage.TheVariants.{Spawning, Initializing, Ready}
-use Rattle.event_model.specs.Event.{Event, heard, said, with_cause}
+use Rattle.event_model.specs.Event.{Event, events_of, heard, said, with_cause}
 use Rattle.event_model.specs.Parts.{server_part}
 use Rattle.event_model.specs.Phases.{desk_of, has_id, is_there, is_malformed}
 use Rattle.event_model.specs.Requests.{asking_of, answered_id, open_of, is_open, is_own}
 use Rattle.event_model.specs.Settings.{Settings}
 use Rattle.event_model.specs.Spawns.{starts_of}
-use Rattle.event_model.specs.Stages.{is_first_result, life_of}
-use Rattle.mux_facts.specs.Allowed.{AllowsSaying}
-use Rattle.mux_facts.proofs.Bodies.{IsResponseTo}
-use Rattle.mux_facts.proofs.Tellings.{versions_at}
-use Rattle.mux_facts.proofs.Why.{is_early, moves}
+use Rattle.event_model.specs.Stages.{is_first_result, is_initializing, is_spawning, life_of}
+use Rattle.mux_facts.specs.Allowed.{AllowsSaying, is_response}
+use Rattle.mux_model.specs.Documents.{held_at}
+use Rattle.document_model.specs.Helds.{HeldText}
 use Rattle.group_rows.specs.Forwarded.{Forwarded, Sender, answered_by, forwarding_of}
-use Rattle.group_facts.proofs.Facts.{turned_away}
+use Rattle.group_facts.specs.Facts.{IsWaiting, is_early, turned_away}
 
 -- Bodies to a start
+
+-- a start's program runs now, or answered the daemon's `initialize`
+abbrev pub moves_on : List Event → Cause → Bool
+moves_on events (Started s) = is_spawning (life_of s events).stage
+moves_on events (FromServer s body) = is_initializing (life_of s events).stage && is_first_result (message_of body)
+moves_on events other = false
+
+-- the start that this cause is about moves on in this entry
+abbrev pub moves : List Event → Cause → ℕ → Bool
+moves before (Started n) s = nat_eq n s && moves_on before (Started n)
+moves before (FromServer n body) s = nat_eq n s && moves_on before (FromServer n body)
+moves before other s = false
+
+-- the versions of the documents that s has
+abbrev pub versions_at : ℕ → List Event → List ℕ → Option ℕ
+versions_at s events u = option_map (λ (h : HeldText). h.version) (held_at s u events)
 
 -- its program runs from this entry on
 pub record IsBeginning (before : List Event) (cause : Cause) (events : List Event) (s : ℕ) (body : List ℕ) : Type 0 where
@@ -111,14 +128,7 @@ pub record IsRefusal (before : List Event) (cause : Cause) (events : List Event)
   pub others : (desk_of e events).phase ≡ Waiting → has_id id (message_of (desk_of e events).initialize) ≡ false
   pub says : message_of body ≡ error (Some id) x
 
--- the `initialize` of an editor that waits, and is open
-pub record IsWaiting (events : List Event) (e : ℕ) (id : Id) : Type 0 where
-  pub params : Option Json
-  pub phase : (desk_of e events).phase ≡ Waiting
-  pub asks : message_of (desk_of e events).initialize ≡ request id (codes "initialize") params
-  pub waits : is_open id (open_of e events) ≡ true
-
--- an error for it: the daemon has too many groups
+-- an error for the `initialize` of an editor that waits: the daemon has too many groups
 pub record IsTurning (settings : Settings) (before : List Event) (cause : Cause) (events : List Event) (e : ℕ) (body : List ℕ) : Type 0 where
   pub id : Id
   pub x : Json
@@ -146,7 +156,8 @@ pub record IsPassing (before : List Event) (cause : Cause) (events : List Event)
   pub late : is_early (desk_of e events).phase ≡ false
   pub text : IsIdText id request.id
   pub bytes : body ≡ with_id_text answer request.id
-  pub says : IsResponseTo id (message_of body)
+  pub response : is_response (message_of body) ≡ true
+  pub answers : answered_id (message_of body) ≡ Some id
 
 pub data WhyToEditor (settings : Settings) (before : List Event) (cause : Cause) (events : List Event) (e : ℕ) (body : List ℕ) : Type 0 where
   rejects : IsRejection before cause events e body → WhyToEditor settings before cause events e body
@@ -167,3 +178,16 @@ Why settings before cause events (ToServer s body) = WhyToServer settings before
 Why settings before cause events (Spawn s g) = s ≡ starts_of events
 Why settings before cause events (CloseEditor e) = turned_away settings before cause e ≡ true × is_there (desk_of e events).phase ≡ true
 Why settings before cause events (EndServer s) = is_starting (life_of s events).stage ≡ true
+
+-- each of these outs of a cause has its reason, at its place
+abbrev pub AllWhy : Settings → List Event → Cause → List Event → List Out → Type 0
+AllWhy settings before cause events [] = Unit {0}
+AllWhy settings before cause events (out ∷ outs) = Why settings before cause events out × AllWhy settings before cause (events ++ said out ∷ []) outs
+
+-- and each out of these entries, behind those before them
+abbrev pub ReasonsFrom : Settings → List Entry → List Entry → Type 0
+ReasonsFrom settings before [] = Unit {0}
+ReasonsFrom settings before (entry ∷ rest) = AllWhy settings (events_of before) entry.cause (with_cause (events_of before) entry.cause) entry.outs × ReasonsFrom settings (before ++ entry ∷ []) rest
+
+abbrev pub HasReasons : Settings → List Entry → Type 0
+HasReasons settings history = ReasonsFrom settings [] history
