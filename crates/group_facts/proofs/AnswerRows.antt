@@ -97,7 +97,7 @@ module _ (settings : Settings) (range : InRange settings) (before : List Event) 
       passing f found there =
           let k : IsAsker before f.editor f.id = found_is (IsForwarded before) (answered_by (answered_id (message_of body))) f (forwarding_of s before).open_requests (all s) found in
           let p : (is_response (message_of (with_id_text body f.id)) ≡ true) × (answered_id (message_of (with_id_text body f.id)) ≡ Some k.id)
-              = response_is k.id (message_of (with_id_text body f.id)) (passed_says body f.id k.id (answers_only (message_of body) f (forwarding_of s before).open_requests found) k.text) in
+          = response_is k.id (message_of (with_id_text body f.id)) (passed_says body f.id k.id (answers_only (message_of body) f (forwarding_of s before).open_requests found) k.text) in
           record {
             start = s;
             answer = body;

@@ -15,4 +15,5 @@ pub mod SharedRows
 pub mod Table
 pub mod Tellings
 pub mod Waiting
+mod Worked
 pub mod Written
