@@ -77,7 +77,7 @@ response_is : (id : Id) (m : Message) → IsResponseTo id m → (is_response m �
 response_is id m (is_result r e) = (ap is_response e, ap answered_id e)
 response_is id m (is_error x e) = (ap is_response e, ap answered_id e)
 
-get_all : {X : Type 0} (P : X → Type 0) (xs : List X) (i : ℕ) (x : X) → AllByRecursion P xs → slice_get xs i ≡ Some x → P x
+pub get_all : {X : Type 0} (P : X → Type 0) (xs : List X) (i : ℕ) (x : X) → AllByRecursion P xs → slice_get xs i ≡ Some x → P x
 get_all P [] i x h e = absurd (cc)
 get_all P (y ∷ xs) zero x h e = subst P (let same : y ≡ x = cc in same) h.0
 get_all P (y ∷ xs) (suc i) x h e = get_all P xs i x h.1 e

@@ -1,11 +1,11 @@
 -- The facts are kept by every cause and every out, and so hold of every legal history.
-use Rattle.std.proofs.Common.{◌≡◌, ℕ, true, false, List, [], ◌∷◌, ◌++◌, IsTrue, nat_eq, refl, sym, ◌∙◌, ap, subst, append_assoc, append-nil, arith}
+use Rattle.std.proofs.Common.{◌≡◌, ℕ, true, false, List, [], ◌∷◌, ◌++◌, IsTrue, nat_eq, refl, sym, ◌∙◌, ap, subst, append_assoc, append-nil, arith, length, ◌<◌}
 use Rattle.mux_history.specs.declared.cause.Cause.{Cause}
 use Rattle.mux_history.specs.declared.cause.Cause.TheVariants.{Joined}
 use Rattle.mux_history.specs.declared.entry.Entry.{Entry}
 use Rattle.mux_history.specs.declared.out.Out.{Out}
 use Rattle.mux_history.specs.declared.out.Out.TheVariants.{ToEditor, ToServer, Spawn, CloseEditor, EndServer}
-use Rattle.event_model.specs.declared.stage.Stage.TheVariants.{Unspawned}
+use Rattle.event_model.specs.declared.stage.Stage.TheVariants.{Unspawned, Spawning}
 use Rattle.event_model.specs.Event.{Event, heard, said, behind, with_cause, events_of}
 use Rattle.event_model.specs.Phases.{Desk, desk_of, is_there, phase_closed}
 use Rattle.event_model.specs.Requests.{Asking, asking_of}
@@ -28,16 +28,19 @@ use Rattle.mux_facts.proofs.Starts as starts
 use Rattle.mux_facts.proofs.Starts.{Starts}
 use Rattle.mux_facts.proofs.Tellings.{sent_more}
 use Rattle.mux_facts.proofs.Words.{number_same}
+use Rattle.group_words.specs.Houses.{groups_of}
 use Rattle.group_rows.specs.Forwarded.{Forwarding, forwarding_of}
 use Rattle.group_rows.specs.Rows.{outs_of}
 use Rattle.group_facts.specs.Built.{built_behind}
 use Rattle.group_facts.specs.Legal.{Legal, LegalFrom}
 use Rattle.group_facts.proofs.Askers.{asked_said, asked_sent, asked_took}
 use Rattle.group_facts.specs.Facts.{is_unready, is_up}
-use Rattle.group_facts.proofs.Facts.{Base, Facts, Mid, Steady}
+use Rattle.group_facts.proofs.Facts.{Base, Facts, Mid, OthersTied, Steady}
 use Rattle.group_facts.proofs.Forwards.{forwarding_more}
+use Rattle.group_facts.proofs.Housed.{housed_did, housed_spawn, housed_took}
 use Rattle.group_facts.proofs.Levels.{Fresh, unbegun_falls, unready_falls, up_falls}
 use Rattle.group_facts.proofs.Numbers.{bounded_said, bounded_sent, bounded_took, spawn_fresh, unbegun_said, unbegun_sent, unbegun_took, untold_said, untold_sent, untold_took}
+use Rattle.group_facts.proofs.Numbered.{ending_tied, tied_life, tied_rests, tied_said, tied_sent, tied_took}
 use Rattle.group_facts.proofs.Opened.{opened_did, opened_none, opened_took}
 use Rattle.group_facts.proofs.Plain.{plain_did, plain_none, plain_took}
 use Rattle.group_facts.proofs.Table.{reasons}
@@ -64,6 +67,7 @@ module _ (settings : Settings) where
     bounded = bounded_took settings events cause built (up_fresh cause) h.bounded;
     editors = editors_took events cause fits h.editors;
     asked = asked_took settings events cause built fits h.editors h.asked;
+    housed = housed_took settings events cause built h.housed;
   }
     where
       unbegun_fresh : (cause : Cause) (s : ℕ) → Fresh is_unbegun unbegun_falls s (life_of s events) (heard cause)
@@ -89,6 +93,7 @@ module _ (settings : Settings) where
       bounded = bounded_said settings events (ToEditor n body) a f d (λ s. tt) h.bounded;
       editors = editors.to_editor events n body h.editors;
       asked = asked_said events (ToEditor n body) (λ s. refl) h.asked;
+      housed = housed_did settings events (ToEditor n body) refl (λ s. refl) h.housed;
     }
       where
         a : (s : ℕ) → (asking_of s (events ++ said (ToEditor n body) ∷ [])).next ≡ (asking_of s events).next
@@ -100,14 +105,15 @@ module _ (settings : Settings) where
         d : (s : ℕ) (u : List ℕ) → held_at s u (events ++ said (ToEditor n body) ∷ []) ≡ held_at s u events
         d s u = ap (λ (x : Sent). x.held) (sent_more s u events (said (ToEditor n body)))
 
-    spawns : (g : ℕ) → Steady settings events → Steady settings (events ++ said (Spawn (starts_of events) g) ∷ [])
-    spawns g h = record {
+    spawns : (g : ℕ) → g < length (groups_of settings events) → Steady settings events → Steady settings (events ++ said (Spawn (starts_of events) g) ∷ [])
+    spawns g inside h = record {
       starts = starts_spawn events g h.starts;
       unbegun = unbegun_said settings events (Spawn (starts_of events) g) a f d (λ s. spawn_fresh is_unbegun refl events h.starts s) h.unbegun;
       untold = untold_said settings events (Spawn (starts_of events) g) a f d (λ s. spawn_fresh is_unready refl events h.starts s) h.untold;
       bounded = bounded_said settings events (Spawn (starts_of events) g) a f d (λ s. spawn_fresh is_up refl events h.starts s) h.bounded;
       editors = editors.more events (said (Spawn (starts_of events) g)) h.editors refl (λ e absent. absent);
       asked = asked_said events (Spawn (starts_of events) g) (λ s. refl) h.asked;
+      housed = housed_spawn settings events g inside h.housed;
     }
       where
         a : (s : ℕ) → (asking_of s (events ++ said (Spawn (starts_of events) g) ∷ [])).next ≡ (asking_of s events).next
@@ -128,6 +134,7 @@ module _ (settings : Settings) where
       editors = editors.more events (said (CloseEditor n)) h.editors refl (λ e absent. ap (λ (x : Desk). x.phase) (unless (nat_eq n e) (record { phase = phase_closed (desk_of e events).phase; initialize = (desk_of e events).initialize }) (desk_of e events)
           (λ same. there_not events n e absent same there)) ∙ absent);
       asked = asked_said events (CloseEditor n) (λ s. refl) h.asked;
+      housed = housed_did settings events (CloseEditor n) refl (λ s. refl) h.housed;
     }
       where
         a : (s : ℕ) → (asking_of s (events ++ said (CloseEditor n) ∷ [])).next ≡ (asking_of s events).next
@@ -148,6 +155,7 @@ module _ (settings : Settings) where
       bounded = bounded_said settings events (EndServer n) a f d (λ s. tt) h.bounded;
       editors = editors.more events (said (EndServer n)) h.editors refl (λ e absent. absent);
       asked = asked_said events (EndServer n) (λ s. refl) h.asked;
+      housed = housed_did settings events (EndServer n) refl (λ s. refl) h.housed;
     }
       where
         a : (s : ℕ) → (asking_of s (events ++ said (EndServer n) ∷ [])).next ≡ (asking_of s events).next
@@ -159,8 +167,20 @@ module _ (settings : Settings) where
         d : (s : ℕ) (u : List ℕ) → held_at s u (events ++ said (EndServer n) ∷ []) ≡ held_at s u events
         d s u = ap (λ (x : Sent). x.held) (sent_more s u events (said (EndServer n)))
 
+    tied_told : (n : ℕ) (body : List ℕ) → OthersTied cause events → OthersTied cause (events ++ said (ToEditor n body) ∷ [])
+    tied_told n body h = tied_said cause events (ToEditor n body) (λ s. ap (λ (x : Asking). x.next) (asking_more s events (said (ToEditor n body)))) (λ s. ap (λ (x : Forwarding). x.next) (forwarding_more s events (said (ToEditor n body)))) (λ s a f k. k) h
+
+    tied_closed : (n : ℕ) → OthersTied cause events → OthersTied cause (events ++ said (CloseEditor n) ∷ [])
+    tied_closed n h = tied_said cause events (CloseEditor n) (λ s. ap (λ (x : Asking). x.next) (asking_more s events (said (CloseEditor n)))) (λ s. ap (λ (x : Forwarding). x.next) (forwarding_more s events (said (CloseEditor n)))) (λ s a f k. k) h
+
+    tied_spawned : (g : ℕ) → OthersTied cause events → OthersTied cause (events ++ said (Spawn (starts_of events) g) ∷ [])
+    tied_spawned g h = tied_said cause events (Spawn (starts_of events) g) (λ s. ap (λ (x : Asking). x.next) (asking_more s events (said (Spawn (starts_of events) g)))) (λ s. ap (λ (x : Forwarding). x.next) (forwarding_more s events (said (Spawn (starts_of events) g)))) (λ s a f k. tied_life (nat_eq (starts_of events) s) (record { stage = Spawning; started = false }) (life_of s events) a f (λ b c. tt) k) h
+
+    tied_ended : (n : ℕ) → OthersTied cause events → OthersTied cause (events ++ said (EndServer n) ∷ [])
+    tied_ended n h = tied_said cause events (EndServer n) (λ s. ap (λ (x : Asking). x.next) (asking_more s events (said (EndServer n)))) (λ s. ap (λ (x : Forwarding). x.next) (forwarding_more s events (said (EndServer n)))) (λ s a f k. tied_life (nat_eq n s) (record { stage = stage_ending (life_of s events).stage; started = (life_of s events).started }) (life_of s events) a f (ending_tied (life_of s events).stage) k) h
+
     pub mid_did : (out : Out) → Why settings before cause events out → Mid settings before cause events → Mid settings before cause (events ++ said out ∷ [])
-    mid_did (ToEditor n body) why h = record { steady = to_editor n body h.steady; waiting = waiting_told settings before cause events n body why h.waiting }
+    mid_did (ToEditor n body) why h = record { steady = to_editor n body h.steady; tied = tied_told n body h.tied; waiting = waiting_told settings before cause events n body why h.waiting }
     mid_did (ToServer n body) why h = record {
       steady = record {
         starts = starts.sent events n body (h.steady).starts;
@@ -169,13 +189,15 @@ module _ (settings : Settings) where
         bounded = bounded_sent settings before cause facts built events n body why (h.steady).bounded;
         editors = editors.to_server events n body (h.steady).editors;
         asked = asked_sent settings before cause events n body why (h.steady).asked;
+        housed = housed_did settings events (ToServer n body) refl (λ s. refl) (h.steady).housed;
       };
+      tied = tied_sent settings cause events n body before why h.tied;
       waiting = waiting_said settings before cause events (ToServer n body) (λ e k. k) h.waiting;
     }
-    mid_did (Spawn n g) why h = subst (λ z. Mid settings before cause (events ++ said (Spawn z g) ∷ [])) (sym why)
-        (record { steady = spawns g h.steady; waiting = waiting_said settings before cause events (Spawn (starts_of events) g) (λ e k. k) h.waiting })
-    mid_did (CloseEditor n) why h = record { steady = closes n why.1 h.steady; waiting = waiting_said settings before cause events (CloseEditor n) (λ e k. waiting_closed events n e k) h.waiting }
-    mid_did (EndServer n) why h = record { steady = ends n why h.steady; waiting = waiting_said settings before cause events (EndServer n) (λ e k. k) h.waiting }
+    mid_did (Spawn n g) why h = subst (λ z. Mid settings before cause (events ++ said (Spawn z g) ∷ [])) (sym why.0)
+        (record { steady = spawns g why.1 h.steady; tied = tied_spawned g h.tied; waiting = waiting_said settings before cause events (Spawn (starts_of events) g) (λ e k. k) h.waiting })
+    mid_did (CloseEditor n) why h = record { steady = closes n why.1 h.steady; tied = tied_closed n h.tied; waiting = waiting_said settings before cause events (CloseEditor n) (λ e k. waiting_closed events n e k) h.waiting }
+    mid_did (EndServer n) why h = record { steady = ends n why h.steady; tied = tied_ended n h.tied; waiting = waiting_said settings before cause events (EndServer n) (λ e k. k) h.waiting }
 
   -- A whole entry, and so a history
 
@@ -188,7 +210,7 @@ module _ (settings : Settings) where
     pub here_took : (before : List Event) (cause : Cause) → fits_behind before cause ≡ true → built_behind settings before cause ≡ true → Facts settings before → Here before cause (with_cause before cause)
     here_took before cause fits built h = record {
       base = base_took before cause built h.base;
-      mid = record { steady = steady_took before cause built fits h.steady; waiting = waiting_took settings before cause h.waiting };
+      mid = record { steady = steady_took before cause built fits h.steady; tied = tied_took settings before cause built h.tied; waiting = waiting_took settings before cause h.waiting };
     }
 
     pub here_did : (before : List Event) (cause : Cause) → Facts settings before → built_behind settings before cause ≡ true → (events : List Event) (out : Out) → Why settings before cause events out → Here before cause events → Here before cause (events ++ said out ∷ [])
@@ -198,12 +220,13 @@ module _ (settings : Settings) where
     entry_keeps before cause fits built h =
         let last : Here before cause (behind (with_cause before cause) (outs_of settings before cause)) = reasons_keep (λ events out. Why settings before cause events out) (Here before cause) (here_did before cause h built)
         (with_cause before cause) (outs_of settings before cause) (reasons settings range before h cause built).why (here_took before cause fits built h) in
-        record { base = last.base; steady = (last.mid).steady; waiting = waiting_rests settings before cause (last.mid).waiting }
+        record { base = last.base; steady = (last.mid).steady; tied = tied_rests settings before cause fits (h.steady).starts (h.steady).unbegun (h.steady).housed (h.base).written (last.mid).tied; waiting = waiting_rests settings before cause (last.mid).waiting }
 
     pub no_facts : Facts settings []
     no_facts = record {
       base = record { opened = opened_none settings; plain = plain_none; written = tt };
-      steady = record { starts = λ s le. refl; unbegun = λ s un. (refl, refl); untold = λ s un u. refl; bounded = λ s up. (omega arith, omega arith); editors = λ e le. refl; asked = λ s. tt };
+      steady = record { starts = λ s le. refl; unbegun = λ s un. (refl, refl); untold = λ s un u. refl; bounded = λ s up. (omega arith, omega arith); editors = λ e le. refl; asked = λ s. tt; housed = λ s below. absurd (omega (arith, below)) };
+      tied = λ s. tt;
       waiting = λ e. tt;
     }
 

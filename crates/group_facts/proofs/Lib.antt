@@ -4,8 +4,10 @@ pub mod DocumentRow
 pub mod Everywhere
 pub mod Facts
 pub mod Forwards
+pub mod Housed
 pub mod Known
 pub mod Levels
+pub mod Numbered
 pub mod Numbers
 pub mod Opened
 pub mod Plain

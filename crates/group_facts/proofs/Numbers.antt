@@ -33,7 +33,7 @@ use Rattle.group_facts.specs.Why.{IsBeginning, IsForward, WhyToServer, begins, g
 
 -- A cause leaves the numbers and the documents alone
 
-asking_heard : (s : ℕ) (events : List Event) (cause : Cause) → (asking_of s (with_cause events cause)).next ≡ (asking_of s events).next
+pub asking_heard : (s : ℕ) (events : List Event) (cause : Cause) → (asking_of s (with_cause events cause)).next ≡ (asking_of s events).next
 asking_heard s events (Joined e) = ap (λ (a : Asking). a.next) (asking_more s events (heard (Joined e)))
 asking_heard s events cause = ap (λ (a : Asking). a.next) (asking_more s events (heard cause))
 
@@ -41,7 +41,7 @@ held_heard : (s : ℕ) (u : List ℕ) (events : List Event) (cause : Cause) → 
 held_heard s u events (Joined e) = ap (λ (x : Sent). x.held) (sent_more s u events (heard (Joined e)))
 held_heard s u events cause = ap (λ (x : Sent). x.held) (sent_more s u events (heard cause))
 
-forwarding_heard : (settings : Settings) (s : ℕ) (events : List Event) (cause : Cause) → built_behind settings events cause ≡ true → (forwarding_of s (with_cause events cause)).next ≡ (forwarding_of s events).next
+pub forwarding_heard : (settings : Settings) (s : ℕ) (events : List Event) (cause : Cause) → built_behind settings events cause ≡ true → (forwarding_of s (with_cause events cause)).next ≡ (forwarding_of s events).next
 forwarding_heard settings s events (Joined e) built = ap (λ (x : Forwarding). x.next) (forwarding_more s events (heard (Joined e)))
 forwarding_heard settings s events (FromEditor e body) built = ap (λ (x : Forwarding). x.next) (forwarding_more s events (heard (FromEditor e body)))
 forwarding_heard settings s events (Started n) built = ap (λ (x : Forwarding). x.next) (forwarding_more s events (heard (Started n)))
@@ -65,12 +65,12 @@ module _ (events : List Event) (n : ℕ) (body : List ℕ) where
     held_sent u = ap (λ (x : Sent). x.held) (sent_more n u events (said (ToServer n body)))
         ∙ ap₂ (λ b k. if b then told (sent_of n u events).encoding u (held_at n u events) (saying_of k) else held_at n u events) (same_number n) says
 
-    stage_sent : (life_behind n (life_of n events) (said (ToServer n body))).stage ≡ stage_told (life_of n events).stage m
+    pub stage_sent : (life_behind n (life_of n events) (said (ToServer n body))).stage ≡ stage_told (life_of n events).stage m
     stage_sent = ap₂ (λ b k. (if b then record { stage = stage_told (life_of n events).stage k; started = (life_of n events).started } else life_of n events).stage) (same_number n) says
 
   -- another start
   module _ (s : ℕ) (other : nat_eq n s ≡ false) where
-    asking_other : asking_of s later ≡ asking_of s events
+    pub asking_other : asking_of s later ≡ asking_of s events
     asking_other = asking_more s events (said (ToServer n body)) ∙ ap (λ b. if b then asking_sends (asking_of s events) (message_of body) else asking_of s events) other
 
     pub forwarding_other : forwarding_of s later ≡ forwarding_of s events

@@ -1,5 +1,5 @@
 -- What holds of every legal history of several editors and groups, and is no rule of a session.
-use Rattle.std.specs.Prelude.{◌≡◌, ℕ, ◌+◌, ◌≤◌, Bool, true, false, ◌&&◌, List, nat_eq, codes}
+use Rattle.std.specs.Prelude.{◌≡◌, ℕ, ◌+◌, ◌<◌, ◌≤◌, Bool, true, false, ◌&&◌, List, length, nat_eq, codes}
 use Rattle.std.specs.Prelude.{Option, Some, None}
 use Rattle.std.specs.List.{AllByRecursion}
 use Rattle.json_text.specs.Json.{Json}
@@ -17,7 +17,7 @@ use Rattle.event_model.specs.Event.{Event}
 use Rattle.event_model.specs.Phases.{desk_of, editors_of}
 use Rattle.event_model.specs.Requests.{asking_of, is_open, open_of}
 use Rattle.event_model.specs.Settings.{Settings}
-use Rattle.event_model.specs.Spawns.{starts_of}
+use Rattle.event_model.specs.Spawns.{group_of, starts_of}
 use Rattle.event_model.specs.Stages.{life_of, no_life}
 use Rattle.mux_model.specs.Documents.{held_at}
 use Rattle.group_words.specs.declared.kept.Kept.{Kept}
@@ -65,6 +65,15 @@ pub record IsWritten (x : Kept) : Type 0 where
 abbrev pub Written : Settings → List Event → Type 0
 Written settings events = AllByRecursion IsWritten (groups_of settings events)
 
+-- the group that a start was spawned for is kept
+pub record IsHoused (settings : Settings) (s : ℕ) (events : List Event) : Type 0 where
+  pub group : ℕ
+  pub is : group_of s events ≡ Some group
+  pub kept : group < length (groups_of settings events)
+
+abbrev pub Housed : Settings → List Event → Type 0
+Housed settings events = (s : ℕ) → s < starts_of events → IsHoused settings s events
+
 -- Starts, by their stages, and their open requests
 
 -- a start whose program never ran was sent no request
@@ -96,6 +105,10 @@ is_up other = false
 
 abbrev pub Bounded : Settings → List Event → Type 0
 Bounded settings events = (s : ℕ) → is_up (life_of s events).stage ≡ true → ((asking_of s events).next ≤ (forwarding_of s events).next) × ((forwarding_of s events).next ≤ settings.limits.requests + 2)
+
+-- while a start is ready, the next request to it has the same number by the count of all requests as by that of editors' requests
+abbrev pub Numbered : List Event → Type 0
+Numbered events = (s : ℕ) → (life_of s events).stage ≡ Ready → (asking_of s events).next ≡ (forwarding_of s events).next
 
 -- it got no result to its `initialize` yet
 abbrev pub is_early : Phase → Bool
@@ -146,6 +159,8 @@ pub record Known (settings : Settings) (events : List Event) : Type 0 where
   pub untold : Untold events
   pub bounded : Bounded settings events
   pub asked : AllForwarded events
+  pub housed : Housed settings events
+  pub numbered : Numbered events
   pub waiting : WaitingAsked events
   pub opened : Opened settings events
   pub plain : Plain events

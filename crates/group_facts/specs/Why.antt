@@ -1,5 +1,5 @@
 -- Why each out of the routing table over several editors and groups is sent, with what is known at its place: `before` are the events before the entry, `events` those before the out.
-use Rattle.std.specs.Prelude.{◌≡◌, ℕ, Bool, true, false, ◌&&◌, List, [], ◌∷◌, ◌++◌, find, nat_eq, nat_lt, codes, decimal}
+use Rattle.std.specs.Prelude.{◌≡◌, ℕ, ◌<◌, Bool, true, false, ◌&&◌, List, [], ◌∷◌, ◌++◌, find, length, nat_eq, nat_lt, codes, decimal}
 use Rattle.std.specs.Prelude.{Option, Some, None}
 use Rattle.std.specs.Option.{option_map}
 use Rattle.json_text.specs.Json.{Json}
@@ -25,6 +25,7 @@ use Rattle.event_model.specs.Stages.{is_first_result, is_initializing, is_spawni
 use Rattle.mux_facts.specs.Allowed.{AllowsSaying, is_response}
 use Rattle.mux_model.specs.Documents.{held_at}
 use Rattle.document_model.specs.Helds.{HeldText}
+use Rattle.group_words.specs.Houses.{groups_of}
 use Rattle.group_rows.specs.Forwarded.{Forwarded, Sender, answered_by, forwarding_of}
 use Rattle.group_facts.specs.Facts.{IsWaiting, is_early, turned_away}
 
@@ -175,8 +176,8 @@ is_starting other = false
 abbrev pub Why : Settings → List Event → Cause → List Event → Out → Type 0
 Why settings before cause events (ToEditor e body) = WhyToEditor settings before cause events e body
 Why settings before cause events (ToServer s body) = WhyToServer settings before cause events s body
-Why settings before cause events (Spawn s g) = s ≡ starts_of events
-Why settings before cause events (CloseEditor e) = turned_away settings before cause e ≡ true × is_there (desk_of e events).phase ≡ true
+Why settings before cause events (Spawn s g) = (s ≡ starts_of events) × (g < length (groups_of settings events))
+Why settings before cause events (CloseEditor e) = (turned_away settings before cause e ≡ true) × (is_there (desk_of e events).phase ≡ true)
 Why settings before cause events (EndServer s) = is_starting (life_of s events).stage ≡ true
 
 -- each of these outs of a cause has its reason, at its place
