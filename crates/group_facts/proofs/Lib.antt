@@ -13,6 +13,7 @@ pub mod Opened
 pub mod Plain
 pub mod PlacingRow
 pub mod RequestRow
+pub mod RestLaws
 pub mod SharedRows
 pub mod Table
 pub mod Tellings
