@@ -115,7 +115,7 @@ module _ (settings : Settings) (before : List Event) (cause : Cause) (events : L
   numbered_known : (o : Option Sender) (a : Sender) (k : ℕ) → o ≡ Some a → IsAsker sent a.editor a.id → AllByRecursion (IsForwarded sent) (numbered o k)
   numbered_known o a k e known = subst (λ z. AllByRecursion (IsForwarded sent) (numbered z k)) (sym e) (known, tt)
 
-  asked_on : IsForward settings events n body → Later n
+  asked_on : IsForward settings cause events n body → Later n
   asked_on k h = by_message (request (integer (decimal (forwarding_of n events).next)) k.method k.params) k.says
       (subst (λ c. AllByRecursion (IsForwarded sent) (if c then forwarding_of n events else more_requests (forwarding_of n events)).open_requests) (sym k.other)
       (all_join (IsForwarded sent) (forwarding_of n events).open_requests (numbered (forwarding_of n events).sender (forwarding_of n events).next) (still (forwarding_of n events).open_requests h)
@@ -125,7 +125,7 @@ module _ (settings : Settings) (before : List Event) (cause : Cause) (events : L
   one_asked : WhyToServer settings before cause events n body → Later n
   one_asked (begins k) h = own_request (integer (codes "1")) (codes "initialize") k.params k.says refl h
   one_asked (greets k) h = notified (codes "initialized") k.params k.says h
-  one_asked (forwarded w k) h = asked_on k h
+  one_asked (forwarded k) h = asked_on k h
   one_asked (tells k) h = let m : Spoken (message_of body) = spoken (message_of body) k.spoken in notified m.method m.params m.is h
   one_asked (shuts k) h = own_request (integer (decimal (asking_of n events).next)) (codes "shutdown") None k.says refl h
 

@@ -91,7 +91,7 @@ module _ (settings : Settings) (cause : Cause) (events : List Event) (n : ℕ) (
       (subst (λ z. TiedAt z (asking_of n events).next (forwarding_of n events).next) ready h)
 
   -- an editor's request
-  goes : (k : IsForward settings events n body) → Tied events n → Tied sent n
+  goes : (k : IsForward settings cause events n body) → Tied events n → Tied sent n
   goes k h =
       let m : Message = request (integer (decimal (forwarding_of n events).next)) k.method k.params in
       let a : (asking_of n sent).next ≡ (asking_of n events).next + 1 = ap (λ (x : Asking). x.next) (asking_sent events n body m k.says) in
@@ -105,7 +105,7 @@ module _ (settings : Settings) (cause : Cause) (events : List Event) (n : ℕ) (
     one_tied : WhyToServer settings before cause events n body → Later n
     one_tied (begins k) rest h = never (sym (ap (λ c. begins_now c n) k.from ∙ same_number n) ∙ rest)
     one_tied (greets k) rest h = notified (codes "initialized") k.params k.says k.ready rest h
-    one_tied (forwarded w k) rest h = goes k h
+    one_tied (forwarded k) rest h = goes k h
     one_tied (tells k) rest h = let m : Spoken (message_of body) = spoken (message_of body) k.spoken in notified m.method m.params m.is k.ready rest h
     one_tied (shuts k) rest h = subst (λ z. TiedAt z (asking_of n sent).next (forwarding_of n sent).next)
         (sym (stage_now (request (integer (decimal (asking_of n events).next)) (codes "shutdown") None) k.says ∙ ap (λ z. stage_told z (request (integer (decimal (asking_of n events).next)) (codes "shutdown") None)) k.ready)) tt

@@ -89,7 +89,7 @@ begun_stage before cause events s body k = ap (λ z. (life_of s z).stage) (k.pla
 ready_or : (settings : Settings) (before : List Event) (cause : Cause) (events : List Event) (s : ℕ) (body : List ℕ) (P : Type 0) → WhyToServer settings before cause events s body → (IsBeginning before cause events s body → P) → ((life_of s events).stage ≡ Ready → P) → P
 ready_or settings before cause events s body P (begins k) f g = f k
 ready_or settings before cause events s body P (greets k) f g = g k.ready
-ready_or settings before cause events s body P (forwarded still k) f g = g k.ready
+ready_or settings before cause events s body P (forwarded k) f g = g k.ready
 ready_or settings before cause events s body P (tells k) f g = g k.ready
 ready_or settings before cause events s body P (shuts k) f g = g k.ready
 
@@ -163,7 +163,7 @@ module _ (settings : Settings) where
         (omega (arith, a, f, asked, sent_on), omega (arith, f, sent_on))
 
     -- an editor's request
-    asked_on : IsForward settings events n body → InBounds n events → InBounds n sent
+    asked_on : IsForward settings cause events n body → InBounds n events → InBounds n sent
     asked_on k b =
         let m : Message = request (integer (decimal (forwarding_of n events).next)) k.method k.params in
         let a : (asking_of n sent).next ≡ (asking_of n events).next + 1 = ap (λ (x : Asking). x.next) (asking_sent events n body m k.says) in
@@ -177,7 +177,7 @@ module _ (settings : Settings) where
     one_bounded : WhyToServer settings before cause events n body → Step is_up up_falls InBounds events (said (ToServer n body)) n
     one_bounded (begins b) was after k = opened b
     one_bounded (greets b) was after k = notified (codes "initialized") b.params b.says k
-    one_bounded (forwarded still b) was after k = asked_on b k
+    one_bounded (forwarded b) was after k = asked_on b k
     one_bounded (tells b) was after k = let m : Spoken (message_of body) = spoken (message_of body) b.spoken in notified m.method m.params m.is k
     one_bounded (shuts b) was after k = clash is_up (life_behind n (life_of n events) (said (ToServer n body))).stage Stopping
         (stage_sent events n body (request (integer (decimal (asking_of n events).next)) (codes "shutdown") None) b.says ∙ ap (λ z. stage_told z (request (integer (decimal (asking_of n events).next)) (codes "shutdown") None)) b.ready) refl after

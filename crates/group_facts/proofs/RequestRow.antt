@@ -119,9 +119,12 @@ module _ (settings : Settings) (before : List Event) (e : ℕ) (body : List ℕ)
         sync = sync_told settings range before (FromEditor e body) asked s (λ u. held_at s u before) e (texts_of settings g before).opens (opened g).orderly.once (opened g).spelt asked
             (calm_now settings range before e body s parts.0) (all_held (texts_of settings g before).opens)
 
-        goes : (events : List Event) → Calm settings range before (FromEditor e body) asked s events → IsForward settings events s (with_id_text body (decimal (forwarding_of s events).next))
+        goes : (events : List Event) → Calm settings range before (FromEditor e body) asked s events → IsForward settings (FromEditor e body) events s (with_id_text body (decimal (forwarding_of s events).next))
         goes events calm = record {
           sender = record { editor = e; id = id_bytes body };
+          asked = body;
+          from = refl;
+          bytes = refl;
           id = id;
           method = method;
           params = params;
@@ -143,7 +146,7 @@ module _ (settings : Settings) (before : List Event) (e : ℕ) (body : List ℕ)
 
         asks : Because R asked (sync_row settings before g s e ⨾ forward s body)
         asks = by_then (tells_row settings range before (FromEditor e body) asked s asked bodies sync)
-            (by_look (by_send (forwarded refl (goes _ (subst (λ z. Calm settings range before (FromEditor e body) asked s (behind asked z)) (sym (outs_to_start s bodies asked)) sync.calm)))))
+            (by_look (by_send (forwarded (goes _ (subst (λ z. Calm settings range before (FromEditor e body) asked s (behind asked z)) (sym (outs_to_start s bodies asked)) sync.calm)))))
 
       at_start : (g s : ℕ) → Because R asked (request_at settings before e body g s)
       at_start g s = by_choose (λ can. asks g s can) (λ cannot. fails)

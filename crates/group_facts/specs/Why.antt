@@ -68,8 +68,11 @@ pub record IsGreeting (before : List Event) (cause : Cause) (events : List Event
   pub says : message_of body ≡ notification (codes "initialized") params
 
 -- the request of an editor, which is at work, goes under the next number to s, which is ready
-pub record IsForward (settings : Settings) (events : List Event) (s : ℕ) (body : List ℕ) : Type 0 where
+pub record IsForward (settings : Settings) (cause : Cause) (events : List Event) (s : ℕ) (body : List ℕ) : Type 0 where
   pub sender : Sender
+  pub asked : List ℕ
+  pub from : cause ≡ FromEditor sender.editor asked
+  pub bytes : body ≡ with_id_text asked (decimal (forwarding_of s events).next)
   pub id : Id
   pub method : List ℕ
   pub params : Option Json
@@ -104,7 +107,7 @@ pub record IsShutting (before : List Event) (cause : Cause) (events : List Event
 pub data WhyToServer (settings : Settings) (before : List Event) (cause : Cause) (events : List Event) (s : ℕ) (body : List ℕ) : Type 0 where
   begins : IsBeginning before cause events s body → WhyToServer settings before cause events s body
   greets : IsGreeting before cause events s body → WhyToServer settings before cause events s body
-  forwarded : moves before cause s ≡ false → IsForward settings events s body → WhyToServer settings before cause events s body
+  forwarded : IsForward settings cause events s body → WhyToServer settings before cause events s body
   tells : IsTelling before cause events s body → WhyToServer settings before cause events s body
   shuts : IsShutting before cause events s body → WhyToServer settings before cause events s body
 
