@@ -32,20 +32,20 @@ use Rattle.mux_facts.proofs.Words.{same_number, number_same}
 
 -- A close
 
-there_not : (events : List Event) (n e : ℕ) → (desk_of e events).phase ≡ Absent → nat_eq n e ≡ true → is_there (desk_of n events).phase ≡ true → ⊥
+pub there_not : (events : List Event) (n e : ℕ) → (desk_of e events).phase ≡ Absent → nat_eq n e ≡ true → is_there (desk_of n events).phase ≡ true → ⊥
 there_not events n e absent same there = let l : is_there (desk_of n events).phase ≡ is_there Absent = ap is_there (ap (λ k. (desk_of k events).phase) (number_same n e same) ∙ absent) in cc
 
-closed_late : (phase : Phase) → is_early (phase_closed phase) ≡ false
+pub closed_late : (phase : Phase) → is_early (phase_closed phase) ≡ false
 closed_late Gone = refl
 closed_late other = refl
 
-closed_waits : (phase : Phase) (initialize : List ℕ) (ids : List Id) → WaitsIf (phase_closed phase) initialize ids
+pub closed_waits : (phase : Phase) (initialize : List ℕ) (ids : List Id) → WaitsIf (phase_closed phase) initialize ids
 closed_waits Gone initialize ids = tt
 closed_waits other initialize ids = tt
 
 -- Starts that were not spawned
 
-starts_took : (before : List Event) (cause : Cause) → fits_behind before cause ≡ true → Starts before → Starts (with_cause before cause)
+pub starts_took : (before : List Event) (cause : Cause) → fits_behind before cause ≡ true → Starts before → Starts (with_cause before cause)
 starts_took events (Started n) fits h = starts.more events (took (Started n) not_message) h refl
     (λ s none. unless (nat_eq n s) (record { stage = Unspawned; started = true }) no_life (λ same. starts.may_not events n s none same fits))
 starts_took events (StartFailed n) fits h = starts.more events (took (StartFailed n) not_message) h refl
@@ -56,7 +56,7 @@ starts_took events (ServerGone n) fits h = starts.more events (took (ServerGone 
     (λ s none. unless (nat_eq n s) (record { stage = Ended; started = false }) no_life (λ same. starts.runs_not events n s none same fits))
 starts_took events cause fits h = starts.more events (heard cause) h refl (λ s none. refl)
 
-starts_spawn : (events : List Event) (g : ℕ) → Starts events → Starts (events ++ said (Spawn (starts_of events) g) ∷ [])
+pub starts_spawn : (events : List Event) (g : ℕ) → Starts events → Starts (events ++ said (Spawn (starts_of events) g) ∷ [])
 starts_spawn events g h s le =
     let next : starts_of (events ++ did (Spawn (starts_of events) g) not_message ∷ []) ≡ starts_of events + 1 = starts_more events (did (Spawn (starts_of events) g) not_message) in
     let none : life_of s events ≡ no_life = h s (omega (arith, next)) in
@@ -84,7 +84,7 @@ back : (b : Bool) (x y : Life) → (is_unbegun x.stage ≡ true → is_unbegun y
 back true x y f h = f h
 back false x y f h = h
 
-started_back : (stage : Stage) → is_unbegun (stage_started stage) ≡ true → is_unbegun stage ≡ true
+pub started_back : (stage : Stage) → is_unbegun (stage_started stage) ≡ true → is_unbegun stage ≡ true
 started_back Unspawned h = refl
 started_back Spawning h = refl
 started_back Initializing h = h
@@ -93,7 +93,7 @@ started_back Stopping h = h
 started_back Ending h = h
 started_back Ended h = h
 
-hears_back : (stage : Stage) (m : Message) → is_unbegun (stage_hears stage m) ≡ true → is_unbegun stage ≡ true
+pub hears_back : (stage : Stage) (m : Message) → is_unbegun (stage_hears stage m) ≡ true → is_unbegun stage ≡ true
 hears_back Initializing m h = absurd (go (is_first_result m) h)
   where
     go : (b : Bool) → is_unbegun (if b then Ready else Initializing) ≡ true → ⊥
@@ -106,7 +106,7 @@ hears_back Stopping m h = h
 hears_back Ending m h = h
 hears_back Ended m h = h
 
-told_not : (stage : Stage) (m : Message) → is_unbegun stage ≡ false → is_unbegun (stage_told stage m) ≡ false
+pub told_not : (stage : Stage) (m : Message) → is_unbegun stage ≡ false → is_unbegun (stage_told stage m) ≡ false
 told_not Ready m h = go (requests (codes "shutdown") m)
   where
     go : (b : Bool) → is_unbegun (if b then Stopping else Ready) ≡ false
@@ -175,7 +175,7 @@ unbegun_law settings = record {
 
 -- Editors that did not join
 
-editors_took : (before : List Event) (cause : Cause) → fits_behind before cause ≡ true → Editors before → Editors (with_cause before cause)
+pub editors_took : (before : List Event) (cause : Cause) → fits_behind before cause ≡ true → Editors before → Editors (with_cause before cause)
 editors_took events (Joined n) fits h = λ e le.
     let count : editors_of (events ++ took (Joined n) not_message ∷ []) ≡ editors_of events + 1 = editors_more events (took (Joined n) not_message) in
     let absent : (desk_of e events).phase ≡ Absent = h e (omega (arith, count)) in
@@ -227,7 +227,7 @@ asked_law settings = record {
 
 -- Editors that wait
 
-waits_took : (before : List Event) (cause : Cause) → AllWaiting before → AllWaiting (with_cause before cause)
+pub waits_took : (before : List Event) (cause : Cause) → AllWaiting before → AllWaiting (with_cause before cause)
 waits_took events (Joined n) h = waits.more events (took (Joined n) not_message) (λ e. waits.pick_desk (nat_eq n e) (record { phase = New; initialize = [] }) (desk_of e events) (open_of e events) (λ same. tt) (h e))
 waits_took events (FromEditor n body) h = waits.from_editor events n body h
 waits_took events (EditorGone n why) h = waits.more events (took (EditorGone n why) not_message)

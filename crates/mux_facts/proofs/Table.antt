@@ -150,7 +150,7 @@ module _ (settings : Settings) where
     abbrev R : List Event → Out → Type 0
     R events out = Why settings before (FromEditor e body) events out
 
-    there_taken : is_there (desk_of e before).phase ≡ true → is_there (desk_of e now).phase ≡ true
+    pub there_taken : is_there (desk_of e before).phase ≡ true → is_there (desk_of e now).phase ≡ true
     there_taken h = ap (λ (d : Desk). is_there d.phase) (desk_more e before (heard (FromEditor e body)))
         ∙ ap (λ b. is_there (if b then desk_hears (desk_of e before).phase (desk_of e before).initialize body (message_of body) else desk_of e before).phase) (same_number e)
         ∙ hears_there (desk_of e before).phase (desk_of e before).initialize body (message_of body) h

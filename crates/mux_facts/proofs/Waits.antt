@@ -110,7 +110,7 @@ answers_it (notification method params) initialize ids h w = absurd (cc)
 answers_it not_json initialize ids h w = absurd (cc)
 answers_it not_message initialize ids h w = absurd (cc)
 
-told_waits : (phase : Phase) (m : Message) (initialize : List ℕ) (ids : List Id) → (phase ≡ Waiting → is_a_result m ≡ true) → WaitsIf phase initialize ids → WaitsIf (phase_told phase initialize m) initialize (without (answered_id m) ids)
+pub told_waits : (phase : Phase) (m : Message) (initialize : List ℕ) (ids : List Id) → (phase ≡ Waiting → is_a_result m ≡ true) → WaitsIf phase initialize ids → WaitsIf (phase_told phase initialize m) initialize (without (answered_id m) ids)
 told_waits Waiting m initialize ids f w = answers_it m initialize ids (f refl) w
 told_waits Absent m initialize ids f w = tt
 told_waits New m initialize ids f w = tt
@@ -127,7 +127,7 @@ to_editor events n body h f = more events (said (ToEditor n body)) (λ e. pick (
     (λ at. f (ap (λ k. (desk_of k events).phase) (number_same n e same) ∙ at)) (h e)) (h e))
 
 -- an error under a null id answers none of them
-null_waits : (b : Bool) (desk : Desk) (ids : List Id) (x : Json) → WaitsAt desk ids
+pub null_waits : (b : Bool) (desk : Desk) (ids : List Id) (x : Json) → WaitsAt desk ids
     → WaitsAt (if b then record { phase = phase_told desk.phase desk.initialize (error None x); initialize = desk.initialize } else desk) (if b then without None ids else ids)
 null_waits true desk ids x h = subst (λ p. WaitsIf p desk.initialize ids) (sym (error_told desk.phase desk.initialize None x)) h
 null_waits false desk ids x h = h

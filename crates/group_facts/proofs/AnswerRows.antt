@@ -1,0 +1,224 @@
+-- S2, S5 and the start of a program: what an entry of a start sends.
+use Rattle.std.proofs.Common.{◌≡◌, ℕ, zero, suc, ◌+◌, true, false, cond, ◌&&◌, List, [], ◌∷◌, ◌++◌, filter, find, nat_eq, codes, if◌then◌else◌, Some, None, refl, sym, ◌∙◌, ap, ap₂, subst, append_assoc, arith}
+use Rattle.std.specs.List.{AllByRecursion, range_with_len}
+use Rattle.std.specs.Prelude.{slice_get}
+use Rattle.std.proofs.lemmas.Bool.{and_parts}
+use Rattle.std.proofs.lemmas.List.Elements.{filter-append}
+use Rattle.json_text.specs.Bare.{nowhere}
+use Rattle.json_text.specs.Json.{Json, object, no_members}
+use Rattle.document_model.specs.Helds.{told}
+use Rattle.document_model.specs.Opens.{Open}
+use Rattle.document_model.specs.Sayings.{saying_of}
+use Rattle.mux_history.specs.declared.cause.Cause.TheVariants.{FromServer, Started}
+use Rattle.mux_history.specs.declared.out.Out.{Out}
+use Rattle.mux_history.specs.declared.out.Out.TheVariants.{ToEditor, ToServer}
+use Rattle.rpc_message.specs.Message.{Message, request, notification, result, error, not_json, not_message, Id, integer, message_of, id_bytes, result_bytes}
+use Rattle.rpc_message.specs.Texts.{ok_text, initialized_text, with_id_text}
+use Rattle.rpc_message.proofs.Fixed.{initialized_law}
+use Rattle.event_model.specs.declared.stage.Stage.{Stage}
+use Rattle.event_model.specs.declared.stage.Stage.TheVariants.{Unspawned, Spawning, Initializing, Ready, Stopping, Ending, Ended}
+use Rattle.event_model.specs.declared.phase.Phase.TheVariants.{Waiting}
+use Rattle.event_model.specs.Event.{Event, heard, said, behind, with_cause}
+use Rattle.event_model.specs.Parts.{server_part, is_of_server}
+use Rattle.event_model.specs.Phases.{Desk, desk_of, editors_of, is_there, is_waiting}
+use Rattle.event_model.specs.Requests.{answered_id, open_of, is_open, without}
+use Rattle.event_model.specs.Row.{each, outs}
+use Rattle.event_model.specs.Settings.{Settings}
+use Rattle.event_model.specs.Stages.{Life, life_of, is_first_result, stage_hears}
+use Rattle.mux_model.specs.Documents.{Sent, held_at, sent_of}
+use Rattle.mux_model.specs.Rows.{below, to_start}
+use Rattle.mux_model.proofs.DocumentFolds.{outs_to_start}
+use Rattle.mux_facts.specs.Allowed.{is_response}
+use Rattle.mux_facts.specs.Ranges.{InRange}
+use Rattle.mux_facts.proofs.Bodies.{IsResponseTo, is_result, is_error, passed_says, welcome_says}
+use Rattle.mux_facts.proofs.Folds.{desk_more, life_more, opens_more}
+use Rattle.mux_facts.proofs.Lists.{found_is}
+use Rattle.mux_facts.proofs.Reasons.{Because, by_nothing, by_send, by_then, by_choose, by_look, by_on}
+use Rattle.mux_facts.proofs.Rising.{by_rising}
+use Rattle.mux_facts.proofs.Table.{FirstResult, desk_untold, first_result_is, waiting_is}
+use Rattle.mux_facts.proofs.Tellings.{sent_more}
+use Rattle.mux_facts.proofs.Waits.{AllWaiting, Waits, waits_at}
+use Rattle.mux_facts.proofs.Why.{is_early}
+use Rattle.mux_facts.proofs.Words.{same_number}
+use Rattle.group_words.specs.Houses.{groups_of, home_of, is_home}
+use Rattle.group_words.specs.Rows.{shown_of}
+use Rattle.group_rows.specs.Forwarded.{Forwarded, answered_by, forwarding_of}
+use Rattle.group_rows.specs.Rows.{first_result, from_server, replay_bodies, response_row, result_in, started, waiting_in, welcome}
+use Rattle.group_rows.specs.Texts.{texts_of}
+use Rattle.group_facts.specs.Facts.{AllForwarded, IsAsker, IsForwarded, IsWaiting, IsWritten, Opened, Untold, Written}
+use Rattle.group_facts.proofs.Forwards.{Still, still_notified, still_now}
+use Rattle.group_facts.proofs.SharedRows.{AllTold, replay_told}
+use Rattle.group_facts.proofs.Tellings.{Calm, tells_row}
+use Rattle.group_facts.specs.Why.{IsPassing, Why, begins, greeted, greets, passes, welcomes}
+
+-- the numbers below, counted up
+range_last : (a n : ℕ) → range_with_len a (suc n) ≡ range_with_len a n ++ (a + n) ∷ []
+range_last a zero = ap (λ k. k ∷ []) (omega arith)
+range_last a (suc n) = ap (λ ks. a ∷ ks) (range_last (a + 1) n ∙ ap (λ k. range_with_len (a + 1) n ++ k ∷ []) (omega arith))
+
+pub range_below : (n : ℕ) → range_with_len 0 n ≡ below n
+range_below zero = refl
+range_below (suc n) = range_last 0 n ∙ ap₂ (λ z k. z ++ k ∷ []) (range_below n) (omega arith)
+
+nobody_found : (fs : List Forwarded) (f : Forwarded) → find (answered_by None) fs ≡ Some f → ⊥
+nobody_found [] f h = cc
+nobody_found (g ∷ fs) f h = nobody_found fs f h
+
+-- only responses answer an id
+answers_only : (m : Message) (f : Forwarded) (fs : List Forwarded) → find (answered_by (answered_id m)) fs ≡ Some f → is_response m ≡ true
+answers_only (result id r) f fs h = refl
+answers_only (error id e) f fs h = refl
+answers_only (request id method params) f fs h = absurd (nobody_found fs f h)
+answers_only (notification method params) f fs h = absurd (nobody_found fs f h)
+answers_only not_json f fs h = absurd (nobody_found fs f h)
+answers_only not_message f fs h = absurd (nobody_found fs f h)
+
+response_is : (id : Id) (m : Message) → IsResponseTo id m → (is_response m ≡ true) × (answered_id m ≡ Some id)
+response_is id m (is_result r e) = (ap is_response e, ap answered_id e)
+response_is id m (is_error x e) = (ap is_response e, ap answered_id e)
+
+pub get_all : {X : Type 0} (P : X → Type 0) (xs : List X) (i : ℕ) (x : X) → AllByRecursion P xs → slice_get xs i ≡ Some x → P x
+get_all P [] i x h e = absurd (cc)
+get_all P (y ∷ xs) zero x h e = subst P (let same : y ≡ x = cc in same) h.0
+get_all P (y ∷ xs) (suc i) x h e = get_all P xs i x h.1 e
+
+module _ (settings : Settings) (range : InRange settings) (before : List Event) (s : ℕ) (body : List ℕ) where
+  abbrev now : List Event
+  now = with_cause before (FromServer s body)
+
+  abbrev R : List Event → Out → Type 0
+  R events out = Why settings before (FromServer s body) events out
+
+  -- S5
+  response_why : AllForwarded before → Because R now (response_row s before body (message_of body))
+  response_why all = by_on (λ none. by_nothing) (λ f found. by_choose (λ there. by_send (passes (passing f found there))) (λ gone. by_nothing))
+    where
+      passing : (f : Forwarded) → find (answered_by (answered_id (message_of body))) (forwarding_of s before).open_requests ≡ Some f → is_there (desk_of f.editor before).phase ≡ true → IsPassing before (FromServer s body) now f.editor (with_id_text body f.id)
+      passing f found there =
+          let k : IsAsker before f.editor f.id = found_is (IsForwarded before) (answered_by (answered_id (message_of body))) f (forwarding_of s before).open_requests (all s) found in
+          let p : (is_response (message_of (with_id_text body f.id)) ≡ true) × (answered_id (message_of (with_id_text body f.id)) ≡ Some k.id)
+          = response_is k.id (message_of (with_id_text body f.id)) (passed_says body f.id k.id (answers_only (message_of body) f (forwarding_of s before).open_requests found) k.text) in
+          record {
+            start = s;
+            answer = body;
+            request = f;
+            id = k.id;
+            from = refl;
+            found = found;
+            editor = refl;
+            there = ap (λ (d : Desk). is_there d.phase) (desk_more f.editor before (heard (FromServer s body))) ∙ there;
+            late = ap (λ (d : Desk). is_early d.phase) (desk_more f.editor before (heard (FromServer s body))) ∙ k.late;
+            text = k.text;
+            bytes = refl;
+            response = p.0;
+            answers = p.1;
+          }
+
+  -- S2
+
+  module _ (r : Json) (says : message_of body ≡ result (Some (integer (codes "1"))) r) (whole : shown_of (result_bytes body) ≡ result_bytes body) where
+    record IsToWait (e : ℕ) (events : List Event) : Type 0 where
+      id : Id
+      waiting : IsWaiting events e id
+
+    welcomed : (n : ℕ) (events : List Event) → IsToWait n events → Because R events (welcome body n)
+    welcomed n events w = by_look (by_send (welcomes (record {
+      id = w.id;
+      r = r;
+      waiting = w.waiting;
+      says = ap (λ z. message_of (ok_text (id_bytes (desk_of n events).initialize) z)) whole ∙ welcome_says (desk_of n events).initialize body w.id (codes "initialize") (w.waiting).params (Some (integer (codes "1"))) r (w.waiting).asks says;
+    })))
+
+    still_waits : (n k : ℕ) (events : List Event) → nat_eq n k ≡ false → IsToWait k events → IsToWait k (behind events (outs (welcome body n) events))
+    still_waits n k events other w = record {
+      id = w.id;
+      waiting = record {
+        params = (w.waiting).params;
+        phase = ap (λ (d : Desk). d.phase) desk ∙ (w.waiting).phase;
+        asks = ap (λ (d : Desk). message_of d.initialize) desk ∙ (w.waiting).asks;
+        waits = ap (is_open w.id) (opens_more k events (said (ToEditor n text)) ∙ ap (λ b. cond b (without (answered_id (message_of text)) (open_of k events)) (open_of k events)) other) ∙ (w.waiting).waits;
+      };
+    }
+      where
+        text : List ℕ
+        text = ok_text (id_bytes (desk_of n events).initialize) (shown_of (result_bytes body))
+
+        desk : desk_of k (events ++ said (ToEditor n text) ∷ []) ≡ desk_of k events
+        desk = desk_more k events (said (ToEditor n text)) ∙ desk_untold k n text (desk_of k events) other
+
+    all_welcomed : (g : ℕ) (events : List Event) → ((k : ℕ) → (desk_of k events).phase ≡ Waiting → IsToWait k events) → Because R events (each (welcome body) (waiting_in settings g events))
+    all_welcomed g events all = subst (λ ns. Because R events (each (welcome body) (filter (λ e. is_waiting (desk_of e events).phase && is_home g (home_of settings e events)) ns))) (sym (range_below (editors_of events)))
+        (by_rising (welcome body) IsToWait welcomed still_waits events (λ e. is_waiting (desk_of e events).phase && is_home g (home_of settings e events))
+        (λ k t. all k (waiting_is (desk_of k events).phase (and_parts (is_waiting (desk_of k events).phase) (is_home g (home_of settings k events)) t).0)) (editors_of events))
+
+    module _ (stage : (life_of s before).stage ≡ Initializing) (first : is_first_result (message_of body) ≡ true) (opened : Opened settings before) (untold : Untold before) (waiting : AllWaiting before) (g : ℕ) where
+      ready : (life_of s now).stage ≡ Ready
+      ready = ap (λ (l : Life). l.stage) (life_more s before (heard (FromServer s body)))
+          ∙ ap (λ b. (if b then record { stage = stage_hears (life_of s before).stage (message_of body); started = (life_of s before).started } else life_of s before).stage) (same_number s)
+          ∙ ap (λ z. stage_hears z (message_of body)) stage ∙ ap (λ b. if b then Ready else Initializing) first
+
+      part : server_part s now ≡ server_part s before ++ heard (FromServer s body) ∷ []
+      part = filter-append (is_of_server s) before (heard (FromServer s body) ∷ []) ∙ ap (λ b. server_part s before ++ cond b (heard (FromServer s body) ∷ []) []) (same_number s)
+
+      abbrev greeted_now : List Event
+      greeted_now = now ++ said (ToServer s initialized_text) ∷ []
+
+      calm : Calm settings range before (FromServer s body) now s greeted_now
+      calm = record {
+        still = still_notified now s now initialized_text (codes "initialized") (Some (object nowhere no_members)) initialized_law (still_now now s ready);
+        turn = greeted [] (filter-append (is_of_server s) now (said (ToServer s initialized_text) ∷ []) ∙ ap (λ b. server_part s now ++ cond b (said (ToServer s initialized_text) ∷ []) []) (same_number s)
+            ∙ ap (λ z. z ++ said (ToServer s initialized_text) ∷ []) part ∙ append_assoc (server_part s before) (heard (FromServer s body) ∷ []) (said (ToServer s initialized_text) ∷ []));
+      }
+
+      none_held : (u : List ℕ) → held_at s u greeted_now ≡ None
+      none_held u = ap (λ (x : Sent). x.held) (sent_more s u now (said (ToServer s initialized_text)))
+          ∙ ap₂ (λ b m. cond b (told (sent_of s u now).encoding u (held_at s u now) (saying_of m)) (held_at s u now)) (same_number s) initialized_law
+          ∙ ap (λ (x : Sent). x.held) (sent_more s u before (heard (FromServer s body)))
+          ∙ untold s (rw stage refl) u
+
+      abbrev opens : List Open
+      opens = (texts_of settings g before).opens
+
+      replayed : AllTold settings range before (FromServer s body) now s greeted_now (replay_bodies [] opens opens)
+      replayed = replay_told settings range before (FromServer s body) now s opens (opened g).spelt [] opens greeted_now calm (λ w k. none_held w)
+
+      waits_still : (events : List Event) → Still now s events → (k : ℕ) → (desk_of k events).phase ≡ Waiting → IsToWait k events
+      waits_still events still k at =
+          let desk : desk_of k events ≡ desk_of k before = still.desks k ∙ desk_more k before (heard (FromServer s body)) in
+          let w : Waits (desk_of k before).initialize (open_of k before) = waits_at before k (sym (ap (λ (d : Desk). d.phase) desk) ∙ at) waiting in
+          record {
+            id = w.id;
+            waiting = record { params = w.params; phase = at; asks = ap (λ (d : Desk). message_of d.initialize) desk ∙ w.asks; waits = ap (is_open w.id) (still.opens k ∙ opens_more k before (heard (FromServer s body))) ∙ w.waits };
+          }
+
+      greet_why : Because R now (result_in settings before s body g)
+      greet_why = by_then (by_send (greets (record { params = Some (object nowhere no_members); answer = body; stage = stage; ready = ready; from = refl; first = first; place = refl; part = part; says = initialized_law })))
+          (by_then (tells_row settings range before (FromServer s body) now s greeted_now (replay_bodies [] opens opens) replayed)
+          (by_look (all_welcomed g (behind greeted_now (outs (to_start s (replay_bodies [] opens opens)) greeted_now))
+          (waits_still _ (subst (λ z. Still now s (behind greeted_now z)) (sym (outs_to_start s (replay_bodies [] opens opens) greeted_now)) ((replayed.calm).still))))))
+
+  module _ (opened : Opened settings before) (untold : Untold before) (waiting : AllWaiting before) (all : AllForwarded before) where
+    result_why : FirstResult (message_of body) → (life_of s before).stage ≡ Initializing → is_first_result (message_of body) ≡ true → shown_of (result_bytes body) ≡ result_bytes body → Because R now (first_result settings before s body)
+    result_why first at is whole = by_on (λ none. by_nothing) (λ g home. greet_why first.r first.is whole at is opened untold waiting g)
+
+    pub server_why : (is_first_result (message_of body) ≡ true → shown_of (result_bytes body) ≡ result_bytes body) → (stage : Stage) → (life_of s before).stage ≡ stage → Because R now (from_server settings s before body (message_of body) stage)
+    server_why whole Initializing at = by_choose (λ yes. result_why (first_result_is (message_of body) yes) at yes (whole yes)) (λ no. by_nothing)
+    server_why whole Ready at = response_why all
+    server_why whole Unspawned at = by_nothing
+    server_why whole Spawning at = by_nothing
+    server_why whole Stopping at = by_nothing
+    server_why whole Ending at = by_nothing
+    server_why whole Ended at = by_nothing
+
+-- a program that begins is sent the daemon's own `initialize`
+module _ (settings : Settings) (before : List Event) (s : ℕ) (written : Written settings before) where
+  pub start_why : (stage : Stage) → (life_of s before).stage ≡ stage → Because (Why settings before (Started s)) (with_cause before (Started s)) (started settings s before stage)
+  start_why Spawning at = by_on (λ none. by_nothing) (λ g home. by_on (λ none. by_nothing) (λ x found.
+      let k : IsWritten x = get_all IsWritten (groups_of settings before) g x written found in
+      by_send (begins (record { params = k.params; stage = at; from = refl; place = refl; says = k.says }))))
+  start_why Unspawned at = by_nothing
+  start_why Initializing at = by_nothing
+  start_why Ready at = by_nothing
+  start_why Stopping at = by_nothing
+  start_why Ending at = by_nothing
+  start_why Ended at = by_nothing

@@ -1,0 +1,138 @@
+-- Each request that is open at a start is one of an editor that got its result, under the bytes of an id.
+use Rattle.std.proofs.Common.{◌≡◌, ℕ, ◌+◌, Bool, true, false, not, List, [], ◌∷◌, ◌++◌, filter, nat_eq, codes, decimal, if◌then◌else◌, Option, None, Some, refl, sym, ◌∙◌, ap, subst, arith}
+use Rattle.std.specs.List.{AllByRecursion}
+use Rattle.json_text.specs.Json.{Json}
+use Rattle.document_model.proofs.Written.{Spoken, spoken}
+use Rattle.mux_history.specs.declared.cause.Cause.{Cause}
+use Rattle.mux_history.specs.declared.cause.Cause.TheVariants.{Joined, FromEditor, EditorGone, Started, FromServer}
+use Rattle.mux_history.specs.declared.out.Out.{Out}
+use Rattle.mux_history.specs.declared.out.Out.TheVariants.{ToEditor, ToServer, CloseEditor}
+use Rattle.rpc_message.specs.Message.{Message, request, notification, Id, integer, message_of}
+use Rattle.event_model.specs.declared.phase.Phase.TheVariants.{New, Gone}
+use Rattle.event_model.specs.Event.{Event, heard, said, with_cause}
+use Rattle.event_model.specs.Phases.{Desk, desk_of, desk_behind, desk_hears, editors_of, phase_closed, phase_told}
+use Rattle.event_model.specs.Requests.{answered_id, asking_of, is_own}
+use Rattle.event_model.specs.Settings.{Settings}
+use Rattle.event_model.proofs.Frames.{never}
+use Rattle.mux_model.specs.Fits.{fits_behind}
+use Rattle.mux_facts.proofs.Asked.{either_late}
+use Rattle.mux_facts.proofs.Editors.{Editors}
+use Rattle.mux_facts.proofs.FactLaws.{closed_late}
+use Rattle.mux_facts.proofs.Folds.{desk_more}
+use Rattle.mux_facts.proofs.Late.{hears_late, told_late}
+use Rattle.mux_facts.proofs.Lists.{all_filtered, all_join, all_of}
+use Rattle.mux_facts.proofs.Why.{is_early}
+use Rattle.mux_facts.proofs.Words.{number_same}
+use Rattle.group_rows.specs.Forwarded.{Forwarded, Forwarding, Sender, answered_by, forwarding_behind, forwarding_of, forwards, numbered}
+use Rattle.group_facts.specs.Built.{built_behind}
+use Rattle.group_facts.specs.Facts.{AllForwarded, IsAsker, IsForwarded}
+use Rattle.group_facts.proofs.Forwards.{forwarding_more, notified_all}
+use Rattle.group_facts.proofs.Levels.{each_start}
+use Rattle.group_facts.proofs.Numbers.{forwarding_other, forwarding_sent}
+use Rattle.group_facts.specs.Why.{IsForward, WhyToServer, begins, greets, forwarded, tells, shuts}
+
+-- An editor that got its result stays one that did
+
+module _ (events : List Event) (e : ℕ) (late : is_early (desk_of e events).phase ≡ false) where
+  pub late_heard : (cause : Cause) → fits_behind events cause ≡ true → Editors events → is_early (desk_behind e (desk_of e events) (heard cause)).phase ≡ false
+  late_heard (Joined n) fits none = go (nat_eq n e) refl
+    where
+      go : (b : Bool) → nat_eq n e ≡ b → is_early (if b then record { phase = New; initialize = [] } else desk_of e events).phase ≡ false
+      go true same = never (sym (ap is_early (none e (omega (arith, number_same n e same, number_same n (editors_of events) fits)))) ∙ late)
+      go false other = late
+  late_heard (FromEditor n body) fits none = either_late (nat_eq n e) (desk_hears (desk_of e events).phase (desk_of e events).initialize body (message_of body)) (desk_of e events)
+      (hears_late (desk_of e events).phase (desk_of e events).initialize body (message_of body) late) late
+  late_heard (EditorGone n why) fits none = either_late (nat_eq n e) (record { phase = Gone; initialize = (desk_of e events).initialize }) (desk_of e events) refl late
+  late_heard cause fits none = late
+
+  pub late_said : (out : Out) → is_early (desk_behind e (desk_of e events) (said out)).phase ≡ false
+  late_said (ToEditor n body) = either_late (nat_eq n e) (record { phase = phase_told (desk_of e events).phase (desk_of e events).initialize (message_of body); initialize = (desk_of e events).initialize }) (desk_of e events)
+      (ap is_early (told_late (desk_of e events).phase (desk_of e events).initialize (message_of body) late) ∙ late) late
+  late_said (CloseEditor n) = either_late (nat_eq n e) (record { phase = phase_closed (desk_of e events).phase; initialize = (desk_of e events).initialize }) (desk_of e events) (closed_late (desk_of e events).phase) late
+  late_said out = late
+
+asker_more : (events : List Event) (event : Event) (e : ℕ) (bytes : List ℕ) → IsAsker events e bytes → is_early (desk_behind e (desk_of e events) event).phase ≡ false → IsAsker (events ++ event ∷ []) e bytes
+asker_more events event e bytes k late = record { id = k.id; text = k.text; late = ap (λ (d : Desk). is_early d.phase) (desk_more e events event) ∙ late }
+
+asker_heard : (events : List Event) (cause : Cause) → fits_behind events cause ≡ true → Editors events → (f : Forwarded) → IsForwarded events f → IsForwarded (with_cause events cause) f
+asker_heard events cause fits none f k = asker_more events (heard cause) f.editor f.id k (late_heard events f.editor k.late cause fits none)
+
+asker_said : (events : List Event) (out : Out) (f : Forwarded) → IsForwarded events f → IsForwarded (events ++ said out ∷ []) f
+asker_said events out f k = asker_more events (said out) f.editor f.id k (late_said events f.editor k.late out)
+
+-- One event more
+
+module _ (events : List Event) (event : Event) (asker : (f : Forwarded) → IsForwarded events f → IsForwarded (events ++ event ∷ []) f) where
+  all_later : (fs : List Forwarded) → AllByRecursion (IsForwarded events) fs → AllByRecursion (IsForwarded (events ++ event ∷ [])) fs
+  all_later fs h = all_of (IsForwarded events) (IsForwarded (events ++ event ∷ [])) asker fs h
+
+  pub asked_by_list : (s : ℕ) (fs : List Forwarded) → (forwarding_behind s (forwarding_of s events) event).open_requests ≡ fs → AllByRecursion (IsForwarded (events ++ event ∷ [])) fs → AllByRecursion (IsForwarded (events ++ event ∷ [])) (forwarding_of s (events ++ event ∷ [])).open_requests
+  asked_by_list s fs same h = subst (AllByRecursion (IsForwarded (events ++ event ∷ []))) (sym (ap (λ (x : Forwarding). x.open_requests) (forwarding_more s events event) ∙ same)) h
+
+  -- one that leaves the requests alone
+  pub asked_still : ((s : ℕ) → (forwarding_behind s (forwarding_of s events) event).open_requests ≡ (forwarding_of s events).open_requests) → AllForwarded events → AllForwarded (events ++ event ∷ [])
+  asked_still same h s = asked_by_list s (forwarding_of s events).open_requests (same s) (all_later (forwarding_of s events).open_requests (h s))
+
+answered_less : (events later : List Event) (asker : (f : Forwarded) → IsForwarded events f → IsForwarded later f) (b : Bool) (test : Forwarded → Bool) (fs : List Forwarded) → AllByRecursion (IsForwarded events) fs → AllByRecursion (IsForwarded later) (if b then filter test fs else fs)
+answered_less events later asker true test fs h = all_filtered (IsForwarded events) (IsForwarded later) test (λ f t k. asker f k) fs h
+answered_less events later asker false test fs h = all_of (IsForwarded events) (IsForwarded later) asker fs h
+
+pub asked_took : (settings : Settings) (events : List Event) (cause : Cause) → built_behind settings events cause ≡ true → fits_behind events cause ≡ true → Editors events → AllForwarded events → AllForwarded (with_cause events cause)
+asked_took settings events (Joined e) built fits none h = asked_still events (heard (Joined e)) (asker_heard events (Joined e) fits none) (λ s. refl) h
+asked_took settings events (FromEditor e body) built fits none h = asked_still events (heard (FromEditor e body)) (asker_heard events (FromEditor e body) fits none) (λ s. refl) h
+asked_took settings events (Started n) built fits none h = asked_still events (heard (Started n)) (asker_heard events (Started n) fits none) (λ s. refl) h
+asked_took settings events (FromServer n body) built fits none h = λ s. asked_by_list events (heard (FromServer n body)) (asker_heard events (FromServer n body) fits none) s _ refl
+    (answered_less events (with_cause events (FromServer n body)) (asker_heard events (FromServer n body) fits none) (nat_eq n s) (λ f. not (answered_by (answered_id (message_of body)) f)) (forwarding_of s events).open_requests (h s))
+asked_took settings events cause built fits none h = absurd (cc)
+
+-- A body to a start
+
+-- with the request that is at work
+abbrev more_requests : Forwarding → Forwarding
+more_requests x = record { sender = x.sender; next = x.next + 1; open_requests = x.open_requests ++ numbered x.sender x.next }
+
+module _ (settings : Settings) (before : List Event) (cause : Cause) (events : List Event) (n : ℕ) (body : List ℕ) where
+  abbrev sent : List Event
+  sent = events ++ said (ToServer n body) ∷ []
+
+  abbrev Later : ℕ → Type 0
+  Later s = AllByRecursion (IsForwarded events) (forwarding_of s events).open_requests → AllByRecursion (IsForwarded sent) (forwarding_of s sent).open_requests
+
+  still : (fs : List Forwarded) → AllByRecursion (IsForwarded events) fs → AllByRecursion (IsForwarded sent) fs
+  still fs h = all_of (IsForwarded events) (IsForwarded sent) (asker_said events (ToServer n body)) fs h
+
+  -- the list of the open requests by what the body says
+  by_message : (m : Message) → message_of body ≡ m → AllByRecursion (IsForwarded sent) (forwards (forwarding_of n events) m).open_requests → AllByRecursion (IsForwarded sent) (forwarding_of n sent).open_requests
+  by_message m says h = subst (λ (x : Forwarding). AllByRecursion (IsForwarded sent) x.open_requests) (sym (forwarding_sent events n body m says)) h
+
+  own_request : (id : Id) (method : List ℕ) (params : Option Json) → message_of body ≡ request id method params → is_own method ≡ true → Later n
+  own_request id method params says own h = by_message (request id method params) says
+      (subst (λ c. AllByRecursion (IsForwarded sent) (if c then forwarding_of n events else more_requests (forwarding_of n events)).open_requests) (sym own) (still (forwarding_of n events).open_requests h))
+
+  notified : (method : List ℕ) (params : Option Json) → message_of body ≡ notification method params → Later n
+  notified method params says h = by_message (notification method params) says (notified_all (forwarding_of n events) method params (IsAsker sent) (still (forwarding_of n events).open_requests h))
+
+  numbered_known : (o : Option Sender) (a : Sender) (k : ℕ) → o ≡ Some a → IsAsker sent a.editor a.id → AllByRecursion (IsForwarded sent) (numbered o k)
+  numbered_known o a k e known = subst (λ z. AllByRecursion (IsForwarded sent) (numbered z k)) (sym e) (known, tt)
+
+  asked_on : IsForward settings cause events n body → Later n
+  asked_on k h = by_message (request (integer (decimal (forwarding_of n events).next)) k.method k.params) k.says
+      (subst (λ c. AllByRecursion (IsForwarded sent) (if c then forwarding_of n events else more_requests (forwarding_of n events)).open_requests) (sym k.other)
+      (all_join (IsForwarded sent) (forwarding_of n events).open_requests (numbered (forwarding_of n events).sender (forwarding_of n events).next) (still (forwarding_of n events).open_requests h)
+      (numbered_known (forwarding_of n events).sender k.sender (forwarding_of n events).next k.at_work
+      (asker_more events (said (ToServer n body)) (k.sender).editor (k.sender).id (record { id = k.id; text = k.text; late = k.late }) (late_said events (k.sender).editor k.late (ToServer n body))))))
+
+  one_asked : WhyToServer settings before cause events n body → Later n
+  one_asked (begins k) h = own_request (integer (codes "1")) (codes "initialize") k.params k.says refl h
+  one_asked (greets k) h = notified (codes "initialized") k.params k.says h
+  one_asked (forwarded k) h = asked_on k h
+  one_asked (tells k) h = let m : Spoken (message_of body) = spoken (message_of body) k.spoken in notified m.method m.params m.is h
+  one_asked (shuts k) h = own_request (integer (decimal (asking_of n events).next)) (codes "shutdown") None k.says refl h
+
+  pub asked_sent : WhyToServer settings before cause events n body → AllForwarded events → AllForwarded sent
+  asked_sent why h s = each_start Later n (one_asked why)
+      (λ s other k. subst (λ (x : Forwarding). AllByRecursion (IsForwarded sent) x.open_requests) (sym (forwarding_other events n body s other)) (still (forwarding_of s events).open_requests k)) s (h s)
+
+-- any other out
+pub asked_said : (events : List Event) (out : Out) → ((s : ℕ) → (forwarding_behind s (forwarding_of s events) (said out)).open_requests ≡ (forwarding_of s events).open_requests) → AllForwarded events → AllForwarded (events ++ said out ∷ [])
+asked_said events out same h = asked_still events (said out) (asker_said events out) same h

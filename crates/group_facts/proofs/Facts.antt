@@ -1,0 +1,87 @@
+-- The facts as the proofs hold them: what the events before tell, what holds at every place, and what only between entries.
+use Rattle.std.proofs.Common.{◌≡◌, ℕ, false, List, Bool, subst, nat_eq}
+use Rattle.mux_history.specs.declared.cause.Cause.{Cause}
+use Rattle.mux_history.specs.declared.cause.Cause.TheVariants.{Started}
+use Rattle.event_model.specs.declared.stage.Stage.{Stage}
+use Rattle.event_model.specs.declared.stage.Stage.TheVariants.{Initializing, Ready}
+use Rattle.event_model.specs.Event.{Event}
+use Rattle.event_model.specs.Phases.{desk_of}
+use Rattle.event_model.specs.Requests.{asking_of, open_of}
+use Rattle.event_model.specs.Settings.{Settings}
+use Rattle.event_model.specs.Stages.{life_of}
+use Rattle.mux_facts.proofs.Editors.{Editors}
+use Rattle.mux_facts.proofs.Starts.{Starts}
+use Rattle.mux_facts.proofs.Waits.{AllWaiting, Waits, WaitsAt, waits_at}
+use Rattle.group_rows.specs.Forwarded.{forwarding_of}
+use Rattle.group_facts.specs.Facts.{AllForwarded, Bounded, Housed, Known, Numbered, Opened, Plain, Unbegun, Untold, Written, turned_away}
+
+pub record Base (settings : Settings) (events : List Event) : Type 0 where
+  pub opened : Opened settings events
+  pub plain : Plain events
+  pub written : Written settings events
+
+pub record Steady (settings : Settings) (events : List Event) : Type 0 where
+  pub starts : Starts events
+  pub unbegun : Unbegun events
+  pub untold : Untold events
+  pub bounded : Bounded settings events
+  pub editors : Editors events
+  pub asked : AllForwarded events
+  pub housed : Housed settings events
+
+-- the next number of all requests to a start, and of those of editors
+abbrev pub TiedAt : Stage → ℕ → ℕ → Type 0
+TiedAt Initializing a f = (a ≡ 2) × (f ≡ 2)
+TiedAt Ready a f = a ≡ f
+TiedAt other a f = Unit {0}
+
+abbrev pub Tied : List Event → ℕ → Type 0
+Tied events s = TiedAt (life_of s events).stage (asking_of s events).next (forwarding_of s events).next
+
+abbrev pub AllTied : List Event → Type 0
+AllTied events = (s : ℕ) → Tied events s
+
+-- so while a start is ready
+pub numbered_of : (events : List Event) → AllTied events → Numbered events
+numbered_of events h s at = subst (λ z. TiedAt z (asking_of s events).next (forwarding_of s events).next) at (h s)
+
+-- between entries also the two numbers are tied, and each editor that waits has its `initialize` open
+pub record Facts (settings : Settings) (events : List Event) : Type 0 where
+  pub base : Base settings events
+  pub steady : Steady settings events
+  pub tied : AllTied events
+  pub waiting : AllWaiting events
+
+-- inside of an entry that a program begins with, its start is left out
+abbrev pub begins_now : Cause → ℕ → Bool
+begins_now (Started n) s = nat_eq n s
+begins_now other s = false
+
+abbrev pub OthersTied : Cause → List Event → Type 0
+OthersTied cause events = (s : ℕ) → begins_now cause s ≡ false → Tied events s
+
+-- and an editor that is turned away
+abbrev pub OthersWait : Settings → List Event → Cause → List Event → Type 0
+OthersWait settings before cause events = (e : ℕ) → turned_away settings before cause e ≡ false → WaitsAt (desk_of e events) (open_of e events)
+
+-- at a place inside of an entry
+pub record Mid (settings : Settings) (before : List Event) (cause : Cause) (events : List Event) : Type 0 where
+  pub steady : Steady settings events
+  pub tied : OthersTied cause events
+  pub waiting : OthersWait settings before cause events
+
+pub known_of : (settings : Settings) (events : List Event) → Facts settings events → Known settings events
+known_of settings events h = record {
+  starts = (h.steady).starts;
+  editors = (h.steady).editors;
+  unbegun = (h.steady).unbegun;
+  untold = (h.steady).untold;
+  bounded = (h.steady).bounded;
+  asked = (h.steady).asked;
+  housed = (h.steady).housed;
+  numbered = numbered_of events h.tied;
+  waiting = λ e at. let w : Waits (desk_of e events).initialize (open_of e events) = waits_at events e at h.waiting in (w.id, record { params = w.params; phase = at; asks = w.asks; waits = w.waits });
+  opened = (h.base).opened;
+  plain = (h.base).plain;
+  written = (h.base).written;
+}

@@ -1,0 +1,22 @@
+pub mod AnswerRows
+pub mod Askers
+pub mod DocumentRow
+pub mod Everywhere
+pub mod Facts
+pub mod Forwards
+pub mod Housed
+pub mod Known
+pub mod Levels
+pub mod Numbered
+pub mod Numbers
+pub mod Opened
+pub mod Plain
+pub mod PlacingRow
+pub mod RequestRow
+pub mod RestLaws
+pub mod SharedRows
+pub mod Table
+pub mod Tellings
+pub mod Waiting
+mod Worked
+pub mod Written

@@ -1,0 +1,187 @@
+-- While a start is ready, the request that is next has one number by both counts: of all requests, and of those of editors.
+use Rattle.std.proofs.Common.{◌≡◌, ℕ, ◌+◌, ◌<◌, ◌≤◌, Bool, true, false, List, [], ◌∷◌, ◌++◌, nat_eq, codes, decimal, not, if◌then◌else◌, Option, None, Some, refl, sym, ◌∙◌, ap, subst, subst₂, append-nil, arith}
+use Rattle.std.specs.Prelude.{slice_get}
+use Rattle.std.proofs.lemmas.Bool.{and_parts}
+use Rattle.json_text.specs.Json.{Json}
+use Rattle.document_model.proofs.Written.{Spoken, spoken}
+use Rattle.mux_history.specs.declared.cause.Cause.{Cause}
+use Rattle.mux_history.specs.declared.cause.Cause.TheVariants.{Joined, FromEditor, Started, FromServer}
+use Rattle.mux_history.specs.declared.out.Out.{Out}
+use Rattle.mux_history.specs.declared.out.Out.TheVariants.{ToServer}
+use Rattle.rpc_message.specs.Message.{Message, request, notification, integer, message_of}
+use Rattle.event_model.specs.declared.stage.Stage.{Stage}
+use Rattle.event_model.specs.declared.stage.Stage.TheVariants.{Unspawned, Spawning, Initializing, Ready, Stopping, Ending, Ended}
+use Rattle.event_model.specs.Event.{Event, heard, said, behind, with_cause, requests}
+use Rattle.event_model.specs.Requests.{Asking, asking_of}
+use Rattle.event_model.specs.Row.{outs}
+use Rattle.event_model.specs.Settings.{Settings}
+use Rattle.event_model.specs.Spawns.{starts_of}
+use Rattle.event_model.specs.Stages.{Life, life_of, life_behind, is_first_result, is_spawning, may_begin, stage_ending, stage_hears, stage_started, stage_told}
+use Rattle.event_model.proofs.Frames.{never}
+use Rattle.event_model.proofs.Places.{item_at}
+use Rattle.mux_model.specs.Fits.{fits_behind}
+use Rattle.mux_facts.proofs.Folds.{life_more}
+use Rattle.mux_facts.proofs.Starts.{Starts}
+use Rattle.mux_facts.proofs.Words.{number_same, same_number}
+use Rattle.group_words.specs.declared.kept.Kept.{Kept}
+use Rattle.group_words.specs.Houses.{groups_of}
+use Rattle.group_words.specs.Rows.{initialize_of}
+use Rattle.group_rows.specs.Forwarded.{Forwarding, forwarding_of, numbered}
+use Rattle.group_rows.specs.Rows.{outs_of, started}
+use Rattle.group_facts.specs.Built.{built_behind}
+use Rattle.group_facts.specs.Facts.{Housed, IsHoused, IsWritten, Unbegun, Written}
+use Rattle.group_facts.specs.Why.{IsForward, WhyToServer, begins, greets, forwarded, tells, shuts}
+use Rattle.group_facts.proofs.AnswerRows.{get_all}
+use Rattle.group_facts.proofs.Facts.{AllTied, OthersTied, Tied, TiedAt, begins_now}
+use Rattle.group_facts.proofs.Forwards.{notified_next}
+use Rattle.group_facts.proofs.Levels.{each_start}
+use Rattle.group_facts.proofs.Numbers.{asking_heard, asking_other, asking_sent, forwarding_heard, forwarding_other, forwarding_sent, stage_sent}
+
+tied_by : (s : ℕ) (events later : List Event) (stage : Stage) → (life_of s later).stage ≡ stage → (asking_of s later).next ≡ (asking_of s events).next → (forwarding_of s later).next ≡ (forwarding_of s events).next → TiedAt stage (asking_of s events).next (forwarding_of s events).next → Tied later s
+tied_by s events later stage l a f h = subst (λ z. TiedAt z (asking_of s later).next (forwarding_of s later).next) (sym l) (subst₂ (TiedAt stage) (sym a) (sym f) h)
+
+-- A cause
+
+heard_first : (stage : Stage) (m : Message) (a f : ℕ) → TiedAt stage a f → TiedAt (stage_hears stage m) a f
+heard_first Initializing m a f h = go (is_first_result m)
+  where
+    go : (b : Bool) → TiedAt (if b then Ready else Initializing) a f
+    go true = h.0 ∙ sym h.1
+    go false = h
+heard_first other m a f h = h
+
+if_life : (b : Bool) (x y : Life) (a f : ℕ) → TiedAt x.stage a f → TiedAt y.stage a f → TiedAt (if b then x else y).stage a f
+if_life true x y a f h k = h
+if_life false x y a f h k = k
+
+pub tied_took : (settings : Settings) (events : List Event) (cause : Cause) → built_behind settings events cause ≡ true → AllTied events → OthersTied cause (with_cause events cause)
+tied_took settings events (Joined e) built h = λ s rest. tied_by s events (with_cause events (Joined e)) (life_of s events).stage (ap (λ (l : Life). l.stage) (life_more s events (heard (Joined e)))) (asking_heard s events (Joined e)) (forwarding_heard settings s events (Joined e) built) (h s)
+tied_took settings events (FromEditor e body) built h = λ s rest. tied_by s events (with_cause events (FromEditor e body)) (life_of s events).stage (ap (λ (l : Life). l.stage) (life_more s events (heard (FromEditor e body)))) (asking_heard s events (FromEditor e body)) (forwarding_heard settings s events (FromEditor e body) built) (h s)
+tied_took settings events (Started n) built h = λ s rest. tied_by s events (with_cause events (Started n)) (life_of s events).stage
+    (ap (λ (l : Life). l.stage) (life_more s events (heard (Started n))) ∙ ap (λ b. (if b then record { stage = stage_started (life_of s events).stage; started = true } else life_of s events).stage) rest) (asking_heard s events (Started n)) (forwarding_heard settings s events (Started n) built) (h s)
+tied_took settings events (FromServer n body) built h = λ s rest. tied_by s events (with_cause events (FromServer n body)) _ (ap (λ (l : Life). l.stage) (life_more s events (heard (FromServer n body)))) (asking_heard s events (FromServer n body)) (forwarding_heard settings s events (FromServer n body) built)
+    (if_life (nat_eq n s) (record { stage = stage_hears (life_of s events).stage (message_of body); started = (life_of s events).started }) (life_of s events) (asking_of s events).next (forwarding_of s events).next
+    (heard_first (life_of s events).stage (message_of body) (asking_of s events).next (forwarding_of s events).next (h s)) (h s))
+tied_took settings events cause built h = absurd (cc)
+
+-- A body to a start
+
+-- by a request a ready start stays ready, or is to end
+told_tied : (m : Message) (a f : ℕ) → a ≡ f → TiedAt (stage_told Ready m) a f
+told_tied m a f h = go (requests (codes "shutdown") m)
+  where
+    go : (b : Bool) → TiedAt (if b then Stopping else Ready) a f
+    go true = tt
+    go false = h
+
+module _ (settings : Settings) (cause : Cause) (events : List Event) (n : ℕ) (body : List ℕ) where
+  abbrev sent : List Event
+  sent = events ++ said (ToServer n body) ∷ []
+
+  abbrev Later : ℕ → Type 0
+  Later s = begins_now cause s ≡ false → Tied events s → Tied sent s
+
+  stage_now : (m : Message) → message_of body ≡ m → (life_of n sent).stage ≡ stage_told (life_of n events).stage m
+  stage_now m says = ap (λ (l : Life). l.stage) (life_more n events (said (ToServer n body))) ∙ stage_sent events n body m says
+
+  notified : (method : List ℕ) (params : Option Json) → message_of body ≡ notification method params → (life_of n events).stage ≡ Ready → Later n
+  notified method params says ready rest h = tied_by n events sent Ready (stage_now (notification method params) says ∙ ap (λ z. stage_told z (notification method params)) ready)
+      (ap (λ (a : Asking). a.next) (asking_sent events n body (notification method params) says))
+      (ap (λ (x : Forwarding). x.next) (forwarding_sent events n body (notification method params) says) ∙ notified_next (forwarding_of n events) method params)
+      (subst (λ z. TiedAt z (asking_of n events).next (forwarding_of n events).next) ready h)
+
+  -- an editor's request
+  goes : (k : IsForward settings cause events n body) → Tied events n → Tied sent n
+  goes k h =
+      let m : Message = request (integer (decimal (forwarding_of n events).next)) k.method k.params in
+      let a : (asking_of n sent).next ≡ (asking_of n events).next + 1 = ap (λ (x : Asking). x.next) (asking_sent events n body m k.says) in
+      let f : (forwarding_of n sent).next ≡ (forwarding_of n events).next + 1 = ap (λ (x : Forwarding). x.next) (forwarding_sent events n body m k.says)
+      ∙ ap (λ c. (if c then forwarding_of n events else record { sender = (forwarding_of n events).sender; next = (forwarding_of n events).next + 1; open_requests = (forwarding_of n events).open_requests ++ numbered (forwarding_of n events).sender (forwarding_of n events).next }).next) k.other in
+      let same : (asking_of n events).next ≡ (forwarding_of n events).next = subst (λ z. TiedAt z (asking_of n events).next (forwarding_of n events).next) k.ready h in
+      let stage : (life_of n sent).stage ≡ stage_told Ready m = stage_now m k.says ∙ ap (λ z. stage_told z m) k.ready in
+      subst (λ z. TiedAt z (asking_of n sent).next (forwarding_of n sent).next) (sym stage) (told_tied m (asking_of n sent).next (forwarding_of n sent).next (a ∙ ap (λ z. z + 1) same ∙ sym f))
+
+  module _ (before : List Event) where
+    one_tied : WhyToServer settings before cause events n body → Later n
+    one_tied (begins k) rest h = never (sym (ap (λ c. begins_now c n) k.from ∙ same_number n) ∙ rest)
+    one_tied (greets k) rest h = notified (codes "initialized") k.params k.says k.ready rest h
+    one_tied (forwarded k) rest h = goes k h
+    one_tied (tells k) rest h = let m : Spoken (message_of body) = spoken (message_of body) k.spoken in notified m.method m.params m.is k.ready rest h
+    one_tied (shuts k) rest h = subst (λ z. TiedAt z (asking_of n sent).next (forwarding_of n sent).next)
+        (sym (stage_now (request (integer (decimal (asking_of n events).next)) (codes "shutdown") None) k.says ∙ ap (λ z. stage_told z (request (integer (decimal (asking_of n events).next)) (codes "shutdown") None)) k.ready)) tt
+
+    pub tied_sent : WhyToServer settings before cause events n body → OthersTied cause events → OthersTied cause sent
+    tied_sent why h s rest = each_start Later n (one_tied why)
+        (λ k other left l. tied_by k events sent (life_of k events).stage (ap (λ (x : Life). x.stage) (life_more k events (said (ToServer n body)))
+        ∙ ap (λ b. (if b then record { stage = stage_told (life_of k events).stage (message_of body); started = (life_of k events).started } else life_of k events).stage) other)
+        (ap (λ (a : Asking). a.next) (asking_other events n body k other)) (ap (λ (x : Forwarding). x.next) (forwarding_other events n body k other)) l) s rest (h s rest)
+
+-- Other outs
+
+pub tied_said : (cause : Cause) (events : List Event) (out : Out) → ((s : ℕ) → (asking_of s (events ++ said out ∷ [])).next ≡ (asking_of s events).next) → ((s : ℕ) → (forwarding_of s (events ++ said out ∷ [])).next ≡ (forwarding_of s events).next)
+    → ((s : ℕ) (a f : ℕ) → TiedAt (life_of s events).stage a f → TiedAt (life_behind s (life_of s events) (said out)).stage a f) → OthersTied cause events → OthersTied cause (events ++ said out ∷ [])
+tied_said cause events out a f l h s rest = tied_by s events (events ++ said out ∷ []) (life_behind s (life_of s events) (said out)).stage (ap (λ (x : Life). x.stage) (life_more s events (said out))) (a s) (f s)
+    (l s (asking_of s events).next (forwarding_of s events).next (h s rest))
+
+-- a start that is spawned, or that ends, has nothing to tie
+pub tied_life : (b : Bool) (x y : Life) (a f : ℕ) → ((a f : ℕ) → TiedAt x.stage a f) → TiedAt y.stage a f → TiedAt (if b then x else y).stage a f
+tied_life true x y a f g h = g a f
+tied_life false x y a f g h = h
+
+pub ending_tied : (stage : Stage) (a f : ℕ) → TiedAt (stage_ending stage) a f
+ending_tied Ended a f = tt
+ending_tied other a f = tt
+
+-- Behind the entry that a program begins with
+
+module _ (settings : Settings) (before : List Event) (n : ℕ) where
+  abbrev now : List Event
+  now = with_cause before (Started n)
+
+  abbrev later : List Out → List Event
+  later xs = behind now xs
+
+  -- the daemon's own `initialize` is sent
+  opened : (x : Kept) → IsWritten x → (life_of n before).stage ≡ Spawning → Unbegun before → Tied (later (ToServer n (initialize_of x) ∷ [])) n
+  opened x k at unbegun =
+      let m : Message = request (integer (codes "1")) (codes "initialize") k.params in
+      let none : ((asking_of n before).next ≡ 1) × ((forwarding_of n before).next ≡ 2) = unbegun n (rw at refl) in
+      let end : List Event = later (ToServer n (initialize_of x) ∷ []) in
+      let stage : (life_of n end).stage ≡ Initializing = ap (λ (l : Life). l.stage) (life_more n now (said (ToServer n (initialize_of x)))) ∙ stage_sent now n (initialize_of x) m k.says
+      ∙ ap (λ z. stage_told z m) (ap (λ (l : Life). l.stage) (life_more n before (heard (Started n)))
+      ∙ ap (λ b. (if b then record { stage = stage_started (life_of n before).stage; started = true } else life_of n before).stage) (same_number n) ∙ ap stage_started at) in
+      let a : (asking_of n end).next ≡ (asking_of n now).next + 1 = ap (λ (z : Asking). z.next) (asking_sent now n (initialize_of x) m k.says) in
+      let f : (forwarding_of n end).next ≡ (forwarding_of n now).next = ap (λ (z : Forwarding). z.next) (forwarding_sent now n (initialize_of x) m k.says) in
+      subst (λ z. TiedAt z (asking_of n end).next (forwarding_of n end).next) (sym stage)
+      (a ∙ ap (λ z. z + 1) (asking_heard n before (Started n) ∙ none.0), f ∙ forwarding_heard settings n before (Started n) refl ∙ none.1)
+
+  -- a start that is spawned has a group
+  spawned : Starts before → (life_of n before).stage ≡ Spawning → n < starts_of before
+  spawned starts at = within (λ le. never (sym (ap is_spawning at) ∙ ap (λ (l : Life). is_spawning l.stage) (starts n le)))
+    where
+      within : (starts_of before ≤ n → ⊥) → n < starts_of before
+      within f = omega (arith, f)
+
+  begun_tied : Starts before → Unbegun before → Housed settings before → Written settings before → (stage : Stage) → (life_of n before).stage ≡ stage → may_begin stage ≡ true → Tied (later (outs (started settings n before stage) now)) n
+  begun_tied starts unbegun housed written Spawning at may =
+      let h : IsHoused settings n before = housed n (spawned starts at) in
+      let item : (x : Kept) × (slice_get (groups_of settings before) h.group ≡ Some x) = item_at (groups_of settings before) h.group h.kept in
+      let sends : outs (started settings n before Spawning) now ≡ ToServer n (initialize_of item.0) ∷ [] = rw (h.is, item.1) refl in
+      subst (λ xs. Tied (later xs) n) (sym sends) (opened item.0 (get_all IsWritten (groups_of settings before) h.group item.0 written item.1) at unbegun)
+  begun_tied starts unbegun housed written Ending at may = subst (λ z. Tied z n) (sym (append-nil now)) (subst (λ z. TiedAt z (asking_of n now).next (forwarding_of n now).next)
+      (sym (ap (λ (l : Life). l.stage) (life_more n before (heard (Started n))) ∙ ap (λ b. (if b then record { stage = stage_started (life_of n before).stage; started = true } else life_of n before).stage) (same_number n) ∙ ap stage_started at)) tt)
+  begun_tied starts unbegun housed written Unspawned at may = absurd (cc)
+  begun_tied starts unbegun housed written Initializing at may = absurd (cc)
+  begun_tied starts unbegun housed written Ready at may = absurd (cc)
+  begun_tied starts unbegun housed written Stopping at may = absurd (cc)
+  begun_tied starts unbegun housed written Ended at may = absurd (cc)
+
+pub tied_rests : (settings : Settings) (before : List Event) (cause : Cause) → fits_behind before cause ≡ true → Starts before → Unbegun before → Housed settings before → Written settings before
+    → OthersTied cause (behind (with_cause before cause) (outs_of settings before cause)) → AllTied (behind (with_cause before cause) (outs_of settings before cause))
+tied_rests settings before (Started n) fits starts unbegun housed written h = λ s. go s (nat_eq n s) refl
+  where
+    go : (s : ℕ) (b : Bool) → nat_eq n s ≡ b → Tied (behind (with_cause before (Started n)) (outs_of settings before (Started n))) s
+    go s false other = h s other
+    go s true same = subst (Tied (behind (with_cause before (Started n)) (outs_of settings before (Started n)))) (number_same n s same)
+        (begun_tied settings before n starts unbegun housed written (life_of n before).stage refl (and_parts (may_begin (life_of n before).stage) (not (life_of n before).started) fits).0)
+tied_rests settings before cause fits starts unbegun housed written h = λ s. h s refl

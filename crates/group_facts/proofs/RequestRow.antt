@@ -1,0 +1,159 @@
+-- E8 and E10: a request of an editor comes too early, or goes on behind a sync, or is refused.
+use Rattle.std.proofs.Common.{◌≡◌, ℕ, Bool, true, false, ◌||◌, List, [], ◌∷◌, ◌<◌, ◌^◌, nat_lt, codes, bytes_eq, decimal, if◌then◌else◌, Option, refl, sym, ◌∙◌, ap, ap₂, subst, arith, ltb-true}
+use Rattle.std.proofs.lemmas.Bool.{and_parts}
+use Rattle.std.proofs.lemmas.Slice.Eq.{bytes_eq-Decides}
+use Rattle.json_text.specs.Json.{Json}
+use Rattle.document_model.specs.Opens.{Open}
+use Rattle.lsp_method.specs.Class.{editor_request, own_request}
+use Rattle.mux_history.specs.declared.cause.Cause.TheVariants.{FromEditor}
+use Rattle.mux_history.specs.declared.out.Out.{Out}
+use Rattle.rpc_message.specs.Message.{request, Id, integer, message_of, id_bytes}
+use Rattle.rpc_message.specs.Texts.{with_id_text, request_failed, server_not_initialized, error_tree}
+use Rattle.rpc_message.proofs.Decimals.{decimal_law}
+use Rattle.rpc_message.proofs.Ids.{request_with_id, request_id_bytes}
+use Rattle.event_model.specs.declared.phase.Phase.TheVariants.{New, Waiting}
+use Rattle.event_model.specs.Event.{Event, heard, same_id, behind, with_cause}
+use Rattle.event_model.specs.Phases.{Desk, desk_of, desk_hears, has_id, is_there}
+use Rattle.event_model.specs.Requests.{is_open, is_own, open_of}
+use Rattle.event_model.specs.Row.{on, ◌⨾◌}
+use Rattle.event_model.specs.Settings.{Settings}
+use Rattle.event_model.specs.Spawns.{start_of}
+use Rattle.event_model.specs.Stages.{is_ready, life_of}
+use Rattle.mux_model.specs.Documents.{held_at}
+use Rattle.mux_model.proofs.DocumentFolds.{outs_to_start}
+use Rattle.mux_facts.specs.Ranges.{InRange}
+use Rattle.mux_facts.proofs.Bodies.{refusal_says}
+use Rattle.mux_facts.proofs.Folds.{desk_more}
+use Rattle.mux_facts.proofs.Reasons.{Because, by_send, by_then, by_choose, by_look, by_on}
+use Rattle.mux_facts.proofs.Table.{late_taken, open_taken, there_taken}
+use Rattle.mux_facts.proofs.Waits.{AllWaiting, Waits, late_not, waits_at}
+use Rattle.mux_facts.proofs.Why.{is_early}
+use Rattle.mux_facts.proofs.Words.{id_same, same_number}
+use Rattle.group_rows.specs.Forwarded.{Forwarding, forwarding_of, sender_of}
+use Rattle.group_rows.specs.Rows.{answer_error, can_ask, forward, request_at, request_row, sync_bodies, sync_row}
+use Rattle.group_rows.specs.Texts.{texts_of}
+use Rattle.group_facts.specs.Built.{is_plain}
+use Rattle.group_facts.specs.Facts.{Opened}
+use Rattle.group_facts.proofs.DocumentRow.{calm_now, held_still}
+use Rattle.group_facts.proofs.Forwards.{forwarding_more}
+use Rattle.group_facts.proofs.SharedRows.{AllTold, Held, sync_told}
+use Rattle.group_facts.proofs.Tellings.{Calm, tells_row}
+use Rattle.group_facts.specs.Why.{IsForward, Why, forwarded, refuses}
+
+-- a request of class Other is neither `initialize` nor `shutdown`
+pub plain_other : (method : List ℕ) → is_plain method ≡ true → is_own method ≡ false
+unfolding editor_request own_request
+plain_other method h = go (bytes_eq method (codes "initialize")) refl (bytes_eq method (codes "shutdown")) refl
+  where
+    go : (a : Bool) → bytes_eq method (codes "initialize") ≡ a → (b : Bool) → bytes_eq method (codes "shutdown") ≡ b → (a || b) ≡ false
+    go true e b f = absurd (let k : is_plain (codes "initialize") ≡ true = subst (λ m. is_plain m ≡ true) ((bytes_eq-Decides method (codes "initialize")).0 e) h in cc)
+    go false e true f = absurd (let k : is_plain (codes "shutdown") ≡ true = subst (λ m. is_plain m ≡ true) ((bytes_eq-Decides method (codes "shutdown")).0 f) h in cc)
+    go false e false f = refl
+
+abbrev pub either_desk : Bool → Desk → Desk → Desk
+either_desk b x y = if b then x else y
+
+module _ (settings : Settings) (before : List Event) (e : ℕ) (body : List ℕ) where
+  abbrev pub asked : List Event
+  asked = with_cause before (FromEditor e body)
+
+  abbrev pub R : List Event → Out → Type 0
+  R events out = Why settings before (FromEditor e body) events out
+
+  -- where the editor stands behind its own message
+  pub desk_taken : desk_of e asked ≡ desk_hears (desk_of e before).phase (desk_of e before).initialize body (message_of body)
+  desk_taken = desk_more e before (heard (FromEditor e body)) ∙ ap (λ b. if b then desk_hears (desk_of e before).phase (desk_of e before).initialize body (message_of body) else desk_of e before) (same_number e)
+
+  module _ (id : Id) (method : List ℕ) (params : Option Json) (says : message_of body ≡ request id method params) (there : is_there (desk_of e before).phase ≡ true) where
+    -- E8
+    early : ((desk_of e asked).phase ≡ Waiting → has_id id (message_of (desk_of e asked).initialize) ≡ false) → Because R asked (answer_error e body server_not_initialized)
+    early others = by_send (refuses (record {
+      id = id;
+      x = error_tree server_not_initialized;
+      there = there_taken settings before e body there;
+      waits = open_taken before e body id method params says;
+      others = others;
+      says = refusal_says body id method params server_not_initialized says;
+    }))
+
+    pub early_new : (desk_of e before).phase ≡ New → bytes_eq (codes "initialize") method ≡ false → Because R asked (answer_error e body server_not_initialized)
+    early_new at other = early (λ waits. absurd (let new : (desk_of e asked).phase ≡ New = still in cc))
+      where
+        still : (desk_of e asked).phase ≡ New
+        still = ap (λ (d : Desk). d.phase) (desk_taken ∙ ap₂ (λ p m. desk_hears p (desk_of e before).initialize body m) at says)
+            ∙ ap (λ b. (either_desk b (record { phase = Waiting; initialize = body }) (record { phase = New; initialize = (desk_of e before).initialize })).phase) other
+
+    pub early_waiting : (desk_of e before).phase ≡ Waiting → AllWaiting before → is_open id (open_of e before) ≡ false → Because R asked (answer_error e body server_not_initialized)
+    early_waiting at waiting fresh = early (λ waits. ap (λ (d : Desk). has_id id (message_of d.initialize)) (desk_taken ∙ ap (λ p. desk_hears p (desk_of e before).initialize body (message_of body)) at) ∙ ap (has_id id) w.asks ∙ apart (same_id id w.id) refl)
+      where
+        w : Waits (desk_of e before).initialize (open_of e before)
+        w = waits_at before e at waiting
+
+        apart : (b : Bool) → same_id id w.id ≡ b → b ≡ false
+        apart true k = absurd (let o : is_open id (open_of e before) ≡ true = subst (λ i. is_open i (open_of e before) ≡ true) (sym (id_same id w.id k)) w.waits in cc)
+        apart false k = refl
+
+    module _ (range : InRange settings) (opened : Opened settings before) (late : is_early (desk_of e before).phase ≡ false) (other : is_own method ≡ false) where
+      fails : Because R asked (answer_error e body request_failed)
+      fails = by_send (refuses (record {
+        id = id;
+        x = error_tree request_failed;
+        there = there_taken settings before e body there;
+        waits = open_taken before e body id method params says;
+        others = λ at. absurd (late_not (desk_of e asked).phase (late_taken before e body late) at);
+        says = refusal_says body id method params request_failed says;
+      }))
+
+      module _ (g s : ℕ) (can : can_ask settings s before ≡ true) where
+        abbrev bodies : List (List ℕ)
+        bodies = sync_bodies settings.limits.versions (λ u. held_at s u before) e (texts_of settings g before).opens
+
+        parts : (is_ready (life_of s before).stage ≡ true) × (nat_lt (forwarding_of s before).next settings.limits.requests ≡ true)
+        parts = and_parts (is_ready (life_of s before).stage) (nat_lt (forwarding_of s before).next settings.limits.requests) can
+
+        all_held : (os : List Open) → Held settings range before (FromEditor e body) asked s (λ u. held_at s u before) e asked os
+        all_held [] = tt
+        all_held (o ∷ os) = (λ k. held_still settings range before e body s o.uri (held_at s o.uri before) refl, all_held os)
+
+        sync : AllTold settings range before (FromEditor e body) asked s asked bodies
+        sync = sync_told settings range before (FromEditor e body) asked s (λ u. held_at s u before) e (texts_of settings g before).opens (opened g).orderly.once (opened g).spelt asked
+            (calm_now settings range before e body s parts.0) (all_held (texts_of settings g before).opens)
+
+        goes : (events : List Event) → Calm settings range before (FromEditor e body) asked s events → IsForward settings (FromEditor e body) events s (with_id_text body (decimal (forwarding_of s events).next))
+        goes events calm = record {
+          sender = record { editor = e; id = id_bytes body };
+          asked = body;
+          from = refl;
+          bytes = refl;
+          id = id;
+          method = method;
+          params = params;
+          at_work = calm.still.sender ∙ ap (λ (x : Forwarding). x.sender) (forwarding_more s before (heard (FromEditor e body))) ∙ ap (sender_of e body) says;
+          says = request_with_id body (decimal (forwarding_of s events).next) id (integer (decimal (forwarding_of s events).next)) method params says (decimal_law (forwarding_of s events).next low);
+          other = other;
+          room = room;
+          ready = calm.still.ready;
+          text = request_id_bytes body id method params says;
+          waits = ap (is_open id) (calm.still.opens e) ∙ open_taken before e body id method params says;
+          late = ap (λ (d : Desk). is_early d.phase) (calm.still.desks e) ∙ late_taken before e body late;
+        }
+          where
+            room : nat_lt (forwarding_of s events).next settings.limits.requests ≡ true
+            room = ap (λ n. nat_lt n settings.limits.requests) (calm.still.next ∙ ap (λ (x : Forwarding). x.next) (forwarding_more s before (heard (FromEditor e body)))) ∙ parts.1
+
+            low : (forwarding_of s events).next < 2 ^ 64
+            low = let below : (forwarding_of s events).next < settings.limits.requests = ltb-true (forwarding_of s events).next settings.limits.requests room in let wide : settings.limits.requests < 2 ^ 32 = range.requests in omega (arith, below, wide)
+
+        asks : Because R asked (sync_row settings before g s e ⨾ forward s body)
+        asks = by_then (tells_row settings range before (FromEditor e body) asked s asked bodies sync)
+            (by_look (by_send (forwarded (goes _ (subst (λ z. Calm settings range before (FromEditor e body) asked s (behind asked z)) (sym (outs_to_start s bodies asked)) sync.calm)))))
+
+      at_start : (g s : ℕ) → Because R asked (request_at settings before e body g s)
+      at_start g s = by_choose (λ can. asks g s can) (λ cannot. fails)
+
+      at_group : (g : ℕ) → Because R asked (on (start_of g before) (answer_error e body request_failed) (request_at settings before e body g))
+      at_group g = by_on (λ none. fails) (λ s start. at_start g s)
+
+      -- E10
+      pub request_why : Because R asked (request_row settings before e body)
+      request_why = by_on (λ none. fails) (λ g home. at_group g)

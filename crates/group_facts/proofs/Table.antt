@@ -1,0 +1,131 @@
+-- The routing table over several editors and groups, walked once: each out of every row has its reason.
+use Rattle.std.proofs.Common.{◌≡◌, ℕ, Bool, true, false, not, ◌&&◌, ◌||◌, List, codes, Option, refl, sym, ◌∙◌, ap, subst}
+use Rattle.std.proofs.lemmas.Bool.{and_parts}
+use Rattle.std.proofs.lemmas.Slice.Eq.{bytes_eq-Decides}
+use Rattle.json_text.specs.Json.{Json}
+use Rattle.mux_history.specs.declared.cause.Cause.{Cause}
+use Rattle.mux_history.specs.declared.cause.Cause.TheVariants.{FromEditor, Started, FromServer}
+use Rattle.rpc_message.specs.Message.{Message, request, notification, result, error, not_json, not_message, Id, message_of, result_bytes}
+use Rattle.rpc_message.specs.Texts.{error_tree}
+use Rattle.event_model.specs.declared.phase.Phase.{Phase}
+use Rattle.event_model.specs.declared.phase.Phase.TheVariants.{Absent, New, Waiting, Answered, Running, Down, Closed, Gone}
+use Rattle.event_model.specs.Event.{Event, with_cause}
+use Rattle.event_model.specs.Members.{has_token}
+use Rattle.event_model.specs.Phases.{desk_of, is_malformed, is_there}
+use Rattle.event_model.specs.Requests.{is_open, open_of}
+use Rattle.event_model.specs.Row.{Row}
+use Rattle.event_model.specs.Settings.{Settings}
+use Rattle.event_model.specs.Stages.{is_first_result, life_of}
+use Rattle.mux_model.specs.Rows.{malformed_code, malformed_row}
+use Rattle.mux_facts.specs.Ranges.{InRange}
+use Rattle.mux_facts.proofs.Bodies.{malformed_says}
+use Rattle.mux_facts.proofs.Reasons.{Because, by_nothing, by_send, by_choose}
+use Rattle.mux_facts.proofs.Why.{is_early}
+use Rattle.group_words.specs.Rows.{shown_of}
+use Rattle.group_rows.specs.Forwarded.{forwarding_of}
+use Rattle.group_rows.specs.Rows.{from_editor, message_row, row_of, served_row}
+use Rattle.group_facts.specs.Built.{built_answer, built_as, built_behind, built_from_editor, built_from_server, is_plain, is_shown_whole, opens_well}
+use Rattle.group_facts.proofs.AnswerRows.{server_why, start_why}
+use Rattle.group_facts.proofs.DocumentRow.{document_why}
+use Rattle.group_facts.proofs.Facts.{Facts}
+use Rattle.group_facts.proofs.PlacingRow.{initialize_why}
+use Rattle.group_facts.proofs.RequestRow.{R, asked, early_new, early_waiting, plain_other, request_why}
+use Rattle.group_facts.specs.Why.{Why, rejects}
+
+not_so : (b : Bool) → not b ≡ true → b ≡ false
+not_so true h = absurd (cc)
+not_so false h = refl
+
+module _ (settings : Settings) (range : InRange settings) (before : List Event) (facts : Facts settings before) (e : ℕ) (body : List ℕ) where
+  abbrev Mine : Row → Type 0
+  Mine row = Because (R settings before e body) (asked settings before e body) row
+
+  abbrev BuiltAs : Phase → Message → Type 0
+  BuiltAs phase m = built_from_editor phase (open_of e before) (opens_well settings before e body) m ≡ true
+
+  -- a request that is built: its id isn't open
+  module _ (id : Id) (method : List ℕ) (params : Option Json) (phase : Phase) (built : BuiltAs phase (request id method params)) where
+    parts : (not (is_open id (open_of e before)) ≡ true) × (built_as phase (opens_well settings before e body) method params ≡ true)
+    parts = and_parts (not (is_open id (open_of e before))) (built_as phase (opens_well settings before e body) method params) built
+
+    fresh : is_open id (open_of e before) ≡ false
+    fresh = not_so (is_open id (open_of e before)) parts.0
+
+  served_why : (m : Message) → message_of body ≡ m → is_early (desk_of e before).phase ≡ false → is_there (desk_of e before).phase ≡ true
+      → ((id : Id) (method : List ℕ) (params : Option Json) → m ≡ request id method params → is_plain method ≡ true) → Mine (served_row settings before e body m)
+  served_why (request id method params) says late there plain = request_why settings before e body id method params says there range (facts.base).opened late (plain_other method (plain id method params refl))
+  served_why (notification method params) says late there plain = document_why settings range before e body (facts.base).opened method params says
+  served_why (result id r) says late there plain = by_nothing
+  served_why (error id x) says late there plain = by_nothing
+  served_why not_json says late there plain = by_nothing
+  served_why not_message says late there plain = by_nothing
+
+  new_why : (m : Message) → message_of body ≡ m → (desk_of e before).phase ≡ New → Mine (message_row settings before e body m New)
+  new_why (request id method params) says at = by_choose
+      (λ yes. initialize_why settings range before e body id params (says ∙ ap (λ z. request id z params) (sym ((bytes_eq-Decides (codes "initialize") method).0 yes))) at (facts.base).plain (facts.steady).bounded)
+      (λ no. early_new settings before e body id method params says (ap is_there at) at no)
+  new_why (notification method params) says at = by_choose (λ yes. absurd (cc)) (λ no. by_nothing)
+  new_why (result id r) says at = by_choose (λ yes. absurd (cc)) (λ no. by_nothing)
+  new_why (error id x) says at = by_choose (λ yes. absurd (cc)) (λ no. by_nothing)
+  new_why not_json says at = by_choose (λ yes. absurd (cc)) (λ no. by_nothing)
+  new_why not_message says at = by_choose (λ yes. absurd (cc)) (λ no. by_nothing)
+
+  waiting_why : (m : Message) → message_of body ≡ m → (desk_of e before).phase ≡ Waiting → BuiltAs Waiting m → Mine (message_row settings before e body m Waiting)
+  waiting_why (request id method params) says at built = early_waiting settings before e body id method params says (ap is_there at) at facts.waiting (fresh id method params Waiting built)
+  waiting_why (notification method params) says at built = by_nothing
+  waiting_why (result id r) says at built = by_nothing
+  waiting_why (error id x) says at built = by_nothing
+  waiting_why not_json says at built = by_nothing
+  waiting_why not_message says at built = by_nothing
+
+  -- the request of an editor that got its result is of class Other
+  plain_answered : (m : Message) → BuiltAs Answered m → (id : Id) (method : List ℕ) (params : Option Json) → m ≡ request id method params → is_plain method ≡ true
+  plain_answered m built id method params is = (and_parts (is_plain method) (not (has_token params)) (parts id method params Answered (subst (BuiltAs Answered) is built)).1).0
+
+  plain_running : (m : Message) → BuiltAs Running m → (id : Id) (method : List ℕ) (params : Option Json) → m ≡ request id method params → is_plain method ≡ true
+  plain_running m built id method params is = (and_parts (is_plain method) (not (has_token params)) (parts id method params Running (subst (BuiltAs Running) is built)).1).0
+
+  message_why : (phase : Phase) → (desk_of e before).phase ≡ phase → BuiltAs phase (message_of body) → Mine (message_row settings before e body (message_of body) phase)
+  message_why New at built = new_why (message_of body) refl at
+  message_why Waiting at built = waiting_why (message_of body) refl at built
+  message_why Answered at built = served_why (message_of body) refl (ap is_early at) (ap is_there at) (plain_answered (message_of body) built)
+  message_why Running at built = served_why (message_of body) refl (ap is_early at) (ap is_there at) (plain_running (message_of body) built)
+  message_why Absent at built = by_nothing
+  message_why Down at built = by_nothing
+  message_why Closed at built = by_nothing
+  message_why Gone at built = by_nothing
+
+  editor_why : BuiltAs (desk_of e before).phase (message_of body) → Mine (from_editor settings before e body (message_of body) (desk_of e before).phase)
+  editor_why built = by_choose (λ malformed. rejected malformed) (λ fine. message_why (desk_of e before).phase refl built)
+    where
+      rejected : is_malformed (message_of body) ≡ true → Mine (malformed_row e (message_of body) (desk_of e before).phase)
+      rejected malformed = by_choose
+          (λ there. by_send (rejects (record { asked = body; x = error_tree (malformed_code (message_of body)); there = there; from = refl; place = refl; malformed = malformed; says = malformed_says (message_of body) })))
+          (λ gone. by_nothing)
+
+-- a first result is no malformed body
+first_is_whole : (m : Message) → is_first_result m ≡ true → is_malformed m ≡ false
+first_is_whole (result id r) h = refl
+first_is_whole (error id x) h = absurd (cc)
+first_is_whole (request id method params) h = absurd (cc)
+first_is_whole (notification method params) h = absurd (cc)
+first_is_whole not_json h = absurd (cc)
+first_is_whole not_message h = absurd (cc)
+
+-- what is built of a first result: editors are shown all of it
+pub shown_whole : (malformed answers first : Bool) (body : List ℕ) → (malformed || (answers && (not first || is_shown_whole body))) ≡ true → malformed ≡ false → first ≡ true → shown_of (result_bytes body) ≡ result_bytes body
+shown_whole true answers first body h message so = absurd (cc)
+shown_whole false true true body h message so = (bytes_eq-Decides (shown_of (result_bytes body)) (result_bytes body)).0 h
+shown_whole false true false body h message so = absurd (cc)
+shown_whole false false first body h message so = absurd (cc)
+
+pub first_shown : (before : List Event) (s : ℕ) (body : List ℕ) → built_from_server (life_of s before).stage (forwarding_of s before).open_requests body (message_of body) ≡ true → is_first_result (message_of body) ≡ true → shown_of (result_bytes body) ≡ result_bytes body
+first_shown before s body built first = shown_whole (is_malformed (message_of body)) (built_answer (life_of s before).stage (forwarding_of s before).open_requests (message_of body)) (is_first_result (message_of body)) body built (first_is_whole (message_of body) first) first
+
+module _ (settings : Settings) (range : InRange settings) (before : List Event) (facts : Facts settings before) where
+  -- every out of every entry has its reason
+  pub reasons : (cause : Cause) → built_behind settings before cause ≡ true → Because (Why settings before cause) (with_cause before cause) (row_of settings before cause)
+  reasons (FromEditor e body) built = editor_why settings range before facts e body built
+  reasons (FromServer s body) built = server_why settings range before s body (facts.base).opened (facts.steady).untold facts.waiting (facts.steady).asked (first_shown before s body built) (life_of s before).stage refl
+  reasons (Started s) built = start_why settings before s (facts.base).written (life_of s before).stage refl
+  reasons cause built = by_nothing

@@ -1,0 +1,151 @@
+-- What a start that is ready is told of documents, body by body, in an entry that begins at `now`.
+use Rattle.std.proofs.Common.{◌≡◌, ℕ, true, false, List, [], ◌∷◌, ◌++◌, map, cond, if◌then◌else◌, Option, None, Some, refl, sym, subst, ◌∙◌, ap, ap₂, ◌+◌, ◌<◌, ◌^◌, Bool, nat_lt, bytes_eq, is_some, codes, decimal, arith, ltb-true, IsUtf8, append_assoc}
+use Rattle.std.proofs.lemmas.List.{map-append}
+use Rattle.std.proofs.lemmas.List.Elements.{filter-append}
+use Rattle.json_text.specs.Json.{Json}
+use Rattle.position_codec.specs.declared.Encoding.{Encoding}
+use Rattle.document_model.specs.Bodies.{open_text, full_text, close_text}
+use Rattle.document_model.specs.Helds.{HeldText, told}
+use Rattle.document_model.specs.Opens.{Open}
+use Rattle.document_model.specs.Orderly.{IsSpelt}
+use Rattle.document_model.specs.Rows.{switched, differing, versioned}
+use Rattle.document_model.specs.Sayings.{closes, saying_of, speaks, opens, changes}
+use Rattle.document_model.proofs.Versioned.{versioned_says}
+use Rattle.document_model.proofs.Written.{Spoken, spoken, open_says, FullSays, full_says, close_says}
+use Rattle.mux_history.specs.declared.cause.Cause.{Cause}
+use Rattle.mux_history.specs.declared.out.Out.{Out}
+use Rattle.mux_history.specs.declared.out.Out.TheVariants.{ToServer}
+use Rattle.rpc_message.specs.Message.{message_of}
+use Rattle.rpc_message.specs.Texts.{initialized_text}
+use Rattle.event_model.specs.Event.{Event, heard, said, behind}
+use Rattle.event_model.specs.Parts.{server_part, is_of_server}
+use Rattle.event_model.specs.Settings.{Settings}
+use Rattle.mux_model.specs.Documents.{Sent, held_at, sent_of}
+use Rattle.mux_model.specs.Rows.{to_start}
+use Rattle.mux_model.proofs.DocumentFolds.{outs_to_start}
+use Rattle.mux_facts.specs.Allowed.{AllowsSaying, IsNext}
+use Rattle.mux_facts.specs.Ranges.{InRange}
+use Rattle.mux_facts.proofs.Keeps.{behind_both, behind_nothing}
+use Rattle.mux_facts.proofs.Reasons.{Because, Reasons, reasons_both}
+use Rattle.mux_facts.proofs.Tellings.{Says, closed_not, sent_more, version_at, versions_at}
+use Rattle.mux_facts.proofs.Words.{same_number}
+use Rattle.group_facts.proofs.Forwards.{Still, still_notified}
+use Rattle.group_facts.specs.Why.{Turn, Why, stays, greeted, tells}
+
+-- a further event of s
+turn_more : (before : List Event) (cause : Cause) (events : List Event) (s : ℕ) (body : List ℕ) → Turn before cause events s → Turn before cause (events ++ said (ToServer s body) ∷ []) s
+turn_more before cause events s body (stays h) = stays h
+turn_more before cause events s body (greeted xs h) = greeted (xs ++ said (ToServer s body) ∷ []) (filter-append (is_of_server s) events (said (ToServer s body) ∷ [])
+    ∙ ap (λ b. server_part s events ++ cond b (said (ToServer s body) ∷ []) []) (same_number s)
+    ∙ ap (λ z. z ++ said (ToServer s body) ∷ []) h
+    ∙ append_assoc (server_part s before) (heard cause ∷ said (ToServer s initialized_text) ∷ xs) (said (ToServer s body) ∷ []))
+
+module _ (settings : Settings) (range : InRange settings) (before : List Event) (cause : Cause) (now : List Event) (s : ℕ) where
+  abbrev pub R : List Event → Out → Type 0
+  R events out = Why settings before cause events out
+
+  -- the start may be told
+  pub record Calm (events : List Event) : Type 0 where
+    pub still : Still now s events
+    pub turn : Turn before cause events s
+
+  abbrev pub to : List (List ℕ) → List Out
+  to bodies = map (λ b. ToServer s b) bodies
+
+  -- each of these bodies has its reason, and they leave alone what the start has of the documents that K holds of
+  pub record Tells (K : List ℕ → Type 0) (events : List Event) (bodies : List (List ℕ)) : Type 0 where
+    pub why : Reasons R events (to bodies)
+    pub calm : Calm (behind events (to bodies))
+    pub others : (w : List ℕ) → K w → held_at s w (behind events (to bodies)) ≡ held_at s w events
+
+  pub tells_none : {K : List ℕ → Type 0} (events : List Event) → Calm events → Tells K events []
+  tells_none events calm = record { why = tt; calm = subst Calm (sym (behind_nothing events)) calm; others = λ w k. ap (held_at s w) (behind_nothing events) }
+
+  pub tells_both : {K : List ℕ → Type 0} (events : List Event) (xs ys : List (List ℕ)) → Tells K events xs → Tells K (behind events (to xs)) ys → Tells K events (xs ++ ys)
+  tells_both events xs ys f g =
+      let split : to (xs ++ ys) ≡ to xs ++ to ys = map-append (λ b. ToServer s b) xs ys in
+      let place : behind events (to (xs ++ ys)) ≡ behind (behind events (to xs)) (to ys) = ap (behind events) split ∙ behind_both events (to xs) (to ys) in
+      record {
+        why = subst (Reasons R events) (sym split) (reasons_both R events (to xs) (to ys) f.why g.why);
+        calm = subst Calm (sym place) g.calm;
+        others = λ w k. ap (held_at s w) place ∙ g.others w k ∙ f.others w k;
+      }
+
+  pub tells_fewer : {K L : List ℕ → Type 0} (events : List Event) (bodies : List (List ℕ)) → ((w : List ℕ) → L w → K w) → Tells K events bodies → Tells L events bodies
+  tells_fewer events bodies f h = record { why = h.why; calm = h.calm; others = λ w l. h.others w (f w l) }
+
+  -- as a row
+  pub tells_row : {K : List ℕ → Type 0} (events : List Event) (bodies : List (List ℕ)) → Tells K events bodies → Because R events (to_start s bodies)
+  tells_row events bodies h = record { why = subst (Reasons R events) (sym (outs_to_start s bodies events)) h.why }
+
+  tells_one : {K : List ℕ → Type 0} (events : List Event) (body : List ℕ) → Calm events → (x : Says s events body) → ((w : List ℕ) → K w → (c : Option Encoding) (h : Option HeldText) → told c w h x.what ≡ h) → Tells K events (body ∷ [])
+  tells_one events body calm x silent =
+      let speaking : speaks (saying_of (message_of body)) ≡ true = ap speaks x.says ∙ x.speaks_so in
+      let m : Spoken (message_of body) = spoken (message_of body) speaking in
+      record {
+        why = (tells (record { ready = calm.still.ready; turn = calm.turn; spoken = speaking; allowed = subst (AllowsSaying (versions_at s events)) (sym x.says) x.allowed }), tt);
+        calm = record { still = still_notified now s events body m.method m.params m.is calm.still; turn = turn_more before cause events s body calm.turn };
+        others = λ w k. ap (λ (z : Sent). z.held) (sent_more s w events (said (ToServer s body)))
+            ∙ ap₂ (λ b y. if b then told (sent_of s w events).encoding w (held_at s w events) y else held_at s w events) (same_number s) x.says
+            ∙ silent w k (sent_of s w events).encoding (held_at s w events);
+      }
+
+  -- another document
+  abbrev pub Beside : List ℕ → List ℕ → Type 0
+  Beside u w = bytes_eq w u ≡ false
+
+  -- that a document opens that it doesn't have
+  pub open_told : (events : List Event) (u l t : List ℕ) → IsUtf8 u → IsUtf8 l → IsUtf8 t → Calm events → held_at s u events ≡ None → Tells (Beside u) events (open_text u l t ∷ [])
+  open_told events u l t h g k calm none = tells_one events (open_text u l t) calm (record {
+    what = opens u l (codes "1") t;
+    says = open_says u l t h g k;
+    speaks_so = refl;
+    allowed = (version_at s events u None none, refl);
+  }) (λ w away c held. rw away refl)
+
+  -- that a document closes that it has
+  pub close_told : (events : List Event) (u : List ℕ) (h : HeldText) → IsUtf8 u → Calm events → held_at s u events ≡ Some h → Tells (Beside u) events (close_text u ∷ [])
+  close_told events u h k calm e = tells_one events (close_text u) calm (record {
+    what = closes u;
+    says = close_says u k;
+    speaks_so = refl;
+    allowed = ap is_some (version_at s events u (Some h) e);
+  }) (λ w away c held. rw away refl)
+
+  next_version : (v : ℕ) → nat_lt v settings.limits.versions ≡ true → v + 1 < 10 ^ 64
+  next_version v less = let below : v < settings.limits.versions = ltb-true v settings.limits.versions less in let wide : settings.limits.versions < 2 ^ 32 = range.versions in omega (arith, below, wide)
+
+  -- that one changes, under the next version
+  change_told : (events : List Event) (u body : List ℕ) (cs : Json) (h : HeldText) → Calm events → held_at s u events ≡ Some h → saying_of (message_of body) ≡ changes u (decimal (h.version + 1)) cs → Tells (Beside u) events (body ∷ [])
+  change_told events u body cs h calm e says = tells_one events body calm (record {
+    what = changes u (decimal (h.version + 1)) cs;
+    says = says;
+    speaks_so = refl;
+    allowed = subst (λ o. IsNext o (decimal (h.version + 1))) (sym (version_at s events u (Some h) e)) refl;
+  }) (λ w away c held. rw away refl)
+
+  full_told : (events : List Event) (u t : List ℕ) (h : HeldText) → IsUtf8 u → IsUtf8 t → nat_lt h.version settings.limits.versions ≡ true → Calm events → held_at s u events ≡ Some h → Tells (Beside u) events (full_text u (h.version + 1) t ∷ [])
+  full_told events u t h k g less calm e = let x : FullSays u (h.version + 1) t = full_says u t (h.version + 1) k g (next_version h.version less) in change_told events u (full_text u (h.version + 1) t) x.list h calm e x.says
+
+  pub versioned_told : (events : List Event) (body u w : List ℕ) (cs : Json) (h : HeldText) → saying_of (message_of body) ≡ changes u w cs → nat_lt h.version settings.limits.versions ≡ true
+      → Calm events → held_at s u events ≡ Some h → Tells (Beside u) events (versioned (h.version + 1) body ∷ [])
+  versioned_told events body u w cs h says less calm e = change_told events u (versioned (h.version + 1) body) cs h calm e (versioned_says body (h.version + 1) u w cs (next_version h.version less) says)
+
+  -- the text of an editor
+  pub switched_told : (events : List Event) (o : Open) (h : HeldText) → IsSpelt o → Calm events → held_at s o.uri events ≡ Some h → Tells (Beside o.uri) events (switched settings.limits.versions o h)
+  switched_told events o h k calm e = go (nat_lt h.version settings.limits.versions) refl
+    where
+      go : (b : Bool) → nat_lt h.version settings.limits.versions ≡ b
+          → Tells (Beside o.uri) events (if b then full_text o.uri (h.version + 1) o.text ∷ [] else close_text o.uri ∷ open_text o.uri o.language o.text ∷ [])
+      go true less = full_told events o.uri o.text h k.0 k.2 less calm e
+      go false more =
+          let one : Tells (Beside o.uri) events (close_text o.uri ∷ []) = close_told events o.uri h k.0 calm e in
+          tells_both events (close_text o.uri ∷ []) (open_text o.uri o.language o.text ∷ []) one
+          (open_told (events ++ said (ToServer s (close_text o.uri)) ∷ []) o.uri o.language o.text k.0 k.1 k.2 one.calm (closed_not s events (close_text o.uri) o.uri (close_says o.uri k.0)))
+
+  pub differing_told : (events : List Event) (o : Open) (h : HeldText) → IsSpelt o → Calm events → held_at s o.uri events ≡ Some h → Tells (Beside o.uri) events (differing settings.limits.versions o h)
+  differing_told events o h k calm e = go (bytes_eq h.text o.text)
+    where
+      go : (b : Bool) → Tells (Beside o.uri) events (if b then [] else switched settings.limits.versions o h)
+      go true = tells_none events calm
+      go false = switched_told events o h k calm e

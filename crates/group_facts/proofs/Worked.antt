@@ -1,0 +1,55 @@
+-- Legal histories of two editors, worked out by the checker.
+use Rattle.std.proofs.Common.{◌≡◌, true, ◌&&◌, List, [], ◌∷◌, ◌++◌, refl, ◌∙◌, ap}
+use Rattle.std.specs.Fmt.{digits}
+use Rattle.std.proofs.lemmas.Bool.{and_parts}
+use Rattle.json.specs.Print.{escape_byte}
+use Rattle.json_text.specs.Computes.{computes}
+use Rattle.json_text.specs.Named.{named}
+use Rattle.lsp_method.specs.Class.{own_request, own_notification, goes_nowhere, editor_request, editor_notification}
+use Rattle.mux_history.specs.declared.cause.Cause.{Cause}
+use Rattle.mux_history.specs.declared.entry.Entry.{Entry}
+use Rattle.rpc_message.specs.Message.{message_of, no_name_twice, is_integer, member_bytes}
+use Rattle.rpc_message.specs.Texts.{with_id_text}
+use Rattle.event_model.specs.Event.{Event, behind, events_of, with_cause}
+use Rattle.event_model.specs.Settings.{Settings}
+use Rattle.mux_model.specs.Fits.{fits_behind}
+use Rattle.mux_facts.proofs.Keeps.{events_more}
+use Rattle.group_words.specs.Example.{with_groups}
+use Rattle.group_rows.specs.Example.{both_ask, closing, switching, two_groups}
+use Rattle.group_rows.specs.Rows.{outs_of}
+use Rattle.group_facts.specs.Built.{built_behind}
+use Rattle.group_facts.specs.Example.{one_group, played, played_from, taken_from}
+use Rattle.group_facts.specs.Legal.{Legal, LegalFrom}
+
+-- what is taken is legal
+legal_from : (settings : Settings) (before : List Entry) (causes : List Cause) → taken_from settings (events_of before) causes ≡ true → LegalFrom settings before (played_from settings before causes)
+legal_from settings before [] h = tt
+legal_from settings before (cause ∷ causes) h =
+    let entry : Entry = record { cause = cause; outs = outs_of settings (events_of before) cause } in
+    let later : List Event = behind (with_cause (events_of before) cause) (outs_of settings (events_of before) cause) in
+    let first = and_parts (fits_behind (events_of before) cause) (built_behind settings (events_of before) cause && taken_from settings later causes) h in
+    let second = and_parts (built_behind settings (events_of before) cause) (taken_from settings later causes) first.1 in
+    (first.0, second.0, refl, legal_from settings (before ++ entry ∷ []) causes (ap (λ z. taken_from settings z causes) (events_more before entry) ∙ second.1))
+
+legal : (settings : Settings) (causes : List Cause) → taken_from settings [] causes ≡ true → Legal settings (played settings causes)
+legal settings causes h = legal_from settings [] causes h
+
+both_ask_is_legal : Legal (with_groups 8) (played (with_groups 8) both_ask)
+unfolding computes message_of named no_name_twice is_integer member_bytes with_id_text escape_byte digits own_request own_notification goes_nowhere editor_request editor_notification
+both_ask_is_legal = legal (with_groups 8) both_ask refl
+
+switching_is_legal : Legal (with_groups 8) (played (with_groups 8) switching)
+unfolding computes message_of named no_name_twice is_integer member_bytes with_id_text escape_byte digits own_request own_notification goes_nowhere editor_request editor_notification
+switching_is_legal = legal (with_groups 8) switching refl
+
+closing_is_legal : Legal (with_groups 8) (played (with_groups 8) closing)
+unfolding computes message_of named no_name_twice is_integer member_bytes with_id_text escape_byte digits own_request own_notification goes_nowhere editor_request editor_notification
+closing_is_legal = legal (with_groups 8) closing refl
+
+two_groups_are_legal : Legal (with_groups 8) (played (with_groups 8) two_groups)
+unfolding computes message_of named no_name_twice is_integer member_bytes with_id_text escape_byte digits own_request own_notification goes_nowhere editor_request editor_notification
+two_groups_are_legal = legal (with_groups 8) two_groups refl
+
+one_group_is_legal : Legal (with_groups 1) (played (with_groups 1) one_group)
+unfolding computes message_of named no_name_twice is_integer member_bytes with_id_text escape_byte digits own_request own_notification goes_nowhere editor_request editor_notification
+one_group_is_legal = legal (with_groups 1) one_group refl

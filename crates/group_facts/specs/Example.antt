@@ -1,0 +1,33 @@
+-- Histories that are legal, by the checker.
+use Rattle.std.specs.Prelude.{Bool, true, ◌&&◌, List, [], ◌∷◌, ◌++◌, codes}
+use Rattle.mux_history.specs.declared.cause.Cause.{Cause}
+use Rattle.mux_history.specs.declared.cause.Cause.TheVariants.{Joined, FromEditor}
+use Rattle.mux_history.specs.declared.entry.Entry.{Entry}
+use Rattle.event_model.specs.Event.{Event, behind, events_of, with_cause}
+use Rattle.event_model.specs.Settings.{Settings}
+use Rattle.mux_model.specs.Fits.{fits_behind}
+use Rattle.group_rows.specs.Rows.{outs_of}
+use Rattle.group_facts.specs.Built.{built_behind}
+
+-- each of these causes fits, and is built, behind the ones before it
+abbrev pub taken_from : Settings → List Event → List Cause → Bool
+taken_from settings events [] = true
+taken_from settings events (cause ∷ causes) =
+    fits_behind events cause && (built_behind settings events cause && taken_from settings (behind (with_cause events cause) (outs_of settings events cause)) causes)
+
+-- the entries of these causes, behind others
+abbrev pub played_from : Settings → List Entry → List Cause → List Entry
+played_from settings before [] = []
+played_from settings before (cause ∷ causes) =
+    let entry : Entry = record { cause = cause; outs = outs_of settings (events_of before) cause } in entry ∷ played_from settings (before ++ entry ∷ []) causes
+
+abbrev pub played : Settings → List Cause → List Entry
+played settings causes = played_from settings [] causes
+
+-- where one group is the limit, the second editor is turned away
+abbrev pub one_group : List Cause
+one_group = Joined 0
+    ∷ FromEditor 0 (codes "{\"jsonrpc\":\"2.0\",\"id\":0,\"method\":\"initialize\",\"params\":{\"rootUri\":\"file:///w\",\"capabilities\":{}}}")
+    ∷ Joined 1
+    ∷ FromEditor 1 (codes "{\"jsonrpc\":\"2.0\",\"id\":0,\"method\":\"initialize\",\"params\":{\"rootUri\":\"file:///v\",\"capabilities\":{}}}")
+    ∷ []

@@ -1,0 +1,167 @@
+-- What holds of every legal history of several editors and groups, and is no rule of a session.
+use Rattle.std.specs.Prelude.{◌≡◌, ℕ, ◌+◌, ◌<◌, ◌≤◌, Bool, true, false, ◌&&◌, List, length, nat_eq, codes}
+use Rattle.std.specs.Prelude.{Option, Some, None}
+use Rattle.std.specs.List.{AllByRecursion}
+use Rattle.json_text.specs.Json.{Json}
+use Rattle.document_model.specs.Orderly.{AllSpelt, Orderly}
+use Rattle.document_model.specs.Texts.{Texts}
+use Rattle.mux_history.specs.declared.cause.Cause.{Cause}
+use Rattle.mux_history.specs.declared.cause.Cause.TheVariants.{FromEditor}
+use Rattle.rpc_message.specs.Message.{Id, integer, request, result, message_of, result_bytes}
+use Rattle.rpc_message.specs.ValueTexts.{IsIdText}
+use Rattle.event_model.specs.declared.phase.Phase.{Phase}
+use Rattle.event_model.specs.declared.phase.Phase.TheVariants.{Absent, New, Waiting}
+use Rattle.event_model.specs.declared.stage.Stage.{Stage}
+use Rattle.event_model.specs.declared.stage.Stage.TheVariants.{Unspawned, Spawning, Initializing, Ready}
+use Rattle.event_model.specs.Event.{Event}
+use Rattle.event_model.specs.Phases.{desk_of, editors_of}
+use Rattle.event_model.specs.Requests.{asking_of, is_open, open_of}
+use Rattle.event_model.specs.Settings.{Settings}
+use Rattle.event_model.specs.Spawns.{group_of, starts_of}
+use Rattle.event_model.specs.Stages.{life_of, no_life}
+use Rattle.mux_model.specs.Documents.{held_at}
+use Rattle.group_words.specs.declared.kept.Kept.{Kept}
+use Rattle.group_words.specs.declared.placed.Placed.{Placed}
+use Rattle.group_words.specs.declared.placed.Placed.TheVariants.{TooMany}
+use Rattle.group_words.specs.Houses.{groups_of, places, placed_for}
+use Rattle.group_words.specs.Rows.{initialize_of, result_of, shown_of}
+use Rattle.group_rows.specs.Forwarded.{Forwarded, forwarding_of}
+use Rattle.group_rows.specs.Texts.{texts_of}
+
+-- Starts and editors that weren't there yet
+
+-- past the last start that was spawned there is none, and past the last editor that joined no editor
+abbrev pub NoStarts : List Event → Type 0
+NoStarts events = (s : ℕ) → starts_of events ≤ s → life_of s events ≡ no_life
+
+abbrev pub NoEditors : List Event → Type 0
+NoEditors events = (e : ℕ) → editors_of events ≤ e → (desk_of e events).phase ≡ Absent
+
+-- What the events before tell, whatever is sent
+
+-- what the editors of each group have open is UTF-8, each document once at an editor
+pub record IsOpened (x : Texts) : Type 0 where
+  pub spelt : AllSpelt x.opens
+  pub orderly : Orderly x
+
+abbrev pub Opened : Settings → List Event → Type 0
+Opened settings events = (g : ℕ) → IsOpened (texts_of settings g events)
+
+-- editors are shown all of the result that a start gave
+pub record IsPlain (body : List ℕ) : Type 0 where
+  pub id : Option Id
+  pub r : Json
+  pub says : message_of body ≡ result id r
+  pub whole : shown_of (result_bytes body) ≡ result_bytes body
+
+abbrev pub Plain : List Event → Type 0
+Plain events = (s : ℕ) (body : List ℕ) → result_of s events ≡ Some body → IsPlain body
+
+-- the daemon's own `initialize` to the starts of a group is a request with the number 1
+pub record IsWritten (x : Kept) : Type 0 where
+  pub params : Option Json
+  pub says : message_of (initialize_of x) ≡ request (integer (codes "1")) (codes "initialize") params
+
+abbrev pub Written : Settings → List Event → Type 0
+Written settings events = AllByRecursion IsWritten (groups_of settings events)
+
+-- the group that a start was spawned for is kept
+pub record IsHoused (settings : Settings) (s : ℕ) (events : List Event) : Type 0 where
+  pub group : ℕ
+  pub is : group_of s events ≡ Some group
+  pub kept : group < length (groups_of settings events)
+
+abbrev pub Housed : Settings → List Event → Type 0
+Housed settings events = (s : ℕ) → s < starts_of events → IsHoused settings s events
+
+-- Starts, by their stages, and their open requests
+
+-- a start whose program never ran was sent no request
+abbrev pub is_unbegun : Stage → Bool
+is_unbegun Unspawned = true
+is_unbegun Spawning = true
+is_unbegun other = false
+
+abbrev pub Unbegun : List Event → Type 0
+Unbegun events = (s : ℕ) → is_unbegun (life_of s events).stage ≡ true → ((asking_of s events).next ≡ 1) × ((forwarding_of s events).next ≡ 2)
+
+-- a start that gave no result has no document
+abbrev pub is_unready : Stage → Bool
+is_unready Unspawned = true
+is_unready Spawning = true
+is_unready Initializing = true
+is_unready other = false
+
+abbrev pub Untold : List Event → Type 0
+Untold events = (s : ℕ) → is_unready (life_of s events).stage ≡ true → (u : List ℕ) → held_at s u events ≡ None
+
+-- until a start is to end, its numbers are below the limit
+abbrev pub is_up : Stage → Bool
+is_up Unspawned = true
+is_up Spawning = true
+is_up Initializing = true
+is_up Ready = true
+is_up other = false
+
+abbrev pub Bounded : Settings → List Event → Type 0
+Bounded settings events = (s : ℕ) → is_up (life_of s events).stage ≡ true → ((asking_of s events).next ≤ (forwarding_of s events).next) × ((forwarding_of s events).next ≤ settings.limits.requests + 2)
+
+-- while a start is ready, the next request to it has the same number by the count of all requests as by that of editors' requests
+abbrev pub Numbered : List Event → Type 0
+Numbered events = (s : ℕ) → (life_of s events).stage ≡ Ready → (asking_of s events).next ≡ (forwarding_of s events).next
+
+-- it got no result to its `initialize` yet
+abbrev pub is_early : Phase → Bool
+is_early Absent = true
+is_early New = true
+is_early Waiting = true
+is_early _ = false
+
+-- an editor that got its result, and the bytes of an id of its
+pub record IsAsker (events : List Event) (e : ℕ) (bytes : List ℕ) : Type 0 where
+  pub id : Id
+  pub text : IsIdText id bytes
+  pub late : is_early (desk_of e events).phase ≡ false
+
+abbrev pub IsForwarded : List Event → Forwarded → Type 0
+IsForwarded events f = IsAsker events f.editor f.id
+
+abbrev pub AllForwarded : List Event → Type 0
+AllForwarded events = (s : ℕ) → AllByRecursion (IsForwarded events) (forwarding_of s events).open_requests
+
+-- Editors that wait
+
+-- the `initialize` of an editor that waits, and is open
+pub record IsWaiting (events : List Event) (e : ℕ) (id : Id) : Type 0 where
+  pub params : Option Json
+  pub phase : (desk_of e events).phase ≡ Waiting
+  pub asks : message_of (desk_of e events).initialize ≡ request id (codes "initialize") params
+  pub waits : is_open id (open_of e events) ≡ true
+
+abbrev pub WaitingAsked : List Event → Type 0
+WaitingAsked events = (e : ℕ) → (desk_of e events).phase ≡ Waiting → (id : Id) × IsWaiting events e id
+
+-- an editor that this cause turns away: the daemon has too many groups (E7)
+abbrev pub is_too_many : Placed → Bool
+is_too_many TooMany = true
+is_too_many other = false
+
+abbrev pub turned_away : Settings → List Event → Cause → ℕ → Bool
+turned_away settings before (FromEditor n body) e = nat_eq n e && (places (desk_of n before).phase (message_of body) && is_too_many (placed_for settings before n body (groups_of settings before)))
+turned_away settings before other e = false
+
+-- All of it
+
+pub record Known (settings : Settings) (events : List Event) : Type 0 where
+  pub starts : NoStarts events
+  pub editors : NoEditors events
+  pub unbegun : Unbegun events
+  pub untold : Untold events
+  pub bounded : Bounded settings events
+  pub asked : AllForwarded events
+  pub housed : Housed settings events
+  pub numbered : Numbered events
+  pub waiting : WaitingAsked events
+  pub opened : Opened settings events
+  pub plain : Plain events
+  pub written : Written settings events

@@ -1,0 +1,5 @@
+pub mod Built
+pub mod Example
+pub mod Facts
+pub mod Legal
+pub mod Why

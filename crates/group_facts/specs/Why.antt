@@ -1,0 +1,197 @@
+-- Why each out of the routing table over several editors and groups is sent, with what is known at its place: `before` are the events before the entry, `events` those before the out.
+use Rattle.std.specs.Prelude.{◌≡◌, ℕ, ◌<◌, Bool, true, false, ◌&&◌, List, [], ◌∷◌, ◌++◌, find, length, nat_eq, nat_lt, codes, decimal}
+use Rattle.std.specs.Prelude.{Option, Some, None}
+use Rattle.std.specs.Option.{option_map}
+use Rattle.json_text.specs.Json.{Json}
+use Rattle.document_model.specs.Sayings.{saying_of, speaks}
+use Rattle.mux_history.specs.declared.cause.Cause.{Cause}
+use Rattle.mux_history.specs.declared.cause.Cause.TheVariants.{Started, FromServer, FromEditor}
+use Rattle.mux_history.specs.declared.entry.Entry.{Entry}
+use Rattle.mux_history.specs.declared.out.Out.{Out}
+use Rattle.mux_history.specs.declared.out.Out.TheVariants.{ToEditor, ToServer, Spawn, CloseEditor, EndServer}
+use Rattle.rpc_message.specs.Message.{request, Id, message_of, notification, result, error, integer}
+use Rattle.rpc_message.specs.Texts.{initialized_text, with_id_text}
+use Rattle.rpc_message.specs.ValueTexts.{IsIdText}
+use Rattle.event_model.specs.declared.phase.Phase.TheVariants.{Waiting}
+use Rattle.event_model.specs.declared.stage.Stage.{Stage}
+use Rattle.event_model.specs.declared.stage.Stage.TheVariants.{Spawning, Initializing, Ready}
+use Rattle.event_model.specs.Event.{Event, events_of, heard, said, with_cause}
+use Rattle.event_model.specs.Parts.{server_part}
+use Rattle.event_model.specs.Phases.{desk_of, has_id, is_there, is_malformed}
+use Rattle.event_model.specs.Requests.{asking_of, answered_id, open_of, is_open, is_own}
+use Rattle.event_model.specs.Settings.{Settings}
+use Rattle.event_model.specs.Spawns.{starts_of}
+use Rattle.event_model.specs.Stages.{is_first_result, is_initializing, is_spawning, life_of}
+use Rattle.mux_facts.specs.Allowed.{AllowsSaying, is_response}
+use Rattle.mux_model.specs.Documents.{held_at}
+use Rattle.document_model.specs.Helds.{HeldText}
+use Rattle.group_words.specs.Houses.{groups_of}
+use Rattle.group_rows.specs.Forwarded.{Forwarded, Sender, answered_by, forwarding_of}
+use Rattle.group_facts.specs.Facts.{IsWaiting, is_early, turned_away}
+
+-- Bodies to a start
+
+-- a start's program runs now, or answered the daemon's `initialize`
+abbrev pub moves_on : List Event → Cause → Bool
+moves_on events (Started s) = is_spawning (life_of s events).stage
+moves_on events (FromServer s body) = is_initializing (life_of s events).stage && is_first_result (message_of body)
+moves_on events other = false
+
+-- the start that this cause is about moves on in this entry
+abbrev pub moves : List Event → Cause → ℕ → Bool
+moves before (Started n) s = nat_eq n s && moves_on before (Started n)
+moves before (FromServer n body) s = nat_eq n s && moves_on before (FromServer n body)
+moves before other s = false
+
+-- the versions of the documents that s has
+abbrev pub versions_at : ℕ → List Event → List ℕ → Option ℕ
+versions_at s events u = option_map (λ (h : HeldText). h.version) (held_at s u events)
+
+-- its program runs from this entry on
+pub record IsBeginning (before : List Event) (cause : Cause) (events : List Event) (s : ℕ) (body : List ℕ) : Type 0 where
+  pub params : Option Json
+  pub stage : (life_of s before).stage ≡ Spawning
+  pub from : cause ≡ Started s
+  pub place : events ≡ with_cause before cause
+  pub says : message_of body ≡ request (integer (codes "1")) (codes "initialize") params
+
+-- it answered `initialize` in this entry
+pub record IsGreeting (before : List Event) (cause : Cause) (events : List Event) (s : ℕ) (body : List ℕ) : Type 0 where
+  pub params : Option Json
+  pub answer : List ℕ
+  pub stage : (life_of s before).stage ≡ Initializing
+  pub ready : (life_of s events).stage ≡ Ready
+  pub from : cause ≡ FromServer s answer
+  pub first : is_first_result (message_of answer) ≡ true
+  pub place : events ≡ with_cause before cause
+  pub part : server_part s events ≡ server_part s before ++ heard cause ∷ []
+  pub says : message_of body ≡ notification (codes "initialized") params
+
+-- the request of an editor, which is at work, goes under the next number to s, which is ready
+pub record IsForward (settings : Settings) (cause : Cause) (events : List Event) (s : ℕ) (body : List ℕ) : Type 0 where
+  pub sender : Sender
+  pub asked : List ℕ
+  pub from : cause ≡ FromEditor sender.editor asked
+  pub bytes : body ≡ with_id_text asked (decimal (forwarding_of s events).next)
+  pub id : Id
+  pub method : List ℕ
+  pub params : Option Json
+  pub at_work : (forwarding_of s events).sender ≡ Some sender
+  pub says : message_of body ≡ request (integer (decimal (forwarding_of s events).next)) method params
+  pub other : is_own method ≡ false
+  pub room : nat_lt (forwarding_of s events).next settings.limits.requests ≡ true
+  pub ready : (life_of s events).stage ≡ Ready
+  pub text : IsIdText id sender.id
+  pub waits : is_open id (open_of sender.editor events) ≡ true
+  pub late : is_early (desk_of sender.editor events).phase ≡ false
+
+-- s doesn't move on in this entry, or was greeted in it before
+pub data Turn (before : List Event) (cause : Cause) (events : List Event) (s : ℕ) : Type 0 where
+  stays : moves before cause s ≡ false → Turn before cause events s
+  greeted : (xs : List Event) → server_part s events ≡ server_part s before ++ heard cause ∷ said (ToServer s initialized_text) ∷ xs → Turn before cause events s
+
+-- s is ready, and this body tells it of a document, as it may be told
+pub record IsTelling (before : List Event) (cause : Cause) (events : List Event) (s : ℕ) (body : List ℕ) : Type 0 where
+  pub ready : (life_of s events).stage ≡ Ready
+  pub turn : Turn before cause events s
+  pub spoken : speaks (saying_of (message_of body)) ≡ true
+  pub allowed : AllowsSaying (versions_at s events) (saying_of (message_of body))
+
+-- its group is idle, and ends for another one
+pub record IsShutting (before : List Event) (cause : Cause) (events : List Event) (s : ℕ) (body : List ℕ) : Type 0 where
+  pub ready : (life_of s events).stage ≡ Ready
+  pub stays : moves before cause s ≡ false
+  pub place : events ≡ with_cause before cause
+  pub says : message_of body ≡ request (integer (decimal (asking_of s events).next)) (codes "shutdown") None
+
+pub data WhyToServer (settings : Settings) (before : List Event) (cause : Cause) (events : List Event) (s : ℕ) (body : List ℕ) : Type 0 where
+  begins : IsBeginning before cause events s body → WhyToServer settings before cause events s body
+  greets : IsGreeting before cause events s body → WhyToServer settings before cause events s body
+  forwarded : IsForward settings cause events s body → WhyToServer settings before cause events s body
+  tells : IsTelling before cause events s body → WhyToServer settings before cause events s body
+  shuts : IsShutting before cause events s body → WhyToServer settings before cause events s body
+
+-- Bodies to an editor
+
+-- an error under a null id, right behind a body that is no message
+pub record IsRejection (before : List Event) (cause : Cause) (events : List Event) (e : ℕ) (body : List ℕ) : Type 0 where
+  pub asked : List ℕ
+  pub x : Json
+  pub there : is_there (desk_of e before).phase ≡ true
+  pub from : cause ≡ FromEditor e asked
+  pub place : events ≡ with_cause before cause
+  pub malformed : is_malformed (message_of asked) ≡ true
+  pub says : message_of body ≡ error None x
+
+-- an error for an open request, which isn't the `initialize` of an editor that waits
+pub record IsRefusal (before : List Event) (cause : Cause) (events : List Event) (e : ℕ) (body : List ℕ) : Type 0 where
+  pub id : Id
+  pub x : Json
+  pub there : is_there (desk_of e events).phase ≡ true
+  pub waits : is_open id (open_of e events) ≡ true
+  pub others : (desk_of e events).phase ≡ Waiting → has_id id (message_of (desk_of e events).initialize) ≡ false
+  pub says : message_of body ≡ error (Some id) x
+
+-- an error for the `initialize` of an editor that waits: the daemon has too many groups
+pub record IsTurning (settings : Settings) (before : List Event) (cause : Cause) (events : List Event) (e : ℕ) (body : List ℕ) : Type 0 where
+  pub id : Id
+  pub x : Json
+  pub waiting : IsWaiting events e id
+  pub turned : turned_away settings before cause e ≡ true
+  pub says : message_of body ≡ error (Some id) x
+
+-- a result for it
+pub record IsWelcome (events : List Event) (e : ℕ) (body : List ℕ) : Type 0 where
+  pub id : Id
+  pub r : Json
+  pub waiting : IsWaiting events e id
+  pub says : message_of body ≡ result (Some id) r
+
+-- the response to a request that was open at a start until this entry, for the editor that asked, which got its result
+pub record IsPassing (before : List Event) (cause : Cause) (events : List Event) (e : ℕ) (body : List ℕ) : Type 0 where
+  pub start : ℕ
+  pub answer : List ℕ
+  pub request : Forwarded
+  pub id : Id
+  pub from : cause ≡ FromServer start answer
+  pub found : find (answered_by (answered_id (message_of answer))) (forwarding_of start before).open_requests ≡ Some request
+  pub editor : request.editor ≡ e
+  pub there : is_there (desk_of e events).phase ≡ true
+  pub late : is_early (desk_of e events).phase ≡ false
+  pub text : IsIdText id request.id
+  pub bytes : body ≡ with_id_text answer request.id
+  pub response : is_response (message_of body) ≡ true
+  pub answers : answered_id (message_of body) ≡ Some id
+
+pub data WhyToEditor (settings : Settings) (before : List Event) (cause : Cause) (events : List Event) (e : ℕ) (body : List ℕ) : Type 0 where
+  rejects : IsRejection before cause events e body → WhyToEditor settings before cause events e body
+  refuses : IsRefusal before cause events e body → WhyToEditor settings before cause events e body
+  turns_away : IsTurning settings before cause events e body → WhyToEditor settings before cause events e body
+  welcomes : IsWelcome events e body → WhyToEditor settings before cause events e body
+  passes : IsPassing before cause events e body → WhyToEditor settings before cause events e body
+
+-- its program is to begin, or gave no result yet
+abbrev pub is_starting : Stage → Bool
+is_starting Spawning = true
+is_starting Initializing = true
+is_starting other = false
+
+abbrev pub Why : Settings → List Event → Cause → List Event → Out → Type 0
+Why settings before cause events (ToEditor e body) = WhyToEditor settings before cause events e body
+Why settings before cause events (ToServer s body) = WhyToServer settings before cause events s body
+Why settings before cause events (Spawn s g) = (s ≡ starts_of events) × (g < length (groups_of settings events))
+Why settings before cause events (CloseEditor e) = (turned_away settings before cause e ≡ true) × (is_there (desk_of e events).phase ≡ true)
+Why settings before cause events (EndServer s) = is_starting (life_of s events).stage ≡ true
+
+-- each of these outs of a cause has its reason, at its place
+abbrev pub AllWhy : Settings → List Event → Cause → List Event → List Out → Type 0
+AllWhy settings before cause events [] = Unit {0}
+AllWhy settings before cause events (out ∷ outs) = Why settings before cause events out × AllWhy settings before cause (events ++ said out ∷ []) outs
+
+-- and each out of these entries, behind those before them
+abbrev pub ReasonsFrom : Settings → List Entry → List Entry → Type 0
+ReasonsFrom settings before [] = Unit {0}
+ReasonsFrom settings before (entry ∷ rest) = AllWhy settings (events_of before) entry.cause (with_cause (events_of before) entry.cause) entry.outs × ReasonsFrom settings (before ++ entry ∷ []) rest
+
+abbrev pub HasReasons : Settings → List Entry → Type 0
+HasReasons settings history = ReasonsFrom settings [] history

@@ -1,0 +1,19 @@
+// Laws of every legal history of several editors and groups.
+ghost use Rattle.std.specs.Prelude.{List};
+ghost use Rattle.mux_history.specs.declared.entry.Entry.{Entry};
+ghost use Rattle.event_model.specs.Event.{events_of};
+ghost use Rattle.event_model.specs.Settings.{Settings};
+ghost use Rattle.mux_facts.specs.Ranges.{InRange};
+ghost use Rattle.group_facts.specs.Facts.{Known};
+ghost use Rattle.group_facts.specs.Legal.{Legal};
+ghost use Rattle.group_facts.specs.Why.{HasReasons};
+
+/// A law: each out of every entry is sent for one of the reasons of `specs/Why.antt`, at its place.
+pub fn every_out()
+    ensures { (settings : Settings) → InRange settings → (history : List Entry) → Legal settings history → HasReasons settings history }
+{}
+
+/// A law: what `Known` says holds of all events of a legal history.
+pub fn every_history()
+    ensures { (settings : Settings) → InRange settings → (history : List Entry) → Legal settings history → Known settings (events_of history) }
+{}

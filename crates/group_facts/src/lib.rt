@@ -1,0 +1,6 @@
+//! What holds of every legal history of several editors and groups, and why each out of the routing table over them is sent.
+#![tactic(auto)]
+
+mod laws;
+
+pub use laws::{every_history, every_out};
