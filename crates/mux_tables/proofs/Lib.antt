@@ -16,3 +16,4 @@ pub mod Leaves
 pub mod Ends
 pub mod Exits
 pub mod Heard
+pub mod Homes

@@ -3,6 +3,7 @@
 
 mod hears;
 mod looks;
+mod places;
 mod requests;
 mod says;
 mod seats;
