@@ -10,7 +10,8 @@ use Rattle.position_codec.specs.declared.Encoding.TheVariants.{Utf8, Utf16}
 use Rattle.rpc_message.specs.Message.{message_of, no_name_twice, is_integer, member_bytes}
 use Rattle.rpc_message.specs.Texts.{with_id_text}
 use Rattle.group_words.specs.Example.{with_groups}
-use Rattle.group_rows.specs.Example.{all_outs, events_behind, too_early, too_early_outs, two_editors, two_editors_outs, both_ask, both_ask_outs, switching, switching_outs, changing, changing_outs, closing, closing_outs, two_groups, an_exit, texts_in, touches_in}
+use Rattle.group_rows.specs.Example.{all_outs, events_behind, too_early, too_early_outs, two_editors, two_editors_outs, both_ask, both_ask_outs, switching, switching_outs, changing, changing_outs, closing, closing_outs, two_groups, an_exit, texts_in, touches_in, one_cancelled, left_outs}
+use Rattle.mux_history.specs.declared.out.Out.TheVariants.{ToServer}
 use Rattle.event_model.specs.Event.{Event}
 use Rattle.mux_model.specs.Documents.{held_at}
 use Rattle.group_rows.specs.Rows.{leave_bodies}
@@ -75,3 +76,10 @@ another_editor_leaves = refl
 the_last_one_leaves : left_bodies 1 1 1 (events_behind (with_groups 8) [] two_groups) ≡ codes "{\"jsonrpc\":\"2.0\",\"method\":\"textDocument/didClose\",\"params\":{\"textDocument\":{\"uri\":\"file:///u\"}}}" ∷ []
 unfolding computes message_of named no_name_twice is_integer member_bytes with_id_text escape_byte digits
 the_last_one_leaves = refl
+
+its_open_requests_are_cancelled : left_outs 0 one_cancelled
+    ≡ ToServer 0 (codes "{\"jsonrpc\":\"2.0\",\"method\":\"$/cancelRequest\",\"params\":{\"id\":4}}")
+    ∷ ToServer 0 (codes "{\"jsonrpc\":\"2.0\",\"method\":\"textDocument/didClose\",\"params\":{\"textDocument\":{\"uri\":\"file:///u\"}}}")
+    ∷ []
+unfolding computes message_of named no_name_twice is_integer member_bytes with_id_text escape_byte digits
+its_open_requests_are_cancelled = refl

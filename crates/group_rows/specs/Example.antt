@@ -6,8 +6,10 @@ use Rattle.mux_history.specs.declared.out.Out.{Out}
 use Rattle.mux_history.specs.declared.out.Out.TheVariants.{ToEditor, ToServer, Spawn}
 use Rattle.document_model.specs.Opens.{Open}
 use Rattle.event_model.specs.Event.{Event, behind, with_cause}
+use Rattle.event_model.specs.Row.{outs}
 use Rattle.event_model.specs.Settings.{Settings}
 use Rattle.group_words.specs.Example.{with_groups}
+use Rattle.group_rows.specs.Leaves.{cancel_text, leave_row}
 use Rattle.group_rows.specs.Rows.{outs_from, outs_of}
 
 -- all outs, one entry behind the other
@@ -149,3 +151,15 @@ texts_in opens = map (λ (o : Open). o.text) opens
 
 abbrev pub touches_in : List Open → List ℕ
 touches_in opens = map (λ (o : Open). o.touched) opens
+
+-- an editor with two open requests, one of which it cancelled
+abbrev pub one_cancelled : List Event
+one_cancelled = behind (events_behind (with_groups 8) [] (two_editors
+    ++ FromEditor 0 (codes "{\"jsonrpc\":\"2.0\",\"method\":\"textDocument/didOpen\",\"params\":{\"textDocument\":{\"uri\":\"file:///u\",\"languageId\":\"x\",\"version\":1,\"text\":\"a\"}}}")
+    ∷ FromEditor 0 (codes "{\"jsonrpc\":\"2.0\",\"id\":1,\"method\":\"textDocument/hover\",\"params\":{}}")
+    ∷ FromEditor 1 (codes "{\"jsonrpc\":\"2.0\",\"id\":1,\"method\":\"textDocument/hover\",\"params\":{}}")
+    ∷ FromEditor 0 (codes "{\"jsonrpc\":\"2.0\",\"id\":2,\"method\":\"textDocument/hover\",\"params\":{}}")
+    ∷ [])) (ToServer 0 (cancel_text 2) ∷ [])
+
+abbrev pub left_outs : ℕ → List Event → List Out
+left_outs e events = outs (leave_row (with_groups 8) events e) events

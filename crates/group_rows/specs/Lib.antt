@@ -2,3 +2,4 @@ pub mod Example
 pub mod Forwarded
 pub mod Rows
 pub mod Texts
+pub mod Leaves

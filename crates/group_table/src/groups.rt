@@ -267,6 +267,13 @@ impl Groups {
         self.groups[group as usize].live
     }
 
+    /// What is kept of a group; none past the last one.
+    pub fn get(&self, group: u64) -> Option<&Kept>
+        ensures { option_copied result ≡ slice_get self.now.groups group }
+    {
+        self.groups.as_slice().get(group as usize)
+    }
+
     /// How many groups were founded.
     pub fn count(&self) -> u64
         ensures { result ≡ length self.now.groups }

@@ -31,3 +31,4 @@ pub mod DocumentGroups
 pub mod DocumentNoticed
 pub mod DocumentAsked
 pub mod DocumentNotes
+pub mod Homes

@@ -1,2 +1,3 @@
 pub mod Documents
 pub mod Stands
+pub mod Cancels

@@ -4,6 +4,7 @@
 mod documents;
 mod hears;
 mod looks;
+mod places;
 mod requests;
 mod says;
 mod seats;

@@ -1,0 +1,45 @@
+-- L1: what a start is sent where an editor of its group leaves.
+use Rattle.std.specs.Prelude.{ℕ, not, List, ◌++◌, filter, codes, decimal}
+use Rattle.std.specs.Prelude.{Some}
+use Rattle.mux_history.specs.declared.out.Out.TheVariants.{ToServer}
+use Rattle.rpc_message.specs.Texts.{notification_text}
+use Rattle.event_model.specs.Event.{Event}
+use Rattle.event_model.specs.Row.{Row, nothing, send, choose, each, on, ◌⨾◌}
+use Rattle.event_model.specs.Settings.{Settings}
+use Rattle.event_model.specs.Spawns.{start_of}
+use Rattle.event_model.specs.Stages.{life_of, is_ready}
+use Rattle.mux_model.specs.Documents.{held_at}
+use Rattle.mux_model.specs.Rows.{to_start}
+use Rattle.group_words.specs.Houses.{home_of}
+use Rattle.group_rows.specs.Forwarded.{Forwarded, forwarding_of, numbers_of}
+use Rattle.group_rows.specs.Rows.{leave_bodies}
+use Rattle.group_rows.specs.Texts.{texts_of}
+
+-- a request is cancelled by its number (LSP 3.17, Cancellation Support)
+abbrev pub cancel_params : ℕ → List ℕ
+cancel_params n = codes "{\"id\":" ++ decimal n ++ codes "}"
+
+abbrev pub cancel_text : ℕ → List ℕ
+cancel_text n = notification_text (codes "$/cancelRequest") (Some (cancel_params n))
+
+-- the numbers, rising, of an editor's open requests that it didn't cancel
+abbrev pub open_of : ℕ → List Forwarded → List ℕ
+open_of e fs = numbers_of e (filter (λ f. not f.cancelled) fs)
+
+abbrev pub cancel : ℕ → ℕ → Row
+cancel s n = send (ToServer s (cancel_text n))
+
+-- these are cancelled at a start that is ready
+abbrev pub cancels : List Event → ℕ → ℕ → Row
+cancels before s e = choose (is_ready (life_of s before).stage) (each (cancel s) (open_of e (forwarding_of s before).open_requests)) nothing
+
+-- and then the editor's documents are closed there, in the order of opening
+abbrev pub closings : Settings → List Event → ℕ → ℕ → ℕ → Row
+closings settings before g s e = choose (is_ready (life_of s before).stage)
+    (to_start s (leave_bodies settings.limits.versions (λ u. held_at s u before) e (texts_of settings g before).opens (texts_of settings g before).opens)) nothing
+
+abbrev pub cancels_row : Settings → List Event → ℕ → Row
+cancels_row settings before e = on (home_of settings e before) nothing (λ g. on (start_of g before) nothing (λ s. cancels before s e))
+
+abbrev pub leave_row : Settings → List Event → ℕ → Row
+leave_row settings before e = on (home_of settings e before) nothing (λ g. on (start_of g before) nothing (λ s. cancels before s e ⨾ closings settings before g s e))

@@ -1,0 +1,100 @@
+// What rows ask of an editor's group, and of the last start there.
+ghost use Rattle.std.specs.Prelude.{◌≡◌, ◌<◌, ℕ, List, map, None, Some, length, IfNone, IfOk, IfSome, option_copied, slice_get};
+ghost use Rattle.event_model.specs.Event.{Event};
+ghost use Rattle.event_model.specs.Settings.{Settings};
+ghost use Rattle.event_model.specs.Spawns.{start_of};
+ghost use Rattle.event_model.specs.Stages.{life_of};
+ghost use Rattle.group_rows.specs.Forwarded.{forwarding_of};
+ghost use Rattle.group_rows.specs.Leaves.{open_of};
+ghost use Rattle.group_rows.specs.Rows.{can_ask};
+ghost use Rattle.group_words.specs.Houses.{groups_of, home_of};
+ghost use Rattle.id_rewrite.specs.Tables.{IsInOrder, pending_of};
+ghost use Rattle.mux_tables.specs.Cancels.{is_uncancelled};
+ghost use Rattle.mux_tables.specs.Stands.{Stands, forwarded_of, number_in, start_for};
+
+use crate::tables::Tables;
+use event_model::Stage;
+use group_words::Kept;
+use id_rewrite::IdTable;
+use message_body::Memory;
+
+// The request of this number is open and wasn't cancelled.
+fn is_uncancelled(ids: &IdTable, n: u32) -> bool
+    ensures { result ≡ is_uncancelled (pending_of n ids.now.requests) }
+{
+    match ids.get(n) {
+        Some(pending) => !pending.cancelled,
+        None => false,
+    }
+}
+
+// The numbers, rising, of an editor's open requests that it didn't cancel.
+fn open_of(ids: &IdTable, e: u64) -> Result<Vec<u32>, Memory>
+    ensures { IsInOrder ids.now → IfOk result (λ numbers. numbers.items ≡ open_of e (map forwarded_of ids.now.requests)) }
+{
+    let mut numbers = ids.of_editor(e)?;
+    numbers.retain(|n| is_uncancelled(ids, *n));
+    Ok(numbers)
+}
+
+impl Tables {
+    /// The place of the group in which an editor is, where that group has a start. One past the end is in none.
+    pub fn place(&self, e: u64) -> Option<usize>
+        ensures inside { IfSome result (λ g. g < length self.now.lasts.items) }
+        ensures none { IfNone result ((settings : Settings) (events : List Event) → Stands settings self.now events → start_for settings e events ≡ None) }
+        ensures home { IfSome result (λ g. (settings : Settings) (events : List Event) → Stands settings self.now events → home_of settings e events ≡ Some g) }
+        ensures start { IfSome result (λ g. (settings : Settings) (events : List Event) (s : ℕ) → slice_get (map number_in self.now.lasts.items) g ≡ Some s → Stands settings self.now events → start_of g events ≡ Some s) }
+    {
+        if e >= self.editors.count() {
+            return None;
+        }
+        self.place_of(self.editors.group(e)?)
+    }
+
+    /// The place of the group of a number, where it has a start.
+    pub fn place_of(&self, g: u64) -> Option<usize>
+        ensures inside { IfSome result (λ place. place < length self.now.lasts.items) }
+        ensures number { IfSome result (λ place. place ≡ g) }
+        ensures none { IfNone result ((settings : Settings) (events : List Event) → Stands settings self.now events → start_of g events ≡ None) }
+        ensures start { IfSome result (λ place. (settings : Settings) (events : List Event) (s : ℕ) → slice_get (map number_in self.now.lasts.items) place ≡ Some s → Stands settings self.now events → start_of g events ≡ Some s) }
+    {
+        let place = g as usize;
+        if place < self.lasts.len() {
+            Some(place)
+        } else {
+            None
+        }
+    }
+
+    /// Where the group's last start stands.
+    pub fn stage(&self, g: usize) -> Stage
+        requires { g < length self.now.lasts.items }
+        ensures { (settings : Settings) (events : List Event) (s : ℕ) → slice_get (map number_in self.now.lasts.items) g ≡ Some s → Stands settings self.now events → result ≡ (life_of s events).stage }
+    {
+        self.lasts[g].life.stage()
+    }
+
+    /// Whether the group's last start takes a request: it is ready, and a number is left.
+    pub fn can_ask(&self, g: usize) -> bool
+        requires { g < length self.now.lasts.items }
+        ensures { (settings : Settings) (events : List Event) (s : ℕ) → slice_get (map number_in self.now.lasts.items) g ≡ Some s → Stands settings self.now events → result ≡ can_ask settings s events }
+    {
+        self.lasts[g].can_ask()
+    }
+
+    /// The numbers, rising, of an editor's open requests at the group's last start that it didn't cancel.
+    pub fn uncancelled_of(&self, g: usize, e: u64) -> Result<Vec<u32>, Memory>
+        requires { g < length self.now.lasts.items }
+        ensures { (settings : Settings) (events : List Event) (s : ℕ) → slice_get (map number_in self.now.lasts.items) g ≡ Some s → Stands settings self.now events → IfOk result (λ numbers. numbers.items ≡ open_of e (forwarding_of s events).open_requests) }
+    {
+        let numbers = open_of(&self.lasts[g].ids, e)?;
+        Ok(numbers)
+    }
+
+    /// What is kept of the group of a number; none where there is no such group.
+    pub fn kept(&self, g: u64) -> Option<&Kept>
+        ensures { (settings : Settings) (events : List Event) → Stands settings self.now events → option_copied result ≡ slice_get (groups_of settings events) g }
+    {
+        self.groups.get(g)
+    }
+}

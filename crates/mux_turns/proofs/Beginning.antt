@@ -1,0 +1,90 @@
+-- Where a start's program runs, and where an editor is placed.
+use Rattle.std.proofs.Common.{◌≡◌, ℕ, Bool, true, false, List, [], refl, ap, sym, subst, ◌∙◌, append-nil, codes, length}
+use Rattle.std.specs.Prelude.{Option, Some, None, slice_get}
+use Rattle.mux_history.specs.declared.cause.Cause.TheVariants.{Started}
+use Rattle.mux_history.specs.declared.out.Out.{Out}
+use Rattle.mux_history.specs.declared.out.Out.TheVariants.{ToServer}
+use Rattle.rpc_message.specs.Message.{message_of}
+use Rattle.event_model.specs.declared.stage.Stage.{Stage}
+use Rattle.event_model.specs.declared.stage.Stage.TheVariants.{Unspawned, Spawning, Initializing, Ready, Stopping, Ending, Ended}
+use Rattle.event_model.specs.Does.{Alike, Does}
+use Rattle.event_model.specs.Event.{Event, behind, heard, requests, with_cause}
+use Rattle.event_model.specs.Row.{Row, nothing, on, send}
+use Rattle.event_model.specs.Settings.{Settings}
+use Rattle.event_model.specs.Spawns.{group_of, start_of}
+use Rattle.event_model.specs.Stages.{is_ready, life_of}
+use Rattle.event_model.proofs.Turns.{alike, does_alike, does_knowing, does_nothing}
+use Rattle.group_rows.specs.Forwarded.{moves_ids}
+use Rattle.group_rows.specs.Rows.{begin_in, started}
+use Rattle.group_words.specs.declared.kept.Kept.{Kept}
+use Rattle.group_words.specs.declared.placed.Placed.TheVariants.{Joins}
+use Rattle.group_words.specs.Houses.{groups_of}
+use Rattle.group_words.specs.Rows.{initialize_of, placed_row, spawn, welcomed}
+use Rattle.group_words.proofs.Frames.{groups_stay}
+use Rattle.mux_tables.specs.declared.tables.Tables.{Tables}
+use Rattle.mux_tables.specs.Stands.{Stands, is_over}
+use Rattle.mux_tables.proofs.Homes.{next_here}
+use Rattle.mux_turns.specs.Founding.{IsNext}
+use Rattle.mux_turns.specs.Openings.{AreUtf8, IsOpening, is_spawning}
+use Rattle.mux_turns.proofs.Rows.{is_second}
+
+-- a start whose program isn't awaited gives nothing
+pub over_idle : (settings : Settings) (s : ℕ) (before : List Event) (stage : Stage) → is_over stage ≡ true → started settings s before stage ≡ nothing
+over_idle settings s before Spawning h = absurd (cc)
+over_idle settings s before other h = refl
+
+unawaited : (settings : Settings) (s : ℕ) (before : List Event) (stage : Stage) → is_spawning stage ≡ false → started settings s before stage ≡ nothing
+unawaited settings s before Spawning h = absurd (cc)
+unawaited settings s before other h = refl
+
+pub unawaited_idle : (settings : Settings) (s : ℕ) (before : List Event) (stage : Stage) (b : Bool) → stage ≡ (life_of s before).stage → b ≡ is_spawning stage → b ≡ false → started settings s before (life_of s before).stage ≡ nothing
+unawaited_idle settings s before stage b at is f = ap (started settings s before) (sym at) ∙ unawaited settings s before stage (sym is ∙ f)
+
+awaited : (stage : Stage) → is_spawning stage ≡ true → stage ≡ Spawning
+awaited Spawning h = refl
+awaited Unspawned h = absurd (cc)
+awaited Initializing h = absurd (cc)
+awaited Ready h = absurd (cc)
+awaited Stopping h = absurd (cc)
+awaited Ending h = absurd (cc)
+awaited Ended h = absurd (cc)
+
+pub awaited_begins : (settings : Settings) (s g : ℕ) (before : List Event) (stage : Stage) (b : Bool) → stage ≡ (life_of s before).stage → b ≡ is_spawning stage → b ≡ true → group_of s before ≡ Some g → started settings s before (life_of s before).stage ≡ begin_in settings before s g
+awaited_begins settings s g before stage b at is t home = ap (started settings s before) (sym at ∙ awaited stage (sym is ∙ t)) ∙ ap (λ o. on o nothing (begin_in settings before s)) home
+
+module _ (settings : Settings) (t : Tables) (before : List Event) (s g : ℕ) (xs : List Out) (first : xs ≡ []) where
+  abbrev base : List Event
+  base = with_cause before (Started s)
+
+  groups_still : groups_of settings (behind base xs) ≡ groups_of settings before
+  groups_still = ap (λ ys. groups_of settings (behind base ys)) first ∙ (ap (groups_of settings) (append-nil base) ∙ groups_stay settings before (heard (Started s)) refl)
+
+  here : (o : Option Kept) → o ≡ slice_get (groups_of settings (behind base xs)) g → slice_get (groups_of settings before) g ≡ o
+  here o seen = ap (λ gs. slice_get gs g) (sym groups_still) ∙ sym seen
+
+  abbrev opened : Option Kept → Row
+  opened o = on o nothing (λ x. send (ToServer s (initialize_of x)))
+
+  pub begun_none : (Stands settings t (behind base xs) → None ≡ slice_get (groups_of settings (behind base xs)) g) → Does (λ t events. Stands settings t events) (begin_in settings before s g) base t xs t xs
+  begun_none seen = does_alike (λ st. alike (ap opened (here None (seen st)))) does_nothing
+
+  pub begun : (x : Kept) (text : List ℕ) (ys : List Out) → (Stands settings t (behind base xs) → Some x ≡ slice_get (groups_of settings (behind base xs)) g) → ((x : Kept) → slice_get (groups_of settings before) g ≡ Some x → IsOpening x)
+      → (AreUtf8 x.key.folders → text ≡ initialize_of x) → (requests (codes "shutdown") (message_of text) ≡ false → moves_ids (message_of text) ≡ false → Does (λ t events. Stands settings t events) (send (ToServer s text)) base t xs t ys)
+      → Does (λ t events. Stands settings t events) (begin_in settings before s g) base t xs t ys
+  begun x text ys seen known writes d = does_knowing (λ st.
+      let at = here (Some x) (seen st) in
+      let k = known x at in
+      let is = writes k.folders in
+      let says = ap message_of is ∙ k.says in
+      does_alike (λ _. alike (ap opened at ∙ ap (λ w. send (ToServer s w)) (sym is))) (d (ap (requests (codes "shutdown")) says) (ap moves_ids says)))
+
+-- E7
+module _ (before : List Event) (e : ℕ) (body : List ℕ) (g : ℕ) where
+  pub joins_none : start_of g before ≡ None → Alike (placed_row e body before (Joins g)) nothing
+  joins_none h = alike (ap (λ o. on o nothing (welcomed e body before)) h)
+
+  pub joins_unready : (s : ℕ) (stage : Stage) → start_of g before ≡ Some s → stage ≡ (life_of s before).stage → is_ready stage ≡ false → Alike (placed_row e body before (Joins g)) nothing
+  joins_unready s stage h at r = is_second (ap (λ o. on o nothing (welcomed e body before)) h) (ap is_ready (sym at) ∙ r)
+
+pub founds : (settings : Settings) (t u : Tables) (base : List Event) (xs ys : List Out) (n : ℕ) → IsNext n (behind base xs) → Does (λ t events. Stands settings t events) (spawn (length t.lasts.items)) base t xs u ys → Does (λ t events. Stands settings t events) (spawn n) base t xs u ys
+founds settings t u base xs ys n next d = does_knowing (λ st. subst (λ m. Does (λ t events. Stands settings t events) (spawn m) base t xs u ys) (sym (next_here settings t (behind base xs) n st next.none next.others)) d)

@@ -1,0 +1,94 @@
+-- Bodies that leave an editor in its phase.
+use Rattle.std.proofs.Common.{◌≡◌, ℕ, Bool, true, false, List, refl, ap, sym, subst, ◌∙◌, codes}
+use Rattle.std.specs.Prelude.{Option, Some, None}
+use Rattle.json_text.specs.Json.{Json}
+use Rattle.mux_history.specs.declared.out.Out.{Out}
+use Rattle.mux_history.specs.declared.out.Out.TheVariants.{ToEditor}
+use Rattle.rpc_message.specs.Message.{Message, not_json, not_message, error, notification, request, Id, id_bytes, message_of, result}
+use Rattle.rpc_message.specs.Sorts.{sort_of}
+use Rattle.rpc_message.specs.declared.sort.Sort.TheVariants as sort
+use Rattle.rpc_message.specs.Texts.{Code, error_text, error_tree, server_not_initialized}
+use Rattle.rpc_message.proofs.Fixed.{error_law, id_as_response, null_as_response}
+use Rattle.rpc_message.proofs.Ids.{request_id_bytes}
+use Rattle.event_model.specs.declared.phase.Phase.{Phase}
+use Rattle.event_model.specs.declared.phase.Phase.TheVariants.{Absent, New, Waiting, Answered, Running, Down, Closed, Gone}
+use Rattle.event_model.specs.Does.{Does}
+use Rattle.event_model.specs.Event.{Event, said}
+use Rattle.event_model.specs.Phases.{Desk, desk_behind, desk_of, phase_told}
+use Rattle.event_model.specs.Row.{Row, choose, send}
+use Rattle.event_model.specs.Settings.{Settings}
+use Rattle.event_model.proofs.Frames.{one_more}
+use Rattle.event_model.proofs.Turns.{does_false, does_nothing, does_true}
+use Rattle.group_rows.specs.Rows.{answer_error, early_row}
+use Rattle.mux_tables.specs.declared.tables.Tables.{Tables}
+use Rattle.mux_tables.specs.Stands.{Keeps, Stands}
+use Rattle.mux_tables.proofs.Frames.{itself}
+
+-- an error makes nobody answered
+error_told : (p : Phase) (i : List ℕ) (id : Option Id) (x : Json) → phase_told p i (error id x) ≡ p
+error_told Absent i id x = refl
+error_told New i id x = refl
+error_told Waiting i id x = refl
+error_told Answered i id x = refl
+error_told Running i id x = refl
+error_told Down i id x = refl
+error_told Closed i id x = refl
+error_told Gone i id x = refl
+
+-- nor does a result one that doesn't wait
+result_told : (p : Phase) (i : List ℕ) (id : Option Id) (x : Json) → (p ≡ Waiting → ⊥) → phase_told p i (result id x) ≡ p
+result_told Waiting i id x h = absurd (h refl)
+result_told Absent i id x h = refl
+result_told New i id x h = refl
+result_told Answered i id x h = refl
+result_told Running i id x h = refl
+result_told Down i id x h = refl
+result_told Closed i id x h = refl
+result_told Gone i id x h = refl
+
+module _ (e : ℕ) (text : List ℕ) (events : List Event) where
+  told : (m : Message) → message_of text ≡ m → ((p : Phase) (i : List ℕ) → p ≡ (desk_of e events).phase → phase_told p i m ≡ p) → Keeps e text events
+  told m says keeps = ap (λ (d : Desk). d.phase) (one_more (desk_behind e) _ _ events (said (ToEditor e text)) refl) ∙ rw (itself e, says) (keeps (desk_of e events).phase (desk_of e events).initialize refl)
+
+  pub keeps_error : (id : Option Id) (x : Json) → message_of text ≡ error id x → Keeps e text events
+  keeps_error id x says = told (error id x) says (λ p i h. error_told p i id x)
+
+  pub keeps_result : (id : Option Id) (x : Json) → message_of text ≡ result id x → ((desk_of e events).phase ≡ Waiting → ⊥) → Keeps e text events
+  keeps_result id x says stays = told (result id x) says (λ p i h. result_told p i id x (λ q. stays (sym h ∙ q)))
+
+-- a text in place of one that it is
+module _ (settings : Settings) (base : List Event) (t u : Tables) (xs ys : List Out) (e : ℕ) (text : List ℕ) where
+  pub told_as : (other : List ℕ) → text ≡ other → Does (λ t events. Stands settings t events) (send (ToEditor e text)) base t xs u ys → Does (λ t events. Stands settings t events) (send (ToEditor e other)) base t xs u ys
+  told_as other is d = subst (λ w. Does (λ t events. Stands settings t events) (send (ToEditor e w)) base t xs u ys) is d
+
+-- an error under a request's id, and one under a null id
+pub refused_says : (text body id method : List ℕ) (name : Id) (params : Option Json) (c : Code) → text ≡ error_text id c → id ≡ id_bytes body → message_of body ≡ request name method params → message_of text ≡ error (Some name) (error_tree c)
+refused_says text body id method name params c is own says = ap message_of (is ∙ ap (λ w. error_text w c) own) ∙ error_law (Some name) (id_bytes body) c (id_as_response name (id_bytes body) (request_id_bytes body name method params says))
+
+pub malformed_says : (text : List ℕ) (c : Code) → text ≡ error_text (codes "null") c → message_of text ≡ error None (error_tree c)
+malformed_says text c is = ap message_of is ∙ error_law None (codes "null") c null_as_response
+
+-- a message that comes too early
+module _ (settings : Settings) (base : List Event) (t : Tables) (xs ys : List Out) (e : ℕ) (body : List ℕ) where
+  abbrev Early : Message → List Out → Type 0
+  Early m zs = Does (λ t events. Stands settings t events) (early_row e body m) base t xs t zs
+
+  pub early_does : (m : Message) → sort_of m ≡ Some sort.Request → ((id : Id) (method : List ℕ) (params : Option Json) → m ≡ request id method params → Does (λ t events. Stands settings t events) (answer_error e body server_not_initialized) base t xs t ys) → Early m ys
+  early_does (request id method params) h d = d id method params refl
+  early_does (notification method params) h d = absurd (cc)
+  early_does (result id x) h d = absurd (cc)
+  early_does (error id x) h d = absurd (cc)
+  early_does not_json h d = absurd (cc)
+  early_does not_message h d = absurd (cc)
+
+  pub not_early : (m : Message) → (sort_of m ≡ Some sort.Request → ⊥) → Early m xs
+  not_early (request id method params) h = absurd (h refl)
+  not_early other h = does_nothing
+
+-- a row that is chosen
+module _ {K : Type 0} {Stands : K → List Event → Type 0} {base : List Event} {t u : K} {xs ys : List Out} where
+  pub chosen : {p q : Row} {a b : Bool} → b ≡ a → b ≡ true → Does Stands p base t xs u ys → Does Stands (choose a p q) base t xs u ys
+  chosen {p} {q} e h d = subst (λ c. Does Stands (choose c p q) base t xs u ys) (sym h ∙ e) (does_true d)
+
+  pub unchosen : {p q : Row} {a b : Bool} → b ≡ a → b ≡ false → Does Stands q base t xs u ys → Does Stands (choose a p q) base t xs u ys
+  unchosen {p} {q} e h d = subst (λ c. Does Stands (choose c p q) base t xs u ys) (sym h ∙ e) (does_false d)

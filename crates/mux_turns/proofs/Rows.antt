@@ -1,0 +1,62 @@
+-- Rows of an editor's group, and of a group's start.
+use Rattle.std.proofs.Common.{◌≡◌, ℕ, Bool, true, false, List, refl, ap, sym, ◌∙◌}
+use Rattle.std.specs.Prelude.{Option, Some, None}
+use Rattle.std.specs.Option.{option_and_then}
+use Rattle.rpc_message.specs.Texts.{request_failed}
+use Rattle.event_model.specs.declared.stage.Stage.{Stage}
+use Rattle.event_model.specs.Does.{Alike}
+use Rattle.event_model.specs.Event.{Event}
+use Rattle.event_model.specs.Row.{Row, nothing, choose, each, on, ◌⨾◌}
+use Rattle.event_model.specs.Settings.{Settings}
+use Rattle.event_model.specs.Spawns.{start_of}
+use Rattle.event_model.specs.Stages.{is_ready, life_of}
+use Rattle.event_model.proofs.Turns.{alike, alike_then, alike_true, alike_false}
+use Rattle.group_rows.specs.Forwarded.{forwarding_of}
+use Rattle.group_rows.specs.Leaves.{cancel, cancels, cancels_row, open_of}
+use Rattle.group_rows.specs.Rows.{answer_error, can_ask, forward, request_at, request_row, sync_row}
+use Rattle.group_words.specs.Houses.{home_of}
+use Rattle.mux_tables.specs.Stands.{start_for}
+
+-- where the group has no start, and where it has one
+no_start : (home : Option ℕ) (start : ℕ → Option ℕ) (p : Row) (f : ℕ → ℕ → Row) → option_and_then start home ≡ None → on home p (λ g. on (start g) p (f g)) ≡ p
+no_start None start p f h = refl
+no_start (Some g) start p f h = ap (λ o. on o p (f g)) h
+
+some_start : (home : Option ℕ) (start : ℕ → Option ℕ) (p : Row) (f : ℕ → ℕ → Row) (g s : ℕ) → home ≡ Some g → start g ≡ Some s → on home p (λ g. on (start g) p (f g)) ≡ f g s
+some_start home start p f g s h k = ap (λ o. on o p (λ g. on (start g) p (f g))) h ∙ ap (λ o. on o p (f g)) k
+
+-- a row of which is known which part it is
+pub is_first : {r p q : Row} {b : Bool} → r ≡ choose b p q → b ≡ true → Alike r p
+is_first {r} {p} {q} e h = alike_then (alike (e ∙ ap (λ c. choose c p q) h)) alike_true
+
+pub is_second : {r p q : Row} {b : Bool} → r ≡ choose b p q → b ≡ false → Alike r q
+is_second {r} {p} {q} e h = alike_then (alike (e ∙ ap (λ c. choose c p q) h)) alike_false
+
+module _ (settings : Settings) (before : List Event) (e : ℕ) where
+  -- L1
+  pub none_left : start_for settings e before ≡ None → Alike (cancels_row settings before e) nothing
+  none_left h = alike (no_start (home_of settings e before) (λ g. start_of g before) nothing (λ g s. cancels before s e) h)
+
+  left_at : (g s : ℕ) → home_of settings e before ≡ Some g → start_of g before ≡ Some s → cancels_row settings before e ≡ cancels before s e
+  left_at g s h k = some_start (home_of settings e before) (λ g. start_of g before) nothing (λ g s. cancels before s e) g s h k
+
+  pub unready_left : (g s : ℕ) (stage : Stage) → home_of settings e before ≡ Some g → start_of g before ≡ Some s → stage ≡ (life_of s before).stage → is_ready stage ≡ false → Alike (cancels_row settings before e) nothing
+  unready_left g s stage h k at r = is_second (left_at g s h k) (ap is_ready (sym at) ∙ r)
+
+  pub ready_left : (g s : ℕ) (stage : Stage) (ns : List ℕ) → home_of settings e before ≡ Some g → start_of g before ≡ Some s → stage ≡ (life_of s before).stage → is_ready stage ≡ true → ns ≡ open_of e (forwarding_of s before).open_requests
+      → Alike (cancels_row settings before e) (each (cancel s) ns)
+  ready_left g s stage ns h k at r is = alike_then (is_first (left_at g s h k) (ap is_ready (sym at) ∙ r)) (alike (ap (each (cancel s)) (sym is)))
+
+  -- E10
+  module _ (body : List ℕ) where
+    pub none_asked : start_for settings e before ≡ None → Alike (request_row settings before e body) (answer_error e body request_failed)
+    none_asked h = alike (no_start (home_of settings e before) (λ g. start_of g before) (answer_error e body request_failed) (request_at settings before e body) h)
+
+    asked : (g s : ℕ) → home_of settings e before ≡ Some g → start_of g before ≡ Some s → request_row settings before e body ≡ request_at settings before e body g s
+    asked g s h k = some_start (home_of settings e before) (λ g. start_of g before) (answer_error e body request_failed) (request_at settings before e body) g s h k
+
+    pub unasked_at : (g s : ℕ) (b : Bool) → home_of settings e before ≡ Some g → start_of g before ≡ Some s → b ≡ can_ask settings s before → b ≡ false → Alike (request_row settings before e body) (answer_error e body request_failed)
+    unasked_at g s b h k is f = is_second (asked g s h k) (sym is ∙ f)
+
+    pub asked_at : (g s : ℕ) (b : Bool) → home_of settings e before ≡ Some g → start_of g before ≡ Some s → b ≡ can_ask settings s before → b ≡ true → Alike (request_row settings before e body) (sync_row settings before g s e ⨾ forward s body)
+    asked_at g s b h k is so = is_first (asked g s h k) (sym is ∙ so)

@@ -1,0 +1,21 @@
+-- Those of a list are cancelled.
+use Rattle.std.proofs.Common.{ap, ◌∙◌, arith, codes, refl, get_or}
+use Rattle.std.specs.Prelude.{Some, slice_get}
+use Rattle.event_model.proofs.Turns.{does_next, does_whole}
+use Rattle.group_rows.specs.Leaves.{cancel}
+use Rattle.mux_turns.proofs.Cancels.{cancel_said, params_tree}
+use Rattle.mux_turns.proofs.leaves.cancel_all.Goals as goal
+
+pub loop-n-preserved : goal.loop-n-preserved
+loop-n-preserved c = record {
+  starts = c.in_ok-cancel.ensures.starts ∙ c.loop-n.invariant.starts;
+  does = λ settings base s at.
+      let n = get_or c.args.numbers.now c.loop-n.n-index 0 in
+      let low = c.type_inv.numbers c.loop-n.n-index in
+      does_next (cancel s) c.args.numbers.now c.loop-n.n-index 0 c.loop-n-test.true (c.loop-n.invariant.does settings base s at)
+      (cancel_said settings base c.loop-n.tables c.cancel.new.self c.loop-n.outs c.cancel.new.outs s n c.in_ok-text.text (omega (arith, low)) c.in_ok-text.ensures
+      (λ says names. c.in_ok-cancel.ensures.does settings base s (codes "$/cancelRequest") (Some (params_tree n)) (ap (λ ns. slice_get ns c.args.g) c.loop-n.invariant.starts ∙ at) says refl names));
+}
+
+pub returns : goal.returns
+returns c = λ settings base s at. does_whole (cancel s) c.args.numbers.now c.loop-n.n-index c.loop-n-test.false (c.loop-n.invariant.does settings base s at)

@@ -1,0 +1,15 @@
+-- A request is refused.
+use Rattle.std.proofs.Common.{ap, ◌∙◌}
+use Rattle.std.specs.Prelude.{Some}
+use Rattle.rpc_message.specs.Codes.{code_of}
+use Rattle.rpc_message.specs.Message.{id_bytes}
+use Rattle.rpc_message.specs.Texts.{error_text, error_tree}
+use Rattle.event_model.specs.Event.{behind}
+use Rattle.mux_turns.proofs.Keeping.{keeps_error, refused_says, told_as}
+use Rattle.mux_turns.proofs.refusals.refuse.Goals as goal
+
+pub returns : goal.returns
+returns c = λ settings base body method id params read says.
+    let code = code_of c.args.code in
+    told_as settings base c.args.tables.now c.args.tables.now c.args.outs.now c.tell.new.outs c.args.e c.in_ok-text.text (error_text (id_bytes body) code) (c.in_ok-text.ensures ∙ ap (λ w. error_text w code) (c.id_bytes.ensures body read))
+    (c.in_ok-tell.ensures settings base (keeps_error c.args.e c.in_ok-text.text (behind base c.args.outs.now) (Some id) (error_tree code) (refused_says c.in_ok-text.text body c.id_bytes.result.now method id params code c.in_ok-text.ensures (c.id_bytes.ensures body read) says)))

@@ -1,0 +1,4 @@
+pub mod Answers
+pub mod Founding
+pub mod Leavings
+pub mod Openings

@@ -1,0 +1,117 @@
+//! S5: the answer of a start to an editor's request.
+ghost use Rattle.std.specs.Prelude.{◌≡◌, ◌<◌, ◌^◌, ℕ, List, [], Option, Some, IfSome, OnOk, bytes_eq, decimal, option_map, find};
+ghost use Rattle.event_model.specs.Does.{Does};
+ghost use Rattle.event_model.specs.Event.{Event, with_cause};
+ghost use Rattle.event_model.specs.Requests.{answered_id};
+ghost use Rattle.event_model.specs.Settings.{Settings};
+ghost use Rattle.group_rows.specs.Forwarded.{Forwarded, answered_by, forwarding_of};
+ghost use Rattle.group_rows.specs.Rows.{response_row};
+ghost use Rattle.mux_history.specs.declared.cause.Cause.TheVariants.{FromServer};
+ghost use Rattle.mux_tables.specs.Stands.{NamesAt, Stands, forwarded_as};
+ghost use Rattle.mux_turns.specs.Answers.{IsAsked, is_response};
+ghost use Rattle.rpc_message.specs.Message.{Id, message_of};
+ghost use Rattle.rpc_message.specs.Parsed.{IsRead};
+ghost use Rattle.rpc_message.specs.ValueTexts.{IsResponseIdText};
+
+use id_rewrite::Pending;
+use itoa::Buffer;
+use message_body::Memory;
+use mux_history::Outs;
+use mux_tables::Tables;
+use rpc_message::{Message, Sort};
+use std::alloc::Global;
+
+// Whether these bytes write a number.
+fn writes(bytes: &[u8], n: u32) -> bool
+    ensures { result ≡ bytes_eq bytes.now (decimal n) }
+{
+    let mut digits = Buffer::new();
+    bytes == digits.format(n).as_bytes()
+}
+
+// The number that a text writes, if it writes one.
+fn parsed(text: &str) -> Option<u32>
+    ensures number { (n : ℕ) → n < 2 ^ 32 → text.now ≡ decimal n → result ≡ Some n }
+    ensures bound { IfSome result (λ n. n < 2 ^ 32) }
+{
+    match text.parse::<u32>() {
+        Ok(n) => Some(n),
+        Err(_) => None,
+    }
+}
+
+// The same of bytes.
+fn read(bytes: &[u8]) -> Option<u32>
+    ensures number { (n : ℕ) → n < 2 ^ 32 → bytes.now ≡ decimal n → result ≡ Some n }
+    ensures bound { IfSome result (λ n. n < 2 ^ 32) }
+{
+    match std::str::from_utf8(bytes) {
+        Ok(text) => parsed(text),
+        Err(_) => None,
+    }
+}
+
+// The number that the text of an id writes, where it is one of 32 bits, without a sign and leading zeros.
+fn number_in(id: &[u8]) -> Option<u32>
+    ensures { (i : Option Id) → IsResponseIdText i id.now → NamesAt i result }
+{
+    let n = read(id)?;
+    if writes(id, n) { Some(n) } else { None }
+}
+
+// Whether a message of this class answers a request (JSON-RPC 2.0, section 5).
+fn is_response(sort: Sort) -> bool
+    ensures { result ≡ is_response sort }
+{
+    matches!(sort, Sort::Result | Sort::Error)
+}
+
+/// The number that the id of a response writes, as those of forwarded requests are written; none of another message.
+pub fn answered_number(message: &Message) -> Option<u32>
+    ensures { (body : List ℕ) → IsRead message.now body → NamesAt (answered_id (message_of body)) result }
+{
+    if is_response(message.sort()) {
+        number_in(message.id_bytes())
+    } else {
+        None
+    }
+}
+
+// The answer to a request goes to its editor, if it is there.
+fn answer(
+    tables: &Tables,
+    alloc: Global,
+    outs: &mut Outs,
+    pending: &Pending,
+    message: &Message,
+) -> Result<(), Memory>
+    ensures { (settings : Settings) (before : List Event) (body : List ℕ) (s n : ℕ) → IsRead message.now body → outs.old ≡ []
+        → find (answered_by (answered_id (message_of body))) (forwarding_of s before).open_requests ≡ Some (forwarded_as n pending.now) → IsAsked before (forwarded_as n pending.now)
+        → OnOk result (Does (λ t events. Stands settings t events) (response_row s before body (message_of body)) (with_cause before (FromServer s body)) tables.now outs.old tables.now outs.new) }
+{
+    if !tables.phase(pending.editor).is_there() {
+        return Ok(());
+    }
+    let text = message.with_id(alloc, pending.id.bytes())?;
+    tables.tell(outs, pending.editor, text)?;
+    Ok(())
+}
+
+/// S5: an answer goes to the editor that asked, if it is there, under its own id (JSON-RPC 2.0, section 5). `asked` is what was kept
+/// of the open request that the answer names, if it names one.
+pub fn pass_on(
+    tables: &Tables,
+    alloc: Global,
+    outs: &mut Outs,
+    asked: Option<Pending>,
+    message: &Message,
+) -> Result<(), Memory>
+    ensures { (settings : Settings) (before : List Event) (body : List ℕ) (s n : ℕ) → IsRead message.now body → outs.old ≡ []
+        → find (answered_by (answered_id (message_of body))) (forwarding_of s before).open_requests ≡ option_map (forwarded_as n) asked → ((f : Forwarded) → option_map (forwarded_as n) asked ≡ Some f → IsAsked before f)
+        → OnOk result (Does (λ t events. Stands settings t events) (response_row s before body (message_of body)) (with_cause before (FromServer s body)) tables.now outs.old tables.now outs.new) }
+{
+    match asked {
+        None => Ok(()),
+        Some(pending) => answer(tables, alloc, outs, &pending, message),
+    }
+}

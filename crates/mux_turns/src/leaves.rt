@@ -1,0 +1,89 @@
+//! L1: an editor that leaves.
+ghost use Rattle.std.specs.Prelude.{◌≡◌, ◌<◌, ℕ, List, map, Some, length, IfOk, IfSome, OnOk, slice_get};
+ghost use Rattle.event_model.specs.Does.{Does};
+ghost use Rattle.event_model.specs.Event.{Event};
+ghost use Rattle.event_model.specs.Row.{each};
+ghost use Rattle.event_model.specs.Settings.{Settings};
+ghost use Rattle.group_rows.specs.Leaves.{cancel, cancel_text, cancels_row};
+ghost use Rattle.mux_tables.specs.Stands.{Stands, number_in};
+ghost use Rattle.mux_turns.specs.Leavings.{Leaves};
+
+use itoa::Buffer;
+use message_body::{Body, Memory};
+use mux_history::Outs;
+use mux_tables::Tables;
+use rpc_message::notification;
+use std::alloc::Global;
+
+/// What an editor leaves at the last start of its group, which is ready.
+#[derive(Drop)]
+pub struct Departure {
+    /// The place of the group.
+    pub group: usize,
+    /// The numbers, rising, of its open requests that it didn't cancel.
+    pub requests: Vec<u32>,
+}
+
+// The notification that cancels the request of a number (LSP 3.17, Cancellation Support).
+fn cancel_request(alloc: Global, n: u32) -> Result<Body, Memory>
+    ensures { IfOk result (λ body. body ≡ cancel_text n) }
+{
+    let mut digits = Buffer::new();
+    let mut params = Vec::new(alloc);
+    params.extend_from_slice("{\"id\":".as_bytes())?;
+    params.extend_from_slice(digits.format(n).as_bytes())?;
+    params.extend_from_slice("}".as_bytes())?;
+    notification(alloc, "$/cancelRequest", Some(params.as_slice()))
+}
+
+// These requests are cancelled at the group's last start, in this order.
+fn cancel_all(
+    tables: &mut Tables,
+    alloc: Global,
+    outs: &mut Outs,
+    g: usize,
+    numbers: &[u32],
+) -> Result<(), Memory>
+    requires { g < length tables.old.lasts.items }
+    ensures { (settings : Settings) (base : List Event) (s : ℕ) → slice_get (map number_in tables.old.lasts.items) g ≡ Some s → OnOk result (Does (λ t events. Stands settings t events) (each (cancel s) numbers.now) base tables.old outs.old tables.new outs.new) }
+{
+    for n in numbers {
+        let text = cancel_request(alloc, *n)?;
+        tables.cancel(outs, g, *n, text)?;
+    }
+    Ok(())
+}
+
+/// L1: what an editor leaves, as it stands before anything is said; none where its group has no start that is ready.
+pub fn leaving(tables: &Tables, e: u64) -> Result<Option<Departure>, Memory>
+    ensures inside { IfOk result (λ o. IfSome o (λ l. l.group < length tables.now.lasts.items)) }
+    ensures leaves { (settings : Settings) (before : List Event) → Stands settings tables.now before → IfOk result (λ o. Leaves settings before e (map number_in tables.now.lasts.items) o) }
+{
+    let Some(group) = tables.place(e) else {
+        return Ok(None);
+    };
+    if !tables.stage(group).is_ready() {
+        return Ok(None);
+    }
+    let requests = tables.uncancelled_of(group, e)?;
+    Ok(Some(Departure { group, requests }))
+}
+
+/// L1: the open requests of an editor that leaves are cancelled, numbers rising.
+pub fn leave(
+    tables: &mut Tables,
+    alloc: Global,
+    outs: &mut Outs,
+    leaving: &Option<Departure>,
+) -> Result<(), Memory>
+    requires { IfSome leaving.now (λ l. l.group < length tables.old.lasts.items) }
+    ensures { (settings : Settings) (before base : List Event) (e : ℕ) → Leaves settings before e (map number_in tables.old.lasts.items) leaving.now → OnOk result (Does (λ t events. Stands settings t events) (cancels_row settings before e) base tables.old outs.old tables.new outs.new) }
+{
+    match leaving {
+        None => Ok(()),
+        Some(left) => {
+            cancel_all(tables, alloc, outs, left.group, &left.requests)?;
+            Ok(())
+        }
+    }
+}

@@ -1,0 +1,16 @@
+//! Rows of the routing table over several editors and groups, as code over the tables.
+#![tactic(auto)]
+
+mod answers;
+mod greeting;
+mod leaves;
+mod placing;
+mod refusals;
+mod starts;
+
+pub use answers::{answered_number, pass_on};
+pub use greeting::opening;
+pub use leaves::{Departure, leave, leaving};
+pub use placing::{found, turn_away, waits};
+pub use refusals::{asked_at, refuse, refuse_early, refuse_request, reject};
+pub use starts::{awaited_at, begin};

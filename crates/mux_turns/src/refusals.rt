@@ -1,0 +1,117 @@
+//! E2, E8 and E10: what an editor is answered with an error.
+ghost use Rattle.std.specs.Prelude.{◌≡◌, ◌<◌, ℕ, List, Option, Some, map, length, IfNone, IfOk, IfSome, OnOk, slice_get};
+ghost use Rattle.event_model.specs.Does.{Alike, Does};
+ghost use Rattle.event_model.specs.Event.{Event};
+ghost use Rattle.event_model.specs.Row.{◌⨾◌};
+ghost use Rattle.event_model.specs.Settings.{Settings};
+ghost use Rattle.group_rows.specs.Rows.{answer_error, early_row, forward, request_row, sync_row};
+ghost use Rattle.json_text.specs.Json.{Json};
+ghost use Rattle.mux_model.specs.Rows.{malformed_code, malformed_row};
+ghost use Rattle.mux_tables.specs.Stands.{Stands, number_in};
+ghost use Rattle.rpc_message.specs.Codes.{code_of};
+ghost use Rattle.rpc_message.specs.Message.{Id, Message as Meaning, message_of, request};
+ghost use Rattle.rpc_message.specs.Parsed.{IsRead};
+ghost use Rattle.rpc_message.specs.Sorts.{Refuses};
+ghost use Rattle.rpc_message.specs.Texts.{request_failed};
+
+use event_model::Phase;
+use message_body::Memory;
+use mux_history::Outs;
+use mux_tables::Tables;
+use rpc_message::{ErrorCode, Malformed, Message, Sort, error_answer};
+use std::alloc::Global;
+
+// The code of the answer to a body that is no message (JSON-RPC 2.0, section 5.1).
+fn code_for(fault: Malformed) -> Result<ErrorCode, Memory>
+    ensures { (m : Meaning) → Refuses fault m → IfOk result (λ code. code_of code ≡ malformed_code m) }
+{
+    match fault {
+        Malformed::NotJson => Ok(ErrorCode::ParseError),
+        Malformed::NotMessage => Ok(ErrorCode::InvalidRequest),
+        Malformed::Memory => Err(Memory),
+    }
+}
+
+/// E2: a body that is no message is answered under a null id, if the editor is there (JSON-RPC 2.0, section 5). `phase` says where
+/// it stood.
+pub fn reject(
+    tables: &Tables,
+    alloc: Global,
+    outs: &mut Outs,
+    e: u64,
+    phase: Phase,
+    fault: Malformed,
+) -> Result<(), Memory>
+    ensures { (settings : Settings) (base : List Event) (body : List ℕ) → Refuses fault (message_of body) → OnOk result (Does (λ t events. Stands settings t events) (malformed_row e (message_of body) phase) base tables.now outs.old tables.now outs.new) }
+{
+    let code = code_for(fault)?;
+    if !phase.is_there() {
+        return Ok(());
+    }
+    let text = error_answer(alloc, b"null", code)?;
+    tables.tell(outs, e, text)?;
+    Ok(())
+}
+
+/// A request is answered with an error, under its own id.
+pub fn refuse(
+    tables: &Tables,
+    alloc: Global,
+    outs: &mut Outs,
+    e: u64,
+    message: &Message,
+    code: ErrorCode,
+) -> Result<(), Memory>
+    ensures { (settings : Settings) (base : List Event) (body method : List ℕ) (id : Id) (params : Option Json) → IsRead message.now body → message_of body ≡ request id method params
+        → OnOk result (Does (λ t events. Stands settings t events) (answer_error e body (code_of code)) base tables.now outs.old tables.now outs.new) }
+{
+    let text = error_answer(alloc, message.id_bytes(), code)?;
+    tables.tell(outs, e, text)?;
+    Ok(())
+}
+
+/// E8: a request that comes before the answer to `initialize` gets an error (LSP 3.17, Lifecycle Messages: ServerNotInitialized);
+/// another message gives nothing.
+pub fn refuse_early(
+    tables: &Tables,
+    alloc: Global,
+    outs: &mut Outs,
+    e: u64,
+    message: &Message,
+) -> Result<(), Memory>
+    ensures { (settings : Settings) (base : List Event) (body : List ℕ) → IsRead message.now body → OnOk result (Does (λ t events. Stands settings t events) (early_row e body (message_of body)) base tables.now outs.old tables.now outs.new) }
+{
+    if message.sort() != Sort::Request {
+        return Ok(());
+    }
+    let code = ErrorCode::ServerNotInitialized;
+    refuse(tables, alloc, outs, e, message, code)?;
+    Ok(())
+}
+
+/// E10: the place of the group whose last start takes the editor's request, as it stands before the request; none where the editor
+/// is in no group, or the group has no start, or that start isn't ready or has no number left: then it is to be refused.
+pub fn asked_at(tables: &Tables, e: u64) -> Option<usize>
+    ensures inside { IfSome result (λ g. g < length tables.now.lasts.items) }
+    ensures refused { IfNone result ((settings : Settings) (before : List Event) (body : List ℕ) → Stands settings tables.now before → Alike (request_row settings before e body) (answer_error e body request_failed)) }
+    ensures goes { IfSome result (λ g. (settings : Settings) (before : List Event) (body : List ℕ) (s : ℕ) → slice_get (map number_in tables.now.lasts.items) g ≡ Some s → Stands settings tables.now before
+        → Alike (request_row settings before e body) (sync_row settings before g s e ⨾ forward s body)) }
+{
+    let g = tables.place(e)?;
+    if tables.can_ask(g) { Some(g) } else { None }
+}
+
+/// E10: a request that no start takes is answered with an error (LSP 3.17, RequestFailed).
+pub fn refuse_request(
+    tables: &Tables,
+    alloc: Global,
+    outs: &mut Outs,
+    e: u64,
+    message: &Message,
+) -> Result<(), Memory>
+    ensures { (settings : Settings) (before base : List Event) (body method : List ℕ) (id : Id) (params : Option Json) → IsRead message.now body → message_of body ≡ request id method params → Alike (request_row settings before e body) (answer_error e body request_failed)
+        → OnOk result (Does (λ t events. Stands settings t events) (request_row settings before e body) base tables.now outs.old tables.now outs.new) }
+{
+    refuse(tables, alloc, outs, e, message, ErrorCode::RequestFailed)?;
+    Ok(())
+}
