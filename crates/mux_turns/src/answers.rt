@@ -1,13 +1,15 @@
 //! S5: the answer of a start to an editor's request.
-ghost use Rattle.std.specs.Prelude.{◌≡◌, ◌<◌, ◌^◌, ℕ, List, [], Option, Some, IfSome, OnOk, bytes_eq, decimal, option_map, find};
-ghost use Rattle.event_model.specs.Does.{Does};
+ghost use Rattle.std.specs.Prelude.{◌≡◌, ◌<◌, ◌^◌, ℕ, List, [], Option, Some, IfSome, OnOk, bytes_eq, decimal, option_map, find, MatchOption, None, length, map, slice_get};
+ghost use Rattle.event_model.specs.declared.stage.Stage.TheVariants.{Ready};
+ghost use Rattle.event_model.specs.Does.{Does, Done};
 ghost use Rattle.event_model.specs.Event.{Event, with_cause};
 ghost use Rattle.event_model.specs.Requests.{answered_id};
 ghost use Rattle.event_model.specs.Settings.{Settings};
 ghost use Rattle.group_rows.specs.Forwarded.{Forwarded, answered_by, forwarding_of};
 ghost use Rattle.group_rows.specs.Rows.{response_row};
 ghost use Rattle.mux_history.specs.declared.cause.Cause.TheVariants.{FromServer};
-ghost use Rattle.mux_tables.specs.Stands.{NamesAt, Stands, forwarded_as};
+ghost use Rattle.mux_tables.specs.declared.tables.Start.{Start};
+ghost use Rattle.mux_tables.specs.Stands.{NamesAt, Stands, forwarded_as, number_in};
 ghost use Rattle.mux_turns.specs.Answers.{IsAsked, is_response};
 ghost use Rattle.rpc_message.specs.Message.{Id, message_of};
 ghost use Rattle.rpc_message.specs.Parsed.{IsRead};
@@ -114,4 +116,34 @@ pub fn pass_on(
         None => Ok(()),
         Some(pending) => answer(tables, alloc, outs, &pending, message),
     }
+}
+
+// What was kept of the request of a number, if there is a number.
+fn named_by(n: Option<u32>, asked: Option<Pending>) -> Option<Pending>
+    ensures { MatchOption n (result ≡ None) (λ _. result ≡ asked) }
+{
+    match n {
+        None => None,
+        Some(_) => asked,
+    }
+}
+
+/// S5: a message comes from the group's last start, which is ready: where it answers an open request it goes to the editor that asked,
+/// if that one is there, under its own id; else nothing is sent.
+pub fn take_answer(
+    tables: &mut Tables,
+    alloc: Global,
+    outs: &mut Outs,
+    g: usize,
+    message: &Message,
+) -> Result<(), Memory>
+    requires { g < length tables.old.lasts.items }
+    ensures { (settings : Settings) (before : List Event) (body : List ℕ) (s : ℕ) (x : Start) → IsRead message.now body → outs.old ≡ [] → slice_get tables.old.lasts.items g ≡ Some x → x.life.stage ≡ Ready → slice_get (map number_in tables.old.lasts.items) g ≡ Some s
+        → ((f : Forwarded) → find (answered_by (answered_id (message_of body))) (forwarding_of s before).open_requests ≡ Some f → IsAsked before f) → Stands settings tables.old before
+        → OnOk result (Done (λ t events. Stands settings t events) (response_row s before body (message_of body)) (with_cause before (FromServer s body)) [] tables.new outs.new) }
+{
+    let n = answered_number(message);
+    let asked = tables.hear_answer(g, n);
+    pass_on(tables, alloc, outs, named_by(n, asked), message)?;
+    Ok(())
 }

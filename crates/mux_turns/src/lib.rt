@@ -8,7 +8,7 @@ mod placing;
 mod refusals;
 mod starts;
 
-pub use answers::{answered_number, pass_on};
+pub use answers::{answered_number, pass_on, take_answer};
 pub use greeting::opening;
 pub use leaves::{Departure, leave, leaving};
 pub use placing::{found, turn_away, waits};
