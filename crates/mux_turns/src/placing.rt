@@ -32,7 +32,8 @@ pub fn waits(tables: &Tables, g: u64) -> bool
 
 /// E7: a start is spawned for the new group, which has the next number.
 pub fn found(tables: &mut Tables, alloc: Global, outs: &mut Outs) -> Result<(), Memory>
-    requires { 2 ≤ tables.old.requests }
+    requires limit { 2 ≤ tables.old.requests }
+    requires versions { 1 ≤ tables.old.versions }
     ensures { (settings : Settings) (before base : List Event) (e n : ℕ) (body : List ℕ) → IsNext n (behind base outs.old) → OnOk result (Does (λ t events. Stands settings t events) (placed_row e body before (New n)) base tables.old outs.old tables.new outs.new) }
 {
     tables.found(alloc, outs)?;
@@ -53,6 +54,7 @@ pub fn turn_away(
         → OnOk result (Does (λ t events. Stands settings t events) (placed_row e body before TooMany) base tables.old outs.old tables.new outs.new) }
 {
     refuse(tables, alloc, outs, e, message, ErrorCode::RequestFailed)?;
-    tables.close(outs, e)?;
+    // It was placed in no group, so no start is owed a word of its documents.
+    tables.close(alloc, outs, e)?;
     Ok(())
 }

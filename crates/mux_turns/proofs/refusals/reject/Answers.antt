@@ -13,4 +13,4 @@ returns c = λ settings base body refuses.
     let m = message_of body in
     let is = c.in_ok-text.ensures ∙ ap (λ k. error_text (codes "null") k) (c.in_ok-code.ensures m refuses) in
     chosen c.is_there.ensures c.if-not-is_there.false (told_as settings base c.args.tables.now c.args.tables.now c.args.outs.now c.tell.new.outs c.args.e c.in_ok-text.text (malformed_text m) is
-    (c.in_ok-tell.ensures settings base (keeps_error c.args.e c.in_ok-text.text (behind base c.args.outs.now) None (error_tree (malformed_code m)) (malformed_says c.in_ok-text.text (malformed_code m) is))))
+    (c.in_ok-tell.ensures.does settings base (keeps_error c.args.e c.in_ok-text.text (behind base c.args.outs.now) None (error_tree (malformed_code m)) (malformed_says c.in_ok-text.text (malformed_code m) is))))

@@ -11,4 +11,4 @@ pub returns-in_ok-notify-in-Some : goal.returns-in_ok-notify-in-Some
 returns-in_ok-notify-in-Some c = λ settings before s at first known.
     let base = with_cause before (Started s) in
     begun settings c.args.tables.now before s c.args.g c.args.outs.now first c.in-Some.kept.now c.in_ok-text-in-Some.text c.notify.new.outs (λ st. c.in-Some.ensures settings (behind base c.args.outs.now) st) known c.in_ok-text-in-Some.ensures
-    (λ still quiet. c.in_ok-notify-in-Some.ensures settings base s at still quiet)
+    (λ still quiet. c.in_ok-notify-in-Some.ensures.does settings base s at still quiet)
