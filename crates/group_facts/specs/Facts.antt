@@ -95,7 +95,7 @@ is_unready other = false
 abbrev pub Untold : List Event → Type 0
 Untold events = (s : ℕ) → is_unready (life_of s events).stage ≡ true → (u : List ℕ) → held_at s u events ≡ None
 
--- until a start is to end, its numbers are below the limit
+-- until a start is to end, its next number is at most the limit and two
 abbrev pub is_up : Stage → Bool
 is_up Unspawned = true
 is_up Spawning = true

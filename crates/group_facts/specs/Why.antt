@@ -98,7 +98,7 @@ pub record IsTelling (before : List Event) (cause : Cause) (events : List Event)
   pub spoken : speaks (saying_of (message_of body)) ≡ true
   pub allowed : AllowsSaying (versions_at s events) (saying_of (message_of body))
 
--- its group is idle, and ends for another one
+-- the daemon's own `shutdown` to a ready start, as the first out of its entry: E7 ends a group for another one
 pub record IsShutting (before : List Event) (cause : Cause) (events : List Event) (s : ℕ) (body : List ℕ) : Type 0 where
   pub ready : (life_of s events).stage ≡ Ready
   pub stays : moves before cause s ≡ false
@@ -125,7 +125,7 @@ pub record IsRejection (before : List Event) (cause : Cause) (events : List Even
   pub says : message_of body ≡ error None x
 
 -- an error for an open request, which isn't the `initialize` of an editor that waits, and isn't open at a start
-pub record IsRefusal (before : List Event) (cause : Cause) (events : List Event) (e : ℕ) (body : List ℕ) : Type 0 where
+pub record IsRefusal (events : List Event) (e : ℕ) (body : List ℕ) : Type 0 where
   pub id : Id
   pub x : Json
   pub there : is_there (desk_of e events).phase ≡ true
@@ -169,7 +169,7 @@ pub record IsPassing (before : List Event) (cause : Cause) (events : List Event)
 
 pub data WhyToEditor (settings : Settings) (before : List Event) (cause : Cause) (events : List Event) (e : ℕ) (body : List ℕ) : Type 0 where
   rejects : IsRejection before cause events e body → WhyToEditor settings before cause events e body
-  refuses : IsRefusal before cause events e body → WhyToEditor settings before cause events e body
+  refuses : IsRefusal events e body → WhyToEditor settings before cause events e body
   turns_away : IsTurning settings before cause events e body → WhyToEditor settings before cause events e body
   welcomes : IsWelcome events e body → WhyToEditor settings before cause events e body
   passes : IsPassing before cause events e body → WhyToEditor settings before cause events e body
