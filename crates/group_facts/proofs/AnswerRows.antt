@@ -45,7 +45,8 @@ use Rattle.group_words.specs.Rows.{shown_of}
 use Rattle.group_rows.specs.Forwarded.{Forwarded, answered_by, forwarding_of}
 use Rattle.group_rows.specs.Rows.{first_result, from_server, replay_bodies, response_row, result_in, started, waiting_in, welcome}
 use Rattle.group_rows.specs.Texts.{texts_of}
-use Rattle.group_facts.specs.Facts.{AllForwarded, IsAsker, IsForwarded, IsWaiting, IsWritten, Opened, Untold, Written}
+use Rattle.group_facts.specs.Facts.{AllForwarded, Apart, IsAsker, IsForwarded, IsWaiting, IsWritten, Opened, Untold, Written}
+use Rattle.group_facts.proofs.Apart.{alone_answered}
 use Rattle.group_facts.proofs.Forwards.{Still, still_notified, still_now}
 use Rattle.group_facts.proofs.SharedRows.{AllTold, replay_told}
 use Rattle.group_facts.proofs.Tellings.{Calm, tells_row}
@@ -90,8 +91,8 @@ module _ (settings : Settings) (range : InRange settings) (before : List Event) 
   R events out = Why settings before (FromServer s body) events out
 
   -- S5
-  response_why : AllForwarded before → Because R now (response_row s before body (message_of body))
-  response_why all = by_on (λ none. by_nothing) (λ f found. by_choose (λ there. by_send (passes (passing f found there))) (λ gone. by_nothing))
+  response_why : AllForwarded before → Apart before → Because R now (response_row s before body (message_of body))
+  response_why all apart = by_on (λ none. by_nothing) (λ f found. by_choose (λ there. by_send (passes (passing f found there))) (λ gone. by_nothing))
     where
       passing : (f : Forwarded) → find (answered_by (answered_id (message_of body))) (forwarding_of s before).open_requests ≡ Some f → is_there (desk_of f.editor before).phase ≡ true → IsPassing before (FromServer s body) now f.editor (with_id_text body f.id)
       passing f found there =
@@ -109,6 +110,8 @@ module _ (settings : Settings) (range : InRange settings) (before : List Event) 
             there = ap (λ (d : Desk). is_there d.phase) (desk_more f.editor before (heard (FromServer s body))) ∙ there;
             late = ap (λ (d : Desk). is_early d.phase) (desk_more f.editor before (heard (FromServer s body))) ∙ k.late;
             text = k.text;
+            waits = ap (is_open k.id) (opens_more f.editor before (heard (FromServer s body))) ∙ k.waits;
+            alone = alone_answered before s body f k.id apart found k.text;
             bytes = refl;
             response = p.0;
             answers = p.1;
@@ -197,13 +200,13 @@ module _ (settings : Settings) (range : InRange settings) (before : List Event) 
           (by_look (all_welcomed g (behind greeted_now (outs (to_start s (replay_bodies [] opens opens)) greeted_now))
           (waits_still _ (subst (λ z. Still now s (behind greeted_now z)) (sym (outs_to_start s (replay_bodies [] opens opens) greeted_now)) ((replayed.calm).still))))))
 
-  module _ (opened : Opened settings before) (untold : Untold before) (waiting : AllWaiting before) (all : AllForwarded before) where
+  module _ (opened : Opened settings before) (untold : Untold before) (waiting : AllWaiting before) (all : AllForwarded before) (apart : Apart before) where
     result_why : FirstResult (message_of body) → (life_of s before).stage ≡ Initializing → is_first_result (message_of body) ≡ true → shown_of (result_bytes body) ≡ result_bytes body → Because R now (first_result settings before s body)
     result_why first at is whole = by_on (λ none. by_nothing) (λ g home. greet_why first.r first.is whole at is opened untold waiting g)
 
     pub server_why : (is_first_result (message_of body) ≡ true → shown_of (result_bytes body) ≡ result_bytes body) → (stage : Stage) → (life_of s before).stage ≡ stage → Because R now (from_server settings s before body (message_of body) stage)
     server_why whole Initializing at = by_choose (λ yes. result_why (first_result_is (message_of body) yes) at yes (whole yes)) (λ no. by_nothing)
-    server_why whole Ready at = response_why all
+    server_why whole Ready at = response_why all apart
     server_why whole Unspawned at = by_nothing
     server_why whole Spawning at = by_nothing
     server_why whole Stopping at = by_nothing

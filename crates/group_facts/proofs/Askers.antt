@@ -1,5 +1,5 @@
 -- Each request that is open at a start is one of an editor that got its result, under the bytes of an id.
-use Rattle.std.proofs.Common.{◌≡◌, ℕ, ◌+◌, Bool, true, false, not, List, [], ◌∷◌, ◌++◌, filter, nat_eq, codes, decimal, if◌then◌else◌, Option, None, Some, refl, sym, ◌∙◌, ap, subst, arith}
+use Rattle.std.proofs.Common.{◌≡◌, ℕ, Bool, true, false, not, List, [], ◌∷◌, ◌++◌, filter, nat_eq, codes, decimal, if◌then◌else◌, Option, None, Some, refl, sym, ◌∙◌, ap, subst, arith}
 use Rattle.std.specs.List.{AllByRecursion}
 use Rattle.json_text.specs.Json.{Json}
 use Rattle.document_model.proofs.Written.{Spoken, spoken}
@@ -8,28 +8,30 @@ use Rattle.mux_history.specs.declared.cause.Cause.TheVariants.{Joined, FromEdito
 use Rattle.mux_history.specs.declared.out.Out.{Out}
 use Rattle.mux_history.specs.declared.out.Out.TheVariants.{ToEditor, ToServer, CloseEditor}
 use Rattle.rpc_message.specs.Message.{Message, request, notification, Id, integer, message_of}
-use Rattle.event_model.specs.declared.phase.Phase.TheVariants.{New, Gone}
-use Rattle.event_model.specs.Event.{Event, heard, said, with_cause}
+use Rattle.rpc_message.specs.ValueTexts.{IsIdText}
+use Rattle.event_model.specs.declared.phase.Phase.TheVariants.{New, Waiting, Gone}
+use Rattle.event_model.specs.Event.{Event, heard, said, same_id, with_cause}
 use Rattle.event_model.specs.Phases.{Desk, desk_of, desk_behind, desk_hears, editors_of, phase_closed, phase_told}
-use Rattle.event_model.specs.Requests.{answered_id, asking_of, is_own}
+use Rattle.event_model.specs.Requests.{answered_id, asking_of, is_open, is_own, open_behind, open_of, without}
 use Rattle.event_model.specs.Settings.{Settings}
 use Rattle.event_model.proofs.Frames.{never}
 use Rattle.mux_model.specs.Fits.{fits_behind}
-use Rattle.mux_facts.proofs.Asked.{either_late}
+use Rattle.mux_facts.proofs.Asked.{either_late, hears_open}
 use Rattle.mux_facts.proofs.Editors.{Editors}
 use Rattle.mux_facts.proofs.FactLaws.{closed_late}
-use Rattle.mux_facts.proofs.Folds.{desk_more}
+use Rattle.mux_facts.proofs.Folds.{desk_more, opens_more}
 use Rattle.mux_facts.proofs.Late.{hears_late, told_late}
 use Rattle.mux_facts.proofs.Lists.{all_filtered, all_join, all_of}
+use Rattle.mux_facts.proofs.Waits.{late_not}
 use Rattle.mux_facts.proofs.Why.{is_early}
-use Rattle.mux_facts.proofs.Words.{number_same}
+use Rattle.mux_facts.proofs.Words.{id_same, number_same, still_open}
 use Rattle.group_rows.specs.Forwarded.{Forwarded, Forwarding, Sender, answered_by, forwarding_behind, forwarding_of, forwards, numbered}
 use Rattle.group_facts.specs.Built.{built_behind}
-use Rattle.group_facts.specs.Facts.{AllForwarded, IsAsker, IsForwarded}
-use Rattle.group_facts.proofs.Forwards.{forwarding_more, notified_all}
+use Rattle.group_facts.specs.Facts.{AllForwarded, IsAlone, IsAsker, IsForwarded}
+use Rattle.group_facts.proofs.Forwards.{forwarding_more, more_requests, notified_all, zip_all}
 use Rattle.group_facts.proofs.Levels.{each_start}
 use Rattle.group_facts.proofs.Numbers.{forwarding_other, forwarding_sent}
-use Rattle.group_facts.specs.Why.{IsForward, WhyToServer, begins, greets, forwarded, tells, shuts}
+use Rattle.group_facts.specs.Why.{IsForward, WhyToEditor, WhyToServer, begins, greets, forwarded, tells, shuts, rejects, refuses, turns_away, welcomes, passes}
 
 -- An editor that got its result stays one that did
 
@@ -51,16 +53,29 @@ module _ (events : List Event) (e : ℕ) (late : is_early (desk_of e events).pha
   late_said (CloseEditor n) = either_late (nat_eq n e) (record { phase = phase_closed (desk_of e events).phase; initialize = (desk_of e events).initialize }) (desk_of e events) (closed_late (desk_of e events).phase) late
   late_said out = late
 
-asker_more : (events : List Event) (event : Event) (e : ℕ) (bytes : List ℕ) → IsAsker events e bytes → is_early (desk_behind e (desk_of e events) event).phase ≡ false → IsAsker (events ++ event ∷ []) e bytes
-asker_more events event e bytes k late = record { id = k.id; text = k.text; late = ap (λ (d : Desk). is_early d.phase) (desk_more e events event) ∙ late }
+asker_more : (events : List Event) (event : Event) (e : ℕ) (bytes : List ℕ) (k : IsAsker events e bytes) → is_early (desk_behind e (desk_of e events) event).phase ≡ false → is_open k.id (open_behind e (open_of e events) event) ≡ true → IsAsker (events ++ event ∷ []) e bytes
+asker_more events event e bytes k late waits = record {
+  id = k.id;
+  text = k.text;
+  late = ap (λ (d : Desk). is_early d.phase) (desk_more e events event) ∙ late;
+  waits = ap (is_open k.id) (opens_more e events event) ∙ waits;
+}
+
+open_heard : (events : List Event) (e : ℕ) (id : Id) → is_open id (open_of e events) ≡ true → (cause : Cause) → is_open id (open_behind e (open_of e events) (heard cause)) ≡ true
+open_heard events e id h (FromEditor n body) = hears_open (nat_eq n e) (message_of body) (open_of e events) id h
+open_heard events e id h cause = h
 
 asker_heard : (events : List Event) (cause : Cause) → fits_behind events cause ≡ true → Editors events → (f : Forwarded) → IsForwarded events f → IsForwarded (with_cause events cause) f
-asker_heard events cause fits none f k = asker_more events (heard cause) f.editor f.id k (late_heard events f.editor k.late cause fits none)
+asker_heard events cause fits none f k = asker_more events (heard cause) f.editor f.id k (late_heard events f.editor k.late cause fits none) (open_heard events f.editor k.id k.waits cause)
 
-asker_said : (events : List Event) (out : Out) (f : Forwarded) → IsForwarded events f → IsForwarded (events ++ said out ∷ []) f
-asker_said events out f k = asker_more events (said out) f.editor f.id k (late_said events f.editor k.late out)
+-- an out that answers none of them
+asker_said : (events : List Event) (out : Out) → ((e : ℕ) → open_behind e (open_of e events) (said out) ≡ open_of e events) → (f : Forwarded) → IsForwarded events f → IsForwarded (events ++ said out ∷ []) f
+asker_said events out same f k = asker_more events (said out) f.editor f.id k (late_said events f.editor k.late out) (ap (is_open k.id) (same f.editor) ∙ k.waits)
 
 -- One event more
+
+asked_list : (events : List Event) (event : Event) (s : ℕ) (fs : List Forwarded) → (forwarding_behind s (forwarding_of s events) event).open_requests ≡ fs → AllByRecursion (IsForwarded (events ++ event ∷ [])) fs → AllByRecursion (IsForwarded (events ++ event ∷ [])) (forwarding_of s (events ++ event ∷ [])).open_requests
+asked_list events event s fs same h = subst (AllByRecursion (IsForwarded (events ++ event ∷ []))) (sym (ap (λ (x : Forwarding). x.open_requests) (forwarding_more s events event) ∙ same)) h
 
 module _ (events : List Event) (event : Event) (asker : (f : Forwarded) → IsForwarded events f → IsForwarded (events ++ event ∷ []) f) where
   all_later : (fs : List Forwarded) → AllByRecursion (IsForwarded events) fs → AllByRecursion (IsForwarded (events ++ event ∷ [])) fs
@@ -87,10 +102,6 @@ asked_took settings events cause built fits none h = absurd (cc)
 
 -- A body to a start
 
--- with the request that is at work
-abbrev more_requests : Forwarding → Forwarding
-more_requests x = record { sender = x.sender; next = x.next + 1; open_requests = x.open_requests ++ numbered x.sender x.next }
-
 module _ (settings : Settings) (before : List Event) (cause : Cause) (events : List Event) (n : ℕ) (body : List ℕ) where
   abbrev sent : List Event
   sent = events ++ said (ToServer n body) ∷ []
@@ -99,7 +110,7 @@ module _ (settings : Settings) (before : List Event) (cause : Cause) (events : L
   Later s = AllByRecursion (IsForwarded events) (forwarding_of s events).open_requests → AllByRecursion (IsForwarded sent) (forwarding_of s sent).open_requests
 
   still : (fs : List Forwarded) → AllByRecursion (IsForwarded events) fs → AllByRecursion (IsForwarded sent) fs
-  still fs h = all_of (IsForwarded events) (IsForwarded sent) (asker_said events (ToServer n body)) fs h
+  still fs h = all_of (IsForwarded events) (IsForwarded sent) (asker_said events (ToServer n body) (λ e. refl)) fs h
 
   -- the list of the open requests by what the body says
   by_message : (m : Message) → message_of body ≡ m → AllByRecursion (IsForwarded sent) (forwards (forwarding_of n events) m).open_requests → AllByRecursion (IsForwarded sent) (forwarding_of n sent).open_requests
@@ -110,7 +121,7 @@ module _ (settings : Settings) (before : List Event) (cause : Cause) (events : L
       (subst (λ c. AllByRecursion (IsForwarded sent) (if c then forwarding_of n events else more_requests (forwarding_of n events)).open_requests) (sym own) (still (forwarding_of n events).open_requests h))
 
   notified : (method : List ℕ) (params : Option Json) → message_of body ≡ notification method params → Later n
-  notified method params says h = by_message (notification method params) says (notified_all (forwarding_of n events) method params (IsAsker sent) (still (forwarding_of n events).open_requests h))
+  notified method params says h = by_message (notification method params) says (notified_all (forwarding_of n events) method params (λ k. IsAsker sent) (still (forwarding_of n events).open_requests h))
 
   numbered_known : (o : Option Sender) (a : Sender) (k : ℕ) → o ≡ Some a → IsAsker sent a.editor a.id → AllByRecursion (IsForwarded sent) (numbered o k)
   numbered_known o a k e known = subst (λ z. AllByRecursion (IsForwarded sent) (numbered z k)) (sym e) (known, tt)
@@ -120,7 +131,7 @@ module _ (settings : Settings) (before : List Event) (cause : Cause) (events : L
       (subst (λ c. AllByRecursion (IsForwarded sent) (if c then forwarding_of n events else more_requests (forwarding_of n events)).open_requests) (sym k.other)
       (all_join (IsForwarded sent) (forwarding_of n events).open_requests (numbered (forwarding_of n events).sender (forwarding_of n events).next) (still (forwarding_of n events).open_requests h)
       (numbered_known (forwarding_of n events).sender k.sender (forwarding_of n events).next k.at_work
-      (asker_more events (said (ToServer n body)) (k.sender).editor (k.sender).id (record { id = k.id; text = k.text; late = k.late }) (late_said events (k.sender).editor k.late (ToServer n body))))))
+      (asker_more events (said (ToServer n body)) (k.sender).editor (k.sender).id (record { id = k.id; text = k.text; late = k.late; waits = k.waits }) (late_said events (k.sender).editor k.late (ToServer n body)) k.waits))))
 
   one_asked : WhyToServer settings before cause events n body → Later n
   one_asked (begins k) h = own_request (integer (codes "1")) (codes "initialize") k.params k.says refl h
@@ -133,6 +144,44 @@ module _ (settings : Settings) (before : List Event) (cause : Cause) (events : L
   asked_sent why h s = each_start Later n (one_asked why)
       (λ s other k. subst (λ (x : Forwarding). AllByRecursion (IsForwarded sent) x.open_requests) (sym (forwarding_other events n body s other)) (still (forwarding_of s events).open_requests k)) s (h s)
 
--- any other out
-pub asked_said : (events : List Event) (out : Out) → ((s : ℕ) → (forwarding_behind s (forwarding_of s events) (said out)).open_requests ≡ (forwarding_of s events).open_requests) → AllForwarded events → AllForwarded (events ++ said out ∷ [])
-asked_said events out same h = asked_still events (said out) (asker_said events out) same h
+-- any other out, but a body to an editor
+pub asked_said : (events : List Event) (out : Out) → ((s : ℕ) → (forwarding_behind s (forwarding_of s events) (said out)).open_requests ≡ (forwarding_of s events).open_requests) → ((e : ℕ) → open_behind e (open_of e events) (said out) ≡ open_of e events)
+    → AllForwarded events → AllForwarded (events ++ said out ∷ [])
+asked_said events out same opens h = asked_still events (said out) (asker_said events out opens) same h
+
+-- A body to an editor
+
+module _ (settings : Settings) (before : List Event) (cause : Cause) (events : List Event) (n : ℕ) (body : List ℕ) where
+  abbrev told : List Event
+  told = events ++ said (ToEditor n body) ∷ []
+
+  -- it leaves the request open, where it is to its editor
+  by_open : (f : Forwarded) (k : IsForwarded events f) → (n ≡ f.editor → is_open k.id (without (answered_id (message_of body)) (open_of f.editor events)) ≡ true) → IsForwarded told f
+  by_open f k h = asker_more events (said (ToEditor n body)) f.editor f.id k (late_said events f.editor k.late (ToEditor n body)) (go (nat_eq n f.editor) (λ same. h (number_same n f.editor same)))
+    where
+      go : (b : Bool) → (b ≡ true → is_open k.id (without (answered_id (message_of body)) (open_of f.editor events)) ≡ true) → is_open k.id (if b then without (answered_id (message_of body)) (open_of f.editor events) else open_of f.editor events) ≡ true
+      go true g = g refl
+      go false g = k.waits
+
+  -- a response to another request
+  by_alone : (id : Id) → answered_id (message_of body) ≡ Some id → (f : Forwarded) → (f.editor ≡ n → IsIdText id f.id → ⊥) → IsForwarded events f → IsForwarded told f
+  by_alone id answers f alone k = by_open f k (λ same. ap (λ o. is_open k.id (without o (open_of f.editor events))) answers ∙ still_open id k.id (open_of f.editor events) k.waits (other (same_id id k.id) refl (sym same)))
+    where
+      other : (b : Bool) → same_id id k.id ≡ b → f.editor ≡ n → b ≡ false
+      other true e same = absurd (alone same (subst (λ z. IsIdText z f.id) (sym (id_same id k.id e)) k.text))
+      other false e same = refl
+
+  -- an editor that waits has none
+  by_waiting : (desk_of n events).phase ≡ Waiting → (f : Forwarded) → IsForwarded events f → IsForwarded told f
+  by_waiting at f k = by_open f k (λ same. absurd (late_not (desk_of f.editor events).phase k.late (ap (λ z. (desk_of z events).phase) (sym same) ∙ at)))
+
+  all_alone : (id : Id) → answered_id (message_of body) ≡ Some id → IsAlone events n id → AllForwarded events → AllForwarded told
+  all_alone id answers alone h s = asked_list events (said (ToEditor n body)) s (forwarding_of s events).open_requests refl
+      (zip_all (IsForwarded events) (λ (f : Forwarded). f.editor ≡ n → IsIdText id f.id → ⊥) (IsForwarded told) (λ f k a. by_alone id answers f a k) (forwarding_of s events).open_requests (h s) (alone s))
+
+  pub asked_told : WhyToEditor settings before cause events n body → AllForwarded events → AllForwarded told
+  asked_told (rejects k) h = asked_still events (said (ToEditor n body)) (λ f a. by_open f a (λ same. ap (λ m. is_open a.id (without (answered_id m) (open_of f.editor events))) k.says ∙ a.waits)) (λ s. refl) h
+  asked_told (refuses k) h = all_alone k.id (ap answered_id k.says) k.alone h
+  asked_told (turns_away k) h = asked_still events (said (ToEditor n body)) (by_waiting (k.waiting).phase) (λ s. refl) h
+  asked_told (welcomes k) h = asked_still events (said (ToEditor n body)) (by_waiting (k.waiting).phase) (λ s. refl) h
+  asked_told (passes k) h = all_alone k.id k.answers k.alone h

@@ -104,18 +104,18 @@ module _ (settings : Settings) (range : InRange settings) (before : List Event) 
 
 module _ (settings : Settings) (range : InRange settings) (before : List Event) (e : ℕ) (body : List ℕ) (opened_so : Opened settings before) where
   module _ (method : List ℕ) (params : Option Json) (says : message_of body ≡ notification method params) where
-    abbrev Mine_ : Row → Type 0
-    Mine_ row = Because (Why settings before (FromEditor e body)) (with_cause before (FromEditor e body)) row
+    abbrev Right : Row → Type 0
+    Right row = Because (Why settings before (FromEditor e body)) (with_cause before (FromEditor e body)) row
 
-    at_start : (g s : ℕ) → Mine_ (document_at settings before e body (saying_by method params) g s)
+    at_start : (g s : ℕ) → Right (document_at settings before e body (saying_by method params) g s)
     at_start g s = by_choose (λ ready. tells_row settings range before (FromEditor e body) (now settings range before e body s) s (now settings range before e body s)
         (document_bodies settings.limits.versions (encoding_of g before) (texts_of settings g before) (λ u. held_at s u before) e body (saying_by method params))
         (bodies_keep settings range before e body s (texts_of settings g before) (opened_so g) (encoding_of g before) (calm_now settings range before e body s ready) (saying_by method params) (ap saying_of says)))
         (λ no. by_nothing)
 
-    at_group : (g : ℕ) → Mine_ (on (start_of g before) nothing (document_at settings before e body (saying_by method params) g))
+    at_group : (g : ℕ) → Right (on (start_of g before) nothing (document_at settings before e body (saying_by method params) g))
     at_group g = by_on (λ none. by_nothing) (λ s start. at_start g s)
 
     -- what the start of the editor's group is told, if it is ready
-    pub document_why : Mine_ (document_row settings before e body (saying_by method params))
+    pub document_why : Right (document_row settings before e body (saying_by method params))
     document_why = by_on (λ none. by_nothing) (λ g home. at_group g)

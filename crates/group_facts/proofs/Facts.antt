@@ -13,7 +13,7 @@ use Rattle.mux_facts.proofs.Editors.{Editors}
 use Rattle.mux_facts.proofs.Starts.{Starts}
 use Rattle.mux_facts.proofs.Waits.{AllWaiting, Waits, WaitsAt, waits_at}
 use Rattle.group_rows.specs.Forwarded.{forwarding_of}
-use Rattle.group_facts.specs.Facts.{AllForwarded, Bounded, Housed, Known, Numbered, Opened, Plain, Unbegun, Untold, Written, turned_away}
+use Rattle.group_facts.specs.Facts.{AllForwarded, Apart, Bounded, Housed, Known, Numbered, Opened, Plain, Unbegun, Untold, Written, turned_away}
 
 pub record Base (settings : Settings) (events : List Event) : Type 0 where
   pub opened : Opened settings events
@@ -27,6 +27,7 @@ pub record Steady (settings : Settings) (events : List Event) : Type 0 where
   pub bounded : Bounded settings events
   pub editors : Editors events
   pub asked : AllForwarded events
+  pub apart : Apart events
   pub housed : Housed settings events
 
 -- the next number of all requests to a start, and of those of editors
@@ -78,6 +79,7 @@ known_of settings events h = record {
   untold = (h.steady).untold;
   bounded = (h.steady).bounded;
   asked = (h.steady).asked;
+  apart = (h.steady).apart;
   housed = (h.steady).housed;
   numbered = numbered_of events h.tied;
   waiting = λ e at. let w : Waits (desk_of e events).initialize (open_of e events) = waits_at events e at h.waiting in (w.id, record { params = w.params; phase = at; asks = w.asks; waits = w.waits });

@@ -1,10 +1,11 @@
 -- The requests that were sent on to a start, behind one more event; and what the bodies to a start that are notifications leave alone.
-use Rattle.std.proofs.Common.{◌≡◌, ℕ, Bool, true, false, List, [], ◌∷◌, ◌++◌, map, codes, bytes_eq, if◌then◌else◌, Option, refl, ◌∙◌, ap, ap₂}
+use Rattle.std.proofs.Common.{◌≡◌, ℕ, Bool, true, false, List, [], ◌∷◌, ◌++◌, map, codes, bytes_eq, if◌then◌else◌, Option, refl, ◌∙◌, ap, ap₂, nat_eq, sym, subst, ◌+◌}
 use Rattle.std.specs.List.{AllByRecursion}
 use Rattle.std.proofs.lemmas.List.Sums.{fold-append}
 use Rattle.json_text.specs.Json.{Json}
 use Rattle.mux_history.specs.declared.out.Out.TheVariants.{ToServer}
-use Rattle.rpc_message.specs.Message.{notification, message_of}
+use Rattle.rpc_message.specs.Message.{notification, Id, message_of}
+use Rattle.rpc_message.specs.ValueTexts.{IsIdText}
 use Rattle.event_model.specs.declared.stage.Stage.TheVariants.{Ready}
 use Rattle.event_model.specs.Event.{Event, said}
 use Rattle.event_model.specs.Members.{named_of}
@@ -13,12 +14,22 @@ use Rattle.event_model.specs.Requests.{open_of}
 use Rattle.event_model.specs.Stages.{Life, life_of, stage_told}
 use Rattle.mux_facts.proofs.Folds.{desk_more, life_more, opens_more}
 use Rattle.mux_facts.proofs.Words.{same_number}
-use Rattle.group_rows.specs.Forwarded.{Forwarded, Forwarding, cancelled_by, forwarding_behind, forwarding_of, forwards, is_written, no_forwarding}
+use Rattle.group_facts.specs.Facts.{IsAlone}
+use Rattle.group_rows.specs.Forwarded.{Forwarded, Forwarding, cancelled_by, forwarding_behind, forwarding_of, forwards, is_written, no_forwarding, numbered}
+
+-- with the request that is at work
+abbrev pub more_requests : Forwarding → Forwarding
+more_requests x = record { sender = x.sender; next = x.next + 1; open_requests = x.open_requests ++ numbered x.sender x.next }
+
+-- what follows from two things that hold of all
+pub zip_all : {X : Type 0} (P Q R : X → Type 0) → ((x : X) → P x → Q x → R x) → (xs : List X) → AllByRecursion P xs → AllByRecursion Q xs → AllByRecursion R xs
+zip_all P Q R f [] h k = tt
+zip_all P Q R f (x ∷ xs) h k = (f x h.0 k.0, zip_all P Q R f xs h.1 k.1)
 
 pub forwarding_more : (s : ℕ) (events : List Event) (event : Event) → forwarding_of s (events ++ event ∷ []) ≡ forwarding_behind s (forwarding_of s events) event
 forwarding_more s events event = fold-append (forwarding_behind s) no_forwarding events (event ∷ [])
 
--- a notification leaves who asks and the next number, and the editors and ids of the open requests
+-- a notification leaves who asks and the next number, and the numbers, editors and ids of the open requests
 module _ (x : Forwarding) (method : List ℕ) (params : Option Json) where
   pub notified_sender : (forwards x (notification method params)).sender ≡ x.sender
   notified_sender = go (bytes_eq method (codes "$/cancelRequest"))
@@ -34,20 +45,35 @@ module _ (x : Forwarding) (method : List ℕ) (params : Option Json) where
       go true = refl
       go false = refl
 
-  all_cancelled : (P : ℕ → List ℕ → Type 0) (id : Option Json) (fs : List Forwarded) → AllByRecursion (λ (f : Forwarded). P f.editor f.id) fs → AllByRecursion (λ (f : Forwarded). P f.editor f.id) (map (cancelled_by id) fs)
+  all_cancelled : (P : ℕ → ℕ → List ℕ → Type 0) (id : Option Json) (fs : List Forwarded) → AllByRecursion (λ (f : Forwarded). P f.number f.editor f.id) fs → AllByRecursion (λ (f : Forwarded). P f.number f.editor f.id) (map (cancelled_by id) fs)
   all_cancelled P id [] h = tt
   all_cancelled P id (f ∷ fs) h = (go (is_written id f.number) h.0, all_cancelled P id fs h.1)
     where
-      go : (b : Bool) → P f.editor f.id → P (if b then record { number = f.number; editor = f.editor; id = f.id; cancelled = true } else f).editor (if b then record { number = f.number; editor = f.editor; id = f.id; cancelled = true } else f).id
+      go : (b : Bool) → P f.number f.editor f.id → P (if b then record { number = f.number; editor = f.editor; id = f.id; cancelled = true } else f).number (if b then record { number = f.number; editor = f.editor; id = f.id; cancelled = true } else f).editor (if b then record { number = f.number; editor = f.editor; id = f.id; cancelled = true } else f).id
       go true k = k
       go false k = k
 
-  pub notified_all : (P : ℕ → List ℕ → Type 0) → AllByRecursion (λ (f : Forwarded). P f.editor f.id) x.open_requests → AllByRecursion (λ (f : Forwarded). P f.editor f.id) (forwards x (notification method params)).open_requests
+  pub notified_all : (P : ℕ → ℕ → List ℕ → Type 0) → AllByRecursion (λ (f : Forwarded). P f.number f.editor f.id) x.open_requests → AllByRecursion (λ (f : Forwarded). P f.number f.editor f.id) (forwards x (notification method params)).open_requests
   notified_all P h = go (bytes_eq method (codes "$/cancelRequest"))
     where
-      go : (b : Bool) → AllByRecursion (λ (f : Forwarded). P f.editor f.id) (if b then record { sender = x.sender; next = x.next; open_requests = map (cancelled_by (named_of (codes "id") params)) x.open_requests } else x).open_requests
+      go : (b : Bool) → AllByRecursion (λ (f : Forwarded). P f.number f.editor f.id) (if b then record { sender = x.sender; next = x.next; open_requests = map (cancelled_by (named_of (codes "id") params)) x.open_requests } else x).open_requests
       go true = all_cancelled P (named_of (codes "id") params) x.open_requests h
       go false = h
+
+-- what holds of all requests that are open at a start, by their numbers, editors and ids, holds of those that are later
+abbrev pub Fewer : List Event → List Event → Type 1
+Fewer events later = (t : ℕ) (Q : ℕ → ℕ → List ℕ → Type 0) → AllByRecursion (λ (f : Forwarded). Q f.number f.editor f.id) (forwarding_of t events).open_requests → AllByRecursion (λ (f : Forwarded). Q f.number f.editor f.id) (forwarding_of t later).open_requests
+
+pub fewer_notified : (s : ℕ) (events : List Event) (body method : List ℕ) (params : Option Json) → message_of body ≡ notification method params → Fewer events (events ++ said (ToServer s body) ∷ [])
+fewer_notified s events body method params says t Q h = subst (λ (x : Forwarding). AllByRecursion (λ (f : Forwarded). Q f.number f.editor f.id) x.open_requests)
+    (sym (forwarding_more t events (said (ToServer s body)) ∙ ap (λ m. if nat_eq s t then forwards (forwarding_of t events) m else forwarding_of t events) says)) (go (nat_eq s t))
+  where
+    go : (b : Bool) → AllByRecursion (λ (f : Forwarded). Q f.number f.editor f.id) (if b then forwards (forwarding_of t events) (notification method params) else forwarding_of t events).open_requests
+    go true = notified_all (forwarding_of t events) method params Q h
+    go false = h
+
+pub alone_fewer : (events later : List Event) → Fewer events later → (e : ℕ) (id : Id) → IsAlone events e id → IsAlone later e id
+alone_fewer events later fewer e id h t = fewer t (λ n k i. k ≡ e → IsIdText id i → ⊥) (h t)
 
 -- s is ready, and since `now` it was sent notifications alone
 pub record Still (now : List Event) (s : ℕ) (events : List Event) : Type 0 where
@@ -56,9 +82,10 @@ pub record Still (now : List Event) (s : ℕ) (events : List Event) : Type 0 whe
   pub sender : (forwarding_of s events).sender ≡ (forwarding_of s now).sender
   pub desks : (e : ℕ) → desk_of e events ≡ desk_of e now
   pub opens : (e : ℕ) → open_of e events ≡ open_of e now
+  pub alone : (e : ℕ) (id : Id) → IsAlone now e id → IsAlone events e id
 
 pub still_now : (now : List Event) (s : ℕ) → (life_of s now).stage ≡ Ready → Still now s now
-still_now now s ready = record { ready = ready; next = refl; sender = refl; desks = λ e. refl; opens = λ e. refl }
+still_now now s ready = record { ready = ready; next = refl; sender = refl; desks = λ e. refl; opens = λ e. refl; alone = λ e id h. h }
 
 pub still_notified : (now : List Event) (s : ℕ) (events : List Event) (body method : List ℕ) (params : Option Json) → message_of body ≡ notification method params → Still now s events → Still now s (events ++ said (ToServer s body) ∷ [])
 still_notified now s events body method params says h = record {
@@ -69,6 +96,7 @@ still_notified now s events body method params says h = record {
   sender = ap (λ (x : Forwarding). x.sender) moved ∙ notified_sender (forwarding_of s events) method params ∙ h.sender;
   desks = λ e. desk_more e events (said (ToServer s body)) ∙ h.desks e;
   opens = λ e. opens_more e events (said (ToServer s body)) ∙ h.opens e;
+  alone = λ e id k. alone_fewer events (events ++ said (ToServer s body) ∷ []) (fewer_notified s events body method params says) e id (h.alone e id k);
 }
   where
     moved : forwarding_of s (events ++ said (ToServer s body) ∷ []) ≡ forwards (forwarding_of s events) (notification method params)

@@ -33,7 +33,8 @@ use Rattle.group_rows.specs.Forwarded.{Forwarding, forwarding_of}
 use Rattle.group_rows.specs.Rows.{outs_of}
 use Rattle.group_facts.specs.Built.{built_behind}
 use Rattle.group_facts.specs.Legal.{Legal, LegalFrom}
-use Rattle.group_facts.proofs.Askers.{asked_said, asked_sent, asked_took}
+use Rattle.group_facts.proofs.Apart.{apart_fewer, apart_said, apart_sent, fewer_took}
+use Rattle.group_facts.proofs.Askers.{asked_said, asked_sent, asked_told, asked_took}
 use Rattle.group_facts.specs.Facts.{is_unready, is_up}
 use Rattle.group_facts.proofs.Facts.{Base, Facts, Mid, OthersTied, Steady}
 use Rattle.group_facts.proofs.Forwards.{forwarding_more}
@@ -45,7 +46,7 @@ use Rattle.group_facts.proofs.Opened.{opened_did, opened_none, opened_took}
 use Rattle.group_facts.proofs.Plain.{plain_did, plain_none, plain_took}
 use Rattle.group_facts.proofs.Table.{reasons}
 use Rattle.group_facts.proofs.Waiting.{waiting_closed, waiting_rests, waiting_said, waiting_told, waiting_took}
-use Rattle.group_facts.specs.Why.{Why, is_starting}
+use Rattle.group_facts.specs.Why.{Why, WhyToEditor, is_starting}
 use Rattle.group_facts.proofs.Written.{written_did, written_took}
 
 module _ (settings : Settings) where
@@ -67,6 +68,7 @@ module _ (settings : Settings) where
     bounded = bounded_took settings events cause built (up_fresh cause) h.bounded;
     editors = editors_took events cause fits h.editors;
     asked = asked_took settings events cause built fits h.editors h.asked;
+    apart = apart_fewer events (with_cause events cause) (fewer_took settings events cause built) h.apart;
     housed = housed_took settings events cause built h.housed;
   }
     where
@@ -85,14 +87,15 @@ module _ (settings : Settings) where
   -- At an out
 
   module _ (range : InRange settings) (before : List Event) (cause : Cause) (facts : Facts settings before) (built : built_behind settings before cause ≡ true) (events : List Event) where
-    to_editor : (n : ℕ) (body : List ℕ) → Steady settings events → Steady settings (events ++ said (ToEditor n body) ∷ [])
-    to_editor n body h = record {
+    to_editor : (n : ℕ) (body : List ℕ) → WhyToEditor settings before cause events n body → Steady settings events → Steady settings (events ++ said (ToEditor n body) ∷ [])
+    to_editor n body why h = record {
       starts = starts.more events (said (ToEditor n body)) h.starts refl (λ s none. refl);
       unbegun = unbegun_said settings events (ToEditor n body) a f d (λ s. tt) h.unbegun;
       untold = untold_said settings events (ToEditor n body) a f d (λ s. tt) h.untold;
       bounded = bounded_said settings events (ToEditor n body) a f d (λ s. tt) h.bounded;
       editors = editors.to_editor events n body h.editors;
-      asked = asked_said events (ToEditor n body) (λ s. refl) h.asked;
+      asked = asked_told settings before cause events n body why h.asked;
+      apart = apart_said events (ToEditor n body) (λ s. refl) h.apart;
       housed = housed_did settings events (ToEditor n body) refl (λ s. refl) h.housed;
     }
       where
@@ -112,7 +115,8 @@ module _ (settings : Settings) where
       untold = untold_said settings events (Spawn (starts_of events) g) a f d (λ s. spawn_fresh is_unready refl events h.starts s) h.untold;
       bounded = bounded_said settings events (Spawn (starts_of events) g) a f d (λ s. spawn_fresh is_up refl events h.starts s) h.bounded;
       editors = editors.more events (said (Spawn (starts_of events) g)) h.editors refl (λ e absent. absent);
-      asked = asked_said events (Spawn (starts_of events) g) (λ s. refl) h.asked;
+      asked = asked_said events (Spawn (starts_of events) g) (λ s. refl) (λ e. refl) h.asked;
+      apart = apart_said events (Spawn (starts_of events) g) (λ s. refl) h.apart;
       housed = housed_spawn settings events g inside h.housed;
     }
       where
@@ -133,7 +137,8 @@ module _ (settings : Settings) where
       bounded = bounded_said settings events (CloseEditor n) a f d (λ s. tt) h.bounded;
       editors = editors.more events (said (CloseEditor n)) h.editors refl (λ e absent. ap (λ (x : Desk). x.phase) (unless (nat_eq n e) (record { phase = phase_closed (desk_of e events).phase; initialize = (desk_of e events).initialize }) (desk_of e events)
           (λ same. there_not events n e absent same there)) ∙ absent);
-      asked = asked_said events (CloseEditor n) (λ s. refl) h.asked;
+      asked = asked_said events (CloseEditor n) (λ s. refl) (λ e. refl) h.asked;
+      apart = apart_said events (CloseEditor n) (λ s. refl) h.apart;
       housed = housed_did settings events (CloseEditor n) refl (λ s. refl) h.housed;
     }
       where
@@ -154,7 +159,8 @@ module _ (settings : Settings) where
       untold = untold_said settings events (EndServer n) a f d (λ s. tt) h.untold;
       bounded = bounded_said settings events (EndServer n) a f d (λ s. tt) h.bounded;
       editors = editors.more events (said (EndServer n)) h.editors refl (λ e absent. absent);
-      asked = asked_said events (EndServer n) (λ s. refl) h.asked;
+      asked = asked_said events (EndServer n) (λ s. refl) (λ e. refl) h.asked;
+      apart = apart_said events (EndServer n) (λ s. refl) h.apart;
       housed = housed_did settings events (EndServer n) refl (λ s. refl) h.housed;
     }
       where
@@ -180,7 +186,7 @@ module _ (settings : Settings) where
     tied_ended n h = tied_said cause events (EndServer n) (λ s. ap (λ (x : Asking). x.next) (asking_more s events (said (EndServer n)))) (λ s. ap (λ (x : Forwarding). x.next) (forwarding_more s events (said (EndServer n)))) (λ s a f k. tied_life (nat_eq n s) (record { stage = stage_ending (life_of s events).stage; started = (life_of s events).started }) (life_of s events) a f (ending_tied (life_of s events).stage) k) h
 
     pub mid_did : (out : Out) → Why settings before cause events out → Mid settings before cause events → Mid settings before cause (events ++ said out ∷ [])
-    mid_did (ToEditor n body) why h = record { steady = to_editor n body h.steady; tied = tied_told n body h.tied; waiting = waiting_told settings before cause events n body why h.waiting }
+    mid_did (ToEditor n body) why h = record { steady = to_editor n body why h.steady; tied = tied_told n body h.tied; waiting = waiting_told settings before cause events n body why h.waiting }
     mid_did (ToServer n body) why h = record {
       steady = record {
         starts = starts.sent events n body (h.steady).starts;
@@ -189,6 +195,7 @@ module _ (settings : Settings) where
         bounded = bounded_sent settings before cause facts built events n body why (h.steady).bounded;
         editors = editors.to_server events n body (h.steady).editors;
         asked = asked_sent settings before cause events n body why (h.steady).asked;
+        apart = apart_sent settings before cause events n body why (h.steady).apart;
         housed = housed_did settings events (ToServer n body) refl (λ s. refl) (h.steady).housed;
       };
       tied = tied_sent settings cause events n body before why h.tied;
@@ -225,7 +232,7 @@ module _ (settings : Settings) where
     pub no_facts : Facts settings []
     no_facts = record {
       base = record { opened = opened_none settings; plain = plain_none; written = tt };
-      steady = record { starts = λ s le. refl; unbegun = λ s un. (refl, refl); untold = λ s un u. refl; bounded = λ s up. (omega arith, omega arith); editors = λ e le. refl; asked = λ s. tt; housed = λ s below. absurd (omega (arith, below)) };
+      steady = record { starts = λ s le. refl; unbegun = λ s un. (refl, refl); untold = λ s un u. refl; bounded = λ s up. (omega arith, omega arith); editors = λ e le. refl; asked = λ s. tt; apart = λ s. tt; housed = λ s below. absurd (omega (arith, below)) };
       tied = λ s. tt;
       waiting = λ e. tt;
     }

@@ -1,4 +1,5 @@
 pub mod AnswerRows
+pub mod Apart
 pub mod Askers
 pub mod DocumentRow
 pub mod Everywhere

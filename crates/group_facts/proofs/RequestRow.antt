@@ -33,9 +33,10 @@ use Rattle.group_rows.specs.Forwarded.{Forwarding, forwarding_of, sender_of}
 use Rattle.group_rows.specs.Rows.{answer_error, can_ask, forward, request_at, request_row, sync_bodies, sync_row}
 use Rattle.group_rows.specs.Texts.{texts_of}
 use Rattle.group_facts.specs.Built.{is_plain}
-use Rattle.group_facts.specs.Facts.{Opened}
+use Rattle.group_facts.specs.Facts.{AllForwarded, IsAlone, Opened}
+use Rattle.group_facts.proofs.Apart.{alone_by, asks_fewer}
 use Rattle.group_facts.proofs.DocumentRow.{calm_now, held_still}
-use Rattle.group_facts.proofs.Forwards.{forwarding_more}
+use Rattle.group_facts.proofs.Forwards.{alone_fewer, forwarding_more}
 use Rattle.group_facts.proofs.SharedRows.{AllTold, Held, sync_told}
 use Rattle.group_facts.proofs.Tellings.{Calm, tells_row}
 use Rattle.group_facts.specs.Why.{IsForward, Why, forwarded, refuses}
@@ -64,7 +65,11 @@ module _ (settings : Settings) (before : List Event) (e : ℕ) (body : List ℕ)
   pub desk_taken : desk_of e asked ≡ desk_hears (desk_of e before).phase (desk_of e before).initialize body (message_of body)
   desk_taken = desk_more e before (heard (FromEditor e body)) ∙ ap (λ b. if b then desk_hears (desk_of e before).phase (desk_of e before).initialize body (message_of body) else desk_of e before) (same_number e)
 
-  module _ (id : Id) (method : List ℕ) (params : Option Json) (says : message_of body ≡ request id method params) (there : is_there (desk_of e before).phase ≡ true) where
+  module _ (id : Id) (method : List ℕ) (params : Option Json) (says : message_of body ≡ request id method params) (there : is_there (desk_of e before).phase ≡ true) (open_before : AllForwarded before) (fresh : is_open id (open_of e before) ≡ false) where
+    -- no request of it under this id is open at a start
+    alone : IsAlone asked e id
+    alone = alone_fewer before asked (asks_fewer before e body) e id (alone_by before open_before e id fresh)
+
     -- E8
     early : ((desk_of e asked).phase ≡ Waiting → has_id id (message_of (desk_of e asked).initialize) ≡ false) → Because R asked (answer_error e body server_not_initialized)
     early others = by_send (refuses (record {
@@ -73,6 +78,7 @@ module _ (settings : Settings) (before : List Event) (e : ℕ) (body : List ℕ)
       there = there_taken settings before e body there;
       waits = open_taken before e body id method params says;
       others = others;
+      alone = alone;
       says = refusal_says body id method params server_not_initialized says;
     }))
 
@@ -83,8 +89,8 @@ module _ (settings : Settings) (before : List Event) (e : ℕ) (body : List ℕ)
         still = ap (λ (d : Desk). d.phase) (desk_taken ∙ ap₂ (λ p m. desk_hears p (desk_of e before).initialize body m) at says)
             ∙ ap (λ b. (either_desk b (record { phase = Waiting; initialize = body }) (record { phase = New; initialize = (desk_of e before).initialize })).phase) other
 
-    pub early_waiting : (desk_of e before).phase ≡ Waiting → AllWaiting before → is_open id (open_of e before) ≡ false → Because R asked (answer_error e body server_not_initialized)
-    early_waiting at waiting fresh = early (λ waits. ap (λ (d : Desk). has_id id (message_of d.initialize)) (desk_taken ∙ ap (λ p. desk_hears p (desk_of e before).initialize body (message_of body)) at) ∙ ap (has_id id) w.asks ∙ apart (same_id id w.id) refl)
+    pub early_waiting : (desk_of e before).phase ≡ Waiting → AllWaiting before → Because R asked (answer_error e body server_not_initialized)
+    early_waiting at waiting = early (λ waits. ap (λ (d : Desk). has_id id (message_of d.initialize)) (desk_taken ∙ ap (λ p. desk_hears p (desk_of e before).initialize body (message_of body)) at) ∙ ap (has_id id) w.asks ∙ apart (same_id id w.id) refl)
       where
         w : Waits (desk_of e before).initialize (open_of e before)
         w = waits_at before e at waiting
@@ -101,6 +107,7 @@ module _ (settings : Settings) (before : List Event) (e : ℕ) (body : List ℕ)
         there = there_taken settings before e body there;
         waits = open_taken before e body id method params says;
         others = λ at. absurd (late_not (desk_of e asked).phase (late_taken before e body late) at);
+        alone = alone;
         says = refusal_says body id method params request_failed says;
       }))
 
@@ -136,6 +143,7 @@ module _ (settings : Settings) (before : List Event) (e : ℕ) (body : List ℕ)
           text = request_id_bytes body id method params says;
           waits = ap (is_open id) (calm.still.opens e) ∙ open_taken before e body id method params says;
           late = ap (λ (d : Desk). is_early d.phase) (calm.still.desks e) ∙ late_taken before e body late;
+          alone = calm.still.alone e id alone;
         }
           where
             room : nat_lt (forwarding_of s events).next settings.limits.requests ≡ true

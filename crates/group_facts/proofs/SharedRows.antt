@@ -78,18 +78,18 @@ module _ (settings : Settings) (range : InRange settings) (before : List Event) 
   -- X4, where the start has none of the documents that weren't told
 
   module _ (all : List Open) (spelt : AllSpelt all) where
-    abbrev None_ : List (List ℕ) → List Event → Type 0
-    None_ told events = (w : List ℕ) → list_any (bytes_eq w) told ≡ false → held_at s w events ≡ None
+    abbrev NoneHeld : List (List ℕ) → List Event → Type 0
+    NoneHeld told events = (w : List ℕ) → list_any (bytes_eq w) told ≡ false → held_at s w events ≡ None
 
     opens_it : Option Open → List (List ℕ)
     opens_it q = option_map_or (λ (h : Open). open_text h.uri h.language h.text ∷ []) q []
 
-    pub replay_told : (told : List (List ℕ)) (os : List Open) (events : List Event) → Mine events → None_ told events → AllTold events (replay_bodies told all os)
+    pub replay_told : (told : List (List ℕ)) (os : List Open) (events : List Event) → Mine events → NoneHeld told events → AllTold events (replay_bodies told all os)
     replay_told told [] events calm none = tells_none settings range before cause now s events calm
     replay_told told (o ∷ os) events calm none = go (list_any (bytes_eq o.uri) told) refl (holder o.uri all) refl (replay_told told os events calm none) (λ later quiet still_none. replay_told (o.uri ∷ told) os later quiet still_none)
       where
         go : (b : Bool) → list_any (bytes_eq o.uri) told ≡ b → (q : Option Open) → holder o.uri all ≡ q → AllTold events (replay_bodies told all os)
-            → ((later : List Event) → Mine later → None_ (o.uri ∷ told) later → AllTold later (replay_bodies (o.uri ∷ told) all os))
+            → ((later : List Event) → Mine later → NoneHeld (o.uri ∷ told) later → AllTold later (replay_bodies (o.uri ∷ told) all os))
             → AllTold events (cond b (replay_bodies told all os) (option_map_or (λ (h : Open). open_text h.uri h.language h.text ∷ []) q [] ++ replay_bodies (o.uri ∷ told) all os))
         go true e q at same rest = same
         go false e None at same rest = rest events calm (λ w k. none w (off_second (bytes_eq w o.uri) (list_any (bytes_eq w) told) k))

@@ -52,26 +52,26 @@ module _ (settings : Settings) (range : InRange settings) (before : List Event) 
     fresh = not_so (is_open id (open_of e before)) parts.0
 
   served_why : (m : Message) → message_of body ≡ m → is_early (desk_of e before).phase ≡ false → is_there (desk_of e before).phase ≡ true
-      → ((id : Id) (method : List ℕ) (params : Option Json) → m ≡ request id method params → is_plain method ≡ true) → Mine (served_row settings before e body m)
-  served_why (request id method params) says late there plain = request_why settings before e body id method params says there range (facts.base).opened late (plain_other method (plain id method params refl))
+      → ((id : Id) (method : List ℕ) (params : Option Json) → m ≡ request id method params → (is_plain method ≡ true) × (is_open id (open_of e before) ≡ false)) → Mine (served_row settings before e body m)
+  served_why (request id method params) says late there plain = request_why settings before e body id method params says there (facts.steady).asked (plain id method params refl).1 range (facts.base).opened late (plain_other method (plain id method params refl).0)
   served_why (notification method params) says late there plain = document_why settings range before e body (facts.base).opened method params says
   served_why (result id r) says late there plain = by_nothing
   served_why (error id x) says late there plain = by_nothing
   served_why not_json says late there plain = by_nothing
   served_why not_message says late there plain = by_nothing
 
-  new_why : (m : Message) → message_of body ≡ m → (desk_of e before).phase ≡ New → Mine (message_row settings before e body m New)
-  new_why (request id method params) says at = by_choose
+  new_why : (m : Message) → message_of body ≡ m → (desk_of e before).phase ≡ New → BuiltAs New m → Mine (message_row settings before e body m New)
+  new_why (request id method params) says at built = by_choose
       (λ yes. initialize_why settings range before e body id params (says ∙ ap (λ z. request id z params) (sym ((bytes_eq-Decides (codes "initialize") method).0 yes))) at (facts.base).plain (facts.steady).bounded)
-      (λ no. early_new settings before e body id method params says (ap is_there at) at no)
-  new_why (notification method params) says at = by_choose (λ yes. absurd (cc)) (λ no. by_nothing)
-  new_why (result id r) says at = by_choose (λ yes. absurd (cc)) (λ no. by_nothing)
-  new_why (error id x) says at = by_choose (λ yes. absurd (cc)) (λ no. by_nothing)
-  new_why not_json says at = by_choose (λ yes. absurd (cc)) (λ no. by_nothing)
-  new_why not_message says at = by_choose (λ yes. absurd (cc)) (λ no. by_nothing)
+      (λ no. early_new settings before e body id method params says (ap is_there at) (facts.steady).asked (fresh id method params New built) at no)
+  new_why (notification method params) says at built = by_choose (λ yes. absurd (cc)) (λ no. by_nothing)
+  new_why (result id r) says at built = by_choose (λ yes. absurd (cc)) (λ no. by_nothing)
+  new_why (error id x) says at built = by_choose (λ yes. absurd (cc)) (λ no. by_nothing)
+  new_why not_json says at built = by_choose (λ yes. absurd (cc)) (λ no. by_nothing)
+  new_why not_message says at built = by_choose (λ yes. absurd (cc)) (λ no. by_nothing)
 
   waiting_why : (m : Message) → message_of body ≡ m → (desk_of e before).phase ≡ Waiting → BuiltAs Waiting m → Mine (message_row settings before e body m Waiting)
-  waiting_why (request id method params) says at built = early_waiting settings before e body id method params says (ap is_there at) at facts.waiting (fresh id method params Waiting built)
+  waiting_why (request id method params) says at built = early_waiting settings before e body id method params says (ap is_there at) (facts.steady).asked (fresh id method params Waiting built) at facts.waiting
   waiting_why (notification method params) says at built = by_nothing
   waiting_why (result id r) says at built = by_nothing
   waiting_why (error id x) says at built = by_nothing
@@ -79,14 +79,14 @@ module _ (settings : Settings) (range : InRange settings) (before : List Event) 
   waiting_why not_message says at built = by_nothing
 
   -- the request of an editor that got its result is of class Other
-  plain_answered : (m : Message) → BuiltAs Answered m → (id : Id) (method : List ℕ) (params : Option Json) → m ≡ request id method params → is_plain method ≡ true
-  plain_answered m built id method params is = (and_parts (is_plain method) (not (has_token params)) (parts id method params Answered (subst (BuiltAs Answered) is built)).1).0
+  plain_answered : (m : Message) → BuiltAs Answered m → (id : Id) (method : List ℕ) (params : Option Json) → m ≡ request id method params → (is_plain method ≡ true) × (is_open id (open_of e before) ≡ false)
+  plain_answered m built id method params is = ((and_parts (is_plain method) (not (has_token params)) (parts id method params Answered (subst (BuiltAs Answered) is built)).1).0, fresh id method params Answered (subst (BuiltAs Answered) is built))
 
-  plain_running : (m : Message) → BuiltAs Running m → (id : Id) (method : List ℕ) (params : Option Json) → m ≡ request id method params → is_plain method ≡ true
-  plain_running m built id method params is = (and_parts (is_plain method) (not (has_token params)) (parts id method params Running (subst (BuiltAs Running) is built)).1).0
+  plain_running : (m : Message) → BuiltAs Running m → (id : Id) (method : List ℕ) (params : Option Json) → m ≡ request id method params → (is_plain method ≡ true) × (is_open id (open_of e before) ≡ false)
+  plain_running m built id method params is = ((and_parts (is_plain method) (not (has_token params)) (parts id method params Running (subst (BuiltAs Running) is built)).1).0, fresh id method params Running (subst (BuiltAs Running) is built))
 
   message_why : (phase : Phase) → (desk_of e before).phase ≡ phase → BuiltAs phase (message_of body) → Mine (message_row settings before e body (message_of body) phase)
-  message_why New at built = new_why (message_of body) refl at
+  message_why New at built = new_why (message_of body) refl at built
   message_why Waiting at built = waiting_why (message_of body) refl at built
   message_why Answered at built = served_why (message_of body) refl (ap is_early at) (ap is_there at) (plain_answered (message_of body) built)
   message_why Running at built = served_why (message_of body) refl (ap is_early at) (ap is_there at) (plain_running (message_of body) built)
@@ -126,6 +126,6 @@ module _ (settings : Settings) (range : InRange settings) (before : List Event) 
   -- every out of every entry has its reason
   pub reasons : (cause : Cause) → built_behind settings before cause ≡ true → Because (Why settings before cause) (with_cause before cause) (row_of settings before cause)
   reasons (FromEditor e body) built = editor_why settings range before facts e body built
-  reasons (FromServer s body) built = server_why settings range before s body (facts.base).opened (facts.steady).untold facts.waiting (facts.steady).asked (first_shown before s body built) (life_of s before).stage refl
+  reasons (FromServer s body) built = server_why settings range before s body (facts.base).opened (facts.steady).untold facts.waiting (facts.steady).asked (facts.steady).apart (first_shown before s body built) (life_of s before).stage refl
   reasons (Started s) built = start_why settings before s (facts.base).written (life_of s before).stage refl
   reasons cause built = by_nothing

@@ -95,7 +95,7 @@ is_unready other = false
 abbrev pub Untold : List Event → Type 0
 Untold events = (s : ℕ) → is_unready (life_of s events).stage ≡ true → (u : List ℕ) → held_at s u events ≡ None
 
--- until a start is to end, its numbers are below the limit
+-- until a start is to end, its next number is at most the limit and two
 abbrev pub is_up : Stage → Bool
 is_up Unspawned = true
 is_up Spawning = true
@@ -117,17 +117,29 @@ is_early New = true
 is_early Waiting = true
 is_early _ = false
 
--- an editor that got its result, and the bytes of an id of its
+-- an editor that got its result, and the bytes of the id of an open request of it
 pub record IsAsker (events : List Event) (e : ℕ) (bytes : List ℕ) : Type 0 where
   pub id : Id
   pub text : IsIdText id bytes
   pub late : is_early (desk_of e events).phase ≡ false
+  pub waits : is_open id (open_of e events) ≡ true
 
 abbrev pub IsForwarded : List Event → Forwarded → Type 0
 IsForwarded events f = IsAsker events f.editor f.id
 
 abbrev pub AllForwarded : List Event → Type 0
 AllForwarded events = (s : ℕ) → AllByRecursion (IsForwarded events) (forwarding_of s events).open_requests
+
+-- of one editor under one id there is one open request, at one start
+abbrev pub OneRequest : ℕ → Forwarded → ℕ → Forwarded → Type 0
+OneRequest s f t g = (id : Id) → g.editor ≡ f.editor → IsIdText id f.id → IsIdText id g.id → (t ≡ s) × (g.number ≡ f.number)
+
+abbrev pub Apart : List Event → Type 0
+Apart events = (s : ℕ) → AllByRecursion (λ f. (t : ℕ) → AllByRecursion (OneRequest s f t) (forwarding_of t events).open_requests) (forwarding_of s events).open_requests
+
+-- no request of e under this id is open at a start
+abbrev pub IsAlone : List Event → ℕ → Id → Type 0
+IsAlone events e id = (t : ℕ) → AllByRecursion (λ (g : Forwarded). g.editor ≡ e → IsIdText id g.id → ⊥) (forwarding_of t events).open_requests
 
 -- Editors that wait
 
@@ -159,6 +171,7 @@ pub record Known (settings : Settings) (events : List Event) : Type 0 where
   pub untold : Untold events
   pub bounded : Bounded settings events
   pub asked : AllForwarded events
+  pub apart : Apart events
   pub housed : Housed settings events
   pub numbered : Numbered events
   pub waiting : WaitingAsked events

@@ -27,7 +27,7 @@ use Rattle.mux_model.specs.Documents.{held_at}
 use Rattle.document_model.specs.Helds.{HeldText}
 use Rattle.group_words.specs.Houses.{groups_of}
 use Rattle.group_rows.specs.Forwarded.{Forwarded, Sender, answered_by, forwarding_of}
-use Rattle.group_facts.specs.Facts.{IsWaiting, is_early, turned_away}
+use Rattle.group_facts.specs.Facts.{IsAlone, IsWaiting, is_early, turned_away}
 
 -- Bodies to a start
 
@@ -84,6 +84,7 @@ pub record IsForward (settings : Settings) (cause : Cause) (events : List Event)
   pub text : IsIdText id sender.id
   pub waits : is_open id (open_of sender.editor events) ≡ true
   pub late : is_early (desk_of sender.editor events).phase ≡ false
+  pub alone : IsAlone events sender.editor id
 
 -- s doesn't move on in this entry, or was greeted in it before
 pub data Turn (before : List Event) (cause : Cause) (events : List Event) (s : ℕ) : Type 0 where
@@ -97,7 +98,7 @@ pub record IsTelling (before : List Event) (cause : Cause) (events : List Event)
   pub spoken : speaks (saying_of (message_of body)) ≡ true
   pub allowed : AllowsSaying (versions_at s events) (saying_of (message_of body))
 
--- its group is idle, and ends for another one
+-- the daemon's own `shutdown` to a ready start, as the first out of its entry: E7 ends a group for another one
 pub record IsShutting (before : List Event) (cause : Cause) (events : List Event) (s : ℕ) (body : List ℕ) : Type 0 where
   pub ready : (life_of s events).stage ≡ Ready
   pub stays : moves before cause s ≡ false
@@ -123,13 +124,14 @@ pub record IsRejection (before : List Event) (cause : Cause) (events : List Even
   pub malformed : is_malformed (message_of asked) ≡ true
   pub says : message_of body ≡ error None x
 
--- an error for an open request, which isn't the `initialize` of an editor that waits
-pub record IsRefusal (before : List Event) (cause : Cause) (events : List Event) (e : ℕ) (body : List ℕ) : Type 0 where
+-- an error for an open request, which isn't the `initialize` of an editor that waits, and isn't open at a start
+pub record IsRefusal (events : List Event) (e : ℕ) (body : List ℕ) : Type 0 where
   pub id : Id
   pub x : Json
   pub there : is_there (desk_of e events).phase ≡ true
   pub waits : is_open id (open_of e events) ≡ true
   pub others : (desk_of e events).phase ≡ Waiting → has_id id (message_of (desk_of e events).initialize) ≡ false
+  pub alone : IsAlone events e id
   pub says : message_of body ≡ error (Some id) x
 
 -- an error for the `initialize` of an editor that waits: the daemon has too many groups
@@ -147,7 +149,7 @@ pub record IsWelcome (events : List Event) (e : ℕ) (body : List ℕ) : Type 0 
   pub waiting : IsWaiting events e id
   pub says : message_of body ≡ result (Some id) r
 
--- the response to a request that was open at a start until this entry, for the editor that asked, which got its result
+-- the response to a request that was open at a start until this entry, and is open at the editor that asked, which got its result
 pub record IsPassing (before : List Event) (cause : Cause) (events : List Event) (e : ℕ) (body : List ℕ) : Type 0 where
   pub start : ℕ
   pub answer : List ℕ
@@ -159,13 +161,15 @@ pub record IsPassing (before : List Event) (cause : Cause) (events : List Event)
   pub there : is_there (desk_of e events).phase ≡ true
   pub late : is_early (desk_of e events).phase ≡ false
   pub text : IsIdText id request.id
+  pub waits : is_open id (open_of e events) ≡ true
+  pub alone : IsAlone events e id
   pub bytes : body ≡ with_id_text answer request.id
   pub response : is_response (message_of body) ≡ true
   pub answers : answered_id (message_of body) ≡ Some id
 
 pub data WhyToEditor (settings : Settings) (before : List Event) (cause : Cause) (events : List Event) (e : ℕ) (body : List ℕ) : Type 0 where
   rejects : IsRejection before cause events e body → WhyToEditor settings before cause events e body
-  refuses : IsRefusal before cause events e body → WhyToEditor settings before cause events e body
+  refuses : IsRefusal events e body → WhyToEditor settings before cause events e body
   turns_away : IsTurning settings before cause events e body → WhyToEditor settings before cause events e body
   welcomes : IsWelcome events e body → WhyToEditor settings before cause events e body
   passes : IsPassing before cause events e body → WhyToEditor settings before cause events e body
