@@ -9,7 +9,7 @@ use lane_lists::LaneName;
 use lane_queue::HubEnds;
 use mux_history::{StepFault, Steps};
 use std::alloc::Global;
-use std::marker::{Model, PhantomData};
+use std::marker::{Brand, Model, PhantomData};
 use std::sync::{Mutex, Wait};
 
 /// Which deck it is: the queues of its lanes in their order (the editors', the servers', the ticker's), how many of them are
@@ -25,6 +25,18 @@ pub trait Naming {
     ghost servers: { ℕ };
 
     ghost before: { ℕ };
+}
+
+impl Naming for Brand {
+    ghost use Rattle.std.specs.Prelude.{[]};
+
+    ghost queues = { [] };
+
+    ghost editors = { 0 };
+
+    ghost servers = { 0 };
+
+    ghost before = { 0 };
 }
 
 /// What a try to take an item gave.
