@@ -7,4 +7,4 @@ mod session;
 mod tests;
 
 pub use echo::Echo;
-pub use session::{Ran, run};
+pub use session::{Begin, Ran, run};

@@ -10,6 +10,14 @@ use std::alloc::Global;
 use std::marker::Brand;
 use std::sync::Wait;
 
+/// How the deck stands before the session.
+#[derive(Clone, Copy, Debug, PartialEq, Eq)]
+pub enum Begin {
+    Fresh,
+    /// A lane wanted memory.
+    Failed,
+}
+
 /// What a session left.
 #[derive(Drop)]
 pub struct Ran {
@@ -79,6 +87,7 @@ fn named<N: Naming, R: Wait>(
     editor: (LaneIn, LaneOut, HubEnds),
     ticker: HubEnds,
     items: Vec<Posted>,
+    begin: Begin,
 ) -> Option<Ran>
     requires editor { IsUnused editor.2 }
     requires ticker { IsUnused ticker }
@@ -88,6 +97,9 @@ fn named<N: Naming, R: Wait>(
     let (mut inn, mut out, hub) = editor;
     let ends = two(alloc, hub, ticker)?;
     let deck: Deck<Echo, N> = Deck::new(alloc, Echo::new(alloc), 1, 0, ends).ok()?;
+    if matches!(begin, Begin::Failed) {
+        deck.fail(rt);
+    }
     let orders = play(rt, alloc, &deck, &mut inn, &mut out, items);
     let closed = deck.close();
     Some(Ran {
@@ -98,8 +110,8 @@ fn named<N: Naming, R: Wait>(
 }
 
 /// A session of these items over an echo; none where memory runs out.
-pub fn run<R: Wait>(rt: &R, alloc: Global, items: Vec<Posted>) -> Option<Ran> {
+pub fn run<R: Wait>(rt: &R, alloc: Global, items: Vec<Posted>, begin: Begin) -> Option<Ran> {
     let (inn, out, hub) = Lane::new(alloc).ok()?;
     let (_, _, ticker) = Lane::new(alloc).ok()?;
-    named::<Brand, R>(rt, alloc, (inn, out, hub), ticker, items)
+    named::<Brand, R>(rt, alloc, (inn, out, hub), ticker, items, begin)
 }
