@@ -1,5 +1,5 @@
 // The lanes, as the deck keeps them.
-ghost use Rattle.std.specs.Prelude.{◌≡◌, ◌<◌, IfOk, IfSome, IsTrue, OnOk, length, replicate, slice_set};
+ghost use Rattle.std.specs.Prelude.{◌≡◌, ◌<◌, ◌↔◌, IfOk, IfSome, IsTrue, OnOk, length, replicate, slice_set};
 ghost use Rattle.lane_lists.specs.declared.item.Meaning.TheVariants as meant;
 ghost use Rattle.lane_lists.specs.Deeds.{start};
 ghost use Rattle.lane_lists.specs.Seats.{begin_seat, close_seat, free_place, free_seat, meaning, on_seat, place_of, seat_at, seat_of};
@@ -130,7 +130,7 @@ impl Seats {
 
     /// Whether there is such a lane.
     pub fn has(&self, lane: LaneName) -> bool
-        ensures { IsTrue result → IsLane lane self.now }
+        ensures { IsTrue result ↔ IsLane lane self.now }
     {
         match lane {
             LaneName::Editor(i) => (i as usize) < self.editors.len(),
