@@ -7,7 +7,7 @@ use Rattle.lane_lists.specs.declared.item.LaneName.TheVariants as lane
 use Rattle.lane_lists.specs.declared.item.Order.{Order}
 use Rattle.lane_lists.specs.Deeds.{only, same_lane}
 use Rattle.lane_queue.specs.Ends.{HubSide}
-use Rattle.lane_desk.specs.Desks.{Became, Dealt, Each, Pairwise, Pushed, Same, ids}
+use Rattle.lane_desk.specs.Desks.{Became, Dealt, Each, FoundNothing, IsEmptied, Pairwise, Pushed, Same, ids}
 use Rattle.lane_desk.specs.Places.{IsIn, name, place}
 
 module _ {X : Type 0} where
@@ -185,3 +185,10 @@ none_dealt n m given places = record {
 
 pub became_ids : (i : ℕ) (R : HubSide → HubSide → Type 0) (old new : List HubSide) → Became i R old new → ((p q : HubSide) → R p q → ids q ≡ ids p) → map ids new ≡ map ids old
 became_ids i R old new b f = same_ids (λ _ p q. ids q ≡ ids p) old new (became i R (λ _ p q. ids q ≡ ids p) old new b (λ p q at r. f p q r) (λ j p apart at. refl)) (λ j p q e. e)
+
+-- nothing was found at a place
+pub became_same : (i : ℕ) (old new : List HubSide) → Became i FoundNothing old new → Became i Same old new
+became_same i old new b = record { before = b.before; after = b.after; was = b.was; is = b.is; how = b.how.same }
+
+pub emptied_at : (i j : ℕ) (old new : List HubSide) (x : HubSide) → Became i FoundNothing old new → i ≡ j → slice_get old j ≡ Some x → IsEmptied x
+emptied_at i j old new x b e at = let same : b.before ≡ x = (let was = subst (λ (k : ℕ). slice_get old k ≡ Some b.before) e b.was in cc) in subst (λ (z : HubSide). IsEmptied z) same b.how.was

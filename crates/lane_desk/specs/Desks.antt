@@ -12,6 +12,7 @@ use Rattle.lane_lists.specs.declared.item.Item.{Item}
 use Rattle.lane_lists.specs.Seats.{Seats}
 use Rattle.lane_lists.specs.Deeds.{Deed, Fair, entries, only, orders, posted_in, posts, same_lane, seats_of, side_in, sides}
 use Rattle.lane_queue.specs.Ends.{HubSide}
+use Rattle.lane_queue.specs.Relay.{Begins}
 use Rattle.mux_history.specs.declared.cause.Cause.{Cause}
 use Rattle.mux_history.specs.declared.out.Out.{Out}
 use Rattle.lane_lists.specs.Seats.{on_seat}
@@ -88,6 +89,15 @@ pub record Same (p q : HubSide) : Type 0 where
   pub posted : q.posted.taken ≡ p.posted.taken
   pub sides : q.sides.taken ≡ p.sides.taken
   pub pushed : q.orders.pushed ≡ p.orders.pushed
+
+-- both of its queues held nothing behind what was taken, as far as was seen when something was last taken
+pub record IsEmptied (ends : HubSide) : Type 0 where
+  pub posted : Begins ends.posted.taken ends.posted.known
+  pub sides : Begins ends.sides.taken ends.sides.known
+
+pub record FoundNothing (p q : HubSide) : Type 0 where
+  pub same : Same p q
+  pub was : IsEmptied p
 
 -- the places one by one
 pub record Pairwise (R : ℕ → HubSide → HubSide → Type 0) (old new : List HubSide) : Type 0 where

@@ -1,8 +1,9 @@
 // What lies under the deck's lock.
-ghost use Rattle.std.specs.Prelude.{◌≡◌, ◌<◌, ◌≤◌, ◌+◌, ◌^◌, [], IfSome, IsTrue, MatchBool, MatchOption, None, Some, length, map, true, false, not};
+ghost use Rattle.std.specs.Prelude.{◌≡◌, ◌<◌, ◌≤◌, ◌+◌, ◌^◌, [], IfSome, IsTrue, MatchBool, MatchOption, None, Some, length, map, slice_get, true, false, not};
 ghost use Rattle.outside_io.specs.Faults.{Rose};
 ghost use Rattle.mux_history.specs.Cores.{body_length};
-ghost use Rattle.lane_desk.specs.Desks.{Acted, Became, Dealt, Kept, Pairwise, Pushed, Same, Took, ids};
+ghost use Rattle.lane_queue.specs.Ends.{HubSide};
+ghost use Rattle.lane_desk.specs.Desks.{Acted, Became, Dealt, FoundNothing, IsEmptied, Kept, Pairwise, Pushed, Same, Took, ids};
 ghost use Rattle.lane_desk.specs.Givens.{given_by};
 ghost use Rattle.lane_desk.specs.Kinds.{is_side};
 ghost use Rattle.lane_desk.specs.Places.{IsIn, IsLane, name, place};
@@ -17,7 +18,7 @@ use std::sync::Wait;
 
 // Takes an item of a lane: first what is said of its orders.
 fn take_of<R: Wait>(rt: &R, ends: &mut HubEnds) -> Option<Item>
-    ensures { MatchOption result (Same ends.old ends.new) (λ x. Took x ends.old ends.new) }
+    ensures { MatchOption result (FoundNothing ends.old ends.new) (λ x. Took x ends.old ends.new) }
 {
     if let Some(side) = ends.next_side(rt) {
         return Some(Item::Side(side));
@@ -31,7 +32,7 @@ fn take_of<R: Wait>(rt: &R, ends: &mut HubEnds) -> Option<Item>
 // Takes an item of the lane at this place.
 fn take_item<R: Wait>(rt: &R, ends: &mut Vec<HubEnds>, place: usize) -> Option<Item>
     requires { place < length ends.old.items }
-    ensures { MatchOption result (Became place Same ends.old.items ends.new.items) (λ x. Became place (Took x) ends.old.items ends.new.items) }
+    ensures { MatchOption result (Became place FoundNothing ends.old.items ends.new.items) (λ x. Became place (Took x) ends.old.items ends.new.items) }
 {
     take_of(rt, &mut ends[place])
 }
@@ -188,6 +189,7 @@ fn act<K: Steps, R: Wait>(
     requires ends { length ends.old.items ≡ counts.editors + counts.servers + 1 }
     requires lane { IsLane taken.lane seats.old }
     ensures acted { Acted K.stands counts.editors counts.servers taken.lane taken.mark cause (not result.spent) core.old core.new ends.old.items ends.new.items seats.old seats.new }
+    ensures goes { result.took ≡ not result.spent }
     ensures later { K.faults core.old ≤ K.faults core.new }
     ensures journal { result.why ≡ Some StepFault.Journal → Rose (K.faults core.old) (K.faults core.new) }
 {
@@ -220,6 +222,7 @@ pub fn take_turn<K: Steps, R: Wait>(
     requires ends { length ends.old.items ≡ counts.editors + counts.servers + 1 }
     requires kept { Kept K.stands counts.editors counts.servers true core.old ends.old.items seats.old }
     ensures kept { Kept K.stands counts.editors counts.servers (not result.spent) core.new ends.new.items seats.new }
+    ensures nothing { result.took ≡ false → result.spent ≡ false → (x : HubSide) → slice_get ends.old.items (place counts.editors counts.servers lane) ≡ Some x → IsEmptied x }
     ensures ids { map ids ends.new.items ≡ map ids ends.old.items }
     ensures later { K.faults core.old ≤ K.faults core.new }
     ensures journal { result.why ≡ Some StepFault.Journal → Rose (K.faults core.old) (K.faults core.new) }

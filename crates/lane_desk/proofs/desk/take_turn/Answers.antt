@@ -1,7 +1,7 @@
 use Rattle.std.proofs.Common.{ℕ, not, ap, sym, ◌∙◌, subst, Bool}
 use Rattle.lane_desk.specs.declared.desk.Turned.{Turned}
-use Rattle.lane_desk.specs.Desks.{Became, Kept, Same, Took}
-use Rattle.lane_desk.proofs.Ends.{became_ids}
+use Rattle.lane_desk.specs.Desks.{Became, FoundNothing, Kept, Took}
+use Rattle.lane_desk.proofs.Ends.{became_ids, became_same, emptied_at}
 use Rattle.lane_desk.proofs.Turns.{acted_ids, kept_over, kept_same, kept_stray, kept_silent, kept_acted}
 use Rattle.lane_desk.proofs.desk.take_turn.Goals as goal
 
@@ -18,10 +18,10 @@ returns-then-not-has-clause-kept g c =
 pub returns-in_default-take_item-clause-kept : goal.returns-in_default-take_item-clause-kept
 returns-in_default-take_item-clause-kept g c =
     subst (λ (b : Bool). Kept g.K.Steps.stands c.args.counts.editors c.args.counts.servers b c.args.core.now c.take_item.new.ends.items c.args.seats.now) (sym (ap (λ (t : Turned). not t.spent) c.nothing.ensures))
-    (kept_same g.K.Steps.stands c.args.counts.editors c.args.counts.servers c.args.core.now c.in-Some.place c.args.ends.now.items c.take_item.new.ends.items c.args.seats.now c.in_default-take_item.ensures c.requires.kept)
+    (kept_same g.K.Steps.stands c.args.counts.editors c.args.counts.servers c.args.core.now c.in-Some.place c.args.ends.now.items c.take_item.new.ends.items c.args.seats.now (became_same c.in-Some.place c.args.ends.now.items c.take_item.new.ends.items c.in_default-take_item.ensures) c.requires.kept)
 
 pub returns-in_default-take_item-clause-ids : goal.returns-in_default-take_item-clause-ids
-returns-in_default-take_item-clause-ids g c = became_ids c.in-Some.place Same c.args.ends.now.items c.take_item.new.ends.items c.in_default-take_item.ensures (λ p q s. s.ids)
+returns-in_default-take_item-clause-ids g c = became_ids c.in-Some.place FoundNothing c.args.ends.now.items c.take_item.new.ends.items c.in_default-take_item.ensures (λ p q s. s.same.ids)
 
 pub returns-in-Silent-clause-kept : goal.returns-in-Silent-clause-kept
 returns-in-Silent-clause-kept g c =
@@ -53,3 +53,6 @@ pub returns-in-Means-clause-ids : goal.returns-in-Means-clause-ids
 returns-in-Means-clause-ids g c =
     acted_ids g.K.Steps.stands c.args.counts.editors c.args.counts.servers c.args.lane c.mark_of-mark.result c.in-Means.cause (not c.act.result.spent) c.args.core.now c.act.new.core c.take_item.new.ends.items c.act.new.ends.items c.args.seats.now c.act.new.seats c.act.ensures.acted
     ∙ became_ids c.in-Some.place (Took c.in-Some-take_item.item) c.args.ends.now.items c.take_item.new.ends.items c.in-Some-take_item.ensures (λ p q t. t.ids)
+
+pub returns-in_default-take_item-clause-nothing : goal.returns-in_default-take_item-clause-nothing
+returns-in_default-take_item-clause-nothing g c = λ took spent x at. emptied_at c.in-Some.place _ c.args.ends.now.items c.take_item.new.ends.items x c.in_default-take_item.ensures (let p = c.in-Some.ensures in p.0) at
