@@ -1,5 +1,5 @@
 // The core and the ends of all lanes behind a lock.
-ghost use Rattle.std.specs.Prelude.{◌≡◌, ◌<◌, ◌≤◌, ◌+◌, [], IfErr, length, map, not};
+ghost use Rattle.std.specs.Prelude.{◌≡◌, ◌↔◌, ◌<◌, ◌≤◌, ◌+◌, [], IfErr, length, map, not, true};
 ghost use Rattle.lane_lists.specs.Seats as lists;
 ghost use Rattle.lane_desk.specs.Desks.{AllUnused, Faulted, Kept, ids};
 
@@ -74,7 +74,10 @@ impl<K: Steps + Drop, N: Naming> Model for Desk<K, N> {
 
 impl<K: Steps + Drop, N: Naming> Desk<K, N> {
     /// Takes one item of a lane, and does what it means.
-    pub fn take<R: Wait>(&mut self, rt: &R, lane: LaneName) -> Took {
+    pub fn take<R: Wait>(&mut self, rt: &R, lane: LaneName) -> Took
+        ensures over { self.old.spent ≡ true → (result ≡ Took.Over) × (self.new ≡ self.old) }
+        ensures spent { (result ≡ Took.Over) ↔ (self.new.spent ≡ true) }
+    {
         if self.spent {
             return Took::Over;
         }
@@ -98,7 +101,9 @@ impl<K: Steps + Drop, N: Naming> Desk<K, N> {
     }
 
     /// The core goes on no more.
-    pub fn fail(&mut self) {
+    pub fn fail(&mut self)
+        ensures { self.new ≡ record self.old { spent = true } }
+    {
         self.spent = true;
     }
 }

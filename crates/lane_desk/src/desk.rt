@@ -222,6 +222,7 @@ pub fn take_turn<K: Steps, R: Wait>(
     requires ends { length ends.old.items ≡ counts.editors + counts.servers + 1 }
     requires kept { Kept K.stands counts.editors counts.servers true core.old ends.old.items seats.old }
     ensures kept { Kept K.stands counts.editors counts.servers (not result.spent) core.new ends.new.items seats.new }
+    ensures goes { result.took ≡ true → result.spent ≡ false }
     ensures nothing { result.took ≡ false → result.spent ≡ false → (x : HubSide) → slice_get ends.old.items (place counts.editors counts.servers lane) ≡ Some x → IsEmptied x }
     ensures ids { map ids ends.new.items ≡ map ids ends.old.items }
     ensures later { K.faults core.old ≤ K.faults core.new }
