@@ -46,7 +46,7 @@ behind_by : (c d : ℕ) (xs more : List ℕ) (t : Bool) → (c == d) ≡ t → (
 behind_by c d xs more true e h = (equal_is c d e, cc)
 behind_by c d xs more false e h = absurd cc
 
-behind_some : (d : ℕ) (more : List ℕ) (f : Front) → behind d f ≡ Some more → f ≡ Some (d, more)
+pub behind_some : (d : ℕ) (more : List ℕ) (f : Front) → behind d f ≡ Some more → f ≡ Some (d, more)
 behind_some d more None h = absurd cc
 behind_some d more (Some p) h =
     let k = behind_by p.0 d p.1 more (p.0 == d) refl h in
@@ -98,34 +98,6 @@ pub matches_apart : (raw rest all others : List ℕ) (d : ℕ) → Matches raw r
 matches_apart raw rest all others d m h cs s =
     let i = m cs s in
     (λ t. absurd cc, λ e. absurd (behind_none d others rest (subst (λ x. SpellsCharacters x rest) (i.2.0 e) i.1) h))
-
--- the same of the characters of two strings
-abbrev pub Agree : List ℕ → List ℕ → List ℕ → List ℕ → Type 0
-Agree a b rest_a rest_b = (ds : List ℕ) → SpellsCharacters ds b → (es : List ℕ) × SpellsCharacters es rest_b × Matches a rest_a ds es
-
-pub agree_first : (a b : List ℕ) → Agree a b a b
-agree_first a b ds s = (ds, s, matches_first a ds)
-
-pub agree_more : (a b rest_a rest_b more_a more_b : List ℕ) (c : ℕ) → Agree a b rest_a rest_b → next_character rest_a ≡ Some (c, more_a) → behind c (next_character rest_b) ≡ Some more_b → Agree a b more_a more_b
-agree_more a b rest_a rest_b more_a more_b c g h k ds s =
-    let i = g ds s in
-    let n = next_some i.0 rest_b more_b c i.1 (behind_some c more_b (next_character rest_b) k) in
-    (n.0, n.2, matches_next a rest_a ds n.0 more_a c (subst (λ x. Matches a rest_a ds x) n.1 i.2) h)
-
-pub agree_end : (a b rest_a rest_b : List ℕ) → Agree a b rest_a rest_b → next_character rest_a ≡ None → (cs ds : List ℕ) → SpellsCharacters cs a → SpellsCharacters ds b → IsTrue (is_none (next_character rest_b)) ↔ (cs ≡ ds)
-agree_end a b rest_a rest_b g h cs ds sa sb =
-    let i = g ds sb in
-    let m = i.2 cs sa in
-    let none = next_none m.0 rest_a m.1 h in
-    let e = ends i.0 rest_b i.1 in
-    (λ t. m.2.1 (none ∙ sym (e.0 t)), λ t. e.1 (sym (m.2.0 t) ∙ none))
-
-pub agree_apart : (a b rest_a rest_b more_a : List ℕ) (c : ℕ) → Agree a b rest_a rest_b → next_character rest_a ≡ Some (c, more_a) → behind c (next_character rest_b) ≡ None → (cs ds : List ℕ) → SpellsCharacters cs a → SpellsCharacters ds b → IsTrue false ↔ (cs ≡ ds)
-agree_apart a b rest_a rest_b more_a c g h k cs ds sa sb =
-    let i = g ds sb in
-    let m = i.2 cs sa in
-    let n = next_some m.0 rest_a more_a c m.1 h in
-    (λ t. absurd cc, λ e. absurd (behind_none c n.0 rest_b (subst (λ x. SpellsCharacters x rest_b) (sym (m.2.0 e) ∙ n.1) i.1) k))
 
 -- the character at n comes first of those from n on
 pub matches_at : (raw rest all : List ℕ) (n c : ℕ) → Matches raw rest all (drop n all) → (n < length all) × (c ≡ get_or all n c) → Matches raw rest all (c ∷ drop (n + 1) all)

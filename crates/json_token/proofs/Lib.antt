@@ -3,6 +3,7 @@ pub mod Decoding
 pub mod Encoded
 pub mod Lanes
 pub mod Fronts
+pub mod InOrder
 pub mod NumberBytes
 pub mod Numbers
 pub mod Pieces

@@ -1,5 +1,5 @@
 -- The characters that a string's bytes stand for, one after the other.
-use Rattle.std.specs.Prelude.{ℕ, ◌+◌, ◌-◌, ◌*◌, ◌&&◌, List, [], ◌∷◌, ◌==◌, nat_lt, if◌then◌else◌}
+use Rattle.std.specs.Prelude.{ℕ, zero, suc, ◌+◌, ◌-◌, ◌*◌, ◌&&◌, List, [], ◌∷◌, length, ◌==◌, nat_lt, if◌then◌else◌}
 use Rattle.std.specs.Prelude.{Option, Some, None}
 use Rattle.std.specs.Borrow.{Bor}
 use Rattle.std.specs.Char.{digit_value}
@@ -89,6 +89,20 @@ escape_front (b ∷ rest) = if b == 117 then unit_character (unit_front rest) el
 abbrev pub next_character : List ℕ → Front
 next_character [] = None
 next_character (b ∷ rest) = if b == 92 then escape_front rest else plain_front (b ∷ rest)
+
+-- a character, where there is one, and those that are read in the bytes behind it
+abbrev pub first_then : (List ℕ → List ℕ) → Front → List ℕ
+first_then behind None = []
+first_then behind (Some p) = p.0 ∷ behind p.1
+
+-- so many characters at most, one after the other, up to the first place where none can be read
+unfoldable pub characters_within : ℕ → List ℕ → List ℕ
+characters_within zero raw = []
+characters_within (suc n) raw = first_then (λ rest. characters_within n rest) (next_character raw)
+
+-- all of them: of the bytes of a string, its characters
+abbrev pub characters_in : List ℕ → List ℕ
+characters_in raw = characters_within (length raw) raw
 
 -- the bytes behind this character, where it comes first
 abbrev pub behind : ℕ → Front → Option (List ℕ)

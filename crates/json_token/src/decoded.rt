@@ -1,7 +1,8 @@
 //! A string's characters as text, and compared with a text or with another string's.
-ghost use Rattle.std.specs.Prelude.{◌≡◌, ℕ, ◌↔◌, ◌++◌, List, IfOk, OnOk, IsTrue, encode_utf8, encode_utf8_all};
+ghost use Rattle.std.specs.Prelude.{◌≡◌, ℕ, ◌↔◌, ◌++◌, List, IfOk, OnOk, IsTrue, bytes_eq, encode_utf8, encode_utf8_all};
 ghost use Rattle.std.specs.Str.{chars};
 ghost use Rattle.json_text.specs.String.{SpellsCharacters};
+ghost use Rattle.json_token.specs.Characters.{characters_in};
 
 use crate::character::{is_at_end, next_character, strip_character};
 use crate::run::plain_end;
@@ -47,9 +48,11 @@ pub fn spells_text(raw: &[u8], text: &str) -> bool
     is_at_end(rest)
 }
 
-/// Whether the bytes between the quotation marks of two strings stand for the same characters.
+/// Whether the bytes between the quotation marks of two strings stand for the same characters. Of other bytes it compares the
+/// characters that are read up to the first place where none can be.
 pub fn same_characters(a: &[u8], b: &[u8]) -> bool
-    ensures { (cs ds : List ℕ) → SpellsCharacters cs a.now → SpellsCharacters ds b.now → (IsTrue result ↔ (cs ≡ ds)) }
+    ensures read { result ≡ bytes_eq (characters_in a.now) (characters_in b.now) }
+    ensures strings { (cs ds : List ℕ) → SpellsCharacters cs a.now → SpellsCharacters ds b.now → (IsTrue result ↔ (cs ≡ ds)) }
 {
     let mut rest = a;
     let mut other_rest = b;

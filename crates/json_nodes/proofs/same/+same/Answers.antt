@@ -111,7 +111,7 @@ same_values-returns-in-Text z c = λ t u a b.
     let first : kind_of t ≡ kind.Text = sym (c.kind-kind.ensures t a) ∙ c.in-Text.is in
     let second : kind_of u ≡ kind.Text = second_kind c.kind-kind.result c.kind.result u (c.kind.ensures u b) (sym c.same_kind.ensures ∙ c.if-not-same_kind.false) kind.Text c.in-Text.is in
     same_strings t u c.same_characters.result first second
-    (λ s r cs ds p q. decided c.same_characters.result cs ds (c.same_characters.ensures cs ds (c.string.ensures.spelled s cs (subst (λ (v : Json). At d c.args.node v) p a)) (c.string-in-Text.ensures.spelled r ds (subst (λ (v : Json). At e c.args.other v) q b))))
+    (λ s r cs ds p q. decided c.same_characters.result cs ds (c.same_characters.ensures.strings cs ds (c.string.ensures.spelled s cs (subst (λ (v : Json). At d c.args.node v) p a)) (c.string-in-Text.ensures.spelled r ds (subst (λ (v : Json). At e c.args.other v) q b))))
 
 pub same_values-returns-in-Array : goal.same_values-returns-in-Array
 same_values-returns-in-Array z c = λ t u a b.

@@ -9,10 +9,10 @@ loop-next-preserved c =
     let doc : Doc = doc_of c.args.self in
     elim c.if-same_characters.branch [
       | then-same_characters w ↦ looking_found c.args.raw.now doc c.in-Some.member c.args.from c.loop-next.next c.next-next.result c.loop-next.found c.if-same_characters.found c.same_characters.result c.loop-next.invariant c.in-Some.is w.if-same_characters.true w.found-is
-          (λ cs h k n t u ds a g. decided c.same_characters.result cs ds (c.same_characters.ensures cs ds h (c.name.ensures.spelled k n t u ds a g)))
+          (λ cs h k n t u ds a g. decided c.same_characters.result cs ds (c.same_characters.ensures.strings cs ds h (c.name.ensures.spelled k n t u ds a g)))
           (λ k n t u a. c.next-next.ensures.next k n t u a) c.next-next.ensures.inside
       | else-same_characters w ↦ looking_on c.args.raw.now doc c.in-Some.member c.args.from c.loop-next.next c.next-next.result c.loop-next.found c.if-same_characters.found c.same_characters.result c.loop-next.invariant c.in-Some.is w.if-same_characters.false w.found-is
-          (λ cs h k n t u ds a g. decided c.same_characters.result cs ds (c.same_characters.ensures cs ds h (c.name.ensures.spelled k n t u ds a g)))
+          (λ cs h k n t u ds a g. decided c.same_characters.result cs ds (c.same_characters.ensures.strings cs ds h (c.name.ensures.spelled k n t u ds a g)))
           (λ k n t u a. c.next-next.ensures.next k n t u a) c.next-next.ensures.inside
     ]
 

@@ -14,13 +14,13 @@ pub returns-then-not-same_characters : goal.returns-then-not-same_characters
 returns-then-not-same_characters c =
     pairs_stop (doc_of c.args.self) (doc_of c.args.right) c.args.node c.args.other same_names c.loop-next.next c.loop-next.beside c.in-Some.member c.in-Some-beside.twin false c.loop-next.invariant c.in-Some.is c.in-Some-beside.is
     (λ s r p q ms ns cs ds t u rest others a b w. ap (λ v. v && same_names rest others)
-    (sym (decided c.same_characters.result cs ds (c.same_characters.ensures cs ds (c.name.ensures.spelled c.args.node w.count (object s ms) t cs w.first w.name) (c.name-in-Some.ensures.spelled c.args.other w.count (object r ns) u ds w.second w.other_name))) ∙ c.if-not-same_characters.true))
+    (sym (decided c.same_characters.result cs ds (c.same_characters.ensures.strings cs ds (c.name.ensures.spelled c.args.node w.count (object s ms) t cs w.first w.name) (c.name-in-Some.ensures.spelled c.args.other w.count (object r ns) u ds w.second w.other_name))) ∙ c.if-not-same_characters.true))
 
 pub loop-next-preserved : goal.loop-next-preserved
 loop-next-preserved c =
     pairs_go (doc_of c.args.self) (doc_of c.args.right) c.args.node c.args.other same_names c.loop-next.next c.loop-next.beside c.next-next.result c.next-beside.result c.in-Some.member c.in-Some-beside.twin c.loop-next.invariant c.in-Some.is c.in-Some-beside.is
     (λ s r p q ms ns cs ds t u rest others a b w. ap (λ v. v && same_names rest others)
-    (sym (decided c.same_characters.result cs ds (c.same_characters.ensures cs ds (c.name.ensures.spelled c.args.node w.count (object s ms) t cs w.first w.name) (c.name-in-Some.ensures.spelled c.args.other w.count (object r ns) u ds w.second w.other_name))) ∙ c.if-not-same_characters.false))
+    (sym (decided c.same_characters.result cs ds (c.same_characters.ensures.strings cs ds (c.name.ensures.spelled c.args.node w.count (object s ms) t cs w.first w.name) (c.name-in-Some.ensures.spelled c.args.other w.count (object r ns) u ds w.second w.other_name))) ∙ c.if-not-same_characters.false))
     (λ k n t u a. c.next-next.ensures.next k n t u a) c.next-next.ensures.inside
     (λ k n t u a. c.next-beside.ensures.next k n t u a) c.next-beside.ensures.inside
 
