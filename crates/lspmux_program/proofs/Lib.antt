@@ -2,7 +2,6 @@ pub mod Consumes
 pub mod Cuts
 pub mod Driving
 pub mod Ends
-pub mod Lengths
 pub mod Longest
 pub mod Reports
 pub mod Steps

@@ -1,7 +1,8 @@
 // Why a line is refused.
 ghost use Rattle.std.specs.Prelude.{◌≡◌, ℕ, ◌≤◌, Ok, Err, false, true, IsTrue, IfOk, IfErr, IfSome, IfNone, Some, List};
 ghost use Rattle.mux_history.specs.declared.entry.Entry.{Entry};
-ghost use Rattle.mux_hub.specs.Hubs.{HubView, HubStands, body_length};
+ghost use Rattle.mux_history.specs.Cores.{body_length};
+ghost use Rattle.mux_hub.specs.Hubs.{HubView, HubStands};
 ghost use Rattle.mux_model.specs.Built.{built};
 ghost use Rattle.mux_model.specs.Fits.{fits};
 ghost use Rattle.lspmux_program.specs.Runs.{judged};

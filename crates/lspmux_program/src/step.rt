@@ -2,7 +2,8 @@
 ghost use Rattle.std.specs.Prelude.{◌≡◌, ℕ, ◌≤◌, Ok, Err, false, true, IsTrue, IfOk, OnOk, IfErr, OnErr, IsErrOf, List};
 ghost use Rattle.outside_io.specs.Faults.{Rose};
 ghost use Rattle.mux_history.specs.declared.entry.Entry.{Entry};
-ghost use Rattle.mux_hub.specs.Hubs.{HubView, HubStands, body_length};
+ghost use Rattle.mux_history.specs.Cores.{body_length};
+ghost use Rattle.mux_hub.specs.Hubs.{HubView, HubStands};
 ghost use Rattle.mux_model.specs.Built.{built};
 ghost use Rattle.mux_model.specs.Fits.{fits};
 ghost use Rattle.lspmux_program.specs.Runs.{reading_bytes};
@@ -67,7 +68,7 @@ impl From<Cut> for TakeFault {
     }
 }
 
-#[tactic(auto, unfolding(crate::specs::Runs::reading_bytes), using(crate::proofs::Lengths::same_length))]
+#[tactic(auto, unfolding(crate::specs::Runs::reading_bytes))]
 // The cause that a line writes, or why the line is refused. The line isn't kept beside its body.
 fn read_line<J: Journal>(
     alloc: Global,

@@ -1,6 +1,7 @@
 pub mod Answering
 pub mod BuiltLaw
 pub mod Classes
+pub mod Counts
 pub mod DocumentSteps
 pub mod Documents
 pub mod Entries

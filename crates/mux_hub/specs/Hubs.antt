@@ -1,7 +1,5 @@
 -- What contracts see of a hub, and when it stands for a history.
-use Rattle.std.specs.Prelude.{◌≡◌, ℕ, List, Bool, false, Option, Some, None, length}
-use Rattle.mux_history.specs.declared.cause.Cause.{Cause}
-use Rattle.mux_history.specs.declared.cause.Cause.TheVariants.{FromEditor, FromServer}
+use Rattle.std.specs.Prelude.{◌≡◌, List, Bool, false, Option, Some, None}
 use Rattle.mux_history.specs.declared.entry.Entry.{Entry}
 use Rattle.event_model.specs.Event.{events_of}
 use Rattle.mux_model.specs.Legal.{Legal}
@@ -26,9 +24,3 @@ pub record HubStands {J : Type 0} (told : J → Option (List Entry)) (hub : HubV
   pub told_by : Tells (told hub.journal) history
   pub tables : hub.spent ≡ false → Stands hub.tables (events_of history)
   pub versions : hub.spent ≡ false → hub.tables.documents.versions ≡ hub.settings.limits.versions
-
--- how long the body of a cause is
-abbrev pub body_length : Cause → ℕ
-body_length (FromEditor e body) = length body
-body_length (FromServer s body) = length body
-body_length other = 0

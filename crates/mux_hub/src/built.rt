@@ -11,7 +11,7 @@ ghost use Rattle.rpc_message.specs.ValueTexts.{IsIdText};
 ghost use Rattle.mux_model.specs.Built.{is_other, built_request, built_response, built_from_editor, built_from_server};
 ghost use Rattle.event_model.specs.Members.{has_token};
 ghost use Rattle.event_model.specs.Requests.{is_open};
-ghost use Rattle.mux_hub.specs.Hubs.{body_length};
+ghost use Rattle.mux_history.specs.Cores.{body_length};
 ghost use Rattle.mux_hub.specs.Stands.{MeansId};
 ghost use Rattle.mux_hub.specs.Tables.{asked_for, ids_of, open_in, built_in, phase_at, stage_at};
 

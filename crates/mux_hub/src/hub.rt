@@ -6,7 +6,8 @@ ghost use Rattle.mux_history.specs.Journals.{append_told};
 ghost use Rattle.mux_model.specs.Built.{built};
 ghost use Rattle.mux_model.specs.Fits.{fits};
 ghost use Rattle.mux_model.specs.Rows.{emits, entry_of};
-ghost use Rattle.mux_hub.specs.Hubs.{HubView, HubStands, Tells, body_length};
+ghost use Rattle.mux_history.specs.Cores.{body_length};
+ghost use Rattle.mux_hub.specs.Hubs.{HubView, HubStands, Tells};
 ghost use Rattle.mux_hub.specs.Turns.{turn, Gives};
 
 use crate::fault::StepFault;
@@ -14,7 +15,7 @@ use crate::tables::Tables;
 use event_model::{Limits, Phase, Server, Stage};
 use focus_switch::Shared;
 use message_body::{Body, Memory};
-use mux_history::{Cause, Entry, Journal, Outs};
+use mux_history::{Cause, Entry, Journal, Outs, StepFault as CoreFault, Steps};
 use std::alloc::Global;
 use std::marker::Model;
 
@@ -152,5 +153,61 @@ impl<J: Journal> Hub<J> {
         )?;
         self.spent = false;
         Ok(outs)
+    }
+}
+
+/// What threads may know of the hub. No cause asks it to stop yet. Where a cause meets a row of the routing table that
+/// isn't built, its step answers that memory is wanted.
+impl<J: Journal> Steps for Hub<J> {
+    ghost use Rattle.std.specs.Prelude.{false};
+    ghost use Rattle.mux_model.specs.Fits.{fits};
+    ghost use Rattle.mux_hub.specs.Hubs.{HubStands};
+
+    ghost stands = { λ hub history. HubStands J.told hub history };
+
+    ghost faults = { λ hub. J.faults hub.journal };
+
+    ghost spent = { λ hub. hub.spent };
+
+    ghost allows = { fits };
+
+    ghost asks_stop = { λ history cause. false };
+
+    ghost stops = { λ history. false };
+
+    fn fits(&self, cause: &Cause) -> bool {
+        self.tables.fits(cause)
+    }
+
+    fn next_editor(&self) -> u64 {
+        self.tables.editors()
+    }
+
+    fn stopped(&self) -> bool {
+        false
+    }
+
+    fn server_of(&self, start: u64) -> Option<u32> {
+        if start < self.tables.starts() {
+            Some(self.default)
+        } else {
+            None
+        }
+    }
+
+    fn step(&mut self, cause: Cause) -> Result<Outs, CoreFault> {
+        if self.spent {
+            return Err(CoreFault::Spent);
+        }
+        if !matches!(self.built(&cause), Ok(true)) {
+            self.spent = true;
+            return Err(CoreFault::Memory);
+        }
+        match Hub::step(self, cause) {
+            Ok(outs) => Ok(outs),
+            Err(StepFault::Memory) => Err(CoreFault::Memory),
+            Err(StepFault::Journal) => Err(CoreFault::Journal),
+            Err(StepFault::Spent) => Err(CoreFault::Spent),
+        }
     }
 }

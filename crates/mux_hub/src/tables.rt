@@ -4,7 +4,7 @@ ghost use Rattle.event_model.specs.Event.{Event};
 ghost use Rattle.mux_model.specs.Fits.{fits_behind};
 ghost use Rattle.event_model.specs.Phases.{is_linked};
 ghost use Rattle.event_model.specs.Stages.{may_start, runs};
-ghost use Rattle.mux_hub.specs.Tables.{joined_in};
+ghost use Rattle.mux_hub.specs.Tables.{joined_in, spawned_in};
 
 use crate::pending::Pending;
 use event_model::{Phase, Stage};
@@ -36,6 +36,16 @@ fn runs(stage: Stage, started: bool) -> bool
     ensures { result ≡ runs (record { stage = stage; started = started }) }
 {
     started && !stage.is_ended()
+}
+
+// How many starts were spawned.
+fn spawned_in(stage: Stage) -> u64
+    ensures { result ≡ spawned_in stage }
+{
+    match stage {
+        Stage::Unspawned => 0,
+        _ => 1,
+    }
 }
 
 #[derive(Drop)]
@@ -70,6 +80,20 @@ impl Model for Tables {
 
 impl Tables {
     ghost use Rattle.mux_hub.specs.Stands.{Stands};
+
+    /// How many editors joined.
+    pub fn editors(&self) -> u64
+        ensures { result ≡ joined_in self.now.phase }
+    {
+        joined_in(self.phase)
+    }
+
+    /// How many starts were spawned.
+    pub fn starts(&self) -> u64
+        ensures { result ≡ spawned_in self.now.stage }
+    {
+        spawned_in(self.stage)
+    }
 
     /// E1: whether this cause can come now.
     pub fn fits(&self, cause: &Cause) -> bool

@@ -13,7 +13,7 @@ ghost use Rattle.event_model.specs.Phases.{is_served};
 ghost use Rattle.rpc_message.specs.Codes.{code_of};
 ghost use Rattle.rpc_message.specs.Texts.{error_text, request_failed};
 ghost use Rattle.rpc_message.specs.Parsed.{IsRead};
-ghost use Rattle.mux_hub.specs.Hubs.{body_length};
+ghost use Rattle.mux_history.specs.Cores.{body_length};
 ghost use Rattle.mux_hub.specs.Turns.{Turn, turn, joined, noted, noticed, document_step, DocumentGives, found, forward, refuse, requested, malformed, from_editor, from_server, begun, ready_if, started, answered, pass_on, place_of, place_written, place_if, is_no_number, can_go, ask_if, Gives};
 
 use crate::pending::Pending;

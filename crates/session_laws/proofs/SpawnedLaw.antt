@@ -1,5 +1,6 @@
 -- No start is spawned twice: each gets the number of those that were spawned before.
-use Rattle.std.proofs.Common.{◌≡◌, ℕ, ◌+◌, ◌≤◌, Bool, true, false, ◌==◌, List, [], ◌∷◌, ◌++◌, fold, map, if◌then◌else◌, refl, sym, ◌∙◌, ap, subst, arith}
+use Rattle.std.proofs.Common.{◌≡◌, ℕ, ◌+◌, ◌≤◌, Bool, true, false, ◌<◌, ◌==◌, ◌≢◌, nat_lt, List, [], ◌∷◌, ◌++◌, fold, map, if◌then◌else◌, refl, sym, ◌∙◌, ap, subst, arith}
+use Rattle.std.proofs.lemmas.Bool.Decides.{nat_tests}
 use Rattle.std.proofs.lemmas.List.Sums.{fold-append}
 use Rattle.mux_history.specs.Cores.{spawns, spawns_of_outs}
 use Rattle.mux_history.specs.declared.cause.Cause.{Cause}
@@ -54,26 +55,32 @@ history_count : (s : ℕ) (history : List Entry) (events : List Event) → spawn
 history_count s [] events = omega arith
 history_count s (entry ∷ history) events = let r = history_count s history (with_entry events entry) in let e = entry_count s events entry in omega (arith, r, e)
 
--- a start is spawned once at most, and one whose number didn't come never was
+-- a start whose number came was spawned once, and any other never
 record Once (events : List Event) : Type 0 where
-  count : (s : ℕ) → spawned s events ≤ 1
+  earlier : (s : ℕ) → s < starts_of events → spawned s events ≡ 1
   later : (s : ℕ) → starts_of events ≤ s → spawned s events ≡ 0
 
 still : (events : List Event) (event : Event) → ((s n : ℕ) → spawned_behind s n event ≡ n) → ((n : ℕ) → starts_behind n event ≡ n) → Once events → Once (events ++ event ∷ [])
 still events event f g h = record {
-  count = λ s. subst (λ n. n ≤ 1) (sym (spawned_more s events event ∙ f s (spawned s events))) (h.count s);
+  earlier = λ s l. spawned_more s events event ∙ (f s (spawned s events) ∙ h.earlier s (subst (λ n. s < n) (starts_more events event ∙ g (starts_of events)) l));
   later = λ s l. spawned_more s events event ∙ (f s (spawned s events) ∙ h.later s (subst (λ n. n ≤ s) (starts_more events event ∙ g (starts_of events)) l));
 }
 
+apart : (n s : ℕ) → (n == s) ≡ false → n ≡ s → ⊥
+apart n s e same = let equal : (n == s) ≡ true = grind (arith, nat_tests) in clash (sym e ∙ equal)
+  where
+    clash : false ≡ true → ⊥
+    clash h = absurd cc
+
 one_more : (events : List Event) (g : ℕ) → Once events → Once (events ++ said (Spawn (starts_of events) g) ∷ [])
 one_more events g h = record {
-  count = λ s. subst (λ n. n ≤ 1) (sym (spawned_more s events (said (Spawn (starts_of events) g)))) (once s (starts_of events == s) refl);
+  earlier = λ s l. spawned_more s events (said (Spawn (starts_of events) g)) ∙ once s (starts_of events == s) refl (subst (λ n. s < n) (starts_more events (said (Spawn (starts_of events) g))) l);
   later = λ s l. spawned_more s events (said (Spawn (starts_of events) g)) ∙ never s (subst (λ n. n ≤ s) (starts_more events (said (Spawn (starts_of events) g))) l);
 }
   where
-    once : (s : ℕ) (b : Bool) → (starts_of events == s) ≡ b → spawned s events + (if b then 1 else 0) ≤ 1
-    once s true e = let same : starts_of events ≡ s = number_same (starts_of events) s e in let none : spawned s events ≡ 0 = h.later s (omega arith) in omega (arith, none)
-    once s false e = let c : spawned s events ≤ 1 = h.count s in omega (arith, c)
+    once : (s : ℕ) (b : Bool) → (starts_of events == s) ≡ b → s < starts_of events + 1 → spawned s events + (if b then 1 else 0) ≡ 1
+    once s true e l = let same : starts_of events ≡ s = number_same (starts_of events) s e in let none : spawned s events ≡ 0 = h.later s (omega arith) in omega (arith, none)
+    once s false e l = let other : starts_of events ≢ s = apart (starts_of events) s e in let c : spawned s events ≡ 1 = h.earlier s (omega (arith, other)) in omega (arith, c)
 
     never : (s : ℕ) → starts_of events + 1 ≤ s → spawned s events + (if starts_of events == s then 1 else 0) ≡ 0
     never s l = let other : (starts_of events == s) ≡ false = other_number (starts_of events) s (omega arith) in
@@ -89,8 +96,23 @@ law settings = record {
   spawn = λ events g here i. one_more events g i;
 }
 
+-- of every legal history
+numbered : (settings : Settings) (history : List Entry) → Legal settings history → Once (events_of history)
+numbered settings history legal = law_holds settings (fact_laws settings) Once (law settings) (record { earlier = λ k l. absurd (omega arith); later = λ k l. refl }) no_facts history legal
+
+-- the same count
+counted : (s : ℕ) (history : List Entry) → spawned s (events_of history) ≡ spawns s history
+counted s history = let e : spawned s (events_of history) ≡ 0 + spawns s history = history_count s history [] in omega (arith, e)
+
+pub spawned_below : (settings : Settings) (history : List Entry) → Legal settings history → (s : ℕ) → s < starts_of (events_of history) → spawns s history ≡ 1
+spawned_below settings history legal s l = sym (counted s history) ∙ (numbered settings history legal).earlier s l
+
+pub spawned_above : (settings : Settings) (history : List Entry) → Legal settings history → (s : ℕ) → starts_of (events_of history) ≤ s → spawns s history ≡ 0
+spawned_above settings history legal s l = sym (counted s history) ∙ (numbered settings history legal).later s l
+
 pub spawned_once : (settings : Settings) (history : List Entry) → Legal settings history → (s : ℕ) → spawns s history ≤ 1
-spawned_once settings history legal s =
-    let h : Once (events_of history) = law_holds settings (fact_laws settings) Once (law settings) (record { count = λ k. omega arith; later = λ k l. refl }) no_facts history legal in
-    let c : spawned s (events_of history) ≤ 1 = h.count s in let e : spawned s (events_of history) ≡ 0 + spawns s history = history_count s history [] in
-    omega (arith, c, e)
+spawned_once settings history legal s = go (nat_lt s (starts_of (events_of history))) refl
+  where
+    go : (b : Bool) → nat_lt s (starts_of (events_of history)) ≡ b → spawns s history ≤ 1
+    go true e = let below : s < starts_of (events_of history) = grind (arith, nat_tests) in let one = spawned_below settings history legal s below in omega (arith, one)
+    go false e = let above : starts_of (events_of history) ≤ s = grind (arith, nat_tests) in let none = spawned_above settings history legal s above in omega (arith, none)

@@ -1,0 +1,72 @@
+-- How many editors joined and how many starts were spawned, by the entries of a history and by its events.
+use Rattle.std.proofs.Common.{◌≡◌, ℕ, ◌+◌, ◌≤◌, ◌<◌, List, [], ◌∷◌, ◌++◌, fold, map, refl, sym, ◌∙◌, subst, true, false, arith}
+use Rattle.std.specs.Prelude.{Option}
+use Rattle.std.proofs.lemmas.List.Sums.{fold-append}
+use Rattle.mux_history.specs.Cores.{joins, joined, spawns}
+use Rattle.mux_history.specs.declared.cause.Cause.{Cause}
+use Rattle.mux_history.specs.declared.cause.Cause.TheVariants.{Joined, FromEditor, EditorGone, Started, StartFailed, FromServer, ServerGone, Drained, Tick}
+use Rattle.mux_history.specs.declared.entry.Entry.{Entry}
+use Rattle.mux_history.specs.declared.out.Out.{Out}
+use Rattle.mux_history.specs.declared.out.Out.TheVariants.{ToEditor, ToServer, Spawn, CloseEditor, EndServer}
+use Rattle.event_model.specs.Event.{Event, heard, said, with_cause, with_entry, events_of}
+use Rattle.event_model.specs.Phases.{editors_of, editors_behind}
+use Rattle.event_model.specs.Settings.{Settings}
+use Rattle.mux_model.specs.Rows.{emits, entry_of}
+use Rattle.session_laws.proofs.SpawnedLaw.{spawned_below, spawned_above, spawned_once}
+use Rattle.mux_hub.specs.Hubs.{HubView, HubStands}
+use Rattle.mux_hub.specs.Tables.{joined_in, spawned_in}
+
+heard_joins : (n : ℕ) (cause : Cause) → editors_behind n (heard cause) ≡ n + joins cause
+heard_joins n (Joined e) = refl
+heard_joins n (FromEditor e body) = omega arith
+heard_joins n (EditorGone e why) = omega arith
+heard_joins n (Started s) = omega arith
+heard_joins n (StartFailed s) = omega arith
+heard_joins n (FromServer s body) = omega arith
+heard_joins n (ServerGone s) = omega arith
+heard_joins n (Drained e k) = omega arith
+heard_joins n (Tick t) = omega arith
+
+outs_join : (n : ℕ) (outs : List Out) → fold editors_behind n (map said outs) ≡ n
+outs_join n [] = refl
+outs_join n (ToEditor e body ∷ outs) = outs_join n outs
+outs_join n (ToServer s body ∷ outs) = outs_join n outs
+outs_join n (Spawn s g ∷ outs) = outs_join n outs
+outs_join n (CloseEditor e ∷ outs) = outs_join n outs
+outs_join n (EndServer s ∷ outs) = outs_join n outs
+
+entry_joins : (events : List Event) (entry : Entry) → editors_of (with_entry events entry) ≡ editors_of events + joins entry.cause
+entry_joins events entry = fold-append editors_behind 0 (with_cause events entry.cause) (map said entry.outs)
+    ∙ (outs_join (editors_of (with_cause events entry.cause)) entry.outs ∙ (fold-append editors_behind 0 events (heard entry.cause ∷ []) ∙ heard_joins (editors_of events) entry.cause))
+
+history_joins : (history : List Entry) (events : List Event) → editors_of (fold with_entry events history) ≡ editors_of events + joined history
+history_joins [] events = omega arith
+history_joins (entry ∷ history) events = let r = history_joins history (with_entry events entry) in let e = entry_joins events entry in omega (arith, r, e)
+
+-- the hub's next editor
+pub next_joins : {J : Type 0} (told : J → Option (List Entry)) (hub : HubView J) (history : List Entry) → HubStands told hub history → hub.spent ≡ false → joined_in hub.tables.phase ≡ joined history
+next_joins told hub history h s = let e : joined_in hub.tables.phase ≡ editors_of (events_of history) = sym (h.tables s).editors in let r : editors_of (events_of history) ≡ 0 + joined history = history_joins history [] in omega (arith, e, r)
+
+-- a start that the hub spawned, and one that it didn't
+pub spawned_start : {J : Type 0} (told : J → Option (List Entry)) (hub : HubView J) (history : List Entry) (s : ℕ) → HubStands told hub history → hub.spent ≡ false → s < spawned_in hub.tables.stage → spawns s history ≡ 1
+spawned_start told hub history s h fresh l = spawned_below hub.settings history h.legal s (subst (λ n. s < n) (sym (h.tables fresh).starts) l)
+
+pub no_start : {J : Type 0} (told : J → Option (List Entry)) (hub : HubView J) (history : List Entry) (s : ℕ) → HubStands told hub history → hub.spent ≡ false → spawned_in hub.tables.stage ≤ s → spawns s history ≡ 0
+no_start told hub history s h fresh l = spawned_above hub.settings history h.legal s (subst (λ n. n ≤ s) (sym (h.tables fresh).starts) l)
+
+-- whether a start has a place, by the number of those that were spawned
+pub place_given : {J : Type 0} (told : J → Option (List Entry)) (hub : HubView J) (history : List Entry) (s n : ℕ) → HubStands told hub history → hub.spent ≡ false → n ≡ spawned_in hub.tables.stage → s < n
+    → (true ≡ false → spawns s history ≡ 0) × (spawns s history ≡ 0 → true ≡ false)
+place_given told hub history s n h fresh e l =
+    let one : spawns s history ≡ 1 = spawned_start told hub history s h fresh (subst (λ m. s < m) e l) in
+    (λ no. absurd cc, λ zeros. absurd (omega (arith, one, zeros)))
+
+pub place_missing : {J : Type 0} (told : J → Option (List Entry)) (hub : HubView J) (history : List Entry) (s n : ℕ) → HubStands told hub history → hub.spent ≡ false → n ≡ spawned_in hub.tables.stage → n ≤ s
+    → (false ≡ false → spawns s history ≡ 0) × (spawns s history ≡ 0 → false ≡ false)
+place_missing told hub history s n h fresh e l =
+    (λ same. no_start told hub history s h fresh (subst (λ m. m ≤ s) e l), λ zeros. refl)
+
+-- behind one more entry no start was spawned twice
+pub once_more : {J : Type 0} (told : J → Option (List Entry)) (settings : Settings) (hub : HubView J) (history : List Entry) (cause : Cause) (xs : List Out) → xs ≡ emits settings history cause → HubStands told hub (history ++ entry_of settings history cause ∷ [])
+    → (s : ℕ) → spawns s (history ++ record { cause = cause; outs = xs } ∷ []) ≤ 1
+once_more told settings hub history cause xs same h s = subst (λ ys. spawns s (history ++ record { cause = cause; outs = ys } ∷ []) ≤ 1) (sym same) (spawned_once hub.settings (history ++ entry_of settings history cause ∷ []) h.legal s)
