@@ -17,21 +17,21 @@ use Rattle.mux_facts.proofs.Known.{Law, law_holds}
 use Rattle.mux_facts.proofs.Words.{number_same, other_number}
 
 -- how often a start was spawned
-abbrev spawned_behind : ℕ → ℕ → Event → ℕ
+abbrev pub spawned_behind : ℕ → ℕ → Event → ℕ
 spawned_behind s n (did (Spawn k g) m) = n + (if k == s then 1 else 0)
 spawned_behind s n other = n
 
-abbrev spawned : ℕ → List Event → ℕ
+abbrev pub spawned : ℕ → List Event → ℕ
 spawned s events = fold (spawned_behind s) 0 events
 
 spawned_more : (s : ℕ) (events : List Event) (event : Event) → spawned s (events ++ event ∷ []) ≡ spawned_behind s (spawned s events) event
 spawned_more s events event = fold-append (spawned_behind s) 0 events (event ∷ [])
 
-heard_still : (s n : ℕ) (cause : Cause) → spawned_behind s n (heard cause) ≡ n
+pub heard_still : (s n : ℕ) (cause : Cause) → spawned_behind s n (heard cause) ≡ n
 heard_still s n (Joined e) = refl
 heard_still s n cause = refl
 
-heard_starts : (n : ℕ) (cause : Cause) → starts_behind n (heard cause) ≡ n
+pub heard_starts : (n : ℕ) (cause : Cause) → starts_behind n (heard cause) ≡ n
 heard_starts n (Joined e) = refl
 heard_starts n cause = refl
 
@@ -55,17 +55,20 @@ history_count s [] events = omega arith
 history_count s (entry ∷ history) events = let r = history_count s history (with_entry events entry) in let e = entry_count s events entry in omega (arith, r, e)
 
 -- a start is spawned once at most, and one whose number didn't come never was
-record Once (events : List Event) : Type 0 where
-  count : (s : ℕ) → spawned s events ≤ 1
-  later : (s : ℕ) → starts_of events ≤ s → spawned s events ≡ 0
+pub record Once (events : List Event) : Type 0 where
+  pub count : (s : ℕ) → spawned s events ≤ 1
+  pub later : (s : ℕ) → starts_of events ≤ s → spawned s events ≡ 0
 
-still : (events : List Event) (event : Event) → ((s n : ℕ) → spawned_behind s n event ≡ n) → ((n : ℕ) → starts_behind n event ≡ n) → Once events → Once (events ++ event ∷ [])
+pub none_spawned : Once []
+none_spawned = record { count = λ s. omega arith; later = λ s l. refl }
+
+pub still : (events : List Event) (event : Event) → ((s n : ℕ) → spawned_behind s n event ≡ n) → ((n : ℕ) → starts_behind n event ≡ n) → Once events → Once (events ++ event ∷ [])
 still events event f g h = record {
   count = λ s. subst (λ n. n ≤ 1) (sym (spawned_more s events event ∙ f s (spawned s events))) (h.count s);
   later = λ s l. spawned_more s events event ∙ (f s (spawned s events) ∙ h.later s (subst (λ n. n ≤ s) (starts_more events event ∙ g (starts_of events)) l));
 }
 
-one_more : (events : List Event) (g : ℕ) → Once events → Once (events ++ said (Spawn (starts_of events) g) ∷ [])
+pub one_more : (events : List Event) (g : ℕ) → Once events → Once (events ++ said (Spawn (starts_of events) g) ∷ [])
 one_more events g h = record {
   count = λ s. subst (λ n. n ≤ 1) (sym (spawned_more s events (said (Spawn (starts_of events) g)))) (once s (starts_of events == s) refl);
   later = λ s l. spawned_more s events (said (Spawn (starts_of events) g)) ∙ never s (subst (λ n. n ≤ s) (starts_more events (said (Spawn (starts_of events) g))) l);
@@ -80,6 +83,10 @@ one_more events g h = record {
         let none : spawned s events ≡ 0 = h.later s (omega arith) in
         ap (λ b. spawned s events + (if b then 1 else 0)) other ∙ omega (arith, none)
 
+-- so in the history
+pub once_counts : (history : List Entry) (s : ℕ) → Once (events_of history) → spawns s history ≤ 1
+once_counts history s h = let c : spawned s (events_of history) ≤ 1 = h.count s in let e : spawned s (events_of history) ≡ 0 + spawns s history = history_count s history [] in omega (arith, c, e)
+
 law : (settings : Settings) → Law settings Once
 law settings = record {
   took = λ before cause fits built known h. still before (heard cause) (λ s n. heard_still s n cause) (λ n. heard_starts n cause) h;
@@ -90,7 +97,4 @@ law settings = record {
 }
 
 pub spawned_once : (settings : Settings) (history : List Entry) → Legal settings history → (s : ℕ) → spawns s history ≤ 1
-spawned_once settings history legal s =
-    let h : Once (events_of history) = law_holds settings (fact_laws settings) Once (law settings) (record { count = λ k. omega arith; later = λ k l. refl }) no_facts history legal in
-    let c : spawned s (events_of history) ≤ 1 = h.count s in let e : spawned s (events_of history) ≡ 0 + spawns s history = history_count s history [] in
-    omega (arith, c, e)
+spawned_once settings history legal s = once_counts history s (law_holds settings (fact_laws settings) Once (law settings) none_spawned no_facts history legal)
