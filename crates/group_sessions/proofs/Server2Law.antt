@@ -32,7 +32,7 @@ use Rattle.group_words.specs.declared.kept.Kept.{Kept}
 use Rattle.group_words.specs.Houses.{groups_of}
 use Rattle.group_words.specs.Rows.{initialize_of}
 use Rattle.group_rows.specs.Rows.{outs_of, result_in}
-use Rattle.group_facts.specs.Facts.{Housed, IsHoused, IsWritten, Written}
+use Rattle.group_facts.specs.Facts.{Housed, IsHoused, IsWritten, Written, is_unready}
 use Rattle.group_facts.specs.Legal.{Legal}
 use Rattle.group_facts.specs.Why.{IsTelling, Turn, WhyToServer, begins, greets, forwarded, tells, shuts, stays, greeted, moves}
 use Rattle.group_facts.proofs.AnswerRows.{get_all}
@@ -42,23 +42,16 @@ use Rattle.group_sessions.proofs.PartLaws.{ServerRule, server_history}
 
 -- The start that moves on in an entry: whose program begins, or that answers its `initialize`
 
--- it may be asked, or is to end behind its `shutdown`
-abbrev is_open : Stage → Bool
-is_open Ready = true
-is_open Stopping = true
-is_open other = false
-
--- it answered its `initialize`, or is to end
-abbrev is_past : Stage → Bool
-is_past Unspawned = false
-is_past Spawning = false
-is_past Initializing = false
-is_past other = true
+-- it answered its `initialize`, and isn't Ending or Ended
+abbrev is_greeted : Stage → Bool
+is_greeted Ready = true
+is_greeted Stopping = true
+is_greeted other = false
 
 -- what is known of its stage inside of the entry
 abbrev Moved : Cause → Stage → Type 0
-Moved (Started n) stage = is_open stage ≡ false
-Moved (FromServer n body) stage = is_past stage ≡ true
+Moved (Started n) stage = is_greeted stage ≡ false
+Moved (FromServer n body) stage = is_unready stage ≡ false
 Moved other stage = Unit {0}
 
 abbrev Hands : List Event → Type 0
@@ -103,53 +96,53 @@ initializing_is Ended h = absurd (cc)
 moved_took : (before : List Event) (cause : Cause) (s : ℕ) → moves before cause s ≡ true → Moved cause (life_of s (with_cause before cause)).stage
 moved_took before (Started n) s h =
     let p = and_parts (nat_eq n s) (is_spawning (life_of n before).stage) h in
-    ap (λ (l : Life). is_open l.stage) (life_more s before (heard (Started n)))
-    ∙ ap (λ b. is_open (if b then record { stage = stage_started (life_of s before).stage; started = true } else life_of s before).stage) p.0
-    ∙ ap (λ z. is_open (stage_started z)) (spawning_is (life_of s before).stage (subst (λ k. is_spawning (life_of k before).stage ≡ true) (number_same n s p.0) p.1))
+    ap (λ (l : Life). is_greeted l.stage) (life_more s before (heard (Started n)))
+    ∙ ap (λ b. is_greeted (if b then record { stage = stage_started (life_of s before).stage; started = true } else life_of s before).stage) p.0
+    ∙ ap (λ z. is_greeted (stage_started z)) (spawning_is (life_of s before).stage (subst (λ k. is_spawning (life_of k before).stage ≡ true) (number_same n s p.0) p.1))
 moved_took before (FromServer n body) s h =
     let p = and_parts (nat_eq n s) (is_initializing (life_of n before).stage && is_first_result (message_of body)) h in
     let q = and_parts (is_initializing (life_of n before).stage) (is_first_result (message_of body)) p.1 in
-    ap (λ (l : Life). is_past l.stage) (life_more s before (heard (FromServer n body)))
-    ∙ ap (λ b. is_past (if b then record { stage = stage_hears (life_of s before).stage (message_of body); started = (life_of s before).started } else life_of s before).stage) p.0
-    ∙ ap (λ z. is_past (stage_hears z (message_of body))) (initializing_is (life_of s before).stage (subst (λ k. is_initializing (life_of k before).stage ≡ true) (number_same n s p.0) q.0))
-    ∙ ap (λ b. is_past (if b then Ready else Initializing)) q.1
+    ap (λ (l : Life). is_unready l.stage) (life_more s before (heard (FromServer n body)))
+    ∙ ap (λ b. is_unready (if b then record { stage = stage_hears (life_of s before).stage (message_of body); started = (life_of s before).started } else life_of s before).stage) p.0
+    ∙ ap (λ z. is_unready (stage_hears z (message_of body))) (initializing_is (life_of s before).stage (subst (λ k. is_initializing (life_of k before).stage ≡ true) (number_same n s p.0) q.0))
+    ∙ ap (λ b. is_unready (if b then Ready else Initializing)) q.1
 moved_took before cause s h = absurd (cc)
 
 -- Outs
 
-shut_told : (stage : Stage) (m : Message) → is_open stage ≡ false → is_open (stage_told stage m) ≡ false
-shut_told Ready m h = absurd (cc)
-shut_told other m h = h
+ungreeted_told : (stage : Stage) (m : Message) → is_greeted stage ≡ false → is_greeted (stage_told stage m) ≡ false
+ungreeted_told Ready m h = absurd (cc)
+ungreeted_told other m h = h
 
-past_told : (stage : Stage) (m : Message) → is_past stage ≡ true → is_past (stage_told stage m) ≡ true
+past_told : (stage : Stage) (m : Message) → is_unready stage ≡ false → is_unready (stage_told stage m) ≡ false
 past_told Ready m h = go (requests (codes "shutdown") m)
   where
-    go : (b : Bool) → is_past (if b then Stopping else Ready) ≡ true
+    go : (b : Bool) → is_unready (if b then Stopping else Ready) ≡ false
     go true = refl
     go false = refl
 past_told other m h = h
 
 moved_told : (cause : Cause) (stage : Stage) (m : Message) → Moved cause stage → Moved cause (stage_told stage m)
-moved_told (Started n) stage m h = shut_told stage m h
+moved_told (Started n) stage m h = ungreeted_told stage m h
 moved_told (FromServer n body) stage m h = past_told stage m h
 moved_told cause stage m h = tt
 
-shut_ending : (stage : Stage) → is_open (stage_ending stage) ≡ false
-shut_ending Ended = refl
-shut_ending other = refl
+ungreeted_ending : (stage : Stage) → is_greeted (stage_ending stage) ≡ false
+ungreeted_ending Ended = refl
+ungreeted_ending other = refl
 
-past_ending : (stage : Stage) → is_past (stage_ending stage) ≡ true
+past_ending : (stage : Stage) → is_unready (stage_ending stage) ≡ false
 past_ending Ended = refl
 past_ending other = refl
 
 moved_ending : (cause : Cause) (stage : Stage) → Moved cause (stage_ending stage)
-moved_ending (Started n) stage = shut_ending stage
+moved_ending (Started n) stage = ungreeted_ending stage
 moved_ending (FromServer n body) stage = past_ending stage
 moved_ending cause stage = tt
 
 moved_spawned : (cause : Cause) (stage : Stage) → stage ≡ Unspawned → Moved cause stage → Moved cause Spawning
 moved_spawned (Started n) stage at h = refl
-moved_spawned (FromServer n body) stage at h = absurd (let past : is_past Unspawned ≡ true = ap is_past (sym at) ∙ h in cc)
+moved_spawned (FromServer n body) stage at h = absurd (let past : is_unready Unspawned ≡ false = ap is_unready (sym at) ∙ h in cc)
 moved_spawned cause stage at h = tt
 
 either : (cause : Cause) (b : Bool) (x y : Life) → (b ≡ true → Moved cause x.stage) → Moved cause y.stage → Moved cause (if b then x else y).stage
@@ -223,7 +216,7 @@ module _ (settings : Settings) (range : InRange settings) (before : List Event) 
       ∙ ap (λ w. fold handshake_behind (handshake_behind (handshake_behind w (heard (FromServer n answer))) (said (ToServer s initialized_text))) xs) was
       ∙ ap (λ b. fold handshake_behind (handshake_behind (if b then answered else asked) (said (ToServer s initialized_text))) xs) q.1
       ∙ open_absorbs xs
-  greeted_open (Started n) from xs part ready on h moved = absurd (let shut : is_open Ready ≡ false = ap is_open (sym ready) ∙ moved in cc)
+  greeted_open (Started n) from xs part ready on h moved = absurd (let ungreeted : is_greeted Ready ≡ false = ap is_greeted (sym ready) ∙ moved in cc)
   greeted_open c from xs part ready on h moved = absurd (cc)
 
   told_step : (k : IsTelling before cause events s body) → Hands before → Within before cause events → OpenStep → Step before cause events s body
@@ -275,13 +268,13 @@ module _ (settings : Settings) (before : List Event) (n : ℕ) (none : Starts be
 
   begun_rests : Written settings before → (life_of n before).stage ≡ Spawning → hand n before ≡ silent → HandAt n (behind (with_cause before (Started n)) (outs_of settings before (Started n)))
   begun_rests written at h =
-      let home : IsHoused settings n before = housed n (was_spawned before n none (λ un. let other : Spawning ≡ Unspawned = sym at ∙ un in cc)) in
+      let home : IsHoused settings n before = housed n (was_spawned before n none (λ unspawned. let other : Spawning ≡ Unspawned = sym at ∙ unspawned in cc)) in
       let item : (x : Kept) × (slice_get (groups_of settings before) home.group ≡ Some x) = item_at (groups_of settings before) home.group home.kept in
       let k : IsWritten item.0 = get_all IsWritten (groups_of settings before) home.group item.0 written item.1 in
       subst (λ xs. HandAt n (behind (with_cause before (Started n)) xs)) (sym (begun_sends home.group item.0 at home.is item.1))
       (told_more n (with_cause before (Started n)) (initialize_of item.0) Initializing silent (request (integer (codes "1")) (codes "initialize") k.params) (begun_stage before n at) (begun_hand before n h) k.says (refl {a = asked}))
 
-  past_link : (stage : Stage) (w : Handshake) → is_past stage ≡ true → w ≡ open_to_all → Link stage w
+  past_link : (stage : Stage) (w : Handshake) → is_unready stage ≡ false → w ≡ open_to_all → Link stage w
   past_link Unspawned w past h = absurd (cc)
   past_link Spawning w past h = absurd (cc)
   past_link Initializing w past h = absurd (cc)
@@ -306,10 +299,10 @@ module _ (settings : Settings) (before : List Event) (n : ℕ) (none : Starts be
     result_sends g home = rw (at, first, home) refl
 
     greeting : (rest : List Out) × (outs_of settings before (FromServer n body) ≡ ToServer n initialized_text ∷ rest)
-    greeting = let home : IsHoused settings n before = housed n (was_spawned before n none (λ un. let other : Initializing ≡ Unspawned = sym at ∙ un in cc)) in
+    greeting = let home : IsHoused settings n before = housed n (was_spawned before n none (λ unspawned. let other : Initializing ≡ Unspawned = sym at ∙ unspawned in cc)) in
         let r = result_outs home.group in (r.0, result_sends home.group home.is ∙ r.1)
 
-    greeted_rests : hand n before ≡ asked → is_past (life_of n (behind now (outs_of settings before (FromServer n body)))).stage ≡ true → HandAt n (behind now (outs_of settings before (FromServer n body)))
+    greeted_rests : hand n before ≡ asked → is_unready (life_of n (behind now (outs_of settings before (FromServer n body)))).stage ≡ false → HandAt n (behind now (outs_of settings before (FromServer n body)))
     greeted_rests h past = past_link (life_of n (behind now (outs_of settings before (FromServer n body)))).stage _ past
         (ap (λ xs. hand n (behind now xs)) greeting.1
         ∙ ap (hand n) (sym (append_assoc now (said (ToServer n initialized_text) ∷ []) (map said greeting.0)))
@@ -330,7 +323,7 @@ module _ (settings : Settings) (before : List Event) where
       let p = and_parts (nat_eq n s) (is_initializing (life_of n before).stage && is_first_result (message_of body)) on in
       let q = and_parts (is_initializing (life_of n before).stage) (is_first_result (message_of body)) p.1 in
       let at : (life_of n before).stage ≡ Initializing = initializing_is (life_of n before).stage q.0 in
-      let past : is_past (life_of n (after (FromServer n body))).stage ≡ true = subst (λ k. is_past (life_of k (after (FromServer n body))).stage ≡ true) (sym (number_same n s p.0)) moved in
+      let past : is_unready (life_of n (after (FromServer n body))).stage ≡ false = subst (λ k. is_unready (life_of k (after (FromServer n body))).stage ≡ false) (sym (number_same n s p.0)) moved in
       subst (λ k. HandAt k (after (FromServer n body))) (number_same n s p.0) (greeted_rests settings before n (known.steady).starts (known.steady).housed body at q.1 (subst (λ z. Link z (hand n before)) at (h n)) past)
   moved_rests cause known h s on moved = absurd (cc)
 

@@ -126,7 +126,7 @@ begun_stage before s at = ap (λ (l : Life). l.stage) (life_more s before (heard
 pub begun_hand : (before : List Event) (s : ℕ) → hand s before ≡ silent → hand s (with_cause before (Started s)) ≡ silent
 begun_hand before s h = hand_more s before (heard (Started s)) ∙ ap (λ b. cond b (handshake_behind (hand s before) (heard (Started s))) (hand s before)) (same_number s) ∙ ap (λ w. handshake_behind w (heard (Started s))) h
 
-pub greeted_stage : (before : List Event) (s : ℕ) (body : List ℕ) → is_first_result (message_of body) ≡ true → (life_of s before).stage ≡ Initializing → (life_of s (with_cause before (FromServer s body))).stage ≡ Ready
+greeted_stage : (before : List Event) (s : ℕ) (body : List ℕ) → is_first_result (message_of body) ≡ true → (life_of s before).stage ≡ Initializing → (life_of s (with_cause before (FromServer s body))).stage ≡ Ready
 greeted_stage before s body first at = ap (λ (l : Life). l.stage) (life_more s before (heard (FromServer s body)))
     ∙ ap (λ b. (if b then record { stage = stage_hears (life_of s before).stage (message_of body); started = (life_of s before).started } else life_of s before).stage) (same_number s)
     ∙ ap (λ z. stage_hears z (message_of body)) at ∙ ap (λ b. if b then Ready else Initializing) first
