@@ -181,7 +181,7 @@ module _ (events : List Event) (n : ℕ) (body text : List ℕ) (x : Json) (malf
           let later = malformed_later e heard_it (said (ToEditor n text)) in
           omega (arith, count, before, later)
 
-took_it : (before : List Event) (cause : Cause) → Everywhere before → Everywhere (with_cause before cause)
+pub took_it : (before : List Event) (cause : Cause) → Everywhere before → Everywhere (with_cause before cause)
 took_it before (Joined e) h = more before (heard (Joined e)) refl h
 took_it before cause h = more before (heard cause) refl h
 
@@ -190,6 +190,9 @@ module _ (before : List Event) (cause : Cause) (events : List Event) (e : ℕ) (
   told_it (nulls asked x there from place malformed says) h i = subst (λ z. Everywhere (z ++ said (ToEditor e body) ∷ [])) (sym (place ∙ ap (with_cause before) from)) (refused before e asked body x malformed says h)
   told_it (begun id params r at asked_so waiting says) h i = to_editor events e body id (is_result r says) waiting i
   told_it (responds id there response waiting late) h i = to_editor events e body id response waiting i
+
+pub none_yet : Everywhere []
+none_yet e = record { always = tt; counted = omega arith }
 
 law : (settings : Settings) → Law settings Everywhere
 law settings = record {
@@ -201,4 +204,4 @@ law settings = record {
 }
 
 pub client_2_law : (settings : Settings) (history : List Entry) → Legal settings history → KeepsClient2 history
-client_2_law settings history legal e = (law_holds settings (fact_laws settings) Everywhere (law settings) (λ n. record { always = tt; counted = omega arith }) no_facts history legal e).always
+client_2_law settings history legal e = (law_holds settings (fact_laws settings) Everywhere (law settings) none_yet no_facts history legal e).always

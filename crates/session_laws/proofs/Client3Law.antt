@@ -35,7 +35,7 @@ use Rattle.mux_facts.proofs.FactLaws.{fact_laws, no_facts}
 use Rattle.mux_facts.proofs.Known.{Law, Told, nulls, begun, responds, law_holds}
 
 -- no `initialize` is open, and none got a result
-abbrev Fresh : Opening → Type 0
+abbrev pub Fresh : Opening → Type 0
 Fresh o = (o.initializes ≡ []) × (o.answered ≡ false)
 
 -- this one alone is open, and none got a result
@@ -65,7 +65,7 @@ initialize_is_own : is_other (class_of (codes "initialize") Editor false) ≡ fa
 unfolding own_request own_notification goes_nowhere editor_request editor_notification
 initialize_is_own = refl
 
-other_not : (method : List ℕ) → is_other (class_of method Editor false) ≡ true → bytes_eq (codes "initialize") method ≡ false
+pub other_not : (method : List ℕ) → is_other (class_of method Editor false) ≡ true → bytes_eq (codes "initialize") method ≡ false
 other_not method h = go (bytes_eq (codes "initialize") method) refl
   where
     go : (b : Bool) → bytes_eq (codes "initialize") method ≡ b → b ≡ false
@@ -108,28 +108,29 @@ founds body o (error id x) says e h = absurd (cc)
 founds body o not_json says e h = absurd (cc)
 founds body o not_message says e h = absurd (cc)
 
-hears : (phase : Phase) (i body : List ℕ) (ids : List Id) (o : Opening) (m : Message) → message_of body ≡ m → built_from_editor phase ids m ≡ true → Link phase i o → LinkAt (desk_hears phase i body m) (opening_hears o m)
-hears Absent i body ids o m says built h = (same_initializes o m [] (no_initialize Absent ids m (λ e. cc) built) h.0, h.1)
-hears New i body ids o m says built h = go (requests (codes "initialize") m) refl
+-- only a new editor may ask for it
+hears : (phase : Phase) (i body : List ℕ) (o : Opening) (m : Message) → message_of body ≡ m → ((phase ≡ New → ⊥) → requests (codes "initialize") m ≡ false) → Link phase i o → LinkAt (desk_hears phase i body m) (opening_hears o m)
+hears Absent i body o m says none h = (same_initializes o m [] (none (λ e. cc)) h.0, h.1)
+hears New i body o m says none h = go (requests (codes "initialize") m) refl
   where
     go : (b : Bool) → requests (codes "initialize") m ≡ b → LinkAt (if b then record { phase = Waiting; initialize = body } else record { phase = New; initialize = i }) (opening_hears o m)
     go true e = founds body o m says e h
     go false e = (same_initializes o m [] e h.0, h.1)
-hears Waiting i body ids o m says built h = record { id = h.id; params = h.params; asks = h.asks; only = same_initializes o m (h.id ∷ []) (no_initialize Waiting ids m (λ e. cc) built) h.only; not_yet = h.not_yet }
-hears Answered i body ids o m says built h = go (requests (codes "shutdown") m) (makes_running m) (same_initializes o m [] (no_initialize Answered ids m (λ e. cc) built) h)
+hears Waiting i body o m says none h = record { id = h.id; params = h.params; asks = h.asks; only = same_initializes o m (h.id ∷ []) (none (λ e. cc)) h.only; not_yet = h.not_yet }
+hears Answered i body o m says none h = go (requests (codes "shutdown") m) (makes_running m) (same_initializes o m [] (none (λ e. cc)) h)
   where
     go : (a b : Bool) → (opening_hears o m).initializes ≡ [] → Link (if a then Down else if b then Running else Answered) i (opening_hears o m)
     go true b e = e
     go false true e = e
     go false false e = e
-hears Running i body ids o m says built h = go (requests (codes "shutdown") m) (same_initializes o m [] (no_initialize Running ids m (λ e. cc) built) h)
+hears Running i body o m says none h = go (requests (codes "shutdown") m) (same_initializes o m [] (none (λ e. cc)) h)
   where
     go : (a : Bool) → (opening_hears o m).initializes ≡ [] → Link (if a then Down else Running) i (opening_hears o m)
     go true e = e
     go false e = e
-hears Down i body ids o m says built h = same_initializes o m [] (no_initialize Down ids m (λ e. cc) built) h
-hears Closed i body ids o m says built h = tt
-hears Gone i body ids o m says built h = tt
+hears Down i body o m says none h = same_initializes o m [] (none (λ e. cc)) h
+hears Closed i body o m says none h = tt
+hears Gone i body o m says none h = tt
 
 -- A response to the editor
 
@@ -212,11 +213,16 @@ to_editor events n body h may link e = one_more e events (said (ToEditor n body)
 pub to_server : (events : List Event) (n : ℕ) (body : List ℕ) → Everywhere events → Everywhere (events ++ said (ToServer n body) ∷ [])
 to_server events n body h e = one_more e events (said (ToServer n body)) (h e) (λ same. absurd (cc)) (h e).link
 
-pub from_editor : (events : List Event) (n : ℕ) (body : List ℕ) → built_from_editor (desk_of n events).phase (open_of n events) (message_of body) ≡ true → Everywhere events → Everywhere (events ++ took (FromEditor n body) (message_of body) ∷ [])
-from_editor events n body built h e = one_more e events (took (FromEditor n body) (message_of body)) (h e) (λ same. tt)
+-- a cause that is a request `initialize` is one of a new editor
+abbrev pub AsksOnce : List Event → Cause → Type 0
+AsksOnce before (FromEditor n body) = ((desk_of n before).phase ≡ New → ⊥) → requests (codes "initialize") (message_of body) ≡ false
+AsksOnce before other = Unit {0}
+
+pub from_editor : (events : List Event) (n : ℕ) (body : List ℕ) → AsksOnce events (FromEditor n body) → Everywhere events → Everywhere (events ++ took (FromEditor n body) (message_of body) ∷ [])
+from_editor events n body once h e = one_more e events (took (FromEditor n body) (message_of body)) (h e) (λ same. tt)
     (pick (nat_eq n e) (desk_hears (desk_of e events).phase (desk_of e events).initialize body (message_of body)) (desk_of e events) (opening_hears (opening e events) (message_of body)) (opening e events)
-    (λ same. hears (desk_of e events).phase (desk_of e events).initialize body (open_of e events) (opening e events) (message_of body) refl
-    (subst (λ k. built_from_editor (desk_of k events).phase (open_of k events) (message_of body) ≡ true) (number_same n e same) built) (h e).link) (h e).link)
+    (λ same. hears (desk_of e events).phase (desk_of e events).initialize body (opening e events) (message_of body) refl
+    (subst (λ k. AsksOnce events (FromEditor k body)) (number_same n e same) once) (h e).link) (h e).link)
 
 -- an error under a null id
 pub null_to_editor : (events : List Event) (n : ℕ) (body : List ℕ) (x : Json) → message_of body ≡ error None x → Everywhere events → Everywhere (events ++ said (ToEditor n body) ∷ [])
@@ -224,15 +230,19 @@ null_to_editor events n body x says h = to_editor events n body h (ap (may_hear 
     (subst (λ m. Link (phase_told (desk_of n events).phase (desk_of n events).initialize m) (desk_of n events).initialize (opening_told (opening n events) m)) (sym says)
     (subst (λ p. Link p (desk_of n events).initialize (opening n events)) (sym (error_told (desk_of n events).phase (desk_of n events).initialize None x)) (h n).link))
 
-took_it : (before : List Event) (cause : Cause) → fits_behind before cause ≡ true → built_behind before cause ≡ true → Editors before → Everywhere before → Everywhere (with_cause before cause)
-took_it events (Joined n) fits built none h e = one_more e events (took (Joined n) not_message) (h e) (λ same. tt) (pick_desk (nat_eq n e) (record { phase = New; initialize = [] }) (desk_of e events) (opening e events)
+pub took_it : (before : List Event) (cause : Cause) → fits_behind before cause ≡ true → AsksOnce before cause → Editors before → Everywhere before → Everywhere (with_cause before cause)
+took_it events (Joined n) fits once none h e = one_more e events (took (Joined n) not_message) (h e) (λ same. tt) (pick_desk (nat_eq n e) (record { phase = New; initialize = [] }) (desk_of e events) (opening e events)
     (λ same. subst (λ z. Link z (desk_of e events).initialize (opening e events)) (none e (omega (arith, number_same n e same, number_same n (editors_of events) fits))) (h e).link) (h e).link)
-took_it events (FromEditor n body) fits built none h j = from_editor events n body built h j
-took_it events (EditorGone n why) fits built none h e = one_more e events (took (EditorGone n why) not_message) (h e) (λ same. tt)
+took_it events (FromEditor n body) fits once none h j = from_editor events n body once h j
+took_it events (EditorGone n why) fits once none h e = one_more e events (took (EditorGone n why) not_message) (h e) (λ same. tt)
     (pick (nat_eq n e) (record { phase = Gone; initialize = (desk_of e events).initialize }) (desk_of e events) (opening e events) (opening e events) (λ same. tt) (h e).link)
-took_it events cause fits built none h e = one_more e events (heard cause) (h e) (λ same. tt) (h e).link
+took_it events cause fits once none h e = one_more e events (heard cause) (h e) (λ same. tt) (h e).link
 
-same_request : {i k : Id} {m : List ℕ} {p q : Option Json} → request i m p ≡ request k m q → i ≡ k
+built_once : (before : List Event) (cause : Cause) → built_behind before cause ≡ true → AsksOnce before cause
+built_once before (FromEditor n body) built = λ other. no_initialize (desk_of n before).phase (open_of n before) (message_of body) other built
+built_once before cause built = tt
+
+pub same_request : {i k : Id} {m : List ℕ} {p q : Option Json} → request i m p ≡ request k m q → i ≡ k
 same_request h = cc
 
 module _ (before : List Event) (cause : Cause) (events : List Event) (e : ℕ) (body : List ℕ) where
@@ -248,13 +258,13 @@ module _ (before : List Event) (cause : Cause) (events : List Event) (e : ℕ) (
       (may_answer (opening e events) id (message_of body) response (none_open (desk_of e events).phase (desk_of e events).initialize (opening e events) there late (i e).link))
       (late_told (desk_of e events).phase (desk_of e events).initialize (opening e events) id (message_of body) response late (i e).link) j
 
-closed_link : (phase : Phase) (initialize : List ℕ) (o : Opening) → Link (phase_closed phase) initialize o
+pub closed_link : (phase : Phase) (initialize : List ℕ) (o : Opening) → Link (phase_closed phase) initialize o
 closed_link Gone initialize o = tt
 closed_link other initialize o = tt
 
 law : (settings : Settings) → Law settings Everywhere
 law settings = record {
-  took = λ before cause fits built known h. took_it before cause fits built known.editors h;
+  took = λ before cause fits built known h. took_it before cause fits (built_once before cause built) known.editors h;
   to_editor = λ before cause events e body told known here h i. told_it before cause events e body told i;
   to_server = λ before cause events s body why known here h i. to_server events s body i;
   close = λ before cause events e there known here h i. λ n. one_more n events (said (CloseEditor e)) (i n) (λ same. tt)

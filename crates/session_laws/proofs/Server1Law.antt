@@ -19,6 +19,7 @@ use Rattle.event_model.specs.Parts.{server_part, is_of_server}
 use Rattle.mux_facts.proofs.Folds.{life_more}
 use Rattle.mux_facts.proofs.Known.{Law}
 use Rattle.mux_facts.proofs.Rules.{word_more}
+use Rattle.mux_facts.proofs.Starts.{Starts}
 use Rattle.mux_facts.proofs.Words.{pick, pick_life, same_number, number_same}
 
 -- it runs and isn't over
@@ -59,10 +60,10 @@ pub is_up : (p : Program) → IsUp p → (p.started && not p.over) ≡ true
 is_up p h = ap₂ (λ a b. a && not b) h.0 h.1
 
 -- the program runs in the stages that say so
-abbrev Running : List Event → Type 0
+abbrev pub Running : List Event → Type 0
 Running events = (s : ℕ) → Link (life_of s events).stage (program_of (server_part s events))
 
-more : (events : List Event) (event : Event) → ((s : ℕ) → Link (life_behind s (life_of s events) event).stage (cond (is_of_server s event) (program_behind (program_of (server_part s events)) event) (program_of (server_part s events)))) → Running (events ++ event ∷ [])
+pub more : (events : List Event) (event : Event) → ((s : ℕ) → Link (life_behind s (life_of s events) event).stage (cond (is_of_server s event) (program_behind (program_of (server_part s events)) event) (program_of (server_part s events)))) → Running (events ++ event ∷ [])
 more events event f s = subst₂ (λ (l : Life) w. Link l.stage w) (sym (life_more s events event)) (sym (word_more program_behind (record { started = false; over = false }) (is_of_server s) events event)) (f s)
 
 starts : (stage : Stage) (p : Program) (n : ℕ) → Link stage p → Link (stage_started stage) (program_behind p (took (Started n) not_message))
@@ -83,7 +84,7 @@ told Stopping p m h = h
 told Ending p m h = h
 told Ended p m h = h
 
-running_took : (before : List Event) (cause : Cause) → Running before → Running (with_cause before cause)
+pub running_took : (before : List Event) (cause : Cause) → Running before → Running (with_cause before cause)
 running_took events (Started n) h = more events (took (Started n) not_message) (λ s. pick Link (nat_eq n s) (record { stage = stage_started (life_of s events).stage; started = true }) (life_of s events) _ (program_of (server_part s events))
     (λ same. starts (life_of s events).stage (program_of (server_part s events)) n (h s)) (h s))
 running_took events (StartFailed n) h = more events (took (StartFailed n) not_message) (λ s. pick Link (nat_eq n s) (record { stage = Ended; started = (life_of s events).started }) (life_of s events) _ (program_of (server_part s events)) (λ same. tt) (h s))
@@ -92,33 +93,48 @@ running_took events (FromServer n body) h = more events (took (FromServer n body
     (λ same. hears (life_of s events).stage (program_of (server_part s events)) (message_of body) (h s)) (h s))
 running_took events cause h = more events (heard cause) h
 
+-- a body to a start
+pub running_sent : (events : List Event) (n : ℕ) (body : List ℕ) → Running events → Running (events ++ said (ToServer n body) ∷ [])
+running_sent events n body h = more events (said (ToServer n body))
+    (λ s. pick Link (nat_eq n s) (record { stage = stage_told (life_of s events).stage (message_of body); started = (life_of s events).started }) (life_of s events) _ (program_of (server_part s events))
+    (λ same. told (life_of s events).stage (program_of (server_part s events)) (message_of body) (h s)) (h s))
+
+-- the next start is spawned
+pub running_spawned : (events : List Event) (g : ℕ) → Starts events → Running events → Running (events ++ said (Spawn (starts_of events) g) ∷ [])
+running_spawned events g none h = more events (said (Spawn (starts_of events) g)) (λ s. pick_life Link (nat_eq (starts_of events) s) (record { stage = Spawning; started = false }) (life_of s events) (program_of (server_part s events))
+    (λ same. subst (λ z. Link z (program_of (server_part s events))) (ap (λ (l : Life). l.stage) (none s (omega (arith, number_same (starts_of events) s same)))) (h s)) (h s))
+
 law : (settings : Settings) → Law settings Running
 law settings = record {
   took = λ before cause fits built known h. running_took before cause h;
   to_editor = λ before cause events e body told known here h i. more events (said (ToEditor e body)) i;
-  to_server = λ before cause events n body why known here h i. more events (said (ToServer n body))
-      (λ s. pick Link (nat_eq n s) (record { stage = stage_told (life_of s events).stage (message_of body); started = (life_of s events).started }) (life_of s events) _ (program_of (server_part s events))
-      (λ same. told (life_of s events).stage (program_of (server_part s events)) (message_of body) (i s)) (i s));
+  to_server = λ before cause events n body why known here h i. running_sent events n body i;
   close = λ before cause events e there known here h i. more events (said (CloseEditor e)) i;
-  spawn = λ events g here i. more events (said (Spawn (starts_of events) g)) (λ s. pick_life Link (nat_eq (starts_of events) s) (record { stage = Spawning; started = false }) (life_of s events) (program_of (server_part s events))
-      (λ same. subst (λ z. Link z (program_of (server_part s events))) (ap (λ (l : Life). l.stage) (here.starts s (omega (arith, number_same (starts_of events) s same)))) (i s)) (i s));
+  spawn = λ events g here i. running_spawned events g here.starts i;
 }
 
 -- a body finds the program running
+
+pub begun_up : (before : List Event) (cause : Cause) (events : List Event) (s : ℕ) → (life_of s before).stage ≡ Spawning → cause ≡ Started s → events ≡ with_cause before cause → Running events → IsUp (program_of (server_part s events))
+begun_up before cause events s at from place h = subst (λ z. Link z (program_of (server_part s events)))
+    (ap (λ z. (life_of s z).stage) (place ∙ ap (with_cause before) from) ∙ ap (λ (l : Life). l.stage) (life_more s before (heard (Started s)))
+    ∙ ap (λ b. (if b then record { stage = stage_started (life_of s before).stage; started = true } else life_of s before).stage) (same_number s) ∙ ap stage_started at) (h s)
+
+pub ready_up : (events : List Event) (s : ℕ) → (life_of s events).stage ≡ Ready → Running events → IsUp (program_of (server_part s events))
+ready_up events s ready h = subst (λ z. Link z (program_of (server_part s events))) ready (h s)
+
 module _ (settings : Settings) (before : List Event) (cause : Cause) (events : List Event) (s : ℕ) (body : List ℕ) where
-  up : WhyToServer settings before cause events s body → Running before → Running events → IsUp (program_of (server_part s events))
-  up (begins params at from place says) h i = subst (λ z. Link z (program_of (server_part s events)))
-      (ap (λ z. (life_of s z).stage) (place ∙ ap (with_cause before) from) ∙ ap (λ (l : Life). l.stage) (life_more s before (heard (Started s)))
-      ∙ ap (λ b. (if b then record { stage = stage_started (life_of s before).stage; started = true } else life_of s before).stage) (same_number s) ∙ ap stage_started at) (i s)
-  up (greets params answer at now from first part says) h i = subst (λ z. Link z (program_of (server_part s events))) now (i s)
-  up (forwarded a still k) h i = subst (λ z. Link z (program_of (server_part s events))) k.ready (i s)
-  up (tells still k) h i = subst (λ z. Link z (program_of (server_part s events))) k.ready (i s)
+  up : WhyToServer settings before cause events s body → Running events → IsUp (program_of (server_part s events))
+  up (begins params at from place says) i = begun_up before cause events s at from place i
+  up (greets params answer at now from first part says) i = ready_up events s now i
+  up (forwarded a still k) i = ready_up events s k.ready i
+  up (tells still k) i = ready_up events s k.ready i
 
 rule : (settings : Settings) → ServerRule settings Running ServerRule1
 rule settings = record {
   law = law settings;
   free = free;
-  sent = λ before cause events s body why known here h i. is_up (program_of (server_part s events)) (up settings before cause events s body why h i);
+  sent = λ before cause events s body why known here h i. is_up (program_of (server_part s events)) (up settings before cause events s body why i);
 }
 
 pub server_1_law : (settings : Settings) (history : List Entry) → Legal settings history → KeepsServer1 history

@@ -35,6 +35,7 @@ use Rattle.mux_facts.proofs.Keeps.{behind_both}
 use Rattle.mux_facts.proofs.Reasons.{Because, by_nothing, by_send, by_then, by_look, reasons_keep}
 use Rattle.mux_facts.proofs.RestLaws.{RestLaw, rest_holds}
 use Rattle.mux_facts.proofs.Rules.{rule_more, word_more}
+use Rattle.mux_facts.proofs.Starts.{Starts}
 use Rattle.mux_facts.proofs.Words.{pick, pick_life, same_number, number_same}
 
 abbrev pub Link : Stage → Handshake → Type 0
@@ -94,10 +95,10 @@ module _ (settings : Settings) (range : InRange settings) where
   tells_on w n body m says h = let s : Spoken m = spoken m says in
       (ap₂ allows h s.is ∙ ap not s.other, still_open (requests (codes "shutdown") m) (handshake_behind w (did (ToServer n body) m)) (ap (λ z. handshake_behind z (did (ToServer n body) m)) h))
 
-abbrev hand : ℕ → List Event → Handshake
+abbrev pub hand : ℕ → List Event → Handshake
 hand s events = handshake_of (server_part s events)
 
-abbrev HandAt : ℕ → List Event → Type 0
+abbrev pub HandAt : ℕ → List Event → Type 0
 HandAt s events = Link (life_of s events).stage (hand s events)
 
 -- after each entry
@@ -110,11 +111,29 @@ record Mid (before : List Event) (cause : Cause) (events : List Event) : Type 0 
   hands : (s : ℕ) → moves before cause s ≡ false → HandAt s events
   rules : (s : ℕ) → Always ServerRule2 (server_part s events)
 
-hand_more : (s : ℕ) (events : List Event) (event : Event) → hand s (events ++ event ∷ []) ≡ cond (is_of_server s event) (handshake_behind (hand s events) event) (hand s events)
+pub hand_more : (s : ℕ) (events : List Event) (event : Event) → hand s (events ++ event ∷ []) ≡ cond (is_of_server s event) (handshake_behind (hand s events) event) (hand s events)
 hand_more s events event = word_more handshake_behind silent (is_of_server s) events event
 
-more : (s : ℕ) (events : List Event) (event : Event) → Link (life_behind s (life_of s events) event).stage (cond (is_of_server s event) (handshake_behind (hand s events) event) (hand s events)) → HandAt s (events ++ event ∷ [])
+pub more : (s : ℕ) (events : List Event) (event : Event) → Link (life_behind s (life_of s events) event).stage (cond (is_of_server s event) (handshake_behind (hand s events) event) (hand s events)) → HandAt s (events ++ event ∷ [])
 more s events event f = subst₂ (λ (l : Life) w. Link l.stage w) (sym (life_more s events event)) (sym (hand_more s events event)) f
+
+-- a start whose program begins, and one that answers its `initialize`
+
+pub begun_stage : (before : List Event) (s : ℕ) → (life_of s before).stage ≡ Spawning → (life_of s (with_cause before (Started s))).stage ≡ Initializing
+begun_stage before s at = ap (λ (l : Life). l.stage) (life_more s before (heard (Started s)))
+    ∙ ap (λ b. (if b then record { stage = stage_started (life_of s before).stage; started = true } else life_of s before).stage) (same_number s) ∙ ap stage_started at
+
+pub begun_hand : (before : List Event) (s : ℕ) → hand s before ≡ silent → hand s (with_cause before (Started s)) ≡ silent
+begun_hand before s h = hand_more s before (heard (Started s)) ∙ ap (λ b. cond b (handshake_behind (hand s before) (heard (Started s))) (hand s before)) (same_number s) ∙ ap (λ w. handshake_behind w (heard (Started s))) h
+
+greeted_stage : (before : List Event) (s : ℕ) (body : List ℕ) → is_first_result (message_of body) ≡ true → (life_of s before).stage ≡ Initializing → (life_of s (with_cause before (FromServer s body))).stage ≡ Ready
+greeted_stage before s body first at = ap (λ (l : Life). l.stage) (life_more s before (heard (FromServer s body)))
+    ∙ ap (λ b. (if b then record { stage = stage_hears (life_of s before).stage (message_of body); started = (life_of s before).started } else life_of s before).stage) (same_number s)
+    ∙ ap (λ z. stage_hears z (message_of body)) at ∙ ap (λ b. if b then Ready else Initializing) first
+
+pub greeted_hand : (before : List Event) (s : ℕ) (body : List ℕ) → is_first_result (message_of body) ≡ true → hand s before ≡ asked → hand s (with_cause before (FromServer s body)) ≡ answered
+greeted_hand before s body first h = hand_more s before (heard (FromServer s body)) ∙ ap (λ b. cond b (handshake_behind (hand s before) (heard (FromServer s body))) (hand s before)) (same_number s)
+    ∙ ap (λ w. handshake_behind w (heard (FromServer s body))) h ∙ ap (λ b. if b then answered else asked) first
 
 unmoved : (a b : Bool) → (a && b) ≡ false → a ≡ true → b ≡ false
 unmoved true b h e = h
@@ -122,7 +141,7 @@ unmoved false b h e = absurd (cc)
 
 -- the cause
 
-hand_took : (before : List Event) (cause : Cause) (s : ℕ) → moves before cause s ≡ false → HandAt s before → HandAt s (with_cause before cause)
+pub hand_took : (before : List Event) (cause : Cause) (s : ℕ) → moves before cause s ≡ false → HandAt s before → HandAt s (with_cause before cause)
 hand_took before (Started n) s still h = more s before (heard (Started n)) (pick Link (nat_eq n s) (record { stage = stage_started (life_of s before).stage; started = true }) (life_of s before) _ (hand s before)
     (λ same. starts (life_of s before).stage (hand s before) n (subst (λ k. is_spawning (life_of k before).stage ≡ false) (number_same n s same) (unmoved (nat_eq n s) (is_spawning (life_of n before).stage) still same)) h) h)
 hand_took before (FromServer n body) s still h = more s before (heard (FromServer n body)) (pick Link (nat_eq n s) (record { stage = stage_hears (life_of s before).stage (message_of body); started = (life_of s before).started }) (life_of s before) _ (hand s before)
@@ -153,8 +172,7 @@ module _ (settings : Settings) (range : InRange settings) (before : List Event) 
 
   step : WhyToServer settings before cause events s body → Tied before → Mid before cause events → Step before cause events s body
   step (begins params at from place says) h m =
-      let now : hand s events ≡ silent = ap (hand s) (place ∙ ap (with_cause before) from) ∙ hand_more s before (heard (Started s)) ∙ ap (λ b. cond b (handshake_behind (hand s before) (heard (Started s))) (hand s before)) (same_number s)
-      ∙ ap (λ w. handshake_behind w (heard (Started s))) (subst (λ z. Link z (hand s before)) at (h.hands s)) in
+      let now : hand s events ≡ silent = ap (hand s) (place ∙ ap (with_cause before) from) ∙ begun_hand before s (subst (λ z. Link z (hand s before)) at (h.hands s)) in
       let moving : moves before cause s ≡ true = ap (λ c. moves before c s) from ∙ ap₂ (λ a z. a && is_spawning z) (same_number s) at in
       record { allowed = ap₂ allows now says; next = λ still. absurd (cc) }
   step (greets params answer at ready from is_so part says) h m =
@@ -193,7 +211,7 @@ editors_keep s events row only h = reasons_keep IsToEditor (HandAt s) one events
     one events out is k = absurd is
 
 -- a body to s, where its stage and its handshake are these
-told_more : (s : ℕ) (events : List Event) (body : List ℕ) (stage : Stage) (w : Handshake) (m : Message) → (life_of s events).stage ≡ stage → hand s events ≡ w → message_of body ≡ m
+pub told_more : (s : ℕ) (events : List Event) (body : List ℕ) (stage : Stage) (w : Handshake) (m : Message) → (life_of s events).stage ≡ stage → hand s events ≡ w → message_of body ≡ m
     → Link (stage_told stage m) (handshake_behind w (did (ToServer s body) m)) → HandAt s (events ++ said (ToServer s body) ∷ [])
 told_more s events body stage w m at now says f = more s events (said (ToServer s body)) (subst (λ b. Link (if b then record { stage = stage_told (life_of s events).stage (message_of body); started = (life_of s events).started } else life_of s events).stage
     (cond b (handshake_behind (hand s events) (said (ToServer s body))) (hand s events))) (sym (same_number s))
@@ -204,9 +222,7 @@ started_leaves : (before : List Event) (s : ℕ) (stage : Stage) → is_spawning
     → HandAt s (behind (with_cause before (Started s)) (outs (started s before stage) (with_cause before (Started s))))
 started_leaves before s Spawning e at h = let says = any_opening_law (founder_body s before) in
     told_more s (with_cause before (Started s)) (initialize_for (founder_body s before)) Initializing silent (request (integer (codes "1")) (codes "initialize") says.0)
-    (ap (λ (l : Life). l.stage) (life_more s before (heard (Started s))) ∙ ap (λ b. (if b then record { stage = stage_started (life_of s before).stage; started = true } else life_of s before).stage) (same_number s) ∙ ap stage_started at)
-    (hand_more s before (heard (Started s)) ∙ ap (λ b. cond b (handshake_behind (hand s before) (heard (Started s))) (hand s before)) (same_number s) ∙ ap (λ w. handshake_behind w (heard (Started s))) h)
-    says.1 refl
+    (begun_stage before s at) (begun_hand before s h) says.1 refl
 started_leaves before s Unspawned e at h = absurd (cc)
 started_leaves before s Initializing e at h = absurd (cc)
 started_leaves before s Ready e at h = absurd (cc)
@@ -221,12 +237,7 @@ greeted_leaves before s body first at h =
     let told : List Event = taken ++ said (ToServer s initialized_text) ∷ [] in
     subst (HandAt s) (sym (behind_both taken (ToServer s initialized_text ∷ []) (outs (each (welcome body) (waiting_for s told)) told)))
     (editors_keep s told (each (welcome body) (waiting_for s told)) (welcomes_only body (waiting_for s told) told)
-    (told_more s taken initialized_text Ready answered _
-    (ap (λ (l : Life). l.stage) (life_more s before (heard (FromServer s body))) ∙ ap (λ b. (if b then record { stage = stage_hears (life_of s before).stage (message_of body); started = (life_of s before).started } else life_of s before).stage) (same_number s)
-    ∙ ap (λ z. stage_hears z (message_of body)) at ∙ ap (λ b. if b then Ready else Initializing) first)
-    (hand_more s before (heard (FromServer s body)) ∙ ap (λ b. cond b (handshake_behind (hand s before) (heard (FromServer s body))) (hand s before)) (same_number s)
-    ∙ ap (λ w. handshake_behind w (heard (FromServer s body))) h ∙ ap (λ b. if b then answered else asked) first)
-    initialized_law refl))
+    (told_more s taken initialized_text Ready answered _ (greeted_stage before s body first at) (greeted_hand before s body first h) initialized_law refl))
 
 server_leaves : (before : List Event) (s : ℕ) (body : List ℕ) (stage : Stage) → is_initializing stage ≡ true → is_first_result (message_of body) ≡ true → (life_of s before).stage ≡ stage → Link stage (hand s before)
     → HandAt s (behind (with_cause before (FromServer s body)) (outs (from_server s before body (message_of body) stage) (with_cause before (FromServer s body))))
@@ -247,6 +258,11 @@ moved settings before (FromServer n body) s h k = let p = and_parts (nat_eq n s)
     subst (λ i. HandAt i before → HandAt i (behind (with_cause before (FromServer n body)) (outs_of settings before (FromServer n body)))) (number_same n s p.0) (λ at. server_leaves before n body (life_of n before).stage q.0 q.1 refl at) k
 moved settings before cause s h k = absurd (cc)
 
+-- the next start is spawned
+pub hand_spawned : (events : List Event) (g s : ℕ) → Starts events → HandAt s events → HandAt s (events ++ said (Spawn (starts_of events) g) ∷ [])
+hand_spawned events g s none h = more s events (said (Spawn (starts_of events) g)) (pick_life Link (nat_eq (starts_of events) s) (record { stage = Spawning; started = false }) (life_of s events) (hand s events)
+    (λ same. subst (λ z. Link z (hand s events)) (ap (λ (l : Life). l.stage) (none s (omega (arith, number_same (starts_of events) s same)))) h) h)
+
 law : (settings : Settings) → InRange settings → RestLaw settings Tied Mid
 law settings range = record {
   took = λ before cause fits built known h. record { hands = λ s still. hand_took before cause s still (h.hands s); rules = rules_took before cause h.rules };
@@ -254,8 +270,7 @@ law settings range = record {
   to_server = λ before cause events s body why known here h m. sent settings range before cause events s body (step settings range before cause events s body why h m) m;
   close = λ before cause events e there known here h i. record { hands = λ s still. more s events (said (CloseEditor e)) (i.hands s still); rules = rules_free events (said (CloseEditor e)) refl i.rules };
   spawn = λ before cause events g here m. record {
-    hands = λ s still. more s events (said (Spawn (starts_of events) g)) (pick_life Link (nat_eq (starts_of events) s) (record { stage = Spawning; started = false }) (life_of s events) (hand s events)
-        (λ same. subst (λ z. Link z (hand s events)) (ap (λ (l : Life). l.stage) (here.starts s (omega (arith, number_same (starts_of events) s same)))) (m.hands s still)) (m.hands s still));
+    hands = λ s still. hand_spawned events g s here.starts (m.hands s still);
     rules = rules_free events (said (Spawn (starts_of events) g)) refl m.rules;
   };
   rest = λ before cause spelt known h m. record { hands = λ s. either before cause s (moves before cause s) refl h m; rules = m.rules };

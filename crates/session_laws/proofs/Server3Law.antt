@@ -1,5 +1,5 @@
 -- The requests to a start are numbered from 1.
-use Rattle.std.proofs.Common.{◌≡◌, ℕ, ◌+◌, Bool, true, false, cond, List, [], ◌∷◌, filter, fold, nat_eq, codes, decimal, if◌then◌else◌, refl, sym, ◌∙◌, ap, ◌<◌, ◌^◌, subst, arith, ltb-true}
+use Rattle.std.proofs.Common.{◌≡◌, ℕ, ◌+◌, Bool, true, false, cond, List, [], ◌∷◌, filter, fold, nat_eq, codes, decimal, if◌then◌else◌, Option, refl, sym, ◌∙◌, ap, ◌<◌, ◌^◌, subst, arith, ltb-true}
 use Rattle.std.specs.Fmt.{digits}
 use Rattle.mux_history.specs.declared.cause.Cause.TheVariants.{Joined, FromEditor, EditorGone, Started, StartFailed, FromServer, ServerGone, Drained, Tick}
 use Rattle.mux_history.specs.declared.out.Out.TheVariants.{ToEditor, ToServer, Spawn, CloseEditor, EndServer}
@@ -15,6 +15,8 @@ use Rattle.session_laws.proofs.PartLaws.{is_to_server, No, no_law, ServerRule, s
 use Rattle.mux_history.specs.declared.cause.Cause.{Cause}
 use Rattle.mux_history.specs.declared.entry.Entry.{Entry}
 use Rattle.document_model.proofs.Written.{Spoken, spoken}
+use Rattle.document_model.specs.Sayings.{saying_of, speaks}
+use Rattle.json_text.specs.Json.{Json}
 use Rattle.mux_model.specs.Legal.{Legal}
 use Rattle.event_model.specs.Settings.{Settings}
 use Rattle.mux_facts.specs.Ranges.{InRange}
@@ -79,17 +81,26 @@ pub the_first : integer (codes "1") ≡ integer (decimal (0 + 1))
 unfolding digits
 the_first = refl
 
+-- the daemon's own `initialize` as the program begins
+pub begun_numbered : (before : List Event) (cause : Cause) (events : List Event) (s : ℕ) (params : Option Json) (m : Message) → (asking_of s before).next ≡ 1 → cause ≡ Started s → events ≡ with_cause before cause
+    → m ≡ request (integer (codes "1")) (codes "initialize") params → HasNumber (asking_of s events).next m
+begun_numbered before cause events s params m none from place says =
+    let next : (asking_of s events).next ≡ 1 = ap (λ z. (asking_of s z).next) (place ∙ ap (with_cause before) from) ∙ ap (λ (a : Asking). a.next) (asking_more s before (heard (Started s))) ∙ none in
+    subst (λ z. HasNumber (asking_of s events).next z) (sym says) (the_first ∙ ap (λ n. integer (decimal n)) (sym next))
+
+-- what tells of a document is no request
+pub told_numbered : (n : ℕ) (m : Message) → speaks (saying_of m) ≡ true → HasNumber n m
+told_numbered n m says = let s : Spoken m = spoken m says in subst (HasNumber n) (sym s.is) tt
+
 module _ (settings : Settings) (range : InRange settings) (before : List Event) (cause : Cause) (events : List Event) (s : ℕ) (body : List ℕ) where
   -- a request has the next number
   numbered : WhyToServer settings before cause events s body → Facts before → HasNumber (asking_of s events).next (message_of body)
-  numbered (begins params at from place says) h =
-      let next : (asking_of s events).next ≡ 1 = ap (λ z. (asking_of s z).next) (place ∙ ap (with_cause before) from) ∙ ap (λ (a : Asking). a.next) (asking_more s before (heard (Started s))) ∙ h.unbegun s (ap is_unbegun at) in
-      subst (λ m. HasNumber (asking_of s events).next m) (sym says) (the_first ∙ ap (λ n. integer (decimal n)) (sym next))
+  numbered (begins params at from place says) h = begun_numbered before cause events s params (message_of body) (h.unbegun s (ap is_unbegun at)) from place says
   numbered (greets params answer at now from first part says) h = subst (λ m. HasNumber (asking_of s events).next m) (sym says) tt
   numbered (forwarded a still k) h = let below : (asking_of s events).next < settings.limits.requests = ltb-true (asking_of s events).next settings.limits.requests k.room in
       let wide : settings.limits.requests < 2 ^ 32 = range.requests in
       subst (λ m. HasNumber (asking_of s events).next m) (sym (k.says (omega (arith, below, wide)))) refl
-  numbered (tells still k) h = let m : Spoken (message_of body) = spoken (message_of body) (k.spoken range) in subst (λ z. HasNumber (asking_of s events).next z) (sym m.is) tt
+  numbered (tells still k) h = told_numbered (asking_of s events).next (message_of body) (k.spoken range)
 
 rule : (settings : Settings) → InRange settings → ServerRule settings No ServerRule3
 rule settings range = record {

@@ -126,12 +126,16 @@ module _ (settings : Settings) (range : InRange settings) (before : List Event) 
       subst (λ m. AllowsSaying (versions_at s events) (saying_of m)) (sym (k.says (omega (arith, below, wide)))) tt
   allowed (tells still k) = k.allowed range
 
+-- what it may be told by the versions that it has, it may be told by its part
+pub by_part : (s : ℕ) (events : List Event) (x : Saying) → AllowsSaying (versions_at s events) x → AllowsSaying (λ u. version_of u (server_part s events)) x
+by_part s events x h = allows_same (fold step none_held (server_part s events)) (λ u. version_of u (server_part s events)) (λ u. word_at none_held (server_part s events) u) x
+    (allows_same (versions_at s events) (fold step none_held (server_part s events)) (held_by_part s events) x h)
+
 rule : (settings : Settings) → InRange settings → ServerRule settings No ServerRule4
 rule settings range = record {
   law = no_law settings;
   free = free;
-  sent = λ before cause events s body why h here own i. allows_same (fold step none_held (server_part s events)) (λ u. version_of u (server_part s events)) (λ u. word_at none_held (server_part s events) u) (saying_of (message_of body))
-      (allows_same (versions_at s events) (fold step none_held (server_part s events)) (held_by_part s events) (saying_of (message_of body)) (allowed settings range before cause events s body why));
+  sent = λ before cause events s body why h here own i. by_part s events (saying_of (message_of body)) (allowed settings range before cause events s body why);
 }
 
 pub server_4_law : (settings : Settings) → InRange settings → (history : List Entry) → Legal settings history → KeepsServer4 history

@@ -18,21 +18,21 @@ use Rattle.mux_facts.proofs.Known.{Law, law_holds}
 use Rattle.mux_facts.proofs.Words.{number_same, other_number}
 
 -- how often a start was spawned
-abbrev spawned_behind : ℕ → ℕ → Event → ℕ
+abbrev pub spawned_behind : ℕ → ℕ → Event → ℕ
 spawned_behind s n (did (Spawn k g) m) = n + (if k == s then 1 else 0)
 spawned_behind s n other = n
 
-abbrev spawned : ℕ → List Event → ℕ
+abbrev pub spawned : ℕ → List Event → ℕ
 spawned s events = fold (spawned_behind s) 0 events
 
 spawned_more : (s : ℕ) (events : List Event) (event : Event) → spawned s (events ++ event ∷ []) ≡ spawned_behind s (spawned s events) event
 spawned_more s events event = fold-append (spawned_behind s) 0 events (event ∷ [])
 
-heard_still : (s n : ℕ) (cause : Cause) → spawned_behind s n (heard cause) ≡ n
+pub heard_still : (s n : ℕ) (cause : Cause) → spawned_behind s n (heard cause) ≡ n
 heard_still s n (Joined e) = refl
 heard_still s n cause = refl
 
-heard_starts : (n : ℕ) (cause : Cause) → starts_behind n (heard cause) ≡ n
+pub heard_starts : (n : ℕ) (cause : Cause) → starts_behind n (heard cause) ≡ n
 heard_starts n (Joined e) = refl
 heard_starts n cause = refl
 
@@ -56,11 +56,14 @@ history_count s [] events = omega arith
 history_count s (entry ∷ history) events = let r = history_count s history (with_entry events entry) in let e = entry_count s events entry in omega (arith, r, e)
 
 -- a start whose number came was spawned once, and any other never
-record Once (events : List Event) : Type 0 where
-  earlier : (s : ℕ) → s < starts_of events → spawned s events ≡ 1
-  later : (s : ℕ) → starts_of events ≤ s → spawned s events ≡ 0
+pub record Once (events : List Event) : Type 0 where
+  pub earlier : (s : ℕ) → s < starts_of events → spawned s events ≡ 1
+  pub later : (s : ℕ) → starts_of events ≤ s → spawned s events ≡ 0
 
-still : (events : List Event) (event : Event) → ((s n : ℕ) → spawned_behind s n event ≡ n) → ((n : ℕ) → starts_behind n event ≡ n) → Once events → Once (events ++ event ∷ [])
+pub none_spawned : Once []
+none_spawned = record { earlier = λ s l. absurd (omega arith); later = λ s l. refl }
+
+pub still : (events : List Event) (event : Event) → ((s n : ℕ) → spawned_behind s n event ≡ n) → ((n : ℕ) → starts_behind n event ≡ n) → Once events → Once (events ++ event ∷ [])
 still events event f g h = record {
   earlier = λ s l. spawned_more s events event ∙ (f s (spawned s events) ∙ h.earlier s (subst (λ n. s < n) (starts_more events event ∙ g (starts_of events)) l));
   later = λ s l. spawned_more s events event ∙ (f s (spawned s events) ∙ h.later s (subst (λ n. n ≤ s) (starts_more events event ∙ g (starts_of events)) l));
@@ -72,7 +75,7 @@ apart n s e same = let equal : (n == s) ≡ true = grind (arith, nat_tests) in c
     clash : false ≡ true → ⊥
     clash h = absurd cc
 
-one_more : (events : List Event) (g : ℕ) → Once events → Once (events ++ said (Spawn (starts_of events) g) ∷ [])
+pub one_more : (events : List Event) (g : ℕ) → Once events → Once (events ++ said (Spawn (starts_of events) g) ∷ [])
 one_more events g h = record {
   earlier = λ s l. spawned_more s events (said (Spawn (starts_of events) g)) ∙ once s (starts_of events == s) refl (subst (λ n. s < n) (starts_more events (said (Spawn (starts_of events) g))) l);
   later = λ s l. spawned_more s events (said (Spawn (starts_of events) g)) ∙ never s (subst (λ n. n ≤ s) (starts_more events (said (Spawn (starts_of events) g))) l);
@@ -87,6 +90,23 @@ one_more events g h = record {
         let none : spawned s events ≡ 0 = h.later s (omega arith) in
         ap (λ b. spawned s events + (if b then 1 else 0)) other ∙ omega (arith, none)
 
+-- so in the history
+counted : (s : ℕ) (history : List Entry) → spawned s (events_of history) ≡ spawns s history
+counted s history = let e : spawned s (events_of history) ≡ 0 + spawns s history = history_count s history [] in omega (arith, e)
+
+pub counts_below : (history : List Entry) (s : ℕ) → Once (events_of history) → s < starts_of (events_of history) → spawns s history ≡ 1
+counts_below history s h l = sym (counted s history) ∙ h.earlier s l
+
+pub counts_above : (history : List Entry) (s : ℕ) → Once (events_of history) → starts_of (events_of history) ≤ s → spawns s history ≡ 0
+counts_above history s h l = sym (counted s history) ∙ h.later s l
+
+pub once_counts : (history : List Entry) (s : ℕ) → Once (events_of history) → spawns s history ≤ 1
+once_counts history s h = go (nat_lt s (starts_of (events_of history))) refl
+  where
+    go : (b : Bool) → nat_lt s (starts_of (events_of history)) ≡ b → spawns s history ≤ 1
+    go true e = let below : s < starts_of (events_of history) = grind (arith, nat_tests) in let one = counts_below history s h below in omega (arith, one)
+    go false e = let above : starts_of (events_of history) ≤ s = grind (arith, nat_tests) in let none = counts_above history s h above in omega (arith, none)
+
 law : (settings : Settings) → Law settings Once
 law settings = record {
   took = λ before cause fits built known h. still before (heard cause) (λ s n. heard_still s n cause) (λ n. heard_starts n cause) h;
@@ -98,21 +118,13 @@ law settings = record {
 
 -- of every legal history
 numbered : (settings : Settings) (history : List Entry) → Legal settings history → Once (events_of history)
-numbered settings history legal = law_holds settings (fact_laws settings) Once (law settings) (record { earlier = λ k l. absurd (omega arith); later = λ k l. refl }) no_facts history legal
-
--- the same count
-counted : (s : ℕ) (history : List Entry) → spawned s (events_of history) ≡ spawns s history
-counted s history = let e : spawned s (events_of history) ≡ 0 + spawns s history = history_count s history [] in omega (arith, e)
+numbered settings history legal = law_holds settings (fact_laws settings) Once (law settings) none_spawned no_facts history legal
 
 pub spawned_below : (settings : Settings) (history : List Entry) → Legal settings history → (s : ℕ) → s < starts_of (events_of history) → spawns s history ≡ 1
-spawned_below settings history legal s l = sym (counted s history) ∙ (numbered settings history legal).earlier s l
+spawned_below settings history legal s l = counts_below history s (numbered settings history legal) l
 
 pub spawned_above : (settings : Settings) (history : List Entry) → Legal settings history → (s : ℕ) → starts_of (events_of history) ≤ s → spawns s history ≡ 0
-spawned_above settings history legal s l = sym (counted s history) ∙ (numbered settings history legal).later s l
+spawned_above settings history legal s l = counts_above history s (numbered settings history legal) l
 
 pub spawned_once : (settings : Settings) (history : List Entry) → Legal settings history → (s : ℕ) → spawns s history ≤ 1
-spawned_once settings history legal s = go (nat_lt s (starts_of (events_of history))) refl
-  where
-    go : (b : Bool) → nat_lt s (starts_of (events_of history)) ≡ b → spawns s history ≤ 1
-    go true e = let below : s < starts_of (events_of history) = grind (arith, nat_tests) in let one = spawned_below settings history legal s below in omega (arith, one)
-    go false e = let above : starts_of (events_of history) ≤ s = grind (arith, nat_tests) in let none = spawned_above settings history legal s above in omega (arith, none)
+spawned_once settings history legal s = once_counts history s (numbered settings history legal)

@@ -1,0 +1,40 @@
+-- The requests to a start are numbered from 1.
+use Rattle.std.proofs.Common.{◌≡◌, ℕ, List, decimal, refl, sym, ap, subst}
+use Rattle.mux_history.specs.declared.cause.Cause.{Cause}
+use Rattle.mux_history.specs.declared.entry.Entry.{Entry}
+use Rattle.rpc_message.specs.Message.{integer, message_of}
+use Rattle.event_model.specs.Event.{Event}
+use Rattle.event_model.specs.Requests.{asking_of, no_asking}
+use Rattle.event_model.specs.Settings.{Settings}
+use Rattle.mux_facts.specs.Ranges.{InRange}
+use Rattle.session_laws.specs.ServerRules.{HasNumber, KeepsServer3, ServerRule3}
+use Rattle.session_laws.proofs.PartLaws.{No}
+use Rattle.session_laws.proofs.Server3Law.{begun_numbered, free, known, told_numbered}
+use Rattle.group_rows.specs.Forwarded.{forwarding_of}
+use Rattle.group_facts.specs.Facts.{is_unbegun}
+use Rattle.group_facts.specs.Legal.{Legal}
+use Rattle.group_facts.specs.Why.{WhyToServer, begins, greets, forwarded, tells, shuts}
+use Rattle.group_facts.proofs.Facts.{Facts, Mid, TiedAt, begins_now}
+use Rattle.group_facts.proofs.RestLaws.{Inside}
+use Rattle.group_sessions.proofs.PartLaws.{ServerRule, no_law, server_history}
+
+module _ (settings : Settings) (before : List Event) (cause : Cause) (events : List Event) (s : ℕ) (body : List ℕ) where
+  -- a request has the next number
+  numbered : WhyToServer settings before cause events s body → Facts settings before → Mid settings before cause events → HasNumber (asking_of s events).next (message_of body)
+  numbered (begins k) h here = begun_numbered before cause events s k.params (message_of body) ((h.steady).unbegun s (ap is_unbegun k.stage)).0 k.from k.place k.says
+  numbered (greets k) h here = subst (HasNumber (asking_of s events).next) (sym k.says) tt
+  numbered (forwarded k) h here =
+      let tied : (asking_of s events).next ≡ (forwarding_of s events).next = subst (λ z. TiedAt z (asking_of s events).next (forwarding_of s events).next) k.ready (here.tied s (ap (λ c. begins_now c s) k.from)) in
+      subst (HasNumber (asking_of s events).next) (sym k.says) (ap (λ n. integer (decimal n)) (sym tied))
+  numbered (tells k) h here = told_numbered (asking_of s events).next (message_of body) k.spoken
+  numbered (shuts k) h here = subst (HasNumber (asking_of s events).next) (sym k.says) refl
+
+rule : (settings : Settings) → ServerRule settings No (Inside No) ServerRule3
+rule settings = record {
+  law = no_law settings;
+  free = free;
+  sent = λ before cause events s body why h here own i. subst (λ n. HasNumber n (message_of body)) (known s no_asking 0 events refl) (numbered settings before cause events s body why h here);
+}
+
+pub server_3_law : (settings : Settings) → InRange settings → (history : List Entry) → Legal settings history → KeepsServer3 history
+server_3_law settings range history legal = server_history settings No (Inside No) ServerRule3 (rule settings) range tt history legal

@@ -1,0 +1,24 @@
+-- All rules at once.
+use Rattle.std.proofs.Common.{List}
+use Rattle.mux_history.specs.declared.entry.Entry.{Entry}
+use Rattle.event_model.specs.Settings.{Settings}
+use Rattle.mux_facts.specs.Ranges.{InRange}
+use Rattle.session_laws.specs.Sessions.{KeepsSessions}
+use Rattle.group_facts.specs.Legal.{Legal}
+use Rattle.group_sessions.proofs.Client2Law.{client_2_law}
+use Rattle.group_sessions.proofs.Client3Law.{client_3_law}
+use Rattle.group_sessions.proofs.Server1Law.{server_1_law}
+use Rattle.group_sessions.proofs.Server2Law.{server_2_law}
+use Rattle.group_sessions.proofs.Server3Law.{server_3_law}
+use Rattle.group_sessions.proofs.Server4Law.{server_4_law}
+
+-- a legal history of several editors and groups keeps them
+pub sessions_kept : (settings : Settings) → InRange settings → (history : List Entry) → Legal settings history → KeepsSessions history
+sessions_kept settings range history legal = record {
+  client_2 = client_2_law settings range history legal;
+  client_3 = client_3_law settings range history legal;
+  server_1 = server_1_law settings range history legal;
+  server_2 = server_2_law settings range history legal;
+  server_3 = server_3_law settings range history legal;
+  server_4 = server_4_law settings range history legal;
+}

@@ -1,0 +1,50 @@
+// The rules of session_laws, each a law of every legal history of several editors and groups: of each editor and each start.
+ghost use Rattle.std.specs.Prelude.{ℕ, ◌≤◌, List};
+ghost use Rattle.mux_history.specs.Cores.{spawns};
+ghost use Rattle.mux_history.specs.declared.entry.Entry.{Entry};
+ghost use Rattle.event_model.specs.Settings.{Settings};
+ghost use Rattle.mux_facts.specs.Ranges.{InRange};
+ghost use Rattle.group_facts.specs.Legal.{Legal};
+ghost use Rattle.session_laws.specs.ClientRules.{KeepsClient2, KeepsClient3};
+ghost use Rattle.session_laws.specs.ServerRules.{KeepsServer1, KeepsServer2, KeepsServer3, KeepsServer4};
+
+/// A law: each response to an editor has the id of an open request of it, which it closes, or answers a body that was
+/// no message with a null id (JSON-RPC 2.0, section 5; LSP 3.17, Response Message).
+pub fn client_2()
+    ensures { (settings : Settings) → InRange settings → (history : List Entry) → Legal settings history → KeepsClient2 history }
+{}
+
+/// A law: an editor gets nothing but responses until its `initialize` has a result and it sent a later message, and
+/// one `initialize` of it at most gets a result (LSP 3.17, Initialize Request).
+pub fn client_3()
+    ensures { (settings : Settings) → InRange settings → (history : List Entry) → Legal settings history → KeepsClient3 history }
+{}
+
+/// A law: bodies go to a server's program while it runs, and not once it is to be ended (LSP 3.17, Lifecycle
+/// Messages).
+pub fn server_1()
+    ensures { (settings : Settings) → InRange settings → (history : List Entry) → Legal settings history → KeepsServer1 history }
+{}
+
+/// A law: a server first gets the request `initialize`, until its result only responses, and then once the
+/// notification `initialized` (LSP 3.17, Initialize Request and Initialized Notification).
+pub fn server_2()
+    ensures { (settings : Settings) → InRange settings → (history : List Entry) → Legal settings history → KeepsServer2 history }
+{}
+
+/// A law: the n-th request to a server has the id n (JSON-RPC 2.0, section 4).
+pub fn server_3()
+    ensures { (settings : Settings) → InRange settings → (history : List Entry) → Legal settings history → KeepsServer3 history }
+{}
+
+/// A law: a server is told that a document opens, under version 1, where it doesn't have it, and that one changes, under
+/// its version plus 1, or closes, where it has it (LSP 3.17, Text Document Synchronization).
+pub fn server_4()
+    ensures { (settings : Settings) → InRange settings → (history : List Entry) → Legal settings history → KeepsServer4 history }
+{}
+
+/// A law: no start is spawned twice, whatever group it is for. It is no rule of a session; that each lane of a server
+/// has its own starts follows from it.
+pub fn spawned_once()
+    ensures { (settings : Settings) → InRange settings → (history : List Entry) → Legal settings history → (s : ℕ) → spawns s history ≤ 1 }
+{}

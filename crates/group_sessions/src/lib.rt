@@ -1,0 +1,6 @@
+//! The rules of a conforming session, each a law of every legal history of several editors and groups.
+#![tactic(auto)]
+
+mod laws;
+
+pub use laws::{client_2, client_3, server_1, server_2, server_3, server_4, spawned_once};
