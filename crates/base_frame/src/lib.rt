@@ -5,8 +5,6 @@ mod block;
 mod front;
 mod law;
 mod reader;
-#[cfg(test)]
-mod tests;
 mod written;
 
 pub use block::BadWhy;

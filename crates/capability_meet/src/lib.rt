@@ -11,8 +11,6 @@ mod order;
 mod parts;
 mod showing;
 mod spot;
-#[cfg(test)]
-mod tests;
 mod twins;
 mod written;
 

@@ -7,8 +7,6 @@ mod fault;
 mod gap;
 mod number;
 mod read;
-#[cfg(test)]
-mod tests;
 mod text;
 
 pub use change::{ContentChange, Extent, Position, Range};

@@ -15,6 +15,3 @@ pub use law::{causes_law, outs_law};
 pub use line::{LineFault, cause_of_line, read_line};
 pub use made::make;
 pub use write::{write_cause_line, write_entry, write_outs};
-
-#[cfg(test)]
-mod tests;

@@ -5,6 +5,3 @@ mod editors;
 mod session;
 
 pub use editors::Editors;
-
-#[cfg(test)]
-mod tests;

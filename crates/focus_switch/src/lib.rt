@@ -7,8 +7,6 @@ mod notice;
 mod opens;
 mod shared;
 mod telling;
-#[cfg(test)]
-mod tests;
 mod texts;
 
 pub use agreement::Agreement;

@@ -3,7 +3,5 @@
 
 mod compare;
 mod groups;
-#[cfg(test)]
-mod tests;
 
 pub use groups::Groups;

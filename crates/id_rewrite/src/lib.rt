@@ -9,6 +9,3 @@ mod table;
 
 pub use pending::{Numbered, NumbersUsed, Pending};
 pub use table::IdTable;
-
-#[cfg(test)]
-mod tests;

@@ -16,6 +16,3 @@ pub use node::{Node, Place};
 pub use puts::Put;
 pub use span_bytes::part;
 pub use values::Values;
-
-#[cfg(test)]
-mod tests;

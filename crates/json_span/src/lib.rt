@@ -8,8 +8,6 @@ mod reader;
 mod state;
 mod string;
 mod tape;
-#[cfg(test)]
-mod tests;
 mod word;
 
 pub use fault::JsonFault;

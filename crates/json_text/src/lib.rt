@@ -4,8 +4,6 @@
 mod change;
 mod kind;
 mod span;
-#[cfg(test)]
-mod tests;
 mod tree;
 
 pub use change::{Change, splice};

@@ -6,8 +6,6 @@ mod decoded;
 mod number;
 mod run;
 mod string;
-#[cfg(test)]
-mod tests;
 
 pub use character::next_character;
 pub use decoded::{decode, same_characters, spells_text};

@@ -4,8 +4,6 @@
 
 mod lane;
 mod line;
-#[cfg(test)]
-mod tests;
 
 pub use lane::{HubEnds, Lane, LaneIn, LaneOut, Settled, settle};
 pub use lane_lists::{Order, Posted, Side};

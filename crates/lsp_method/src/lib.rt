@@ -6,6 +6,3 @@ mod variants;
 
 pub use table::class;
 pub use variants::{Class, Origin};
-
-#[cfg(test)]
-mod tests;

@@ -14,6 +14,3 @@ pub use all_lines::drive;
 pub use program::{Outside, lspmux};
 pub use refusal::Refusal;
 pub use stop::Stop;
-
-#[cfg(test)]
-mod tests;

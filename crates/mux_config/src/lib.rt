@@ -8,8 +8,6 @@ mod keys;
 mod laws;
 mod read;
 mod servers;
-#[cfg(test)]
-mod tests;
 mod values;
 
 pub use config::Config;

@@ -18,6 +18,3 @@ pub use memory_journal::MemJournal;
 pub use out::Out;
 pub use outs::Outs;
 pub use steps::{StepFault, Steps};
-
-#[cfg(test)]
-mod tests;

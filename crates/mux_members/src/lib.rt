@@ -16,6 +16,3 @@ pub use notice::{Notice, notice_in, speaks};
 pub use opening::initialize_request;
 pub use outcome::{encoding, is_first_result, is_plain_result, reads_versions};
 pub use params::{has_bare_capabilities, has_token};
-
-#[cfg(test)]
-mod tests;

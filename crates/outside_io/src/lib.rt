@@ -28,6 +28,3 @@ pub use meter::{Gate, Memory, Meter};
 pub use port::{Arrival, Port};
 pub use sink::{Cut, Sink, WriteFault, write_whole};
 pub use source::{ReadFault, Source};
-
-#[cfg(test)]
-mod tests;

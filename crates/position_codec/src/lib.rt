@@ -7,8 +7,6 @@ ghost use Rattle.position_codec.specs.Position.{units, lines, offset_at, starts}
 ghost use Rattle.position_codec.specs.Walk.{past, ends_line, starts_between};
 
 mod spot;
-#[cfg(test)]
-mod tests;
 
 use message_body::Memory;
 pub use spot::{Advance, Spot};

@@ -4,6 +4,3 @@
 mod life;
 
 pub use life::Life;
-
-#[cfg(test)]
-mod tests;

@@ -9,8 +9,6 @@ mod message;
 mod names;
 mod parts;
 mod sort;
-#[cfg(test)]
-mod tests;
 mod texts;
 
 pub use code::ErrorCode;

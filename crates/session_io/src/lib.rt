@@ -4,8 +4,6 @@
 
 mod part;
 mod read;
-#[cfg(test)]
-mod tests;
 mod write;
 
 pub use part::{Core, End};

@@ -9,7 +9,5 @@ mod limits;
 mod order;
 mod piece;
 mod piece_text;
-#[cfg(test)]
-mod tests;
 
 pub use piece_text::PieceText;
