@@ -29,7 +29,8 @@ pub fn write_compact(out: &mut Vec<u8>, values: Values, node: u32) -> Result<(),
 #[cycle(compact)]
 fn write_array(out: &mut Vec<u8>, values: Values, node: u32) -> Result<(), Memory>
     requires { node < length values.nodes.now }
-    ensures { (s : Span) (js : Items) → At (doc_of values.entry) node (array s js) → OnOk result (out.new.items ≡ out.old.items ++ compact (doc_of values.entry).bytes (array s js)) }
+    ensures { (s : Span) (js : Items) → At (doc_of values.entry) node (array s js)
+        → OnOk result (out.new.items ≡ out.old.items ++ compact (doc_of values.entry).bytes (array s js)) }
 {
     write(out, b"[")?;
     write_items(out, values, node)?;
@@ -39,7 +40,8 @@ fn write_array(out: &mut Vec<u8>, values: Values, node: u32) -> Result<(), Memor
 #[cycle(compact)]
 fn write_items(out: &mut Vec<u8>, values: Values, node: u32) -> Result<(), Memory>
     requires { node < length values.nodes.now }
-    ensures { (s : Span) (js : Items) → At (doc_of values.entry) node (array s js) → OnOk result (out.new.items ≡ out.old.items ++ listed false (compact_items (doc_of values.entry).bytes js)) }
+    ensures { (s : Span) (js : Items) → At (doc_of values.entry) node (array s js)
+        → OnOk result (out.new.items ≡ out.old.items ++ listed false (compact_items (doc_of values.entry).bytes js)) }
 {
     let mut started = false;
     let mut next = values.first(node);
@@ -55,7 +57,8 @@ fn write_items(out: &mut Vec<u8>, values: Values, node: u32) -> Result<(), Memor
 #[cycle(compact)]
 fn write_object(out: &mut Vec<u8>, values: Values, node: u32) -> Result<(), Memory>
     requires { node < length values.nodes.now }
-    ensures { (s : Span) (ms : Members) → At (doc_of values.entry) node (object s ms) → OnOk result (out.new.items ≡ out.old.items ++ compact (doc_of values.entry).bytes (object s ms)) }
+    ensures { (s : Span) (ms : Members) → At (doc_of values.entry) node (object s ms)
+        → OnOk result (out.new.items ≡ out.old.items ++ compact (doc_of values.entry).bytes (object s ms)) }
 {
     write(out, b"{")?;
     write_members(out, values, node)?;
@@ -65,7 +68,8 @@ fn write_object(out: &mut Vec<u8>, values: Values, node: u32) -> Result<(), Memo
 #[cycle(compact)]
 fn write_members(out: &mut Vec<u8>, values: Values, node: u32) -> Result<(), Memory>
     requires { node < length values.nodes.now }
-    ensures { (s : Span) (ms : Members) → At (doc_of values.entry) node (object s ms) → OnOk result (out.new.items ≡ out.old.items ++ listed false (compact_members (doc_of values.entry).bytes ms)) }
+    ensures { (s : Span) (ms : Members) → At (doc_of values.entry) node (object s ms)
+        → OnOk result (out.new.items ≡ out.old.items ++ listed false (compact_members (doc_of values.entry).bytes ms)) }
 {
     let mut started = false;
     let mut next = values.first(node);
@@ -82,7 +86,9 @@ fn write_members(out: &mut Vec<u8>, values: Values, node: u32) -> Result<(), Mem
 // Writes the name of a member, with its quotation marks, and a colon.
 pub fn write_name(out: &mut Vec<u8>, values: Values, node: u32) -> Result<(), Memory>
     requires { node < length values.nodes.now }
-    ensures { (k n : ℕ) (s p : Span) (ms rest : Members) (cs : List ℕ) (u : Json) → ChildAt (doc_of values.entry) k (object s ms) n node u → drop_members n ms ≡ member p cs u rest → OnOk result (out.new.items ≡ (out.old.items ++ name_text (doc_of values.entry).bytes p cs) ++ 58 ∷ []) }
+    ensures { (k n : ℕ) (s p : Span) (ms rest : Members) (cs : List ℕ) (u : Json) → ChildAt (doc_of values.entry) k (object s ms) n node u
+        → drop_members n ms ≡ member p cs u rest → OnOk result (out.new.items
+        ≡ (out.old.items ++ name_text (doc_of values.entry).bytes p cs) ++ 58 ∷ []) }
 {
     let place = name_place(values, node);
     write(out, part(values.bytes, place.from, place.to))?;

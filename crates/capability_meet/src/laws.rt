@@ -23,7 +23,8 @@ pub fn below_transitive()
 /// A law: an object is below an object exactly if what it has of each name is below what the other has of that name, where
 /// either may have none.
 pub fn below_members()
-    ensures { (s r : Span) (ms ns : Members) → (below (object s ms) (object r ns) ≡ true) ↔ ((name : List ℕ) → below_given (named name ms) (named name ns) ≡ true) }
+    ensures { (s r : Span) (ms ns : Members) → (below (object s ms) (object r ns) ≡ true)
+        ↔ ((name : List ℕ) → below_given (named name ms) (named name ns) ≡ true) }
 {}
 
 /// A law: where two values have something in common, it is below each of them, so it offers no more than either.
@@ -39,24 +40,28 @@ pub fn meet_is_greatest()
 
 /// A law: where the values of two texts have something in common, the text that `meet` is of them says just that.
 pub fn meet_says()
-    ensures { (a b : List ℕ) (j k : Json) → tree_of a ≡ Some j → tree_of b ≡ Some k → meets j k ≡ true → (text : List ℕ) × (meet_of a b ≡ Some text) × SaysTree text (meet_tree j k) }
+    ensures { (a b : List ℕ) (j k : Json) → tree_of a ≡ Some j → tree_of b ≡ Some k → meets j k ≡ true → (text : List ℕ) × (meet_of a b ≡ Some text)
+        × SaysTree text (meet_tree j k) }
 {}
 
 /// A law: the text that `meet` answers for two values that have something in common, as two objects always have, is a JSON
 /// text, and its value is their greatest lower bound: it is below both, and all that is below both is below it.
 pub fn meet_text_is_greatest()
-    ensures { (a b : List ℕ) (j k : Json) → tree_of a ≡ Some j → tree_of b ≡ Some k → meets j k ≡ true → (text : List ℕ) × (m : Json) × (meet_of a b ≡ Some text) × (tree_of text ≡ Some m) × IsGreatest j k m }
+    ensures { (a b : List ℕ) (j k : Json) → tree_of a ≡ Some j → tree_of b ≡ Some k → meets j k ≡ true → (text : List ℕ) × (m : Json)
+        × (meet_of a b ≡ Some text) × (tree_of text ≡ Some m) × IsGreatest j k m }
 {}
 
 /// A law: where the values of two texts have something in common, the text that `declared` is of them says just what the
 /// three steps give: what they have in common, without what isn't declared, with what is required put back.
 pub fn declared_says()
-    ensures { (a b : List ℕ) (j k : Json) → tree_of a ≡ Some j → tree_of b ≡ Some k → meets j k ≡ true → (text : List ℕ) × (declared_of a b ≡ Some text) × SaysTree text (declared_tree j k) }
+    ensures { (a b : List ℕ) (j k : Json) → tree_of a ≡ Some j → tree_of b ≡ Some k → meets j k ≡ true → (text : List ℕ)
+        × (declared_of a b ≡ Some text) × SaysTree text (declared_tree j k) }
 {}
 
 /// A law: the text that `declared` answers for capabilities and a ceiling that have something in common, as two objects
 /// always have, is a JSON text. Its value is below both, has neither `notebookDocument` nor `offsetEncoding`, and all that is
 /// below both and offers neither of the two is below it. It has the members that the standard requires.
 pub fn declared_text_is_greatest()
-    ensures { (a b : List ℕ) (j k : Json) → tree_of a ≡ Some j → tree_of b ≡ Some k → meets j k ≡ true → (text : List ℕ) × (m : Json) × (declared_of a b ≡ Some text) × (tree_of text ≡ Some m) × IsGreatestDeclared j k m × HasRequired m }
+    ensures { (a b : List ℕ) (j k : Json) → tree_of a ≡ Some j → tree_of b ≡ Some k → meets j k ≡ true → (text : List ℕ) × (m : Json)
+        × (declared_of a b ≡ Some text) × (tree_of text ≡ Some m) × IsGreatestDeclared j k m × HasRequired m }
 {}

@@ -46,7 +46,8 @@ pub fn declared(
 ) -> Result<Body, CapFault>
     requires capabilities { length capabilities.now ≤ 268435456 }
     requires ceiling { MatchOption ceiling (Unit {0}) (λ c. length c.now ≤ 268435456) }
-    ensures { MatchOption ceiling.entry (Answers result (declared_of capabilities.now capabilities.now)) (λ c. Answers result (declared_of capabilities.now c.now)) }
+    ensures { MatchOption ceiling.entry (Answers result (declared_of capabilities.now capabilities.now))
+        (λ c. Answers result (declared_of capabilities.now c.now)) }
 {
     match ceiling {
         Some(ceiling) => declared_under(alloc, capabilities, ceiling),

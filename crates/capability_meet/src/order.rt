@@ -78,7 +78,8 @@ fn is_beside_or_among(
     requires node { node < length left.nodes.now }
     requires beside { MatchOption beside (Unit {0}) (λ m. m < length right.nodes.now) }
     requires other { other < length right.nodes.now }
-    ensures { (t : Json) (r : Span) (ks : Items) (n : ℕ) → At (doc_of left.entry) node t → At (doc_of right.entry) other (array r ks) → FoundChild (doc_of right.entry) other (array r ks) n beside → result ≡ is_among t ks }
+    ensures { (t : Json) (r : Span) (ks : Items) (n : ℕ) → At (doc_of left.entry) node t → At (doc_of right.entry) other (array r ks)
+        → FoundChild (doc_of right.entry) other (array r ks) n beside → result ≡ is_among t ks }
 {
     if let Some(item) = beside {
         if left.same(node, right, item) {
@@ -145,7 +146,9 @@ fn below_beside(left: Values, member: u32, following: Option<u32>, right: Values
     requires member { member < length left.nodes.now }
     requires following { MatchOption following (Unit {0}) (λ m. m < length left.nodes.now) }
     requires twin { twin < length right.nodes.now }
-    ensures { (k n : ℕ) (s : Span) (u v : Json) (ms : Members) (cs : List ℕ) → ChildAt (doc_of left.entry) k (object s ms) n member u → slice_get (names (object s ms)) n ≡ Some cs → FoundChild (doc_of left.entry) k (object s ms) (n + 1) following → At (doc_of right.entry) twin v → result ≡ (below u v || has_name cs (drop_members (n + 1) ms)) }
+    ensures { (k n : ℕ) (s : Span) (u v : Json) (ms : Members) (cs : List ℕ) → ChildAt (doc_of left.entry) k (object s ms) n member u
+        → slice_get (names (object s ms)) n ≡ Some cs → FoundChild (doc_of left.entry) k (object s ms) (n + 1) following
+        → At (doc_of right.entry) twin v → result ≡ (below u v || has_name cs (drop_members (n + 1) ms)) }
 {
     values_below(left, member, right, twin) || left.is_named_again(member, following)
 }
@@ -180,7 +183,10 @@ fn member_below(
     requires member { member < length left.nodes.now }
     requires following { MatchOption following (Unit {0}) (λ m. m < length left.nodes.now) }
     requires other { other < length right.nodes.now }
-    ensures { (k n : ℕ) (s r : Span) (u : Json) (ms ns : Members) (cs : List ℕ) → ChildAt (doc_of left.entry) k (object s ms) n member u → slice_get (names (object s ms)) n ≡ Some cs → FoundChild (doc_of left.entry) k (object s ms) (n + 1) following → At (doc_of right.entry) other (object r ns) → result ≡ (has_name cs (drop_members (n + 1) ms) || (is_least u || if_some (named cs ns) (λ v. below u v))) }
+    ensures { (k n : ℕ) (s r : Span) (u : Json) (ms ns : Members) (cs : List ℕ) → ChildAt (doc_of left.entry) k (object s ms) n member u
+        → slice_get (names (object s ms)) n ≡ Some cs → FoundChild (doc_of left.entry) k (object s ms) (n + 1) following
+        → At (doc_of right.entry) other (object r ns)
+        → result ≡ (has_name cs (drop_members (n + 1) ms) || (is_least u || if_some (named cs ns) (λ v. below u v))) }
 {
     let name = left.name(member);
     if left.last_spelled(name, following).is_some() {

@@ -14,7 +14,8 @@ use message_body::Memory;
 // Where the name of a member stands, with its quotation marks; the member is that of this value.
 pub fn name_place(values: Values, node: u32) -> Span
     requires { node < length values.nodes.now }
-    ensures { (k n : ℕ) (s p : Span) (ms rest : Members) (cs : List ℕ) (u : Json) → ChildAt (doc_of values.entry) k (object s ms) n node u → drop_members n ms ≡ member p cs u rest → result ≡ p }
+    ensures { (k n : ℕ) (s p : Span) (ms rest : Members) (cs : List ℕ) (u : Json) → ChildAt (doc_of values.entry) k (object s ms) n node u
+        → drop_members n ms ≡ member p cs u rest → result ≡ p }
 {
     let name = values.nodes[node as usize].name;
     Span {

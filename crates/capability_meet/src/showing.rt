@@ -57,7 +57,8 @@ fn change_without(
     change: &Option<Change>,
 ) -> Result<Option<Change>, Memory>
     requires { MatchOption node (Unit {0}) (λ n. n < length values.nodes.now) }
-    ensures { (o : Option Json) → Found (doc_of values.entry) o node → IfOk result (λ written. written ≡ option_map (change_of (without (doc_of values.entry).bytes (chars name.now) change.now)) o) }
+    ensures { (o : Option Json) → Found (doc_of values.entry) o node
+        → IfOk result (λ written. written ≡ option_map (change_of (without (doc_of values.entry).bytes (chars name.now) change.now)) o) }
 {
     let Some(node) = node else { return Ok(None) };
     let mut out = Vec::new(alloc);
@@ -77,7 +78,8 @@ fn write_without(
     change: &Option<Change>,
 ) -> Result<(), Memory>
     requires { node < length values.nodes.now }
-    ensures { (t : Json) → At (doc_of values.entry) node t → OnOk result (out.new.items ≡ out.old.items ++ without (doc_of values.entry).bytes (chars name.now) change.now t) }
+    ensures { (t : Json) → At (doc_of values.entry) node t
+        → OnOk result (out.new.items ≡ out.old.items ++ without (doc_of values.entry).bytes (chars name.now) change.now t) }
 {
     if values.member(node, name).is_some() {
         write(out, b"{")?;
@@ -98,7 +100,8 @@ fn write_other_pairs(
     change: &Option<Change>,
 ) -> Result<(), Memory>
     requires { node < length values.nodes.now }
-    ensures { (s : Span) (ms : Members) → At (doc_of values.entry) node (object s ms) → OnOk result (out.new.items ≡ out.old.items ++ listed false (other_pairs (doc_of values.entry).bytes (chars name.now) change.now ms)) }
+    ensures { (s : Span) (ms : Members) → At (doc_of values.entry) node (object s ms)
+        → OnOk result (out.new.items ≡ out.old.items ++ listed false (other_pairs (doc_of values.entry).bytes (chars name.now) change.now ms)) }
 {
     let mut started = false;
     let mut next = values.first(node);
@@ -119,7 +122,10 @@ fn write_other_pair(
     change: &Option<Change>,
 ) -> Result<bool, Memory>
     requires { node < length values.nodes.now }
-    ensures { (k n : ℕ) (s p : Span) (ms rest : Members) (cs : List ℕ) (u : Json) → ChildAt (doc_of values.entry) k (object s ms) n node u → slice_get (member_names ms) n ≡ Some cs → drop_members n ms ≡ member p cs u rest → IfOk result (λ now. out.new.items ++ listed now (other_pairs (doc_of values.entry).bytes (chars name.now) change.now rest) ≡ out.old.items ++ listed started (other_pairs (doc_of values.entry).bytes (chars name.now) change.now (member p cs u rest))) }
+    ensures { (k n : ℕ) (s p : Span) (ms rest : Members) (cs : List ℕ) (u : Json) → ChildAt (doc_of values.entry) k (object s ms) n node u
+        → slice_get (member_names ms) n ≡ Some cs → drop_members n ms ≡ member p cs u rest
+        → IfOk result (λ now. out.new.items ++ listed now (other_pairs (doc_of values.entry).bytes (chars name.now) change.now rest)
+        ≡ out.old.items ++ listed started (other_pairs (doc_of values.entry).bytes (chars name.now) change.now (member p cs u rest))) }
 {
     if spells_text(values.name(node), name) {
         return Ok(started);

@@ -42,7 +42,9 @@ pub fn twin_of(
     requires node { node < length left.nodes.now }
     requires following { MatchOption following (Unit {0}) (λ m. m < length left.nodes.now) }
     requires other { other < length right.nodes.now }
-    ensures twin { (k n : ℕ) (s r : Span) (ms ns : Members) (cs : List ℕ) (u : Json) → ChildAt (doc_of left.entry) k (object s ms) n node u → slice_get (member_names ms) n ≡ Some cs → FoundChild (doc_of left.entry) k (object s ms) (n + 1) following → At (doc_of right.entry) other (object r ns) → Found (doc_of right.entry) (twin_at spot cs u (drop_members (n + 1) ms) ns) result }
+    ensures twin { (k n : ℕ) (s r : Span) (ms ns : Members) (cs : List ℕ) (u : Json) → ChildAt (doc_of left.entry) k (object s ms) n node u
+        → slice_get (member_names ms) n ≡ Some cs → FoundChild (doc_of left.entry) k (object s ms) (n + 1) following
+        → At (doc_of right.entry) other (object r ns) → Found (doc_of right.entry) (twin_at spot cs u (drop_members (n + 1) ms) ns) result }
     ensures inside { MatchOption result (Unit {0}) (λ m. m < length right.entry.nodes.now) }
 {
     let name = left.name(node);
@@ -76,7 +78,8 @@ pub fn if_meets(left: Values, node: u32, right: Values, other: u32) -> Option<u3
 pub fn named_meets(left: Values, node: u32, right: Values, other: u32, name: &str) -> bool
     requires node { node < length left.nodes.now }
     requires other { other < length right.nodes.now }
-    ensures { OfValues left.entry node right.entry other (λ t u. result ≡ if_some (named_in (chars name.now) t) (λ j. if_some (named_in (chars name.now) u) (λ k. meets j k))) }
+    ensures { OfValues left.entry node right.entry other (λ t u. result
+        ≡ if_some (named_in (chars name.now) t) (λ j. if_some (named_in (chars name.now) u) (λ k. meets j k))) }
 {
     let Some(mine) = left.member(node, name) else {
         return false

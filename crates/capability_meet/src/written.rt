@@ -34,7 +34,8 @@ pub fn write_met(
 ) -> Result<(), Memory>
     requires node { node < length left.nodes.now }
     requires other { other < length right.nodes.now }
-    ensures { OfValues left.entry node right.entry other (λ t u. meets t u ≡ true → OnOk result (out.new.items ≡ out.old.items ++ text_at (doc_of left.entry).bytes spot t u)) }
+    ensures { OfValues left.entry node right.entry other (λ t u. meets t u ≡ true
+        → OnOk result (out.new.items ≡ out.old.items ++ text_at (doc_of left.entry).bytes spot t u)) }
 {
     match pair_of(left.kind(node), right.kind(other)) {
         Pair::Least => Ok(()),
@@ -53,7 +54,8 @@ fn write_array(
 ) -> Result<(), Memory>
     requires node { node < length left.nodes.now }
     requires other { other < length right.nodes.now }
-    ensures { (s r : Span) (js ks : Items) → At (doc_of left.entry) node (array s js) → At (doc_of right.entry) other (array r ks) → OnOk result (out.new.items ≡ out.old.items ++ text_at (doc_of left.entry).bytes spot.Elsewhere (array s js) (array r ks)) }
+    ensures { (s r : Span) (js ks : Items) → At (doc_of left.entry) node (array s js) → At (doc_of right.entry) other (array r ks)
+        → OnOk result (out.new.items ≡ out.old.items ++ text_at (doc_of left.entry).bytes spot.Elsewhere (array s js) (array r ks)) }
 {
     write(out, b"[")?;
     write_items(out, left, node, right, other)?;
@@ -70,7 +72,8 @@ fn write_items(
 ) -> Result<(), Memory>
     requires node { node < length left.nodes.now }
     requires other { other < length right.nodes.now }
-    ensures { OfArrays left.entry node right.entry other (λ js ks. OnOk result (out.new.items ≡ out.old.items ++ listed false (items_met (doc_of left.entry).bytes js ks))) }
+    ensures { OfArrays left.entry node right.entry other (λ js ks. OnOk result (out.new.items
+        ≡ out.old.items ++ listed false (items_met (doc_of left.entry).bytes js ks))) }
 {
     let mut started = false;
     let mut next = left.first(node);
@@ -92,7 +95,9 @@ fn write_item(
 ) -> Result<bool, Memory>
     requires node { node < length left.nodes.now }
     requires other { other < length right.nodes.now }
-    ensures { (r : Span) (u : Json) (rest ks : Items) → At (doc_of left.entry) node u → At (doc_of right.entry) other (array r ks) → IfOk result (λ now. out.new.items ++ listed now (items_met (doc_of left.entry).bytes rest ks) ≡ out.old.items ++ listed started (items_met (doc_of left.entry).bytes (item u rest) ks)) }
+    ensures { (r : Span) (u : Json) (rest ks : Items) → At (doc_of left.entry) node u → At (doc_of right.entry) other (array r ks)
+        → IfOk result (λ now. out.new.items ++ listed now (items_met (doc_of left.entry).bytes rest ks)
+        ≡ out.old.items ++ listed started (items_met (doc_of left.entry).bytes (item u rest) ks)) }
 {
     if !is_among(left, node, right, other) {
         return Ok(started);
@@ -113,7 +118,8 @@ fn write_object(
 ) -> Result<(), Memory>
     requires node { node < length left.nodes.now }
     requires other { other < length right.nodes.now }
-    ensures { (s r : Span) (ms ns : Members) → At (doc_of left.entry) node (object s ms) → At (doc_of right.entry) other (object r ns) → OnOk result (out.new.items ≡ out.old.items ++ text_at (doc_of left.entry).bytes spot (object s ms) (object r ns)) }
+    ensures { (s r : Span) (ms ns : Members) → At (doc_of left.entry) node (object s ms) → At (doc_of right.entry) other (object r ns)
+        → OnOk result (out.new.items ≡ out.old.items ++ text_at (doc_of left.entry).bytes spot (object s ms) (object r ns)) }
 {
     write(out, b"{")?;
     let started = write_pairs(out, left, node, right, other, spot)?;
@@ -133,7 +139,10 @@ fn write_pairs(
 ) -> Result<bool, Memory>
     requires node { node < length left.nodes.now }
     requires other { other < length right.nodes.now }
-    ensures { (s r : Span) (ms ns : Members) (more : List (List ℕ)) → At (doc_of left.entry) node (object s ms) → At (doc_of right.entry) other (object r ns) → IfOk result (λ now. out.new.items ++ listed now more ≡ out.old.items ++ listed false (pairs_at (doc_of left.entry).bytes spot ms ns ++ more)) }
+    ensures { (s r : Span) (ms ns : Members) (more : List (List ℕ)) → At (doc_of left.entry) node (object s ms)
+        → At (doc_of right.entry) other (object r ns)
+        → IfOk result (λ now. out.new.items ++ listed now more
+        ≡ out.old.items ++ listed false (pairs_at (doc_of left.entry).bytes spot ms ns ++ more)) }
 {
     let mut started = false;
     let mut next = left.first(node);
@@ -160,7 +169,12 @@ fn write_pair(
     requires node { node < length left.nodes.now }
     requires following { MatchOption following (Unit {0}) (λ m. m < length left.nodes.now) }
     requires other { other < length right.nodes.now }
-    ensures { (k n : ℕ) (s p r : Span) (ms rest ns : Members) (cs : List ℕ) (u : Json) (more : List (List ℕ)) → ChildAt (doc_of left.entry) k (object s ms) n node u → slice_get (member_names ms) n ≡ Some cs → drop_members n ms ≡ member p cs u rest → rest ≡ drop_members (n + 1) ms → FoundChild (doc_of left.entry) k (object s ms) (n + 1) following → At (doc_of right.entry) other (object r ns) → IfOk result (λ now. out.new.items ++ listed now (pairs_at (doc_of left.entry).bytes spot rest ns ++ more) ≡ out.old.items ++ listed started (pairs_at (doc_of left.entry).bytes spot (member p cs u rest) ns ++ more)) }
+    ensures { (k n : ℕ) (s p r : Span) (ms rest ns : Members) (cs : List ℕ) (u : Json) (more : List (List ℕ))
+        → ChildAt (doc_of left.entry) k (object s ms) n node u → slice_get (member_names ms) n ≡ Some cs → drop_members n ms ≡ member p cs u rest
+        → rest ≡ drop_members (n + 1) ms → FoundChild (doc_of left.entry) k (object s ms) (n + 1) following
+        → At (doc_of right.entry) other (object r ns)
+        → IfOk result (λ now. out.new.items ++ listed now (pairs_at (doc_of left.entry).bytes spot rest ns ++ more)
+        ≡ out.old.items ++ listed started (pairs_at (doc_of left.entry).bytes spot (member p cs u rest) ns ++ more)) }
 {
     let Some(twin) = twin_of(left, node, following, right, other, spot) else {
         return Ok(started)
@@ -228,7 +242,8 @@ fn write_required(
 ) -> Result<(), Memory>
     requires node { node < length left.nodes.now }
     requires other { other < length right.nodes.now }
-    ensures { OfObjects left.entry node right.entry other (λ ms ns. OnOk result (out.new.items ≡ out.old.items ++ listed started (if named_meets (chars name.now) ms ns then [] else (pair.now ∷ [])))) }
+    ensures { OfObjects left.entry node right.entry other (λ ms ns. OnOk result (out.new.items
+        ≡ out.old.items ++ listed started (if named_meets (chars name.now) ms ns then [] else (pair.now ∷ [])))) }
 {
     if named_meets(left, node, right, other, name) {
         return Ok(());

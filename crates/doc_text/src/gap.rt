@@ -135,7 +135,9 @@ impl<'a> Gap<'a> {
         ensures front { OnOk result (self.new.front.items ≡ self.old.front.items) }
         ensures spot { OnOk result (self.new.spot ≡ self.old.spot) }
         ensures encoding { OnOk result (self.new.encoding ≡ self.old.encoding) }
-        ensures behind { OnOk result (behind_text self.new.behind.items ≡ drop (offset_in self.old.encoding place (gap_text self.old) - length (front_text self.old.front.items)) (behind_text self.old.behind.items)) }
+        ensures behind { OnOk result (behind_text self.new.behind.items
+            ≡ drop (offset_in self.old.encoding place (gap_text self.old) - length (front_text self.old.front.items))
+            (behind_text self.old.behind.items)) }
     {
         if !self.spot.is_before(place.line, place.character) {
             return Ok(());

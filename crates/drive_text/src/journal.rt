@@ -35,7 +35,8 @@ impl<S: Sink> Journal for LineJournal<S> {
     fn append(&mut self, entry: &Entry) -> Result<(), JournalFault>
         ensures ok { OnOk result (S.written self.new.sink ≡ append_known (S.written self.old.sink) (entry_lines entry.now)) }
         ensures memory { IsErrOf result JournalFault.Memory → self.new.sink ≡ self.old.sink }
-        ensures front { IsErrOf result JournalFault.Failed → ((count : ℕ) × (S.written self.new.sink ≡ append_known (S.written self.old.sink) (take count (entry_lines entry.now)))) }
+        ensures front { IsErrOf result JournalFault.Failed
+            → ((count : ℕ) × (S.written self.new.sink ≡ append_known (S.written self.old.sink) (take count (entry_lines entry.now)))) }
         ensures cause { AppendCause (S.faults self.old.sink) (S.faults self.new.sink) result }
     {
         let Ok(lines) = write_entry(self.alloc, entry) else {

@@ -78,7 +78,8 @@ pub fn read_line<K: Steps>(
     ensures allowed { (history : List Entry) → K.stands core.now history → K.spent core.now ≡ false → IfOk result (λ cause. IsTrue (K.allows history cause)) }
     ensures form { IsErrOf result LineFault.Form → cause_within content line.now ≡ None }
     ensures in_form { IsErrOf result LineFault.Absent → IsSome (cause_within content line.now) }
-    ensures absent { (history : List Entry) → K.stands core.now history → K.spent core.now ≡ false → IsErrOf result LineFault.Absent → IsRefused (K.allows history) (cause_within content line.now) }
+    ensures absent { (history : List Entry) → K.stands core.now history → K.spent core.now ≡ false → IsErrOf result LineFault.Absent
+        → IsRefused (K.allows history) (cause_within content line.now) }
 {
     let Some(cause) = cause_of_line(alloc, line, content)? else {
         return Err(LineFault::Form);

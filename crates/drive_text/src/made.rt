@@ -177,7 +177,9 @@ fn put_opening(alloc: Global, lines: &mut Vec<Body>) -> Result<(), Memory>
 
 fn put_exit(alloc: Global, lines: &mut Vec<Body>, start: u64) -> Result<(), Memory>
     requires { start < 5 }
-    ensures { OnOk result (lines.new.items ≡ lines.old.items ++ spelled (Cause.ServerGone start) ∷ spelled (Cause.Started (start + 1)) ∷ spelled (Cause.FromServer (start + 1) result_body) ∷ []) }
+    ensures { OnOk result (lines.new.items
+        ≡ lines.old.items ++ spelled (Cause.ServerGone start) ∷ spelled (Cause.Started (start + 1)) ∷ spelled
+        (Cause.FromServer (start + 1) result_body) ∷ []) }
 {
     put(alloc, lines, &Cause::ServerGone(start))?;
     put(alloc, lines, &Cause::Started(start + 1))?;

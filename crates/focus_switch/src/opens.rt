@@ -202,7 +202,9 @@ fn latest<'a, T: Text>(
     best: Option<&'a Opening<T>>,
     counts: bool,
 ) -> Option<&'a Opening<T>>
-    ensures { option_map (λ o. shown T.bytes o.now) result ≡ (if counts then later (shown T.bytes opening.now) (option_map (λ o. shown T.bytes o.now) best.entry) else option_map (λ o. shown T.bytes o.now) best.entry) }
+    ensures { option_map (λ o. shown T.bytes o.now) result
+        ≡ (if counts then later (shown T.bytes opening.now) (option_map (λ o. shown T.bytes o.now) best.entry) else option_map
+        (λ o. shown T.bytes o.now) best.entry) }
 {
     if counts {
         Some(later(opening, best))

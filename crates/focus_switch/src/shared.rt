@@ -87,7 +87,8 @@ impl<T: Text + Drop> Shared<T> {
     /// An editor changes a document (LSP 3.17, DidChangeTextDocumentParams), by a message. One that is no change of a document that is
     /// open there changes nothing.
     pub fn change(&mut self, e: u64, message: &Message) -> Result<Outs, Memory>
-        ensures { (t : Json) → At message.now.doc 0 t → IfOk result (λ outs. record { outs = outs; after = self.new } ≡ change_row e message.now.doc.bytes t self.old) }
+        ensures { (t : Json) → At message.now.doc 0 t
+            → IfOk result (λ outs. record { outs = outs; after = self.new } ≡ change_row e message.now.doc.bytes t self.old) }
     {
         let tape = message.tape();
         let Some(change) = did_change(self.alloc, tape)? else {
@@ -314,7 +315,8 @@ impl<T: Text + Drop> Shared<T> {
 
     // What the start is told where an editor changes a document.
     fn changing_tells(&self, tape: &Tape, new: &Opening<T>) -> Result<Option<Telling>, Memory>
-        ensures { (t : Json) → At tape.now 0 t → IfOk result (λ x. x ≡ change_sends (shown T.bytes new.now) tape.now.bytes t (version_held (shown T.bytes new.now).uri self.now.helds) self.now) }
+        ensures { (t : Json) → At tape.now 0 t → IfOk result (λ x. x
+            ≡ change_sends (shown T.bytes new.now) tape.now.bytes t (version_held (shown T.bytes new.now).uri self.now.helds) self.now) }
     {
         let Some(version) = self.helds.version(new.uri.as_bytes()) else {
             return Ok(None)
@@ -457,7 +459,8 @@ fn opening_of<T: Text + Drop>(
     requires uri { IsUtf8 uri.now }
     requires language { IsUtf8 language.now }
     requires text { IsUtf8 text.now }
-    ensures { IfOk result (λ o. shown T.bytes o ≡ record { editor = editor; uri = uri.now; language = language.now; version = version; text = text.now; touched = turn }) }
+    ensures { IfOk result (λ o. shown T.bytes o
+        ≡ record { editor = editor; uri = uri.now; language = language.now; version = version; text = text.now; touched = turn }) }
 {
     let uri = owned(alloc, uri)?;
     let language = owned(alloc, language)?;

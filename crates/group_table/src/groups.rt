@@ -149,8 +149,10 @@ impl Groups {
     ) -> Result<Placed, CapFault>
         requires capabilities { length capabilities.now ≤ 268435456 }
         requires ceiling { MatchOption ceiling (Unit {0}) (λ c. length c.now ≤ 268435456) }
-        ensures placed { (given : List ℕ) → declared_text capabilities.now (option_copied ceiling.entry) ≡ Some given → IfOk result (λ p. p ≡ place_in key given self.old) }
-        ensures ok { (given : List ℕ) → declared_text capabilities.now (option_copied ceiling.entry) ≡ Some given → OnOk result (self.new ≡ after_place key given self.old) }
+        ensures placed { (given : List ℕ) → declared_text capabilities.now (option_copied ceiling.entry) ≡ Some given
+            → IfOk result (λ p. p ≡ place_in key given self.old) }
+        ensures ok { (given : List ℕ) → declared_text capabilities.now (option_copied ceiling.entry) ≡ Some given
+            → OnOk result (self.new ≡ after_place key given self.old) }
         ensures inside { IfOk result (λ p. Inside p (length self.new.groups)) }
         ensures refused { IsErrOf result NotJson → declared_text capabilities.now (option_copied ceiling.entry) ≡ None }
         ensures refuses { declared_text capabilities.now (option_copied ceiling.entry) ≡ None → IsErr result }

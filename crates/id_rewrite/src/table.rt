@@ -145,7 +145,8 @@ impl IdTable {
     /// is linear in `id`; it is a walk over the open requests as long as an editor has two open under one id.
     pub fn find(&self, editor: u64, id: &[u8]) -> Option<u32>
         ensures exact { result ≡ number_under editor id.now self.now.requests }
-        ensures number { (meaning : List ℕ → Id) (i : Id) → IsIdText i id.now → AreIds meaning self.now.requests → result ≡ number_of meaning editor i self.now.requests }
+        ensures number { (meaning : List ℕ → Id) (i : Id) → IsIdText i id.now → AreIds meaning self.now.requests
+            → result ≡ number_of meaning editor i self.now.requests }
         ensures own { IfSome result (λ n. option_map (λ p. p.editor) (pending_of n self.now.requests) ≡ Some editor) }
     {
         self.found(editor, id)

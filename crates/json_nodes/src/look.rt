@@ -52,7 +52,8 @@ impl<'a> Values<'a> {
     /// The bytes between the quotation marks of a string.
     pub fn string(self, node: u32) -> &'a [u8]
         requires { node < length self.nodes.now }
-        ensures place { (s : Span) (cs : List ℕ) → At (doc_of self.entry) node (string s cs) → result.now ≡ between (s.from + 1) (s.to - 1) (doc_of self.entry).bytes }
+        ensures place { (s : Span) (cs : List ℕ) → At (doc_of self.entry) node (string s cs)
+            → result.now ≡ between (s.from + 1) (s.to - 1) (doc_of self.entry).bytes }
         ensures spelled { (s : Span) (cs : List ℕ) → At (doc_of self.entry) node (string s cs) → SpellsCharacters cs result.now }
     {
         let here = self.nodes[node as usize];
@@ -71,8 +72,10 @@ impl<'a> Values<'a> {
     /// The bytes between the quotation marks of the name of a member, which its value stands for.
     pub fn name(self, node: u32) -> &'a [u8]
         requires { node < length self.nodes.now }
-        ensures place { (k n : ℕ) (t u : Json) (s : Span) → ChildAt (doc_of self.entry) k t n node u → slice_get (name_spans t) n ≡ Some s → result.now ≡ between (s.from + 1) (s.to - 1) (doc_of self.entry).bytes }
-        ensures spelled { (k n : ℕ) (t u : Json) (cs : List ℕ) → ChildAt (doc_of self.entry) k t n node u → slice_get (names t) n ≡ Some cs → SpellsCharacters cs result.now }
+        ensures place { (k n : ℕ) (t u : Json) (s : Span) → ChildAt (doc_of self.entry) k t n node u → slice_get (name_spans t) n ≡ Some s
+            → result.now ≡ between (s.from + 1) (s.to - 1) (doc_of self.entry).bytes }
+        ensures spelled { (k n : ℕ) (t u : Json) (cs : List ℕ) → ChildAt (doc_of self.entry) k t n node u → slice_get (names t) n ≡ Some cs
+            → SpellsCharacters cs result.now }
     {
         let name = self.nodes[node as usize].name;
         inside_quotes(self.bytes, name.from, name.to)

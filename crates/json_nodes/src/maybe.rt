@@ -33,7 +33,8 @@ impl<'a> Values<'a> {
 
     /// The value of the last member of this name, where the value is there and an object.
     pub fn maybe_member(self, node: Option<u32>, name: &str) -> Option<u32>
-        ensures member { (o : Option Json) → Found (doc_of self.entry) o node → Found (doc_of self.entry) (option_and_then (named_in (chars name.now)) o) result }
+        ensures member { (o : Option Json) → Found (doc_of self.entry) o node
+            → Found (doc_of self.entry) (option_and_then (named_in (chars name.now)) o) result }
         ensures inside { MatchOption result (Unit {0}) (λ n. n < length self.entry.nodes.now) }
     {
         let node = self.within(node)?;

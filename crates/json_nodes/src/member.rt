@@ -28,7 +28,8 @@ impl<'a> Values<'a> {
 // The value of the last member of this name in an object.
 fn last_named(values: Values, node: u32, name: &str) -> Option<u32>
     requires { node < length values.nodes.now }
-    ensures member { (s : Span) (ms : Members) → At (doc_of values.entry) node (object s ms) → Found (doc_of values.entry) (named_in (chars name.now) (object s ms)) result }
+    ensures member { (s : Span) (ms : Members) → At (doc_of values.entry) node (object s ms)
+        → Found (doc_of values.entry) (named_in (chars name.now) (object s ms)) result }
     ensures inside { MatchOption result (Unit {0}) (λ member. member < length values.entry.nodes.now) }
 {
     let mut found = None;

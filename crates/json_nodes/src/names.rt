@@ -38,7 +38,9 @@ impl<'a> Values<'a> {
     pub fn is_named_again(self, member: u32, following: Option<u32>) -> bool
         requires member { member < length self.nodes.now }
         requires following { MatchOption following (Unit {0}) (λ m. m < length self.nodes.now) }
-        ensures { (k n : ℕ) (s : Span) (u : Json) (ms : Members) (cs : List ℕ) → ChildAt (doc_of self.entry) k (object s ms) n member u → slice_get (names (object s ms)) n ≡ Some cs → FoundChild (doc_of self.entry) k (object s ms) (n + 1) following → result ≡ has_name cs (drop_members (n + 1) ms) }
+        ensures { (k n : ℕ) (s : Span) (u : Json) (ms : Members) (cs : List ℕ) → ChildAt (doc_of self.entry) k (object s ms) n member u
+            → slice_get (names (object s ms)) n ≡ Some cs → FoundChild (doc_of self.entry) k (object s ms) (n + 1) following
+            → result ≡ has_name cs (drop_members (n + 1) ms) }
     {
         self.last_spelled(self.name(member), following).is_some()
     }
@@ -47,7 +49,8 @@ impl<'a> Values<'a> {
     /// bytes of their names.
     pub fn last_spelled(self, raw: &[u8], from: Option<u32>) -> Option<u32>
         requires { MatchOption from (Unit {0}) (λ m. m < length self.nodes.now) }
-        ensures named { (k n : ℕ) (s : Span) (ms : Members) (cs : List ℕ) → SpellsCharacters cs raw.now → FoundChild (doc_of self.entry) k (object s ms) n from → Found (doc_of self.entry) (named cs (drop_members n ms)) result }
+        ensures named { (k n : ℕ) (s : Span) (ms : Members) (cs : List ℕ) → SpellsCharacters cs raw.now
+            → FoundChild (doc_of self.entry) k (object s ms) n from → Found (doc_of self.entry) (named cs (drop_members n ms)) result }
         ensures inside { MatchOption result (Unit {0}) (λ member. member < length self.entry.nodes.now) }
     {
         let mut found = None;

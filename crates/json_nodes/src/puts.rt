@@ -31,7 +31,8 @@ impl<'a> Values<'a> {
     pub fn puts(self, alloc: Global, node: u32, puts: &[Put]) -> Result<Vec<Change>, Memory>
         requires { node < length self.nodes.now }
         ensures edits { (t : Json) → At (doc_of self.entry) node t → IfOk result (λ changes. edits_of changes.items ≡ put_edits (text_for puts.now) t) }
-        ensures within { (t : Json) → At (doc_of self.entry) node t → IfOk result (λ changes. RiseFrom (span_of t).from (span_of t).to (edits_of changes.items)) }
+        ensures within { (t : Json) → At (doc_of self.entry) node t
+            → IfOk result (λ changes. RiseFrom (span_of t).from (span_of t).to (edits_of changes.items)) }
         ensures rise { (t : Json) → At (doc_of self.entry) node t → IfOk result (λ changes. Rise (doc_of self.entry).bytes (edits_of changes.items)) }
     {
         match self.kind(node) {
@@ -49,7 +50,8 @@ fn member_puts(
     puts: &[Put],
 ) -> Result<Vec<Change>, Memory>
     requires { node < length values.nodes.now }
-    ensures { (s : Span) (ms : Members) → At (doc_of values.entry) node (object s ms) → IfOk result (λ changes. edits_of changes.items ≡ member_edits (text_for puts.now) ms) }
+    ensures { (s : Span) (ms : Members) → At (doc_of values.entry) node (object s ms)
+        → IfOk result (λ changes. edits_of changes.items ≡ member_edits (text_for puts.now) ms) }
 {
     let mut changes = Vec::new(alloc);
     let mut next = values.first(node);
@@ -69,7 +71,9 @@ fn add_put(
     puts: &[Put],
 ) -> Result<(), Memory>
     requires { member < length values.nodes.now }
-    ensures { (k n : ℕ) (s : Span) (ms : Members) (u : Json) → ChildAt (doc_of values.entry) k (object s ms) n member u → IfOk result (λ done. edits_of changes.new.items ++ member_edits (text_for puts.now) (drop_members (suc n) ms) ≡ edits_of changes.old.items ++ member_edits (text_for puts.now) (drop_members n ms)) }
+    ensures { (k n : ℕ) (s : Span) (ms : Members) (u : Json) → ChildAt (doc_of values.entry) k (object s ms) n member u
+        → IfOk result (λ done. edits_of changes.new.items ++ member_edits (text_for puts.now) (drop_members (suc n) ms)
+        ≡ edits_of changes.old.items ++ member_edits (text_for puts.now) (drop_members n ms)) }
 {
     if let Some(text) = text_for(values.name(member), puts) {
         let text = Body::new(Vec::from_slice(alloc, text)?);

@@ -34,7 +34,8 @@ impl<'a> Values<'a> {
     pub fn same_bytes(self, node: u32, right: Values, other: u32) -> bool
         requires node { node < length self.nodes.now }
         requires other { other < length right.nodes.now }
-        ensures test { OfValues self.entry node right.entry other (λ t u. result ≡ bytes_eq (bytes_at (doc_of self.entry) t) (bytes_at (doc_of right.entry) u)) }
+        ensures test { OfValues self.entry node right.entry other (λ t u. result
+            ≡ bytes_eq (bytes_at (doc_of self.entry) t) (bytes_at (doc_of right.entry) u)) }
         ensures says { (t u : Json) → At (doc_of self.entry) node t → At (doc_of right.entry) other u → result ≡ true → bare t ≡ bare u }
     {
         self.bytes(node) == right.bytes(other)
@@ -65,7 +66,8 @@ fn same_values(left: Values, node: u32, right: Values, other: u32) -> bool
 fn same_objects(left: Values, node: u32, right: Values, other: u32) -> bool
     requires node { node < length left.nodes.now }
     requires other { other < length right.nodes.now }
-    ensures { (s r : Span) (ms ns : Members) → At (doc_of left.entry) node (object s ms) → At (doc_of right.entry) other (object r ns) → result ≡ same (object s ms) (object r ns) }
+    ensures { (s r : Span) (ms ns : Members) → At (doc_of left.entry) node (object s ms) → At (doc_of right.entry) other (object r ns)
+        → result ≡ same (object s ms) (object r ns) }
 {
     if left.same_names(node, right, other) {
         same_in_step(left, node, right, other)
@@ -101,7 +103,9 @@ fn same_beside(left: Values, member: u32, following: Option<u32>, right: Values,
     requires member { member < length left.nodes.now }
     requires following { MatchOption following (Unit {0}) (λ m. m < length left.nodes.now) }
     requires twin { twin < length right.nodes.now }
-    ensures { (k n : ℕ) (s : Span) (u v : Json) (ms : Members) (cs : List ℕ) → ChildAt (doc_of left.entry) k (object s ms) n member u → slice_get (names (object s ms)) n ≡ Some cs → FoundChild (doc_of left.entry) k (object s ms) (n + 1) following → At (doc_of right.entry) twin v → result ≡ (same u v || has_name cs (drop_members (n + 1) ms)) }
+    ensures { (k n : ℕ) (s : Span) (u v : Json) (ms : Members) (cs : List ℕ) → ChildAt (doc_of left.entry) k (object s ms) n member u
+        → slice_get (names (object s ms)) n ≡ Some cs → FoundChild (doc_of left.entry) k (object s ms) (n + 1) following
+        → At (doc_of right.entry) twin v → result ≡ (same u v || has_name cs (drop_members (n + 1) ms)) }
 {
     same_values(left, member, right, twin) || left.is_named_again(member, following)
 }
@@ -150,7 +154,9 @@ fn same_member(left: Values, member: u32, following: Option<u32>, right: Values,
     requires member { member < length left.nodes.now }
     requires following { MatchOption following (Unit {0}) (λ m. m < length left.nodes.now) }
     requires other { other < length right.nodes.now }
-    ensures { (k n : ℕ) (s r : Span) (u : Json) (ms ns : Members) (cs : List ℕ) → ChildAt (doc_of left.entry) k (object s ms) n member u → slice_get (names (object s ms)) n ≡ Some cs → FoundChild (doc_of left.entry) k (object s ms) (n + 1) following → At (doc_of right.entry) other (object r ns) → result ≡ (has_name cs (drop_members (n + 1) ms) || if_some (named cs ns) (λ v. same u v)) }
+    ensures { (k n : ℕ) (s r : Span) (u : Json) (ms ns : Members) (cs : List ℕ) → ChildAt (doc_of left.entry) k (object s ms) n member u
+        → slice_get (names (object s ms)) n ≡ Some cs → FoundChild (doc_of left.entry) k (object s ms) (n + 1) following
+        → At (doc_of right.entry) other (object r ns) → result ≡ (has_name cs (drop_members (n + 1) ms) || if_some (named cs ns) (λ v. same u v)) }
 {
     let name = left.name(member);
     if left.last_spelled(name, following).is_some() {

@@ -155,7 +155,9 @@ impl Reader {
         requires small { to < 2 ^ 32 }
         requires few { length self.old.nodes.items < 2 ^ 31 }
         requires open { length self.old.stack.items ≤ 1024 }
-        ensures pushed { MatchResult result (λ _. self.new.nodes.items ≡ self.old.nodes.items ++ node_at kind from self.old.name (state_of self.old).stack self.old.nodes.items to ∷ []) (λ e. e ≡ JsonFault.Memory) }
+        ensures pushed { MatchResult result (λ _. self.new.nodes.items
+            ≡ self.old.nodes.items ++ node_at kind from self.old.name (state_of self.old).stack self.old.nodes.items to ∷ []) (λ e. e
+            ≡ JsonFault.Memory) }
         ensures same_stack { self.new.stack ≡ self.old.stack }
     {
         self.nodes.push(Node {

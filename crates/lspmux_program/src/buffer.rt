@@ -120,7 +120,9 @@ pub enum Piece {
 fn take_whole(buffer: &mut Buffer, line: &mut Vec<u8>, feed: usize) -> Result<Piece, Memory>
     requires feed { line_feed buffer.old.pending ≡ Some feed }
     requires small { buffer.old.used ≤ 2 ^ 40 }
-    ensures whole { (left : Option (List ℕ)) → IfOk result (λ piece. piece ≡ Piece.Whole → begun_lines line.old.items buffer.old left ≡ onto_known (record { bytes = line.new.items; upto = buffer.new.used }) (known_lines buffer.new left)) }
+    ensures whole { (left : Option (List ℕ)) → IfOk result (λ piece. piece ≡ Piece.Whole
+        → begun_lines line.old.items buffer.old left
+        ≡ onto_known (record { bytes = line.new.items; upto = buffer.new.used }) (known_lines buffer.new left)) }
     ensures moved { IfOk result (λ piece. piece ≡ Piece.Whole → Moved (10 ∷ []) buffer.old buffer.new line.old.items line.new.items) }
     ensures passed { (left : Option (List ℕ)) → IfOk result (λ piece. piece ≡ Piece.Passed → IfSome (begun_lines line.old.items buffer.old left) FirstPasses) }
     ensures more { IfOk result (λ piece. piece ≡ Piece.Whole → buffer.old.used < buffer.new.used) }
@@ -139,7 +141,8 @@ fn take_part(buffer: &mut Buffer, line: &mut Vec<u8>) -> Result<Piece, Memory>
     requires feed { line_feed buffer.old.pending ≡ None }
     requires there { 0 < length buffer.old.pending }
     requires small { buffer.old.used ≤ 2 ^ 40 }
-    ensures part { (left : Option (List ℕ)) → IfOk result (λ piece. piece ≡ Piece.Part → begun_lines line.old.items buffer.old left ≡ begun_lines line.new.items buffer.new left) }
+    ensures part { (left : Option (List ℕ)) → IfOk result (λ piece. piece ≡ Piece.Part
+        → begun_lines line.old.items buffer.old left ≡ begun_lines line.new.items buffer.new left) }
     ensures moved { IfOk result (λ piece. piece ≡ Piece.Part → Moved [] buffer.old buffer.new line.old.items line.new.items) }
     ensures passed { (left : Option (List ℕ)) → IfOk result (λ piece. piece ≡ Piece.Passed → IfSome (begun_lines line.old.items buffer.old left) FirstPasses) }
     ensures more { IfOk result (λ piece. piece ≡ Piece.Part → buffer.old.used < buffer.new.used) }
@@ -158,8 +161,11 @@ fn take_part(buffer: &mut Buffer, line: &mut Vec<u8>) -> Result<Piece, Memory>
 pub fn take_piece(buffer: &mut Buffer, line: &mut Vec<u8>) -> Result<Piece, Memory>
     requires there { 0 < length buffer.old.pending }
     requires small { buffer.old.used ≤ 2 ^ 40 }
-    ensures whole { (left : Option (List ℕ)) → IfOk result (λ piece. piece ≡ Piece.Whole → begun_lines line.old.items buffer.old left ≡ onto_known (record { bytes = line.new.items; upto = buffer.new.used }) (known_lines buffer.new left)) }
-    ensures part { (left : Option (List ℕ)) → IfOk result (λ piece. piece ≡ Piece.Part → begun_lines line.old.items buffer.old left ≡ begun_lines line.new.items buffer.new left) }
+    ensures whole { (left : Option (List ℕ)) → IfOk result (λ piece. piece ≡ Piece.Whole
+        → begun_lines line.old.items buffer.old left
+        ≡ onto_known (record { bytes = line.new.items; upto = buffer.new.used }) (known_lines buffer.new left)) }
+    ensures part { (left : Option (List ℕ)) → IfOk result (λ piece. piece ≡ Piece.Part
+        → begun_lines line.old.items buffer.old left ≡ begun_lines line.new.items buffer.new left) }
     ensures moved_whole { IfOk result (λ piece. piece ≡ Piece.Whole → Moved (10 ∷ []) buffer.old buffer.new line.old.items line.new.items) }
     ensures moved_part { IfOk result (λ piece. piece ≡ Piece.Part → Moved [] buffer.old buffer.new line.old.items line.new.items) }
     ensures passed { (left : Option (List ℕ)) → IfOk result (λ piece. piece ≡ Piece.Passed → IfSome (begun_lines line.old.items buffer.old left) FirstPasses) }

@@ -79,9 +79,11 @@ pub fn next_line<I: Source>(
     buffer: &mut Buffer,
 ) -> Result<Option<InputLine>, LineStop>
     requires small { buffer.old.used ≤ 2 ^ 40 }
-    ensures line { IfOk result (λ r. IfSome r (λ line. known_lines buffer.old (I.left input.old) ≡ onto_known (record { bytes = line.bytes.items; upto = buffer.new.used }) (known_lines buffer.new (I.left input.new)))) }
+    ensures line { IfOk result (λ r. IfSome r (λ line. known_lines buffer.old (I.left input.old)
+        ≡ onto_known (record { bytes = line.bytes.items; upto = buffer.new.used }) (known_lines buffer.new (I.left input.new)))) }
     ensures end { IfOk result (λ r. IfNone r (IfSome (known_lines buffer.old (I.left input.old)) (λ lines. lines ≡ []))) }
-    ensures came { IfOk result (λ r. IfSome r (λ line. line.is_last ≡ false → Came (10 ∷ []) line.bytes.items buffer.old buffer.new (I.left input.old) (I.left input.new))) }
+    ensures came { IfOk result (λ r. IfSome r (λ line. line.is_last ≡ false
+        → Came (10 ∷ []) line.bytes.items buffer.old buffer.new (I.left input.old) (I.left input.new))) }
     ensures last { IfOk result (λ r. IfSome r (λ line. line.is_last ≡ true → IfSome (known_lines buffer.new (I.left input.new)) (λ lines. lines ≡ []))) }
     ensures last_left { IfOk result (λ r. IfSome r (λ line. line.is_last ≡ true → IfSome (I.left input.new) (λ bytes. bytes ≡ []))) }
     ensures left { IfOk result (λ r. IfNone r (IfSome (I.left input.new) (λ bytes. bytes ≡ []))) }

@@ -96,7 +96,8 @@ pub fn lspmux<J: Journal + Drop, I: Source, O: Sink>(
     outside: &mut Outside<J, I, O>,
 ) -> u8
     requires { JournalTells J.told outside.old.journal [] }
-    ensures drove { Drove J.told outside.new.journal (I.left outside.old.input) (I.left outside.new.input) (O.written outside.old.output) (O.written outside.new.output) (Rose (O.faults outside.old.output) (O.faults outside.new.output)) result }
+    ensures drove { Drove J.told outside.new.journal (I.left outside.old.input) (I.left outside.new.input) (O.written outside.old.output)
+        (O.written outside.new.output) (Rose (O.faults outside.old.output) (O.faults outside.new.output)) result }
     ensures read_to_the_end { result ≡ 0 → IfSome (I.left outside.new.input) (λ bytes. bytes ≡ []) }
     ensures words { (result ≡ 2) ↔ (map string_bytes words.now ≢ drive_words) }
     ensures untouched { result ≡ 2 → outside.new.input ≡ outside.old.input }
@@ -104,7 +105,9 @@ pub fn lspmux<J: Journal + Drop, I: Source, O: Sink>(
     ensures input_only { result ≡ 7 → Rose (I.faults outside.old.input) (I.faults outside.new.input) }
     ensures output_only { result ≡ 8 → Rose (O.faults outside.old.output) (O.faults outside.new.output) }
     ensures answers { IsStatus result }
-    ensures complete { Undisturbed (map string_bytes words.now) (I.left outside.old.input) (JournalRose J.faults outside.old.journal outside.new.journal) (Rose (I.faults outside.old.input) (I.faults outside.new.input)) (Rose (O.faults outside.old.output) (O.faults outside.new.output)) → (result ≡ 0) ⊎ (result ≡ 5) }
+    ensures complete { Undisturbed (map string_bytes words.now) (I.left outside.old.input)
+        (JournalRose J.faults outside.old.journal outside.new.journal) (Rose (I.faults outside.old.input) (I.faults outside.new.input))
+        (Rose (O.faults outside.old.output) (O.faults outside.new.output)) → (result ≡ 0) ⊎ (result ≡ 5) }
 {
     if !is_drive(words) {
         write_fault(&mut outside.output, b"!words\n");

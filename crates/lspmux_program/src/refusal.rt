@@ -30,8 +30,10 @@ pub enum Refusal {
 pub fn refusal_of<J: Journal>(cause: &Cause, hub: &Hub<J>) -> Result<Option<Refusal>, Memory>
     requires ready { hub.now.spent ≡ false }
     requires small { body_length cause.now ≤ 67108864 }
-    ensures refused { (history : List Entry) → HubStands J.told hub.now history → IfOk result (λ refusal. IfSome refusal (λ r. judged history (Some cause.now) ≡ Err r)) }
-    ensures taken { (history : List Entry) → HubStands J.told hub.now history → IfOk result (λ refusal. IfNone refusal (judged history (Some cause.now) ≡ Ok cause.now)) }
+    ensures refused { (history : List Entry) → HubStands J.told hub.now history
+        → IfOk result (λ refusal. IfSome refusal (λ r. judged history (Some cause.now) ≡ Err r)) }
+    ensures taken { (history : List Entry) → HubStands J.told hub.now history
+        → IfOk result (λ refusal. IfNone refusal (judged history (Some cause.now) ≡ Ok cause.now)) }
     ensures fits { (history : List Entry) → HubStands J.told hub.now history → IfOk result (λ refusal. IfNone refusal (IsTrue (fits history cause.now))) }
     ensures is_built { (history : List Entry) → HubStands J.told hub.now history → IfOk result (λ refusal. IfNone refusal (IsTrue (built history cause.now))) }
 {

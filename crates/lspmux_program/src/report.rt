@@ -39,7 +39,8 @@ pub fn write_fault<O: Sink>(output: &mut O, line: &[u8])
 }
 
 fn write_refused<O: Sink>(alloc: Global, output: &mut O, line: u64, refusal: Refusal) -> u8
-    ensures reported { Reported result 1 (O.written output.old) (O.written output.new) (refused_line (record { line = line; refusal = refusal })) (Rose (O.faults output.old) (O.faults output.new)) }
+    ensures reported { Reported result 1 (O.written output.old) (O.written output.new) (refused_line (record { line = line; refusal = refusal }))
+        (Rose (O.faults output.old) (O.faults output.new)) }
     ensures later { O.faults output.old ≤ O.faults output.new }
 {
     let Ok(text) = refused_line(alloc, line, refusal) else {
@@ -52,7 +53,8 @@ fn write_refused<O: Sink>(alloc: Global, output: &mut O, line: u64, refusal: Ref
 /// Writes the fault line of a stop and answers the status: 1 and the number of a refused line, 5 when memory runs out,
 /// 6, 7 and 8 for faults of journal, input and output.
 pub fn report<O: Sink>(alloc: Global, output: &mut O, stop: Stop) -> u8
-    ensures reported { Reported result (status_of stop) (O.written output.old) (O.written output.new) (fault_line stop) (Rose (O.faults output.old) (O.faults output.new)) }
+    ensures reported { Reported result (status_of stop) (O.written output.old) (O.written output.new) (fault_line stop)
+        (Rose (O.faults output.old) (O.faults output.new)) }
     ensures later { O.faults output.old ≤ O.faults output.new }
 {
     match stop {

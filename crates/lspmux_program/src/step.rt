@@ -100,11 +100,15 @@ pub fn take_line<J: Journal, O: Sink>(
     output: &mut O,
 ) -> Result<(), TakeFault>
     requires ready { hub.old.spent ≡ false }
-    ensures taken { (history : List Entry) → HubStands J.told hub.old history → OnOk result (LineTaken J.told history line.items hub.old hub.new (O.written output.old) (O.written output.new)) }
-    ensures refused { (history : List Entry) (r : Refusal) → HubStands J.told hub.old history → IsErrOf result (TakeFault.Refused r) → reading_bytes history line.items ≡ Err r }
+    ensures taken { (history : List Entry) → HubStands J.told hub.old history
+        → OnOk result (LineTaken J.told history line.items hub.old hub.new (O.written output.old) (O.written output.new)) }
+    ensures refused { (history : List Entry) (r : Refusal) → HubStands J.told hub.old history → IsErrOf result (TakeFault.Refused r)
+        → reading_bytes history line.items ≡ Err r }
     ensures entry { (history : List Entry) → HubStands J.told hub.old history → IsErrOf result TakeFault.Journal → IsTaken history line.items }
-    ensures left { (history : List Entry) → HubStands J.told hub.old history → OnErr result (LineLeft J.told history line.items hub.old hub.new (O.written output.old) (O.written output.new)) }
-    ensures kept { (history : List Entry) → HubStands J.told hub.old history → IfErr result (λ fault. LeavesWritten fault → HubStands J.told hub.new history × (O.written output.new ≡ O.written output.old)) }
+    ensures left { (history : List Entry) → HubStands J.told hub.old history
+        → OnErr result (LineLeft J.told history line.items hub.old hub.new (O.written output.old) (O.written output.new)) }
+    ensures kept { (history : List Entry) → HubStands J.told hub.old history
+        → IfErr result (λ fault. LeavesWritten fault → HubStands J.told hub.new history × (O.written output.new ≡ O.written output.old)) }
     ensures settings { hub.new.settings ≡ hub.old.settings }
     ensures ready { OnOk result (hub.new.spent ≡ false) }
     ensures journal { IsErrOf result TakeFault.Journal → Rose (J.faults hub.old.journal) (J.faults hub.new.journal) }

@@ -140,7 +140,8 @@ fn note_keys(alloc: Global, first: &mut First, table: &Table) -> Result<(), Allo
 
 // Notes that no server is there.
 fn note_missing(alloc: Global, first: &mut First, table: &Table) -> Result<(), AllocError>
-    ensures { IfOk result (λ _. first.new ≡ first_in first.old (missing_unless (says_servers (get_member (codes "server") (table_view table.now))) (codes "server"))) }
+    ensures { IfOk result (λ _. first.new
+        ≡ first_in first.old (missing_unless (says_servers (get_member (codes "server") (table_view table.now))) (codes "server"))) }
 {
     if !says_servers(table) {
         first.note(Sort::Missing, String::from_str(alloc, "server")?);

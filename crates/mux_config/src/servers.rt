@@ -87,7 +87,8 @@ fn note_missing(
     name: &str,
     keys: &Table,
 ) -> Result<(), AllocError>
-    ensures { IfOk result (λ _. first.new ≡ first_in first.old (missing_unless (is_some (get_member (codes "command") (table_view keys.now))) (key_path name.now (codes "command")))) }
+    ensures { IfOk result (λ _. first.new
+        ≡ first_in first.old (missing_unless (is_some (get_member (codes "command") (table_view keys.now))) (key_path name.now (codes "command")))) }
 {
     if member(keys, "command").is_none() {
         first.note(Sort::Missing, key_path(alloc, name, "command")?);

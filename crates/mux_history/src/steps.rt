@@ -65,11 +65,15 @@ pub trait Steps {
     fn step(&mut self, cause: Cause) -> Result<Outs, StepFault>
         requires small { body_length cause ≤ 268435456 }
         requires allowed { (history : List Entry) → stands self.old history → spent self.old ≡ false → IsTrue (allows history cause) }
-        ensures ok { (history : List Entry) → stands self.old history → IfOk result (λ outs. stands self.new (history ++ record { cause = cause; outs = outs } ∷ [])) }
+        ensures ok { (history : List Entry) → stands self.old history
+            → IfOk result (λ outs. stands self.new (history ++ record { cause = cause; outs = outs } ∷ [])) }
         ensures err { (history : List Entry) → stands self.old history → OnErr result (stands self.new history) }
-        ensures once { (history : List Entry) (s : ℕ) → stands self.old history → IfOk result (λ outs. spawns s (history ++ record { cause = cause; outs = outs } ∷ []) ≤ 1) }
-        ensures stops { (history : List Entry) → stands self.old history → asks_stop history cause ≡ true → IfOk result (λ outs. stops (history ++ record { cause = cause; outs = outs } ∷ []) ≡ true) }
-        ensures stays { (history : List Entry) → stands self.old history → stops history ≡ true → IfOk result (λ outs. stops (history ++ record { cause = cause; outs = outs } ∷ []) ≡ true) }
+        ensures once { (history : List Entry) (s : ℕ) → stands self.old history
+            → IfOk result (λ outs. spawns s (history ++ record { cause = cause; outs = outs } ∷ []) ≤ 1) }
+        ensures stops { (history : List Entry) → stands self.old history → asks_stop history cause ≡ true
+            → IfOk result (λ outs. stops (history ++ record { cause = cause; outs = outs } ∷ []) ≡ true) }
+        ensures stays { (history : List Entry) → stands self.old history → stops history ≡ true
+            → IfOk result (λ outs. stops (history ++ record { cause = cause; outs = outs } ∷ []) ≡ true) }
         ensures ready { OnOk result (spent self.new ≡ false) }
         ensures over { OnErr result (spent self.new ≡ true) }
         ensures spent_only { IsErrOf result StepFault.Spent ↔ (spent self.old ≡ true) }

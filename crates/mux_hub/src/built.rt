@@ -86,7 +86,8 @@ fn built_from_editor(
     body: &Body,
 ) -> Result<bool, Memory>
     requires { length body.now ≤ 268435456 }
-    ensures { (waiting : List ℕ) → AllByRecursion (λ p. MeansId p.id) pending.now → IfOk result (λ answer. answer ≡ built_from_editor phase (open_in phase pending.now waiting) (message_of body.now)) }
+    ensures { (waiting : List ℕ) → AllByRecursion (λ p. MeansId p.id) pending.now
+        → IfOk result (λ answer. answer ≡ built_from_editor phase (open_in phase pending.now waiting) (message_of body.now)) }
 {
     let message = match Message::read(alloc, body.bytes()) {
         Ok(message) => message,
@@ -103,7 +104,8 @@ fn built_from_editor(
 
 // A result of a ready start: without versions, where it is passed on.
 fn built_result(pending: &[Pending], message: &Message) -> bool
-    ensures { (body : List ℕ) (id : Option Id) (value : Json) → IsRead message.now body → message_of body ≡ messages.result id value → result ≡ built_response (asked_for pending.now) (messages.result id value) }
+    ensures { (body : List ℕ) (id : Option Id) (value : Json) → IsRead message.now body → message_of body ≡ messages.result id value
+        → result ≡ built_response (asked_for pending.now) (messages.result id value) }
 {
     place_by_id(pending, message.id_bytes()).is_none() || !reads_versions(message)
 }

@@ -120,7 +120,8 @@ impl<J: Journal> Hub<J> {
     #[tactic(auto, using(crate::proofs::HubLaw::built_answer))]
     pub fn built(&self, cause: &Cause) -> Result<bool, Memory>
         requires { body_length cause.now ≤ 268435456 }
-        ensures { (history : List Entry) → HubStands J.told self.now history → self.now.spent ≡ false → IfOk result (λ answer. answer ≡ built history cause.now) }
+        ensures { (history : List Entry) → HubStands J.told self.now history → self.now.spent ≡ false
+            → IfOk result (λ answer. answer ≡ built history cause.now) }
     {
         self.tables.built(self.alloc, cause)
     }
@@ -132,7 +133,8 @@ impl<J: Journal> Hub<J> {
         requires is_built { (history : List Entry) → HubStands J.told self.old history → self.old.spent ≡ false → IsTrue (built history cause) }
         ensures settings { self.new.settings ≡ self.old.settings }
         ensures outs { (history : List Entry) → HubStands J.told self.old history → IfOk result (λ outs. outs ≡ emits self.old.settings history cause) }
-        ensures stands { (history : List Entry) → HubStands J.told self.old history → OnOk result (HubStands J.told self.new (history ++ entry_of self.old.settings history cause ∷ [])) }
+        ensures stands { (history : List Entry) → HubStands J.told self.old history
+            → OnOk result (HubStands J.told self.new (history ++ entry_of self.old.settings history cause ∷ [])) }
         ensures err { (history : List Entry) → HubStands J.told self.old history → OnErr result (HubStands J.told self.new history) }
         ensures ready { OnOk result (self.new.spent ≡ false) }
         ensures spent { OnErr result (self.new.spent ≡ true) }

@@ -116,7 +116,8 @@ impl Tables {
 
     /// E12 to E14: the editor opens, changes or closes a document (LSP 3.17, Text Document Synchronization).
     fn document(&mut self, alloc: Global, message: &Message) -> Result<Outs, Memory>
-        ensures { (body : List ℕ) → IsRead message.now body → IfOk result (λ outs. DocumentGives (document_step body (saying_of (message_of body)) self.old.documents) self.old outs self.new) }
+        ensures { (body : List ℕ) → IsRead message.now body
+            → IfOk result (λ outs. DocumentGives (document_step body (saying_of (message_of body)) self.old.documents) self.old outs self.new) }
     {
         match notice_in(alloc, message)? {
             Notice::Opens {
@@ -133,7 +134,8 @@ impl Tables {
 
     /// A notification came from the editor.
     fn hear_notification(&mut self, alloc: Global, message: &Message) -> Result<Outs, Memory>
-        ensures { (body method : List ℕ) (params : Option Json) → IsRead message.now body → message_of body ≡ notification method params → IfOk result (λ outs. Gives (noticed self.old body (saying_by method params)) outs self.new) }
+        ensures { (body method : List ℕ) (params : Option Json) → IsRead message.now body → message_of body ≡ notification method params
+            → IfOk result (λ outs. Gives (noticed self.old body (saying_by method params)) outs self.new) }
     {
         if !self.phase.is_served() {
             self.note();
@@ -164,7 +166,8 @@ impl Tables {
 
     /// E10: the request is answered with an error (LSP 3.17, RequestFailed).
     fn refuse(&mut self, alloc: Global, message: &Message) -> Result<Outs, Memory>
-        ensures { (body : List ℕ) → IsRead message.now body → IfOk result (λ outs. Gives (refuse self.old (error_text (id_bytes body) request_failed)) outs self.new) }
+        ensures { (body : List ℕ) → IsRead message.now body
+            → IfOk result (λ outs. Gives (refuse self.old (error_text (id_bytes body) request_failed)) outs self.new) }
     {
         let text = error_answer(alloc, message.id_bytes(), ErrorCode::RequestFailed)?;
         self.sent = self.sent.saturating_add(text.bytes().len() as u64);
@@ -185,7 +188,8 @@ impl Tables {
 
     /// S2: the start answered `initialize`: it is told so, and so is the editor, if it waits.
     fn ready(&mut self, alloc: Global, message: &Message) -> Result<Outs, Memory>
-        ensures { (body : List ℕ) (id : Option Id) (r : Json) → IsRead message.now body → message_of body ≡ outcome_of id r → IfOk result (λ outs. Gives (ready_if (is_waiting self.old.phase) self.old body (encoding_in r)) outs self.new) }
+        ensures { (body : List ℕ) (id : Option Id) (r : Json) → IsRead message.now body → message_of body ≡ outcome_of id r
+            → IfOk result (λ outs. Gives (ready_if (is_waiting self.old.phase) self.old body (encoding_in r)) outs self.new) }
     {
         let mut outs = self.begin(alloc, encoding(message))?;
         if !self.phase.is_waiting() {
@@ -201,7 +205,8 @@ impl Tables {
     /// S5: an answer goes to the editor that asked, under its own id (JSON-RPC 2.0, section 5).
     fn pass_on(&mut self, alloc: Global, message: &Message, at: usize) -> Result<Outs, Memory>
         requires { at < length self.old.pending }
-        ensures { (body : List ℕ) → IsRead message.now body → IfOk result (λ outs. Gives (pass_on self.old body at (slice_get self.old.pending at)) outs self.new) }
+        ensures { (body : List ℕ) → IsRead message.now body
+            → IfOk result (λ outs. Gives (pass_on self.old body at (slice_get self.old.pending at)) outs self.new) }
     {
         let text = message.with_id(alloc, self.pending[at].id.bytes())?;
         self.sent = self.sent.saturating_add(text.bytes().len() as u64);
@@ -212,7 +217,9 @@ impl Tables {
 
     /// S5: a response to a request of the start's number goes to the editor that asked, if it is there.
     fn answer(&mut self, alloc: Global, message: &Message) -> Result<Outs, Memory>
-        ensures { (body : List ℕ) → IsRead message.now body → IfOk result (λ outs. Gives (answered self.old body (place_if (is_no_number (id_bytes body)) (id_bytes body) self.old.pending)) outs self.new) }
+        ensures { (body : List ℕ) → IsRead message.now body
+            → IfOk result (λ outs. Gives (answered self.old body
+            (place_if (is_no_number (id_bytes body)) (id_bytes body) self.old.pending)) outs self.new) }
     {
         match place_by_id(&self.pending, message.id_bytes()) {
             Some(at) if self.phase.is_there() => self.pass_on(alloc, message, at),
@@ -242,7 +249,8 @@ impl Tables {
 
     /// E7: the editor's initialize founds a group, for which a server is to be started; the editor waits.
     fn found(&mut self, alloc: Global, message: &Message) -> Result<Outs, Memory>
-        ensures { (body method : List ℕ) (id : Id) (params : Option Json) → IsRead message.now body → message_of body ≡ request id method params → IfOk result (λ outs. Gives (found self.old body) outs self.new) }
+        ensures { (body method : List ℕ) (id : Id) (params : Option Json) → IsRead message.now body → message_of body ≡ request id method params
+            → IfOk result (λ outs. Gives (found self.old body) outs self.new) }
     {
         let opening = initialize_request(alloc, message)?;
         let id = Body::new(Vec::from_slice(alloc, message.id_bytes())?);
@@ -257,7 +265,8 @@ impl Tables {
 
     /// E10: a request goes on where it can, and else is refused.
     fn ask(&mut self, alloc: Global, requests: u32, message: &Message) -> Result<Outs, Memory>
-        ensures { (body : List ℕ) → IsRead message.now body → IfOk result (λ outs. Gives (ask_if (can_go requests self.old.stage self.old.next) self.old body) outs self.new) }
+        ensures { (body : List ℕ) → IsRead message.now body
+            → IfOk result (λ outs. Gives (ask_if (can_go requests self.old.stage self.old.next) self.old body) outs self.new) }
     {
         if can_go(requests, self.stage, self.next) {
             self.forward(alloc, message)
@@ -273,7 +282,8 @@ impl Tables {
         requests: u32,
         message: &Message,
     ) -> Result<Outs, Memory>
-        ensures { (body method : List ℕ) (id : Id) (params : Option Json) → IsRead message.now body → message_of body ≡ request id method params → IfOk result (λ outs. Gives (requested requests self.old body self.old.phase) outs self.new) }
+        ensures { (body method : List ℕ) (id : Id) (params : Option Json) → IsRead message.now body → message_of body ≡ request id method params
+            → IfOk result (λ outs. Gives (requested requests self.old body self.old.phase) outs self.new) }
     {
         match self.phase {
             Phase::New => self.found(alloc, message),

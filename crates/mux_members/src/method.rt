@@ -14,7 +14,8 @@ use rpc_message::Message;
 
 /// The class of an editor's request, by its method.
 pub fn class_in(m: &Message) -> Class
-    ensures { (bytes method : List ℕ) (id : Id) (params : Option Json) → IsRead m.now bytes → message_of bytes ≡ request id method params → result ≡ class_of method Editor false }
+    ensures { (bytes method : List ℕ) (id : Id) (params : Option Json) → IsRead m.now bytes → message_of bytes ≡ request id method params
+        → result ≡ class_of method Editor false }
 {
     match m.method() {
         Some(method) => class(method, Origin::Editor, false),

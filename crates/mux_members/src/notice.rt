@@ -137,7 +137,8 @@ fn closes(alloc: Global, tape: &Tape, document: Option<u32>) -> Result<Notice, M
 
 // Whether a string has the characters of one of two names.
 fn spells_either(tape: &Tape, node: Option<u32>, first: &str, second: &str) -> bool
-    ensures { is_ascii first.now ≡ true → is_ascii second.now ≡ true → (s : Span) (cs : List ℕ) → Found tape.now (Some (string s cs)) node → result ≡ (bytes_eq first.now cs || bytes_eq second.now cs) }
+    ensures { is_ascii first.now ≡ true → is_ascii second.now ≡ true → (s : Span) (cs : List ℕ) → Found tape.now (Some (string s cs)) node
+        → result ≡ (bytes_eq first.now cs || bytes_eq second.now cs) }
 {
     spells(tape, node, first) || spells(tape, node, second)
 }
@@ -172,7 +173,8 @@ fn said(
     method: Option<u32>,
     params: Option<u32>,
 ) -> Result<Notice, Memory>
-    ensures said { (s : Span) (cs : List ℕ) (o : Option Json) → Found tape.now (Some (string s cs)) method → Found tape.now o params → IfOk result (λ notice. Says notice (saying_by cs o)) }
+    ensures said { (s : Span) (cs : List ℕ) (o : Option Json) → Found tape.now (Some (string s cs)) method → Found tape.now o params
+        → IfOk result (λ notice. Says notice (saying_by cs o)) }
     ensures utf8 { (o : Option Json) → Found tape.now o params → IfOk result (λ notice. AreTexts notice) }
 {
     let document = member(tape, params, "textDocument");

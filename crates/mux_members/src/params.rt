@@ -27,7 +27,8 @@ fn is_token(tape: &Tape, node: Option<u32>) -> bool
 
 /// Whether a request's params name no capability of the client (LSP 3.17, InitializeParams).
 pub fn has_bare_capabilities(m: &Message) -> bool
-    ensures { (bytes method : List ℕ) (id : Id) (params : Option Json) → IsRead m.now bytes → message_of bytes ≡ request id method params → result ≡ is_bare_capabilities (named_of (codes "capabilities") params) }
+    ensures { (bytes method : List ℕ) (id : Id) (params : Option Json) → IsRead m.now bytes → message_of bytes ≡ request id method params
+        → result ≡ is_bare_capabilities (named_of (codes "capabilities") params) }
 {
     let tape = m.tape();
     is_bare_capabilities(tape, member(tape, request_params(m), "capabilities"))
@@ -36,7 +37,8 @@ pub fn has_bare_capabilities(m: &Message) -> bool
 /// Whether a request's params have a token for progress or for partial results (LSP 3.17, WorkDoneProgressParams and
 /// PartialResultParams).
 pub fn has_token(m: &Message) -> bool
-    ensures { (bytes method : List ℕ) (id : Id) (params : Option Json) → IsRead m.now bytes → message_of bytes ≡ request id method params → result ≡ has_token params }
+    ensures { (bytes method : List ℕ) (id : Id) (params : Option Json) → IsRead m.now bytes → message_of bytes ≡ request id method params
+        → result ≡ has_token params }
 {
     let tape = m.tape();
     let params = request_params(m);

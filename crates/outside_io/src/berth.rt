@@ -47,7 +47,9 @@ pub trait Berth {
         requires source { inn.old ≡ None }
         requires sink { out.old ≡ None }
         ensures filled { OnOk result (IsSome inn.new × IsSome out.new) }
-        ensures run { OnOk result (IfSome inn.new (λ source. IfSome out.new (λ sink. left self.old ≡ prepend_to (session_of Self.In.Source.taken Self.In.Source.left Self.In.Source.faults Self.Out.Sink.written Self.Out.Sink.faults source sink ∷ []) (left self.new)))) }
+        ensures run { OnOk result (IfSome inn.new (λ source. IfSome out.new (λ sink.
+            left self.old ≡ prepend_to
+            (session_of Self.In.Source.taken Self.In.Source.left Self.In.Source.faults Self.Out.Sink.written Self.Out.Sink.faults source sink ∷ []) (left self.new)))) }
         ensures given { OnOk result (held self.new ≡ held self.old + 1) }
         ensures empty { OnErr result ((inn.new ≡ None) × (out.new ≡ None)) }
         ensures kept { OnErr result ((left self.new ≡ left self.old) × (held self.new ≡ held self.old)) }
@@ -60,7 +62,9 @@ pub trait Berth {
         requires source { IsSome inn.old }
         requires sink { IsSome out.old }
         requires given { 0 < held self.old }
-        ensures run { IfSome inn.old (λ source. IfSome out.old (λ sink. runs self.new ≡ append_to (runs self.old) (session_of Self.In.Source.taken Self.In.Source.left Self.In.Source.faults Self.Out.Sink.written Self.Out.Sink.faults source sink ∷ []))) }
+        ensures run { IfSome inn.old (λ source. IfSome out.old (λ sink.
+            runs self.new ≡ append_to (runs self.old)
+            (session_of Self.In.Source.taken Self.In.Source.left Self.In.Source.faults Self.Out.Sink.written Self.Out.Sink.faults source sink ∷ []))) }
         ensures empty { (inn.new ≡ None) × (out.new ≡ None) }
         ensures left { left self.new ≡ left self.old }
         ensures given { held self.old ≡ held self.new + 1 }

@@ -52,7 +52,9 @@ pub trait Door {
     /// Opens a place and adds at most `n` ports to `ports`; fewer only where none is left, if that is told. The counts
     /// of the ports start at 0. `Failed` comes only where the count rose; either fault leaves `ports` as it was.
     fn open(&mut self, place: &Place, n: u32, ports: &mut Vec<Self::Port>) -> Result<(), DoorFault>
-        ensures ports { OnOk result (Gave (told_of Self.Port.Port.sessions Self.Port.Port.links) Self.Port.Port.faults n ports.old.items ports.new.items (left self.old) (left self.new)) }
+        ensures ports { OnOk result
+            (Gave (told_of Self.Port.Port.sessions Self.Port.Port.links) Self.Port.Port.faults n ports.old.items ports.new.items
+            (left self.old) (left self.new)) }
         ensures kept { OnErr result ((ports.new.items ≡ ports.old.items) × (left self.new ≡ left self.old)) }
         ensures called { ¬ IsErrOf result DoorFault.Memory → calls self.new ≡ append_to (calls self.old) (opened (address_of place.now) n ∷ []) }
         ensures uncalled { IsErrOf result DoorFault.Memory → calls self.new ≡ calls self.old }
@@ -64,7 +66,8 @@ pub trait Door {
     fn dial(&mut self, place: &Place, port: &mut Option<Self::Port>) -> Result<(), DoorFault>
         ensures filled { OnOk result (IsSome port.new) }
         ensures fresh { OnOk result (IfSome port.new (λ port. Self.Port.Port.faults port ≡ 0)) }
-        ensures port { OnOk result (IfSome port.new (λ port. left self.old ≡ prepend_to (told_of Self.Port.Port.sessions Self.Port.Port.links port ∷ []) (left self.new))) }
+        ensures port { OnOk result
+            (IfSome port.new (λ port. left self.old ≡ prepend_to (told_of Self.Port.Port.sessions Self.Port.Port.links port ∷ []) (left self.new))) }
         ensures kept { OnErr result ((port.new ≡ port.old) × (left self.new ≡ left self.old)) }
         ensures called { ¬ IsErrOf result DoorFault.Memory → calls self.new ≡ append_to (calls self.old) (dialled (address_of place.now) ∷ []) }
         ensures uncalled { IsErrOf result DoorFault.Memory → calls self.new ≡ calls self.old }

@@ -44,7 +44,9 @@ pub trait Port {
         requires source { inn.old ≡ None }
         requires sink { out.old ≡ None }
         ensures filled { OnLink result (IsSome inn.new × IsSome out.new) }
-        ensures link { OnLink result (IfSome inn.new (λ source. IfSome out.new (λ sink. links self.old ≡ prepend_to (session_of Self.In.Source.taken Self.In.Source.left Self.In.Source.faults Self.Out.Sink.written Self.Out.Sink.faults source sink ∷ []) (links self.new)))) }
+        ensures link { OnLink result (IfSome inn.new (λ source. IfSome out.new (λ sink.
+            links self.old ≡ prepend_to
+            (session_of Self.In.Source.taken Self.In.Source.left Self.In.Source.faults Self.Out.Sink.written Self.Out.Sink.faults source sink ∷ []) (links self.new)))) }
         ensures given { OnLink result (held self.new ≡ held self.old + 1) }
         ensures empty { OnNoLink result ((inn.new ≡ None) × (out.new ≡ None)) }
         ensures kept { OnNoLink result ((links self.new ≡ links self.old) × (held self.new ≡ held self.old)) }
@@ -58,7 +60,9 @@ pub trait Port {
         requires source { IsSome inn.old }
         requires sink { IsSome out.old }
         requires given { 0 < held self.old }
-        ensures session { IfSome inn.old (λ source. IfSome out.old (λ sink. sessions self.new ≡ append_to (sessions self.old) (session_of Self.In.Source.taken Self.In.Source.left Self.In.Source.faults Self.Out.Sink.written Self.Out.Sink.faults source sink ∷ []))) }
+        ensures session { IfSome inn.old (λ source. IfSome out.old (λ sink.
+            sessions self.new ≡ append_to (sessions self.old)
+            (session_of Self.In.Source.taken Self.In.Source.left Self.In.Source.faults Self.Out.Sink.written Self.Out.Sink.faults source sink ∷ []))) }
         ensures empty { (inn.new ≡ None) × (out.new ≡ None) }
         ensures links { links self.new ≡ links self.old }
         ensures given { held self.old ≡ held self.new + 1 }

@@ -44,7 +44,8 @@ pub struct Cut {
 #[tactic(auto, using(crate::proofs::Growth::written_more))]
 pub fn write_whole<S: Sink>(sink: &mut S, bytes: &[u8]) -> Result<(), Cut>
     ensures ok { OnOk result (S.written sink.new ≡ append_known (S.written sink.old) bytes.now) }
-    ensures cut { IfErr result (λ cut. (cut.written ≤ length bytes.now) × (S.written sink.new ≡ append_known (S.written sink.old) (take cut.written bytes.now))) }
+    ensures cut { IfErr result (λ cut. (cut.written ≤ length bytes.now)
+        × (S.written sink.new ≡ append_known (S.written sink.old) (take cut.written bytes.now))) }
     ensures cause { HasCause (S.faults sink.old) (S.faults sink.new) result }
 {
     let mut written = 0;

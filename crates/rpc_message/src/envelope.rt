@@ -147,8 +147,10 @@ fn called(values: Values, method: u32, id: Option<u32>, params: Option<u32>) -> 
     requires method { method < length values.nodes.now }
     requires id { MatchOption id (Unit {0}) (λ n. n < length values.nodes.now) }
     requires params { MatchOption params (Unit {0}) (λ n. n < length values.nodes.now) }
-    ensures members { (m : Json) (i p f v : Option Json) → At (doc_of values.entry) method m → Found (doc_of values.entry) i id → Found (doc_of values.entry) p params → IfSome result (λ e. IsMadeOf (doc_of values.entry) (Some m) i p f v e) }
-    ensures tells { (m : Json) (i p f v : Option Json) → At (doc_of values.entry) method m → Found (doc_of values.entry) i id → Found (doc_of values.entry) p params → TellsIf (doc_of values.entry) result (by_names (Some m) i p f v) }
+    ensures members { (m : Json) (i p f v : Option Json) → At (doc_of values.entry) method m → Found (doc_of values.entry) i id
+        → Found (doc_of values.entry) p params → IfSome result (λ e. IsMadeOf (doc_of values.entry) (Some m) i p f v e) }
+    ensures tells { (m : Json) (i p f v : Option Json) → At (doc_of values.entry) method m → Found (doc_of values.entry) i id
+        → Found (doc_of values.entry) p params → TellsIf (doc_of values.entry) result (by_names (Some m) i p f v) }
 {
     if !is_string_value(values, Some(method)) || !are_params(values, params) {
         return None;
@@ -171,8 +173,10 @@ fn answered(
     requires id { MatchOption id (Unit {0}) (λ n. n < length values.nodes.now) }
     requires failure { MatchOption failure (Unit {0}) (λ n. n < length values.nodes.now) }
     requires value { MatchOption value (Unit {0}) (λ n. n < length values.nodes.now) }
-    ensures members { (i p f v : Option Json) → Found (doc_of values.entry) i id → Found (doc_of values.entry) f failure → Found (doc_of values.entry) v value → IfSome result (λ e. IsMadeOf (doc_of values.entry) None i p f v e) }
-    ensures tells { (i f v : Option Json) → Found (doc_of values.entry) i id → Found (doc_of values.entry) f failure → Found (doc_of values.entry) v value → TellsIf (doc_of values.entry) result (answered i f v) }
+    ensures members { (i p f v : Option Json) → Found (doc_of values.entry) i id → Found (doc_of values.entry) f failure
+        → Found (doc_of values.entry) v value → IfSome result (λ e. IsMadeOf (doc_of values.entry) None i p f v e) }
+    ensures tells { (i f v : Option Json) → Found (doc_of values.entry) i id → Found (doc_of values.entry) f failure
+        → Found (doc_of values.entry) v value → TellsIf (doc_of values.entry) result (answered i f v) }
 {
     let id = id?;
     if !is_response_id(values, id) {

@@ -48,7 +48,8 @@ fn between_quotes(id: &[u8]) -> &[u8]
 pub fn same_id(a: &[u8], b: &[u8]) -> bool
     ensures ids { (i j : Id) → IsIdText i a.now → IsIdText j b.now → result ≡ same_id i j }
     ensures bytes { (is_quoted a.now && is_quoted b.now) ≡ false → result ≡ bytes_eq a.now b.now }
-    ensures strings { (is_quoted a.now && is_quoted b.now) ≡ true → result ≡ bytes_eq (characters_in (between_quotes a.now)) (characters_in (between_quotes b.now)) }
+    ensures strings { (is_quoted a.now && is_quoted b.now) ≡ true
+        → result ≡ bytes_eq (characters_in (between_quotes a.now)) (characters_in (between_quotes b.now)) }
 {
     if is_quoted(a) && is_quoted(b) {
         same_characters(between_quotes(a), between_quotes(b))

@@ -76,7 +76,8 @@ fn many_names_once(alloc: Global, values: Values, node: u32) -> Result<bool, Mem
 // Adds the name that these bytes spell to the names so far, and says whether it is new.
 fn add_name(alloc: Global, names: &mut BTreeSet<Vec<u8>>, raw: &[u8]) -> Result<bool, Memory>
     ensures new { (cs : List ℕ) → SpellsCharacters cs raw.now → IfOk result (λ is_new. is_new ≡ not (has_name names.old cs)) }
-    ensures names { (cs : List ℕ) → SpellsCharacters cs raw.now → OnOk result ((ds : List ℕ) → has_name names.new ds ≡ (bytes_eq cs ds || has_name names.old ds)) }
+    ensures names { (cs : List ℕ) → SpellsCharacters cs raw.now
+        → OnOk result ((ds : List ℕ) → has_name names.new ds ≡ (bytes_eq cs ds || has_name names.old ds)) }
 {
     let name = decode(alloc, raw)?;
     Ok(names.insert(name)?)

@@ -98,7 +98,8 @@ pub fn initialize(
     capabilities: &[u8],
     folders: Option<&[u8]>,
 ) -> Result<Body, Memory>
-    ensures { IfOk result (λ body. body ≡ initialize_text root.now (option_map (λ b. b.now) options.entry) capabilities.now (option_map (λ b. b.now) folders.entry)) }
+    ensures { IfOk result (λ body. body
+        ≡ initialize_text root.now (option_map (λ b. b.now) options.entry) capabilities.now (option_map (λ b. b.now) folders.entry)) }
 {
     let mut text = Vec::new(alloc);
     text.extend_from_slice(

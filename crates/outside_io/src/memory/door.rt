@@ -56,7 +56,8 @@ fn fails(fails: &[u64], number: &mut u64) -> bool {
 // Takes the next port, whose count starts at 0.
 fn next(ports: &mut VecDeque<MemPort>) -> Option<MemPort>
     ensures fresh { IfSome result (λ port. ⟦<MemPort as Port>⟧.faults port ≡ 0) }
-    ensures left { MatchOption result ((ports.old.items ≡ []) × (ports.new.items ≡ [])) (λ port. map port_of ports.old.items ≡ port_of port ∷ map port_of ports.new.items) }
+    ensures left { MatchOption result ((ports.old.items ≡ []) × (ports.new.items ≡ []))
+        (λ port. map port_of ports.old.items ≡ port_of port ∷ map port_of ports.new.items) }
     ensures count { MatchOption result (deque_len ports.new ≡ deque_len ports.old) (λ _. deque_len ports.new + 1 ≡ deque_len ports.old) }
 {
     let mut port = ports.pop_front()?;
@@ -67,7 +68,8 @@ fn next(ports: &mut VecDeque<MemPort>) -> Option<MemPort>
 // Moves the first `n` ports, or all where there are fewer, to the end of `to`.
 #[tactic(auto, using(crate::proofs::Gifts::gave_none, crate::proofs::Gifts::gave_more, crate::proofs::Gifts::gave_all))]
 fn give(from: &mut VecDeque<MemPort>, n: u32, to: &mut Vec<MemPort>) -> Result<(), AllocError>
-    ensures gave { OnOk result (Gave port_of ⟦<MemPort as Port>⟧.faults n to.old.items to.new.items (Some (map port_of from.old.items)) (Some (map port_of from.new.items))) }
+    ensures gave { OnOk result (Gave port_of ⟦<MemPort as Port>⟧.faults n to.old.items to.new.items (Some (map port_of from.old.items))
+        (Some (map port_of from.new.items))) }
     ensures kept { OnErr result ((to.new.items ≡ to.old.items) × (from.new.items ≡ from.old.items)) }
 {
     to.reserve(from.len().min(n as usize))?;

@@ -30,7 +30,8 @@ impl Links {
 
     // Gives the next link, with room for its return.
     pub(crate) fn give(&mut self) -> Result<Option<(MemSource, MemSink)>, AllocError>
-        ensures left { IfOk result (λ given. MatchOption given ((self.old.left.items ≡ []) × (self.new.left.items ≡ [])) (λ link. self.old.left.items ≡ link ∷ self.new.left.items)) }
+        ensures left { IfOk result (λ given. MatchOption given ((self.old.left.items ≡ []) × (self.new.left.items ≡ []))
+            (λ link. self.old.left.items ≡ link ∷ self.new.left.items)) }
         ensures out { IfOk result (λ given. MatchOption given (self.new.out ≡ self.old.out) (λ _. self.new.out ≡ self.old.out + 1)) }
         ensures err { OnErr result ((self.new.left.items ≡ self.old.left.items) × (self.new.out ≡ self.old.out)) }
         ensures back { self.new.back.items ≡ self.old.back.items }

@@ -33,7 +33,8 @@ impl MemPort {
 
     /// The link that was handed back as number `i`, from 0.
     pub fn session(&self, i: usize) -> Option<&(MemSource, MemSink)>
-        ensures { option_map (λ sessions. slice_get sessions i) (⟦<MemPort as Port>⟧.sessions self.now) ≡ Some (option_map (λ session. link_of session.now) result) }
+        ensures { option_map (λ sessions. slice_get sessions i) (⟦<MemPort as Port>⟧.sessions self.now)
+            ≡ Some (option_map (λ session. link_of session.now) result) }
     {
         self.links.back.get(i)
     }

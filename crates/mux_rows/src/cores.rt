@@ -1,0 +1,46 @@
+// The hub, used as any core of the multiplexer.
+ghost use Rattle.std.specs.Prelude.{◌≤◌};
+ghost use Rattle.mux_history.specs.Cores.{body_length};
+
+use crate::play::limits;
+use mux_history::{Cause, MemJournal, StepFault, Steps};
+use mux_hub::Hub;
+use std::test::Fail;
+
+// How many outs a core gives to a cause that can come; None where it can't come.
+fn outs_of<K: Steps>(core: &mut K, cause: Cause) -> Option<Result<usize, StepFault>>
+    requires { body_length cause ≤ 268435456 }
+{
+    if !core.fits(&cause) {
+        return None;
+    }
+    Some(core.step(cause).map(|outs| outs.len()))
+}
+
+// The number of the next editor, the server of start 0, and whether a request to stop was answered.
+fn asked<K: Steps>(core: &K) -> (u64, Option<u32>, bool) {
+    (core.next_editor(), core.server_of(0), core.stopped())
+}
+
+#[test]
+fn a_hub_is_a_core(rt: HostRuntime) -> Result<(), Fail> {
+    let alloc = rt.alloc();
+    let journal = MemJournal::new(alloc, Vec::new(alloc));
+    let Ok(mut hub) = Hub::new(alloc, limits(4, 4), Vec::new(alloc), 0, journal) else {
+        return Err(Fail::from("no hub"));
+    };
+    assert_eq!(rt; asked(&hub), (0, None, false));
+    assert_eq!(rt; outs_of(&mut hub, Cause::Joined(1)), None);
+    assert_eq!(rt; outs_of(&mut hub, Cause::Joined(0)), Some(Ok(0)));
+    assert_eq!(rt; asked(&hub), (1, None, false));
+    // No row of the routing table takes the time yet.
+    assert_eq!(rt;
+        outs_of(&mut hub, Cause::Tick(1)),
+        Some(Err(StepFault::Memory))
+    );
+    assert_eq!(rt;
+        outs_of(&mut hub, Cause::Tick(1)),
+        Some(Err(StepFault::Spent))
+    );
+    Ok(())
+}
