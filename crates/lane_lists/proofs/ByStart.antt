@@ -131,7 +131,7 @@ other_lane lane.Ticker x entry seats k off = elsewhere lane.Ticker x entry seats
 other_lane (lane.Server j) x None seats k off = let a = (start_acted_none seats j x).other k (λ e. off (ap lane.Server (sym e))) in record { held = a.0; tail = a.1 }
 other_lane (lane.Server j) x (Some en) seats k off = let a = (start_acted seats j x en.cause en.outs).other k (λ e. off (ap lane.Server (sym e))) in record { held = a.0; tail = a.1 }
 
-server_len : (l : LaneName) (x : Item) (entry : Option Entry) (seats : Seats) → length (behind seats (did l x entry)).servers ≡ length seats.servers
+pub server_len : (l : LaneName) (x : Item) (entry : Option Entry) (seats : Seats) → length (behind seats (did l x entry)).servers ≡ length seats.servers
 server_len (lane.Editor j) x None seats = refl
 server_len lane.Ticker x None seats = refl
 server_len (lane.Editor j) x (Some en) seats = (given_kept (on_seat (lane.Editor j) (λ s. seat_item s x) seats) (lane.Editor j) x en.cause en.outs).len
