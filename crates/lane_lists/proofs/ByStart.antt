@@ -19,7 +19,7 @@ use Rattle.lane_lists.specs.Seats.{Seat, Seats, seat_at, is_now, meaning, seat_c
 use Rattle.lane_lists.specs.Sessions.{chain}
 use Rattle.lane_lists.specs.Deeds.{Deed, start, behind, gather_from, gather, same_lane, posted_in, entries_in, posts_by, entries_by, FairFrom, Meant, entries, posts}
 use Rattle.lane_lists.specs.Starts.{start_of}
-use Rattle.lane_lists.specs.StartHistory.{causes_of, tried_of, tried_by, StartSessions}
+use Rattle.lane_lists.specs.StartHistory.{causes_from, tried_of, tried_by, StartSessions}
 use Rattle.lane_lists.proofs.Ahead.{no_late}
 use Rattle.lane_lists.proofs.Moves.{set_like, caused, did}
 use Rattle.lane_lists.proofs.BySession.{all_free, many_free}
@@ -139,7 +139,7 @@ server_len lane.Ticker x (Some en) seats = (given_kept seats lane.Ticker x en.ca
 server_len (lane.Server j) x None seats = (start_acted_none seats j x).len
 server_len (lane.Server j) x (Some en) seats = (start_acted seats j x en.cause en.outs).len
 
-item_held : (x : Item) (s : Seat) → held_seat (seat_item s x) ≡ held_seat s
+pub item_held : (x : Item) (s : Seat) → held_seat (seat_item s x) ≡ held_seat s
 item_held (item.Side t) s = refl
 item_held (item.Posted posted.Link) s = refl
 item_held (item.Posted posted.Up) s = refl
@@ -154,12 +154,12 @@ none_held lane.Ticker x seats k = refl
 none_held (lane.Server j) x seats k = set_like held_seat (λ s. seat_item s x) (item_held x) seats.servers j k
 
 -- a start that is nowhere, and is spawned no more: nothing is of it
-quiet_deed : (l : LaneName) (x : Item) (entry : Option Entry) (seats : Seats) (s : ℕ) (history : List Entry) → Meant (meaning seats l x) entry → seated s seats.servers ≡ 0 → causes_of s history ≡ [] → causes_of s (entries_in entry ++ history) ≡ []
+quiet_deed : (l : LaneName) (x : Item) (entry : Option Entry) (seats : Seats) (s : ℕ) (history : List Entry) → Meant (meaning seats l x) entry → seated s seats.servers ≡ 0 → causes_from s history ≡ [] → causes_from s (entries_in entry ++ history) ≡ []
 quiet_deed l x None seats s history m none q = q
 quiet_deed l x (Some en) seats s history m none q =
-    ap (λ cs. cs ++ causes_of s history) (cause_other s en.cause (λ is. let here = start_here seats l x en s m is in let one = seated_one s seats.servers here.place here.now in absurd (omega arith))) ∙ q
+    ap (λ cs. cs ++ causes_from s history) (cause_other s en.cause (λ is. let here = start_here seats l x en s m is in let one = seated_one s seats.servers here.place here.now in absurd (omega arith))) ∙ q
 
-pub quiet : (deeds : List Deed) (seats : Seats) (s : ℕ) → FairFrom seats deeds → total s seats + spawns s (gather_from entries_by seats deeds) ≡ 0 → causes_of s (gather_from entries_by seats deeds) ≡ []
+pub quiet : (deeds : List Deed) (seats : Seats) (s : ℕ) → FairFrom seats deeds → total s seats + spawns s (gather_from entries_by seats deeds) ≡ 0 → causes_from s (gather_from entries_by seats deeds) ≡ []
 quiet [] seats s fair none = refl
 quiet (d ∷ deeds) seats s fair none =
     let rest = gather_from entries_by (behind seats d) deeds in
@@ -169,9 +169,9 @@ quiet (d ∷ deeds) seats s fair none =
 
 -- a start that is up is tried no more
 tried_deed : (l : LaneName) (x : Item) (entry : Option Entry) (seats : Seats) (s j : ℕ) (history : List Entry) → Meant (meaning seats l x) entry → seated s seats.servers ≤ 1 → held_at j seats ≡ Some s
-    → (held_at j (behind seats (did l x entry)) ≡ Some s → untried (causes_of s history) ≡ false) → untried (causes_of s (entries_in entry ++ history)) ≡ false
+    → (held_at j (behind seats (did l x entry)) ≡ Some s → untried (causes_from s history) ≡ false) → untried (causes_from s (entries_in entry ++ history)) ≡ false
 tried_deed l x None seats s j history m one here more = more (none_held l x seats j ∙ here)
-tried_deed l x (Some en) seats s j history m one here more = (elim (is_now (start_of en.cause) s) as (λ b. is_now (start_of en.cause) s ≡ b → untried ((if b then en.cause ∷ [] else []) ++ causes_of s history) ≡ false) [
+tried_deed l x (Some en) seats s j history m one here more = (elim (is_now (start_of en.cause) s) as (λ b. is_now (start_of en.cause) s ≡ b → untried ((if b then en.cause ∷ [] else []) ++ causes_from s history) ≡ false) [
   | true ↦ λ is.
       let at = start_here seats l x en s m (is_now_is (start_of en.cause) s is) in
       let now = held_now (start_at j seats) (seat_at j seats.servers).up s here in
@@ -185,7 +185,7 @@ tried_deed l x (Some en) seats s j history m one here more = (elim (is_now (star
       let f : true ≡ false = sym t ∙ ap (λ o. is_now o s) (sym (of ∙ now.0)) ∙ is in absurd cc)).held ∙ here)
 ]) refl
 
-pub tried_past : (deeds : List Deed) (seats : Seats) (s j : ℕ) → FairFrom seats deeds → total s seats + spawns s (gather_from entries_by seats deeds) ≤ 1 → held_at j seats ≡ Some s → untried (causes_of s (gather_from entries_by seats deeds)) ≡ false
+pub tried_past : (deeds : List Deed) (seats : Seats) (s j : ℕ) → FairFrom seats deeds → total s seats + spawns s (gather_from entries_by seats deeds) ≤ 1 → held_at j seats ≡ Some s → untried (causes_from s (gather_from entries_by seats deeds)) ≡ false
 tried_past [] seats s j fair once here = refl
 tried_past (d ∷ deeds) seats s j fair once here =
     let rest = gather_from entries_by (behind seats d) deeds in
@@ -195,7 +195,7 @@ tried_past (d ∷ deeds) seats s j fair once here =
 
 -- the start of an entry isn't tried behind it
 past_deed : (l : LaneName) (x : Item) (en : Entry) (seats : Seats) (deeds : List Deed) (s : ℕ) → Meant (meaning seats l x) (Some en) → FairFrom (behind seats (did l x (Some en))) deeds
-    → total s seats + spawns s (en ∷ gather_from entries_by (behind seats (did l x (Some en))) deeds) ≤ 1 → start_of en.cause ≡ Some s → untried (causes_of s (gather_from entries_by (behind seats (did l x (Some en))) deeds)) ≡ false
+    → total s seats + spawns s (en ∷ gather_from entries_by (behind seats (did l x (Some en))) deeds) ≤ 1 → start_of en.cause ≡ Some s → untried (causes_from s (gather_from entries_by (behind seats (did l x (Some en))) deeds)) ≡ false
 past_deed l x en seats deeds s m fair once is =
     let at = start_here seats l x en s m is in
     let after = behind seats (did l x (Some en)) in
@@ -216,7 +216,7 @@ module _ (seats : Seats) (i : ℕ) (within : i < length seats.servers) (history 
   then_at x entry = behind seats (did (lane.Server i) x entry)
 
   abbrev Left : Item → Option Entry → Type 0
-  Left x entry = (s : ℕ) → total s (then_at x entry) + 1 ≤ total s seats + spawns s (entries_in entry) → causes_of s history ≡ []
+  Left x entry = (s : ℕ) → total s (then_at x entry) + 1 ≤ total s seats + spawns s (entries_in entry) → causes_from s history ≡ []
 
   abbrev Adds : Item → Option Entry → Option ℕ → Bool → Bool → Type 0
   Adds x entry now up tail = now ≡ start_at i seats → up ≡ (seat_at i seats.servers).up → tail ≡ late_at i seats → Left x entry → StartAhead (held_at i (then_at x entry)) (late_at i (then_at x entry)) history items ids
@@ -238,7 +238,7 @@ module _ (seats : Seats) (i : ℕ) (within : i < length seats.servers) (history 
       let y = (start_acted_none seats i x).here within in let after = then_at x None in
       start_ahead_at (held_at i after) now (late_at i after) tail history items ids (y.0 ∙ h) (y.1 ∙ t) a
 
-  over_quiet : (x : Item) (c : Cause) (outs : List Out) (s : ℕ) → Some s ≡ start_at i seats → ((t : Seat) → (seat_cause t x c).now ≡ None) → Left x (some c outs) → causes_of s history ≡ []
+  over_quiet : (x : Item) (c : Cause) (outs : List Out) (s : ℕ) → Some s ≡ start_at i seats → ((t : Seat) → (seat_cause t x c).now ≡ None) → Left x (some c outs) → causes_from s history ≡ []
   over_quiet x c outs s is off left = left s (let h = leaves s seats i x c outs (sym is) off in omega arith)
 
   is_held : (now : Option ℕ) (up : Bool) → now ≡ start_at i seats → up ≡ (seat_at i seats.servers).up → held_at i seats ≡ held now up
@@ -270,7 +270,7 @@ module _ (seats : Seats) (i : ℕ) (within : i < length seats.servers) (history 
 
   -- a deed of another lane
   foreign_lane : (l : LaneName) (x : Item) (entry : Option Entry) → l ≢ lane.Server i → ((s : ℕ) → seated s seats.servers ≤ 1) → Meant (meaning seats l x) entry
-      → ((s : ℕ) (en : Entry) → entry ≡ Some en → start_of en.cause ≡ Some s → untried (causes_of s history) ≡ false)
+      → ((s : ℕ) (en : Entry) → entry ≡ Some en → start_of en.cause ≡ Some s → untried (causes_from s history) ≡ false)
       → StartAhead (held_at i (behind seats (did l x entry))) (late_at i (behind seats (did l x entry))) history items ids → StartAhead (held_at i seats) (late_at i seats) (entries_in entry ++ history) items ids
   foreign_lane l x None off one m p a =
       let o = other_lane l x None seats i off in let after = behind seats (did l x None) in
@@ -285,8 +285,8 @@ module _ (seats : Seats) (i : ℕ) (within : i < length seats.servers) (history 
       (start_ahead_at (held_at i after) (held_at i seats) (late_at i after) (late_at i seats) history items ids o.held o.tail a)
 
   pub start_deed : (l : LaneName) (x : Item) (entry : Option Entry) → ((s : ℕ) → seated s seats.servers ≤ 1) → Meant (meaning seats l x) entry
-      → ((s : ℕ) (en : Entry) → entry ≡ Some en → start_of en.cause ≡ Some s → untried (causes_of s history) ≡ false)
-      → ((s : ℕ) → total s (behind seats (did l x entry)) + 1 ≤ total s seats + spawns s (entries_in entry) → causes_of s history ≡ [])
+      → ((s : ℕ) (en : Entry) → entry ≡ Some en → start_of en.cause ≡ Some s → untried (causes_from s history) ≡ false)
+      → ((s : ℕ) → total s (behind seats (did l x entry)) + 1 ≤ total s seats + spawns s (entries_in entry) → causes_from s history ≡ [])
       → StartAhead (held_at i (behind seats (did l x entry))) (late_at i (behind seats (did l x entry))) history items ids
       → StartAhead (held_at i seats) (late_at i seats) (entries_in entry ++ history) ((if same_lane (lane.Server i) l then posted_in x else []) ++ items) ((if same_lane (lane.Server i) l then tried_of entry else []) ++ ids)
   start_deed (lane.Editor j) x entry one m p q a = foreign_lane (lane.Editor j) x entry (λ e. absurd cc) one m p a
@@ -295,7 +295,7 @@ module _ (seats : Seats) (i : ℕ) (within : i < length seats.servers) (history 
       (λ (t : ((i == j) ≡ true) × (i ≡ j)).
       subst (λ (b : Bool). StartAhead (held_at i seats) (late_at i seats) (entries_in entry ++ history) ((if b then posted_in x else []) ++ items) ((if b then tried_of entry else []) ++ ids)) (sym t.0)
       (by_try Adds own_ways seats i x entry (subst (λ (k : ℕ). Meant (meaning seats (lane.Server k) x) entry) (sym t.1) m) refl refl refl
-      (subst (λ (k : ℕ). (s : ℕ) → total s (behind seats (did (lane.Server k) x entry)) + 1 ≤ total s seats + spawns s (entries_in entry) → causes_of s history ≡ []) (sym t.1) q)
+      (subst (λ (k : ℕ). (s : ℕ) → total s (behind seats (did (lane.Server k) x entry)) + 1 ≤ total s seats + spawns s (entries_in entry) → causes_from s history ≡ []) (sym t.1) q)
       (subst (λ (k : ℕ). StartAhead (held_at i (behind seats (did (lane.Server k) x entry))) (late_at i (behind seats (did (lane.Server k) x entry))) history items ids) (sym t.1) a)))
       (λ (t : ((i == j) ≡ false) × (i ≢ j)).
       subst (λ (b : Bool). StartAhead (held_at i seats) (late_at i seats) (entries_in entry ++ history) ((if b then posted_in x else []) ++ items) ((if b then tried_of entry else []) ++ ids)) (sym t.0)
@@ -303,12 +303,12 @@ module _ (seats : Seats) (i : ℕ) (within : i < length seats.servers) (history 
       (eqb_tells i j)
 
 past_entry : (d : Deed) (seats : Seats) (deeds : List Deed) (entry : Option Entry) (s : ℕ) (en : Entry) → d.entry ≡ entry → entry ≡ Some en → FairFrom seats (d ∷ deeds)
-    → total s seats + spawns s (gather_from entries_by seats (d ∷ deeds)) ≤ 1 → start_of en.cause ≡ Some s → untried (causes_of s (gather_from entries_by (behind seats d) deeds)) ≡ false
+    → total s seats + spawns s (gather_from entries_by seats (d ∷ deeds)) ≤ 1 → start_of en.cause ≡ Some s → untried (causes_from s (gather_from entries_by (behind seats d) deeds)) ≡ false
 past_entry d seats deeds entry s en at is fair once of =
     let e : d.entry ≡ Some en = at ∙ is in
     let m : Meant (meaning seats d.lane d.item) (Some en) = subst (λ (o : Option Entry). Meant (meaning seats d.lane d.item) o) e fair.0 in
     let same : behind seats (did d.lane d.item (Some en)) ≡ behind seats d = ap (λ (o : Option Entry). behind seats (did d.lane d.item o)) (sym e) in
-    subst (λ (t : Seats). untried (causes_of s (gather_from entries_by t deeds)) ≡ false) same
+    subst (λ (t : Seats). untried (causes_from s (gather_from entries_by t deeds)) ≡ false) same
     (past_deed d.lane d.item en seats deeds s m (subst (λ (t : Seats). FairFrom t deeds) (sym same) fair.1)
     (subst (λ (o : Option Entry). total s seats + spawns s (entries_in o ++ gather_from entries_by (behind seats (did d.lane d.item o)) deeds) ≤ 1) e once) of)
 

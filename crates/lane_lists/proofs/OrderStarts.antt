@@ -77,7 +77,7 @@ first seats l x c = with_done (done_at (seat_of l (marked seats l x)) c) l (caus
 abbrev pub told : Seats → LaneName → Item → Cause → List Out → Given
 told seats l x c outs = fold give_out (first seats l x c) outs
 
-done_seats : (ds : List Order) (l : LaneName) (s : Seats) → (with_done ds l s).seats ≡ s
+pub done_seats : (ds : List Order) (l : LaneName) (s : Seats) → (with_done ds l s).seats ≡ s
 done_seats [] l s = refl
 done_seats (o ∷ os) l s = refl
 
@@ -90,7 +90,7 @@ first_waiting : (seats : Seats) (l : LaneName) (x : Item) (c : Cause) → (first
 first_waiting seats l x c =
     ap (λ (s : Seats). s.waiting) (done_seats (done_at (seat_of l (marked seats l x)) c) l (caused (marked seats l x) l x c)) ∙ on_waiting l (λ s. seat_cause s x c) (marked seats l x) ∙ on_waiting l (λ s. seat_item s x) seats
 
-told_lined : (s : ℕ) (seats : Seats) (l : LaneName) (x : Item) (c : Cause) (outs : List Out) → lined s (told seats l x c outs).seats ≤ lined s seats + spawns_of_outs s outs
+pub told_lined : (s : ℕ) (seats : Seats) (l : LaneName) (x : Item) (c : Cause) (outs : List Out) → lined s (told seats l x c outs).seats ≤ lined s seats + spawns_of_outs s outs
 told_lined s seats l x c outs = let a = outs_lined s outs (first seats l x c) in let b : lined s (first seats l x c).seats ≡ lined s seats = ap (waits s) (first_waiting seats l x c) in omega arith
 
 pub deed_lined : (s : ℕ) (seats : Seats) (l : LaneName) (x : Item) (entry : Option Entry) → lined s (behind seats (did l x entry)) ≤ lined s seats + spawns s (entries_in entry)
@@ -173,11 +173,11 @@ unmarked s (cause.EditorGone e w) off = refl
 unmarked s (cause.Drained e k) off = refl
 unmarked s (cause.Tick t) off = refl
 
-began_same : (now : Option ℕ) → began_in now now ≡ []
+pub began_same : (now : Option ℕ) → began_in now now ≡ []
 began_same None = refl
 began_same (Some s) = let self : is_now (Some s) s ≡ true = grind arith in ap (λ (b : Bool). if b then [] else s ∷ []) self
 
-began_new : (before : Option ℕ) (s : ℕ) → (before ≡ Some s → ⊥) → began_in before (Some s) ≡ s ∷ []
+pub began_new : (before : Option ℕ) (s : ℕ) → (before ≡ Some s → ⊥) → began_in before (Some s) ≡ s ∷ []
 began_new before s off = (elim (is_now before s) as (λ b. is_now before s ≡ b → (if b then [] else s ∷ []) ≡ s ∷ []) [
   | true ↦ λ is. absurd (off (is_now_is before s is))
   | false ↦ λ is. refl
@@ -270,10 +270,10 @@ module _ (seats t : Seats) (i : ℕ) (within : i < length seats.servers) (matche
     within0 : i < length g0.seats.servers
     within0 = let n = first_len seats l x c in omega arith
 
-    within1 : i < length g1.seats.servers
+    pub within1 : i < length g1.seats.servers
     within1 = let a = outs_seated outs g0 in let n = a.len in let h = within0 in omega arith
 
-    told_now : start_at i g1.seats ≡ start_at i g0.seats
+    pub told_now : start_at i g1.seats ≡ start_at i g0.seats
     told_now = (outs_seated outs g0).now i
 
     -- the marks behind the outs
@@ -354,7 +354,7 @@ module _ (seats t : Seats) (i : ℕ) (within : i < length seats.servers) (matche
           each = m.each;
         }
 
-    first_other : same_lane (lane.Server i) l ≡ false → seat_at i g0.seats.servers ≡ seat_at i seats.servers
+    pub first_other : same_lane (lane.Server i) l ≡ false → seat_at i g0.seats.servers ≡ seat_at i seats.servers
     first_other f = ap (λ (s : Seats). seat_at i s.servers) (done_seats (done_at (seat_of l (marked seats l x)) c) l (caused (marked seats l x) l x c)) ∙ caused_other l f where
       caused_other : (l : LaneName) → same_lane (lane.Server i) l ≡ false → seat_at i (caused (marked seats l x) l x c).servers ≡ seat_at i seats.servers
       caused_other (lane.Editor j) f = refl
@@ -378,7 +378,7 @@ module _ (seats t : Seats) (i : ℕ) (within : i < length seats.servers) (matche
   abbrev mine : LaneName
   mine = lane.Server i
 
-  first_own : (x : Item) (c : Cause) → seat_at i (first seats mine x c).seats.servers ≡ seat_cause (seat_item (seat_at i seats.servers) x) x c
+  pub first_own : (x : Item) (c : Cause) → seat_at i (first seats mine x c).seats.servers ≡ seat_cause (seat_item (seat_at i seats.servers) x) x c
   first_own x c =
       ap (λ (s : Seats). seat_at i s.servers) (done_seats (done_at (seat_of mine (marked seats mine x)) c) mine (caused (marked seats mine x) mine x c))
       ∙ twice_here seats.servers i (λ s. seat_item s x) (λ s. seat_cause s x c) within
@@ -452,7 +452,7 @@ none_later : (seats t : Seats) (l : LaneName) (x : Item) (history : List Entry) 
 none_later seats t l x history s part later =
     let e : lined s (marked seats l x) ≡ lined s seats = ap (waits s) (on_waiting l (λ s. seat_item s x) seats) in let f = later.from in record { from = omega arith; is = later.is }
 
-none_seat : {X : Type 0} (f : Seat → X) (l : LaneName) (x : Item) (seats : Seats) (i : ℕ) → ((s : Seat) → f (seat_item s x) ≡ f s) → f (seat_at i (marked seats l x).servers) ≡ f (seat_at i seats.servers)
+pub none_seat : {X : Type 0} (f : Seat → X) (l : LaneName) (x : Item) (seats : Seats) (i : ℕ) → ((s : Seat) → f (seat_item s x) ≡ f s) → f (seat_at i (marked seats l x).servers) ≡ f (seat_at i seats.servers)
 none_seat f (lane.Editor j) x seats i same = refl
 none_seat f lane.Ticker x seats i same = refl
 none_seat f (lane.Server j) x seats i same = set_like f (λ s. seat_item s x) same seats.servers j i

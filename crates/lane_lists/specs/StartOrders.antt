@@ -1,5 +1,5 @@
 -- What a history says to one start, and the orders of a servers' lane.
-use Rattle.std.specs.Prelude.{◌≡◌, ℕ, ◌==◌, ◌≤◌, ◌<◌, List, [], ◌∷◌, ◌++◌, if◌then◌else◌, map, Option, Some, None}
+use Rattle.std.specs.Prelude.{◌≡◌, ℕ, ◌==◌, ◌≤◌, ◌<◌, List, [], ◌∷◌, ◌++◌, Bool, true, false, if◌then◌else◌, map, length, Option, Some, None}
 use Rattle.mux_history.specs.declared.entry.Entry.{Entry}
 use Rattle.mux_history.specs.declared.cause.Cause.{Cause}
 use Rattle.mux_history.specs.declared.cause.Cause.TheVariants as cause
@@ -10,10 +10,11 @@ use Rattle.lane_lists.specs.declared.item.LaneName.TheVariants as lane
 use Rattle.lane_lists.specs.declared.item.Order.{Order}
 use Rattle.lane_lists.specs.declared.item.Order.TheVariants as order
 use Rattle.lane_lists.specs.Seats.{Seats, seat_at, is_now, is_none, place_of}
-use Rattle.lane_lists.specs.Sessions.{chain}
-use Rattle.lane_lists.specs.Deeds.{Deed, start, entries, orders, Fair}
+use Rattle.lane_lists.specs.Sessions.{chain, parts}
+use Rattle.lane_lists.specs.Deeds.{Deed, start, entries, orders, gather, Fair}
 use Rattle.lane_lists.specs.History.{AllZip, Mark, Enters, Told, Closed, Leaves, entered, bodies_until, end_until}
 use Rattle.lane_lists.specs.Starts.{next_seats}
+use Rattle.lane_lists.specs.StartHistory.{tried_by}
 
 -- a start that fails or goes leaves
 abbrev pub start_mark_in : ℕ → Cause → List Mark
@@ -68,10 +69,38 @@ began_from i seats (entry ∷ history) = began_in (seat_at i seats.servers).now 
 abbrev pub began : ℕ → ℕ → List Entry → List ℕ
 began servers i history = began_from i (start 0 servers) history
 
+-- the orders of a start: its Begin, the bodies to it, and the order that ended it, if one did
+abbrev pub OrdersOf : ℕ → List Entry → ℕ → List Order → Type 0
+OrdersOf servers history s part = part ≡ order.Begin s ∷ (map order.Body (bodies_to_start servers s history) ++ end_to_start servers s history)
+
 pub record ByStartOrders (n m i : ℕ) (deeds : List Deed) : Type 0 where
   pub made : List (List Order)
   pub orders : orders n m (lane.Server i) deeds ≡ chain made
-  pub each : AllZip (λ s part. part ≡ order.Begin s ∷ (map order.Body (bodies_to_start m s (entries n m deeds)) ++ end_to_start m s (entries n m deeds))) (began m i (entries n m deeds)) made
+  pub each : AllZip (OrdersOf m (entries n m deeds)) (began m i (entries n m deeds)) made
 
 abbrev pub StartOrders : Type 0
 StartOrders = (n m i : ℕ) (deeds : List Deed) → i < m → Fair n m deeds → ((s : ℕ) → spawns s (entries n m deeds) ≤ 1) → ByStartOrders n m i deeds
+
+-- where a start's orders begin, for `parts`
+abbrev pub is_begin : Order → Bool
+is_begin (order.Begin s) = true
+is_begin (order.Body body) = false
+is_begin order.Close = false
+is_begin order.Done = false
+
+pub record ByStartOrderParts (n m i : ℕ) (deeds : List Deed) : Type 0 where
+  pub made : List (List Order)
+  pub cut : parts is_begin (orders n m (lane.Server i) deeds) ≡ [] ∷ made
+  pub each : AllZip (OrdersOf m (entries n m deeds)) (began m i (entries n m deeds)) made
+
+abbrev pub StartOrderParts : Type 0
+StartOrderParts = (n m i : ℕ) (deeds : List Deed) → i < m → Fair n m deeds → ((s : ℕ) → spawns s (entries n m deeds) ≤ 1) → ByStartOrderParts n m i deeds
+
+-- the starts that began in a lane are those that were tried in it, and at most one that neither came up nor failed yet
+pub record ByTried (n m i : ℕ) (deeds : List Deed) : Type 0 where
+  pub rest : List ℕ
+  pub is : began m i (entries n m deeds) ≡ gather n m (tried_by (lane.Server i)) deeds ++ rest
+  pub one : length rest ≤ 1
+
+abbrev pub StartsTried : Type 0
+StartsTried = (n m i : ℕ) (deeds : List Deed) → i < m → Fair n m deeds → ((s : ℕ) → spawns s (entries n m deeds) ≤ 1) → ByTried n m i deeds
