@@ -1,29 +1,10 @@
+use crate::change::change;
 use doc_text::{ChangeFault, DocText, Text};
-use json_span::Tape;
-use message_body::{Body, Memory};
+use message_body::Memory;
 use position_codec::Encoding;
-use std::alloc::Global;
 
 /// Eleven bytes: a character of four bytes, an end of two bytes, and a `\r` alone.
 const TEXT: &str = "a😀b\r\nc\rd";
-
-// Makes the changes of a JSON text, and gives what the text is then, also behind a fault.
-fn change(
-    alloc: Global,
-    text: &str,
-    encoding: Encoding,
-    changes: &[u8],
-) -> Result<(Result<(), ChangeFault>, Body), Memory> {
-    let mut text = DocText::new(alloc, text.as_bytes())?;
-    if changes.len() > 1000 {
-        return Err(Memory);
-    }
-    let Ok(tape) = Tape::read(alloc, changes) else {
-        return Err(Memory);
-    };
-    let done = text.apply(alloc, encoding, &tape, tape.root());
-    Ok((done, text.whole(alloc)?))
-}
 
 #[test]
 fn makes_changes(rt: HostRuntime) -> Result<(), Memory> {
@@ -69,7 +50,7 @@ fn makes_changes(rt: HostRuntime) -> Result<(), Memory> {
         ),
     ];
     for (changes, wanted) in rows {
-        let (done, text) = change(rt.alloc(), TEXT, Encoding::Utf16, changes)?;
+        let (done, text) = change::<DocText>(rt.alloc(), TEXT, Encoding::Utf16, changes)?;
         assert_eq!(rt; done, Ok(()));
         assert_eq!(rt; text.bytes(), wanted.as_bytes());
     }
@@ -93,7 +74,7 @@ fn counts_by_the_encoding(rt: HostRuntime) -> Result<(), Memory> {
         ),
     ];
     for (encoding, changes) in rows {
-        let (done, text) = change(rt.alloc(), TEXT, encoding, changes)?;
+        let (done, text) = change::<DocText>(rt.alloc(), TEXT, encoding, changes)?;
         assert_eq!(rt; done, Ok(()));
         assert_eq!(rt; text.bytes(), b"az\r\nc\rd".as_slice());
     }
@@ -116,7 +97,7 @@ fn leaves_the_text_where_the_shape_is_bad(rt: HostRuntime) -> Result<(), Memory>
         b"[{\"range\":{\"start\":{\"line\":\"0\",\"character\":0},\"end\":{\"line\":0,\"character\":1}},\"text\":\"x\"}]",
     ];
     for changes in rows {
-        let (done, text) = change(rt.alloc(), TEXT, Encoding::Utf16, changes)?;
+        let (done, text) = change::<DocText>(rt.alloc(), TEXT, Encoding::Utf16, changes)?;
         assert_eq!(rt; done, Err(ChangeFault::BadShape));
         assert_eq!(rt; text.bytes(), TEXT.as_bytes());
     }

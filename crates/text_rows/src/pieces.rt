@@ -1,27 +1,8 @@
+use crate::change::change;
 use doc_text::{ChangeFault, Text};
-use json_span::Tape;
-use message_body::{Body, Memory};
+use message_body::Memory;
 use position_codec::Encoding;
-use std::alloc::Global;
 use text_pieces::PieceText;
-
-// Makes the changes of a JSON text, and gives what the text is then, also behind a fault.
-fn change(
-    alloc: Global,
-    text: &str,
-    encoding: Encoding,
-    changes: &[u8],
-) -> Result<(Result<(), ChangeFault>, Body), Memory> {
-    let mut text = PieceText::new(alloc, text.as_bytes())?;
-    if changes.len() > 1000 {
-        return Err(Memory);
-    }
-    let Ok(tape) = Tape::read(alloc, changes) else {
-        return Err(Memory);
-    };
-    let done = text.apply(alloc, encoding, &tape, tape.root());
-    Ok((done, text.whole(alloc)?))
-}
 
 // A change is one of a text with all ends of lines, or joins a `\r` and a `\n`; behind the two the next line starts.
 #[test]
@@ -54,7 +35,7 @@ fn makes_changes(rt: HostRuntime) -> Result<(), Memory> {
         ),
     ];
     for (text, changes, wanted) in rows {
-        let (done, text) = change(rt.alloc(), text, Encoding::Utf16, changes)?;
+        let (done, text) = change::<PieceText>(rt.alloc(), text, Encoding::Utf16, changes)?;
         assert_eq!(rt; done, Ok(()));
         assert_eq!(rt; text.bytes(), wanted.as_bytes());
     }
@@ -63,7 +44,7 @@ fn makes_changes(rt: HostRuntime) -> Result<(), Memory> {
 
 #[test]
 fn leaves_the_text_where_the_shape_is_bad(rt: HostRuntime) -> Result<(), Memory> {
-    let (done, text) = change(
+    let (done, text) = change::<PieceText>(
         rt.alloc(),
         "a\rb",
         Encoding::Utf8,
