@@ -165,11 +165,16 @@ impl<K: Steps + Drop, N: Naming> Deck<K, N> {
         })
     }
 
+    /// Takes one item of a lane, and does what it means.
+    pub fn turn<R: Wait>(&self, rt: &R, lane: LaneName) -> Took {
+        self.desk.lock(rt).take(rt, lane)
+    }
+
     /// Takes what it finds in a lane's queues. False says that the core goes on no more.
     pub fn pump<R: Wait>(&self, rt: &R, lane: LaneName) -> bool {
         let mut goes_on = false;
         for _ in rt.forever() {
-            match self.desk.lock(rt).take(rt, lane) {
+            match self.turn(rt, lane) {
                 Took::Item => {}
                 Took::Nothing => {
                     goes_on = true;
