@@ -1,2 +1,5 @@
+mod Links
+mod Sessions
 mod Told
+mod Turning
 mod Ticking

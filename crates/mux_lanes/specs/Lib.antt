@@ -1,1 +1,3 @@
+pub mod Lanes
+pub mod Runs
 pub mod Ticks

@@ -2,11 +2,15 @@
 #![tactic(auto)]
 
 mod bell;
+mod editor;
 mod lane_end;
 mod post;
+mod session;
 mod switchboard;
 mod ticker;
 
+pub use editor::{Lane, editor_lane};
 pub use lane_end::LaneEnd;
+pub use session::Ends;
 pub use switchboard::Switchboard;
 pub use ticker::ticker_lane;
