@@ -31,18 +31,20 @@ module _ (given given' given'' left left' left'' : Option (List ℕ)) (posts pos
     left_are = f.left_are ∙ ap (prepend_to f.ticks) g ∙ prepended_more left'' f.ticks (t ∷ []);
     posted = h ∙ f.posted;
     one = omega arith;
+    whole = λ x. absurd (x refl);
     through = λ x. absurd cc;
   }
 
 module _ (given given' left left' : Option (List ℕ)) (posts posts' : List Posted) where
-  pub ticks_cut : TickedSoFar given given' left left' posts posts' → TickedAs given given' left left' posts posts' lane_end.Cut
-  ticks_cut f = record {
+  pub ticks_over : TickedSoFar given given' left left' posts posts' → TickedAs given given' left left' posts posts' lane_end.Over
+  ticks_over f = record {
     ticks = f.ticks;
     refused = [];
     given_are = f.given_are ∙ ap (append_to given) (sym (append-nil f.ticks));
     left_are = f.left_are ∙ ap (λ l. prepend_to l left') (sym (append-nil f.ticks));
     posted = f.posted;
     one = omega arith;
+    whole = λ x. refl;
     through = λ x. absurd cc;
   }
 
@@ -54,5 +56,6 @@ module _ (given given' left left' : Option (List ℕ)) (posts posts' : List Post
     left_are = f.left_are ∙ ap (λ l. prepend_to l left') (sym (append-nil f.ticks));
     posted = f.posted;
     one = omega arith;
-    through = λ x. (refl, none);
+    whole = λ x. refl;
+    through = λ x. none;
   }

@@ -1,11 +1,11 @@
 -- What a lane did: session by session, what it accepted and handed back, what it posted, took and said.
-use Rattle.std.specs.Prelude.{◌≡◌, ℕ, ◌≤◌, List, [], ◌∷◌, ◌++◌, Bool, true, false, All, map, length, Option}
+use Rattle.std.specs.Prelude.{◌≡◌, ℕ, ◌≤◌, List, [], ◌∷◌, ◌++◌, Bool, true, false, ◌||◌, All, map, length, Option}
 use Rattle.outside_io.specs.Sessions.{Session}
+use Rattle.outside_io.specs.Faults.{Rose}
 use Rattle.outside_io.specs.Told.{append_to, prepend_to}
 use Rattle.lane_lists.specs.Sessions.{chain}
 use Rattle.lane_lists.specs.declared.item.Order.{Order}
 use Rattle.lane_lists.specs.declared.item.Posted.{Posted}
-use Rattle.lane_lists.specs.declared.item.Posted.TheVariants as posted
 use Rattle.lane_lists.specs.declared.item.Side.{Side}
 use Rattle.mux_lanes.specs.declared.lane_end.LaneEnd.{LaneEnd}
 use Rattle.mux_lanes.specs.declared.lane_end.LaneEnd.TheVariants as lane_end
@@ -18,21 +18,23 @@ pub record IsSameLane (old new : Ends) : Type 0 where
   pub orders : new.out.orders.queue ≡ old.out.orders.queue
   pub sides : new.out.sides.queue ≡ old.out.sides.queue
 
--- how a lane stands: what was handed back and what is left where its links come from, and what went through its ends
+-- how a lane stands: what was handed back and what is left where its links or programs come from, the count of faults there, and what went through its ends
 pub record Standing : Type 0 where
   pub back : Option (List Session)
   pub left : Option (List Session)
+  pub faults : ℕ
   pub posts : List Posted
   pub orders : List Order
   pub sides : List Side
 
-abbrev pub standing : {P : Type 0} → (P → Option (List Session)) → (P → Option (List Session)) → P → Ends → Standing
-standing back left port ends = record { back = back port; left = left port; posts = ends.inn.pushed; orders = ends.out.orders.taken; sides = ends.out.sides.pushed }
+abbrev pub standing : {P : Type 0} → (P → Option (List Session)) → (P → Option (List Session)) → (P → ℕ) → P → Ends → Standing
+standing back left faults port ends = record { back = back port; left = left port; faults = faults port; posts = ends.inn.pushed; orders = ends.out.orders.taken; sides = ends.out.sides.pushed }
 
--- what one thing that a lane did adds: to what is handed back, and to what goes through its ends; and what it took off the front of what was left
+-- what one thing that a lane did adds: to what is handed back, and to what goes through its ends; what it took off the front of what was left; and whether the count of faults rose in it
 pub record Turn : Type 0 where
   pub came : List Session
   pub back : List Session
+  pub rises : Bool
   pub posts : List Posted
   pub orders : List Order
   pub sides : List Side
@@ -40,6 +42,8 @@ pub record Turn : Type 0 where
 pub record Adds (turn : Turn) (before after : Standing) : Type 0 where
   pub left : before.left ≡ prepend_to turn.came after.left
   pub back : after.back ≡ append_to before.back turn.back
+  pub later : before.faults ≤ after.faults
+  pub rise : turn.rises ≡ true → Rose before.faults after.faults
   pub posts : after.posts ≡ before.posts ++ turn.posts
   pub orders : after.orders ≡ before.orders ++ turn.orders
 
@@ -53,10 +57,15 @@ pub record Takes (Whole Cut : Turn → Type 0) (before after : Standing) (is_who
   pub whole : is_whole ≡ true → Whole turn × AddsSides turn before after
   pub cut : is_whole ≡ false → Cut turn
 
+abbrev pub any_rises : List Turn → Bool
+any_rises [] = false
+any_rises (t ∷ turns) = t.rises || any_rises turns
+
 abbrev pub all_turns : List Turn → Turn
 all_turns turns = record {
   came = chain (map (λ t. t.came) turns);
   back = chain (map (λ t. t.back) turns);
+  rises = any_rises turns;
   posts = chain (map (λ t. t.posts) turns);
   orders = chain (map (λ t. t.orders) turns);
   sides = chain (map (λ t. t.sides) turns);
@@ -77,22 +86,22 @@ pub record RanAs (Whole Cut : Turn → Type 0) (before after : Standing) (end : 
   pub few : length last ≤ 1
   pub adds : Adds (all_turns (turns ++ last)) before after
   pub sides : last ≡ [] → AddsSides (all_turns turns) before after
-  pub through : end ≡ lane_end.Through → last ≡ []
+  pub whole : (end ≡ lane_end.Cut → ⊥) → last ≡ []
 
--- a link's session, behind its Link
-abbrev pub linked : Run → Turn
-linked run = record { came = run.began ∷ []; back = run.ended ∷ []; posts = posted.Link ∷ run.posts; orders = run.orders; sides = run.sides }
+-- a session, behind the item that says that it begins
+abbrev pub linked : Posted → Run → Turn
+linked first run = record { came = run.began ∷ []; back = run.ended ∷ []; rises = false; posts = first ∷ run.posts; orders = run.orders; sides = run.sides }
 
--- a link whose Link was refused, which is handed back as it came
+-- a session whose first item was refused, which is handed back as it came
 abbrev pub unlinked : Session → Turn
-unlinked session = record { came = session ∷ []; back = session ∷ []; posts = []; orders = []; sides = [] }
+unlinked session = record { came = session ∷ []; back = session ∷ []; rises = false; posts = []; orders = []; sides = [] }
 
-pub record WholeLink (limit : ℕ) (turn : Turn) : Type 0 where
+pub record WholeLink (first : Posted) (limit : ℕ) (turn : Turn) : Type 0 where
   pub run : Run
   pub is_run : IsRun limit run
   pub is_whole : IsWholeRun run
-  pub is : turn ≡ linked run
+  pub is : turn ≡ linked first run
 
-pub data CutLink (limit : ℕ) (turn : Turn) : Type 0 where
-  ran : (run : Run) → IsRun limit run → turn ≡ linked run → CutLink limit turn
-  refused : (session : Session) → turn ≡ unlinked session → CutLink limit turn
+pub data CutLink (first : Posted) (limit : ℕ) (turn : Turn) : Type 0 where
+  ran : (run : Run) → IsRun limit run → turn ≡ linked first run → CutLink first limit turn
+  refused : (session : Session) → turn ≡ unlinked session → CutLink first limit turn

@@ -14,7 +14,8 @@ pub record TickedAs (given given' left left' : Option (List ℕ)) (posts posts' 
   pub left_are : left ≡ prepend_to (ticks ++ refused) left'
   pub posted : posts' ≡ posts ++ map posted.Tick ticks
   pub one : length refused ≤ 1
-  pub through : end ≡ lane_end.Through → (refused ≡ []) × IfSome left' (λ moments. moments ≡ [])
+  pub whole : (end ≡ lane_end.Cut → ⊥) → refused ≡ []
+  pub through : end ≡ lane_end.Through → IfSome left' (λ moments. moments ≡ [])
 
 -- so far each moment was posted
 pub record TickedSoFar (given given' left left' : Option (List ℕ)) (posts posts' : List Posted) : Type 0 where

@@ -5,7 +5,7 @@ ghost use Rattle.outside_io.specs.Sessions.{session_of};
 ghost use Rattle.outside_io.specs.Told.{append_to, prepend_to};
 ghost use Rattle.mux_lanes.specs.Lanes.{CutLink, IsSameLane, RanAs, Takes, WholeLink, standing};
 
-use crate::lane_end::LaneEnd;
+use crate::lane_end::{Lane, LaneEnd, Served};
 use crate::post::post;
 use crate::session::{Ends, Link, Ran, is_whole, run_session};
 use crate::switchboard::Switchboard;
@@ -50,13 +50,6 @@ fn hang_up<P: Port>(port: &mut P, link: Link<P::In, P::Out>)
     port.hang_up(&mut source, &mut sink);
 }
 
-// What the session of a link leaves of its lane.
-#[derive(Drop)]
-struct Served {
-    ends: Ends,
-    is_whole: bool,
-}
-
 // Runs the session of a link that came, and hands the link back.
 fn serve_link<K: Steps + Drop + Send, N: Naming + Send + Sync, P: Port, R: Threads + Wait + Sync>(
     rt: &R,
@@ -70,8 +63,7 @@ fn serve_link<K: Steps + Drop + Send, N: Naming + Send + Sync, P: Port, R: Threa
 ) -> Served
     requires { 0 < P.held port.old }
     ensures lane { IsSameLane ends result.ends }
-    ensures turn { Takes (WholeLink limit) (CutLink limit) (record (standing P.sessions P.links port.old ends) { left = prepend_to (session_of P.In.Source.taken P.In.Source.left P.In.Source.faults P.Out.Sink.written P.Out.Sink.faults link.source link.sink ∷ []) (P.links port.old) }) (standing P.sessions P.links port.new result.ends) result.is_whole }
-    ensures later { P.faults port.old ≤ P.faults port.new }
+    ensures turn { Takes (WholeLink Posted.Link limit) (CutLink Posted.Link limit) (record (standing P.sessions P.links P.faults port.old ends) { left = prepend_to (session_of P.In.Source.taken P.In.Source.left P.In.Source.faults P.Out.Sink.written P.Out.Sink.faults link.source link.sink ∷ []) (P.links port.old) }) (standing P.sessions P.links P.faults port.new result.ends) result.is_whole }
 {
     let mut ends = ends;
     if !post(rt, board, &mut ends.inn, Posted::Link) {
@@ -93,13 +85,6 @@ fn serve_link<K: Steps + Drop + Send, N: Naming + Send + Sync, P: Port, R: Threa
     Served { ends, is_whole }
 }
 
-/// What a lane leaves.
-#[derive(Drop)]
-pub struct Lane {
-    pub ends: Ends,
-    pub end: LaneEnd,
-}
-
 /// Accepts the links of a port one after the other, and runs the session of each: posts its link, then the contents of the
 /// frames that it reads, of at most `limit` bytes, and how it ended, and writes what is ordered meanwhile.
 pub fn editor_lane<
@@ -117,9 +102,8 @@ pub fn editor_lane<
     ends: Ends,
 ) -> Lane
     ensures lane { IsSameLane ends result.ends }
-    ensures ran { RanAs (WholeLink limit) (CutLink limit) (standing P.sessions P.links port.old ends) (standing P.sessions P.links port.new result.ends) result.end }
+    ensures ran { RanAs (WholeLink Posted.Link limit) (CutLink Posted.Link limit) (standing P.sessions P.links P.faults port.old ends) (standing P.sessions P.links P.faults port.new result.ends) result.end }
     ensures closed { result.end ≡ LaneEnd.Through → IfSome (P.links port.new) (λ left. left ≡ []) ⊎ Rose (P.faults port.old) (P.faults port.new) }
-    ensures later { P.faults port.old ≤ P.faults port.new }
 {
     let name = LaneName::Editor(lane);
     let mut ends = ends;
@@ -127,7 +111,7 @@ pub fn editor_lane<
         if !board.pump(rt, name) {
             return Lane {
                 ends,
-                end: LaneEnd::Cut,
+                end: LaneEnd::Over,
             };
         }
         match next_link(port) {

@@ -5,12 +5,14 @@ mod bell;
 mod editor;
 mod lane_end;
 mod post;
+mod server;
 mod session;
 mod switchboard;
 mod ticker;
 
-pub use editor::{Lane, editor_lane};
-pub use lane_end::LaneEnd;
+pub use editor::editor_lane;
+pub use lane_end::{Lane, LaneEnd};
+pub use server::server_lane;
 pub use session::Ends;
 pub use switchboard::Switchboard;
 pub use ticker::ticker_lane;

@@ -84,6 +84,11 @@ impl<K: Steps + Drop, N: Naming> Switchboard<K, N> {
         }
     }
 
+    /// The place of the server whose command a start runs, as the core says.
+    pub fn server_of<R: Wait>(&self, rt: &R, start: u64) -> Option<u32> {
+        self.deck.server_of(rt, start)
+    }
+
     /// A lane wanted memory: the core goes on no more.
     pub fn fail<R: Wait>(&self, rt: &R) {
         self.deck.fail(rt);

@@ -30,7 +30,7 @@ pub fn ticker_lane<K: Steps + Drop, N: Naming, C: Clock, R: Wait>(
             return LaneEnd::Cut;
         }
         if !board.pump(rt, LaneName::Ticker) {
-            return LaneEnd::Cut;
+            return LaneEnd::Over;
         }
     }
     unreachable!()

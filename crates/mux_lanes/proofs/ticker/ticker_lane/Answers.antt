@@ -1,5 +1,5 @@
 use Rattle.std.proofs.Common.{refl, ◌∙◌}
-use Rattle.mux_lanes.proofs.Ticking.{no_tick, tick_more, tick_refused, ticks_cut}
+use Rattle.mux_lanes.proofs.Ticking.{no_tick, tick_more, tick_refused, ticks_over}
 use Rattle.mux_lanes.proofs.ticker.ticker_lane.Goals as goal
 
 pub loop-init : goal.loop-init
@@ -12,7 +12,7 @@ returns-then-not-post-clause-ticked g c =
 
 pub returns-then-not-pump-clause-ticked : goal.returns-then-not-pump-clause-ticked
 returns-then-not-pump-clause-ticked g c =
-    ticks_cut (g.C.Clock.given c.args.clock.now) (g.C.Clock.given c.next-in-loop.new.self) (g.C.Clock.left c.args.clock.now) (g.C.Clock.left c.next-in-loop.new.self) c.args.inn.now.pushed c.post.new.inn.pushed
+    ticks_over (g.C.Clock.given c.args.clock.now) (g.C.Clock.given c.next-in-loop.new.self) (g.C.Clock.left c.args.clock.now) (g.C.Clock.left c.next-in-loop.new.self) c.args.inn.now.pushed c.post.new.inn.pushed
     (tick_more (g.C.Clock.given c.args.clock.now) (g.C.Clock.given c.loop.clock) (g.C.Clock.given c.next-in-loop.new.self) (g.C.Clock.left c.args.clock.now) (g.C.Clock.left c.loop.clock) (g.C.Clock.left c.next-in-loop.new.self)
     c.args.inn.now.pushed c.loop.inn.pushed c.post.new.inn.pushed c.in-Some-next.moment c.loop.invariant.ticked c.in-Some-next.ensures.given c.in-Some-next.ensures.left c.if-not-post.ensures.posts)
 
