@@ -2,9 +2,13 @@
 #![tactic(auto)]
 
 mod echo;
+mod lanes;
 mod session;
+mod starts;
 #[cfg(test)]
 mod tests;
 
 pub use echo::Echo;
+pub use lanes::{Lanes, run_lanes};
 pub use session::{Begin, Ran, run};
+pub use starts::{Started, run_starts};
