@@ -1,5 +1,7 @@
 // The core and the ends of all lanes behind a lock.
-ghost use Rattle.std.specs.Prelude.{◌≡◌, ◌↔◌, ◌<◌, ◌≤◌, ◌+◌, [], IfErr, length, map, not, true};
+ghost use Rattle.std.specs.Prelude.{◌≡◌, ◌↔◌, ◌<◌, ◌≤◌, ◌+◌, [], IfErr, IsNone, List, length, map, not, false, true};
+ghost use Rattle.mux_history.specs.declared.entry.Entry.{Entry};
+ghost use Rattle.mux_history.specs.Cores.{spawns};
 ghost use Rattle.lane_lists.specs.Seats as lists;
 ghost use Rattle.lane_desk.specs.Desks.{AllUnused, Faulted, Kept, ids};
 
@@ -100,6 +102,13 @@ impl<K: Steps + Drop, N: Naming> Desk<K, N> {
         }
     }
 
+    /// The place of the server whose command a start runs; None just of a start that wasn't spawned.
+    pub fn server_of(&self, start: u64) -> Option<u32>
+        ensures { (history : List Entry) → K.stands self.now.core history → K.spent self.now.core ≡ false → IsNone result ↔ (spawns start history ≡ 0) }
+    {
+        self.core.server_of(start)
+    }
+
     /// The core goes on no more.
     pub fn fail(&mut self)
         ensures { self.new ≡ record self.old { spent = true } }
@@ -165,11 +174,16 @@ impl<K: Steps + Drop, N: Naming> Deck<K, N> {
         })
     }
 
+    /// Takes one item of a lane, and does what it means.
+    pub fn turn<R: Wait>(&self, rt: &R, lane: LaneName) -> Took {
+        self.desk.lock(rt).take(rt, lane)
+    }
+
     /// Takes what it finds in a lane's queues. False says that the core goes on no more.
     pub fn pump<R: Wait>(&self, rt: &R, lane: LaneName) -> bool {
         let mut goes_on = false;
         for _ in rt.forever() {
-            match self.desk.lock(rt).take(rt, lane) {
+            match self.turn(rt, lane) {
                 Took::Item => {}
                 Took::Nothing => {
                     goes_on = true;
@@ -179,6 +193,11 @@ impl<K: Steps + Drop, N: Naming> Deck<K, N> {
             }
         }
         goes_on
+    }
+
+    /// The place of the server whose command a start runs, as the core says.
+    pub fn server_of<R: Wait>(&self, rt: &R, start: u64) -> Option<u32> {
+        self.desk.lock(rt).server_of(start)
     }
 
     /// A lane wanted memory: the core goes on no more.

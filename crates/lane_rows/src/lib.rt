@@ -1,15 +1,19 @@
-//! A small core, and a deck over it for tests: each body of an editor goes back to it. Tests of the deck, of the queues of a
-//! lane and of a session's reading and writing.
+//! A small core, and a deck and lanes over it for tests: each body of an editor goes back to it. Tests of the deck, of the
+//! lanes, of the queues of a lane and of a session's reading and writing.
 #![tactic(auto)]
 
 mod echo;
 #[cfg(test)]
 mod io;
+mod lanes;
 #[cfg(test)]
 mod queue;
 mod session;
+mod starts;
 #[cfg(test)]
 mod tests;
 
 pub use echo::Echo;
+pub use lanes::{Lanes, run_lanes};
 pub use session::{Begin, Ran, run};
+pub use starts::{Started, run_starts};

@@ -29,7 +29,7 @@ pub struct Ran {
 }
 
 // The ends of an editors' lane and of the ticker's.
-fn two(alloc: Global, editor: HubEnds, ticker: HubEnds) -> Option<Vec<HubEnds>>
+pub fn two(alloc: Global, editor: HubEnds, ticker: HubEnds) -> Option<Vec<HubEnds>>
     ensures { IfSome result (λ v. v.items ≡ editor ∷ ticker ∷ []) }
 {
     let mut ends = Vec::new(alloc);

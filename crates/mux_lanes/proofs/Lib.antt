@@ -1,0 +1,6 @@
+mod Links
+mod Sessions
+mod Starting
+mod Told
+mod Turning
+mod Ticking

@@ -1,0 +1,4 @@
+pub mod Lanes
+pub mod Runs
+pub mod Ticks
+pub mod Starts

@@ -1,0 +1,107 @@
+// A deck, and what wakes its lanes.
+ghost use Rattle.std.specs.Prelude.{◌≡◌, IfErr};
+
+use crate::bell::{Bell, bells};
+use lane_desk::{Deck, Naming, Took};
+use lane_lists::LaneName;
+use mux_history::Steps;
+use std::alloc::Global;
+use std::sync::Wait;
+
+/// A deck with a bell for each lane of an editor or of a server. No lock of it is held while a lane reads or writes.
+///
+/// A bell wakes its lane where the core took something, of whatever lane, or goes on no more: so a lane that was woken may
+/// find nothing to do.
+pub struct Switchboard<K: Steps + Drop, N: Naming> {
+    deck: Deck<K, N>,
+    editors: Vec<Bell>,
+    servers: Vec<Bell>,
+}
+
+impl<K: Steps + Drop, N: Naming> Switchboard<K, N> {
+    /// A deck that has so many lanes of editors and of servers. Want of memory hands the deck back.
+    pub fn new(
+        alloc: Global,
+        deck: Deck<K, N>,
+        editors: u32,
+        servers: u32,
+    ) -> Result<Switchboard<K, N>, Deck<K, N>>
+        ensures { IfErr result (λ back. back ≡ deck) }
+    {
+        let (Ok(editors), Ok(servers)) = (bells(alloc, editors), bells(alloc, servers)) else {
+            return Err(deck);
+        };
+        Ok(Switchboard {
+            deck,
+            editors,
+            servers,
+        })
+    }
+
+    fn bell(&self, lane: LaneName) -> Option<&Bell> {
+        match lane {
+            LaneName::Editor(i) => self.editors.get(i as usize),
+            LaneName::Server(i) => self.servers.get(i as usize),
+            LaneName::Ticker => None,
+        }
+    }
+
+    // Wakes all lanes.
+    fn ring<R: Wait>(&self, rt: &R) {
+        for bell in &self.editors {
+            bell.ring(rt);
+        }
+        for bell in &self.servers {
+            bell.ring(rt);
+        }
+    }
+
+    /// Has the core take what it finds in a lane's queues, and wakes the lanes where it took something. False says that it
+    /// goes on no more.
+    pub fn pump<R: Wait>(&self, rt: &R, lane: LaneName) -> bool {
+        let mut has_taken = false;
+        let mut goes_on = true;
+        for _ in rt.forever() {
+            match self.deck.turn(rt, lane) {
+                Took::Item => has_taken = true,
+                Took::Nothing => break,
+                Took::Over => {
+                    goes_on = false;
+                    break;
+                }
+            }
+        }
+        if has_taken || !goes_on {
+            self.ring(rt);
+        }
+        goes_on
+    }
+
+    /// Sleeps until the lane's bell is rung, and silences it. It returns at once for the ticker, which has none.
+    pub fn wait<R: Wait>(&self, rt: &R, lane: LaneName) {
+        if let Some(bell) = self.bell(lane) {
+            bell.wait(rt);
+        }
+    }
+
+    /// The place of the server whose command a start runs, as the core says.
+    pub fn server_of<R: Wait>(&self, rt: &R, start: u64) -> Option<u32> {
+        self.deck.server_of(rt, start)
+    }
+
+    /// A lane wanted memory: the core goes on no more.
+    pub fn fail<R: Wait>(&self, rt: &R) {
+        self.deck.fail(rt);
+        self.ring(rt);
+    }
+
+    /// The deck.
+    pub fn close(self) -> Deck<K, N> {
+        let Switchboard {
+            deck,
+            editors: _,
+            servers: _,
+        } = self;
+        deck
+    }
+}
