@@ -204,8 +204,10 @@ pub fn settle<R: Wait>(rt: &R, inn: LaneIn, out: LaneOut, hub: HubEnds) -> Settl
     requires sides { out.sides.queue ≡ hub.sides.queue }
     requires orders { out.orders.queue ≡ hub.orders.queue }
     ensures posted { (result.posted.pushed ≡ inn.pushed) × (result.posted.taken ≡ hub.posted.taken) × (inn.pushed ≡ hub.posted.taken ++ result.posted.left) }
-    ensures sides { (result.sides.pushed ≡ out.sides.pushed) × (result.sides.taken ≡ hub.sides.taken) × (out.sides.pushed ≡ hub.sides.taken ++ result.sides.left) }
-    ensures orders { (result.orders.pushed ≡ hub.orders.pushed) × (result.orders.taken ≡ out.orders.taken) × (hub.orders.pushed ≡ out.orders.taken ++ result.orders.left) }
+    ensures sides { (result.sides.pushed ≡ out.sides.pushed) × (result.sides.taken ≡ hub.sides.taken)
+        × (out.sides.pushed ≡ hub.sides.taken ++ result.sides.left) }
+    ensures orders { (result.orders.pushed ≡ hub.orders.pushed) × (result.orders.taken ≡ out.orders.taken)
+        × (hub.orders.pushed ≡ out.orders.taken ++ result.orders.left) }
 {
     let LaneIn { posted: post } = inn;
     let LaneOut {

@@ -89,7 +89,8 @@ fn read_frames<R: Wait, C: Core, S: Source>(
     inn: &mut LaneIn,
 ) -> Stop
     ensures queue { inn.new.queue ≡ inn.old.queue }
-    ensures read { ReadFrames limit (S.taken source.old) (S.taken source.new) (S.left source.new) (S.faults source.old) (S.faults source.new) inn.old.pushed inn.new.pushed result }
+    ensures read { ReadFrames limit (S.taken source.old) (S.taken source.new) (S.left source.new) (S.faults source.old)
+        (S.faults source.new) inn.old.pushed inn.new.pushed result }
 {
     frames_law();
     let mut reader = FrameReader::new(alloc, limit);
@@ -141,7 +142,8 @@ pub fn read_session<R: Wait, C: Core, S: Source>(
     inn: &mut LaneIn,
 ) -> Stop
     ensures queue { inn.new.queue ≡ inn.old.queue }
-    ensures read { ReadAs limit (S.taken source.old) (S.taken source.new) (S.left source.new) (S.faults source.old) (S.faults source.new) inn.old.pushed inn.new.pushed result }
+    ensures read { ReadAs limit (S.taken source.old) (S.taken source.new) (S.left source.new) (S.faults source.old)
+        (S.faults source.new) inn.old.pushed inn.new.pushed result }
 {
     let stop = read_frames(rt, alloc, limit, core, source, inn);
     let Some(why) = why_of(stop) else {

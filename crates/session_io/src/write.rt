@@ -64,7 +64,8 @@ fn write_body<R: Wait, K: Sink>(
 ) -> Option<bool>
     ensures queue { out.new.sides.queue ≡ out.old.sides.queue }
     ensures orders { out.new.orders ≡ out.old.orders }
-    ensures some { IfSome result (λ whole. WroteFrame body.now (K.written sink.old) (K.written sink.new) (K.faults sink.old) (K.faults sink.new) whole × (out.new.sides.pushed ≡ out.old.sides.pushed ++ (if whole then Side.Wrote else Side.Broke) ∷ [])) }
+    ensures some { IfSome result (λ whole. WroteFrame body.now (K.written sink.old) (K.written sink.new) (K.faults sink.old) (K.faults sink.new) whole
+        × (out.new.sides.pushed ≡ out.old.sides.pushed ++ (if whole then Side.Wrote else Side.Broke) ∷ [])) }
     ensures none { IfNone result (WroteFront body.now (K.written sink.old) (K.written sink.new) (K.faults sink.old) (K.faults sink.new)) }
 {
     let whole = write_frame(alloc, sink, body)?;
@@ -88,7 +89,8 @@ fn write_order<R: Wait, K: Sink>(
 ) -> Option<bool>
     ensures queue { out.new.sides.queue ≡ out.old.sides.queue }
     ensures orders { out.new.orders ≡ out.old.orders }
-    ensures some { IfSome result (λ now. WroteOrder body.now (K.written sink.old) (K.written sink.new) (K.faults sink.old) (K.faults sink.new) out.old.sides.pushed out.new.sides.pushed broke now) }
+    ensures some { IfSome result (λ now. WroteOrder body.now (K.written sink.old) (K.written sink.new) (K.faults sink.old)
+        (K.faults sink.new) out.old.sides.pushed out.new.sides.pushed broke now) }
     ensures none { IfNone result (WroteFront body.now (K.written sink.old) (K.written sink.new) (K.faults sink.old) (K.faults sink.new) × (broke ≡ false)) }
 {
     if broke {
@@ -119,7 +121,8 @@ pub fn write_session<R: Wait, C: Core, K: Sink>(
     out: &mut LaneOut,
 ) -> Wrote
     ensures queues { (out.new.orders.queue ≡ out.old.orders.queue) × (out.new.sides.queue ≡ out.old.sides.queue) }
-    ensures wrote { WroteAs (K.written sink.old) (K.written sink.new) (K.faults sink.old) (K.faults sink.new) out.old.orders.taken out.new.orders.taken out.old.sides.pushed out.new.sides.pushed result }
+    ensures wrote { WroteAs (K.written sink.old) (K.written sink.new) (K.faults sink.old)
+        (K.faults sink.new) out.old.orders.taken out.new.orders.taken out.old.sides.pushed out.new.sides.pushed result }
 {
     let mut broke = false;
     for _ in rt.forever() {
