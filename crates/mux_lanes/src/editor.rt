@@ -119,6 +119,7 @@ pub fn editor_lane<
                 let served = serve_link(rt, alloc, board, name, limit, port, link, ends);
                 ends = served.ends;
                 if !served.is_whole {
+                    board.fail(rt);
                     return Lane {
                         ends,
                         end: LaneEnd::Cut,

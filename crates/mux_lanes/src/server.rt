@@ -206,6 +206,7 @@ pub fn server_lane<
                 let served = serve_start(rt, alloc, board, name, limit, words, berth, ends);
                 ends = served.ends;
                 if !served.is_whole {
+                    board.fail(rt);
                     return Lane {
                         ends,
                         end: LaneEnd::Cut,
