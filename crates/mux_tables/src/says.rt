@@ -85,7 +85,8 @@ impl Tables {
 
     /// The group's last start, which is ready, is sent the bodies that it is owed.
     pub fn pay(&self, outs: &mut Outs, owed: Outs) -> Result<(), Memory>
-        ensures { (settings : Settings) (base : List Event) (g : ℕ) (x : Start) (bodies : List (List ℕ)) → slice_get self.now.lasts.items g ≡ Some x → x.life.stage ≡ Ready → owed ≡ to x.life.start bodies
+        ensures outs { OnOk result (outs.new ≡ outs.old ++ owed) }
+        ensures does { (settings : Settings) (base : List Event) (g : ℕ) (x : Start) (bodies : List (List ℕ)) → slice_get self.now.lasts.items g ≡ Some x → x.life.stage ≡ Ready → owed ≡ to x.life.start bodies
             → OnOk result (Does (λ k events. AllStand settings k events) (to_start x.life.start bodies) base (self.now, owes g bodies) outs.old (self.now, nothing_owed) outs.new) }
     {
         outs.append(owed)?;
