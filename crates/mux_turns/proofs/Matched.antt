@@ -72,5 +72,5 @@ not_first b stage e = ap (λ k. b && is_initializing k) e ∙ go b
     go true = refl
     go false = refl
 
-pub whole_entry : (settings : Settings) (row : Row) (base : List Event) (t u : Tables) (xs ys : List Out) → xs ≡ [] → Stands settings t base → Does (λ t events. Stands settings t events) row base t xs u ys → Done (λ t events. Stands settings t events) row base [] u ys
-whole_entry settings row base t u xs ys first st d = does_entry st (subst (λ zs. Does (λ t events. Stands settings t events) row base t zs u ys) first d)
+pub whole_entry : {K : Type 0} (Holds : K → List Event → Type 0) (row : Row) (base : List Event) (t u : K) (xs ys : List Out) → xs ≡ [] → Holds t base → Does Holds row base t xs u ys → Done Holds row base [] u ys
+whole_entry Holds row base t u xs ys first st d = does_entry st (subst (λ zs. Does Holds row base t zs u ys) first d)
