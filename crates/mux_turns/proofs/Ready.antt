@@ -1,5 +1,5 @@
 -- The last start of a group, by the tables.
-use Rattle.std.proofs.Common.{◌≡◌, ℕ, ◌<◌, List, Bool, true, false, ◌&&◌, length, nat_lt, refl, sym, ◌∙◌, arith}
+use Rattle.std.proofs.Common.{◌≡◌, ℕ, zero, suc, ◌<◌, List, [], ◌∷◌, Bool, true, false, ◌&&◌, not, map, length, nat_lt, refl, sym, ◌∙◌, arith}
 use Rattle.std.specs.Prelude.{Option, Some, None, slice_get}
 use Rattle.std.proofs.lemmas.Bool.Decides.{nat_tests}
 use Rattle.event_model.specs.declared.stage.Stage.{Stage}
@@ -11,7 +11,7 @@ use Rattle.event_model.specs.Stages.{is_ready}
 use Rattle.event_model.proofs.Places.{item_at}
 use Rattle.mux_tables.specs.declared.tables.Start.{Start}
 use Rattle.mux_tables.specs.declared.tables.Tables.{Tables}
-use Rattle.mux_tables.specs.Stands.{Stands}
+use Rattle.mux_tables.specs.Stands.{Stands, number_in}
 
 -- a group that has one
 pub has_start : (settings : Settings) (t : Tables) (before : List Event) (g s : ℕ) → Stands settings t before → start_of g before ≡ Some s → (x : Start) × (slice_get t.lasts.items g ≡ Some x)
@@ -41,3 +41,17 @@ taken x b is t = go (is_ready x.life.stage) (nat_lt x.ids.next x.ids.limit) refl
     go true true r l h = (is_that_ready x.life.stage r, grind (arith, nat_tests))
     go true false r l h = absurd (cc)
     go false q r l h = absurd (cc)
+
+-- one of which the number is known
+pub start_from : (xs : List Start) (g s : ℕ) → slice_get (map number_in xs) g ≡ Some s → (x : Start) × (slice_get xs g ≡ Some x)
+start_from [] g s h = absurd (none s h)
+  where
+    none : (s : ℕ) → ◌≡◌ {A = Option ℕ} None (Some s) → ⊥
+    none s h = cc
+start_from (x ∷ xs) zero s h = (x, refl)
+start_from (x ∷ xs) (suc g) s h = start_from xs g s h
+
+-- it doesn't wait
+pub is_so : (b : Bool) → not b ≡ false → b ≡ true
+is_so true h = refl
+is_so false h = absurd (cc)
