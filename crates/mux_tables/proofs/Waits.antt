@@ -1,6 +1,6 @@
 -- The editors of a group that wait, and the ids of their `initialize`, as the code has them.
-use Rattle.std.proofs.Common.{◌≡◌, ℕ, ◌<◌, List, length, refl, ap, sym, subst, ◌∙◌, arith}
-use Rattle.std.specs.Prelude.{Some, slice_get, slice_set}
+use Rattle.std.proofs.Common.{◌≡◌, ℕ, ◌<◌, List, length, ap, sym, subst, ◌∙◌, arith}
+use Rattle.std.specs.Prelude.{slice_get, slice_set}
 use Rattle.std.specs.List.{All, range_with_len}
 use Rattle.std.proofs.lemmas.List.Elements.{All-filter, All-from_get_or}
 use Rattle.std.proofs.lemmas.List.FromFn.{get_or-range_with_len, length-range_with_len}
@@ -24,8 +24,8 @@ waiting_so settings t events g ns s is = is ∙ (sym (waits_so t.editors g) ∙ 
 pub waiting_inside : (xs : List Session) (g : ℕ) (ns : List ℕ) → ns ≡ numbers_of (λ s. waits_in g s) xs → All (λ e. e < length xs) ns
 waiting_inside xs g ns is = subst (λ ms. All (λ e. e < length xs) ms) (sym is) (All-filter (λ e. waits_in g (session_of xs e)) (λ e. e < length xs) (range_with_len 0 (length xs))
     (All-from_get_or (λ e. e < length xs) (range_with_len 0 (length xs)) 0 (λ i l.
-        let k : i < length xs = subst (λ n. i < n) (length-range_with_len 0 (length xs)) l in
-        subst (λ m. m < length xs) (sym (get_or-range_with_len 0 (length xs) i 0 k)) (omega (arith, k)))))
+    let k : i < length xs = subst (λ n. i < n) (length-range_with_len 0 (length xs)) l in
+    subst (λ m. m < length xs) (sym (get_or-range_with_len 0 (length xs) i 0 k)) (omega (arith, k)))))
 
 -- a phase that changes leaves the ids
 pub ids_stay : (xs : List Session) (e : ℕ) (p : Phase) → e < length xs → (n : ℕ) → id_in (slice_get (with_session xs e (record (session_of xs e) { phase = p })) n) ≡ id_in (slice_get xs n)
