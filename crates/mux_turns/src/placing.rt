@@ -12,7 +12,7 @@ ghost use Rattle.group_words.specs.Houses.{places};
 ghost use Rattle.group_words.specs.Rows.{placed_row, result_of, shown_of};
 ghost use Rattle.json_text.specs.Json.{Json};
 ghost use Rattle.mux_history.specs.declared.cause.Cause.TheVariants.{FromEditor};
-ghost use Rattle.mux_tables.specs.Documents.{AllStand, nothing_owed};
+ghost use Rattle.mux_tables.specs.Documents.{AllStand, DocumentsStand, Owed, nothing_owed};
 ghost use Rattle.mux_tables.specs.Stands.{Stands};
 ghost use Rattle.mux_turns.specs.Founding.{IsNext};
 ghost use Rattle.mux_turns.specs.Welcomes.{IsShown};
@@ -62,7 +62,8 @@ pub fn welcome(
 pub fn found(tables: &mut Tables, alloc: Global, outs: &mut Outs) -> Result<(), Memory>
     requires limit { 2 ≤ tables.old.requests }
     requires versions { 1 ≤ tables.old.versions }
-    ensures { (settings : Settings) (before base : List Event) (e n : ℕ) (body : List ℕ) → IsNext n (behind base outs.old) → OnOk result (Does (λ t events. Stands settings t events) (placed_row e body before (New n)) base tables.old outs.old tables.new outs.new) }
+    ensures does { (settings : Settings) (before base : List Event) (e n : ℕ) (body : List ℕ) → IsNext n (behind base outs.old) → OnOk result (Does (λ t events. Stands settings t events) (placed_row e body before (New n)) base tables.old outs.old tables.new outs.new) }
+    ensures documents { (settings : Settings) (owed : Owed) (base : List Event) → Stands settings tables.old (behind base outs.old) → DocumentsStand settings owed tables.old (behind base outs.old) → OnOk result (DocumentsStand settings owed tables.new (behind base outs.new)) }
 {
     tables.found(alloc, outs)?;
     Ok(())

@@ -45,7 +45,8 @@ pub fn reject(
     phase: Phase,
     fault: Malformed,
 ) -> Result<(), Memory>
-    ensures { (settings : Settings) (base : List Event) (body : List ℕ) → Refuses fault (message_of body) → OnOk result (Does (λ t events. Stands settings t events) (malformed_row e (message_of body) phase) base tables.now outs.old tables.now outs.new) }
+    ensures does { (settings : Settings) (base : List Event) (body : List ℕ) → Refuses fault (message_of body) → OnOk result (Does (λ t events. Stands settings t events) (malformed_row e (message_of body) phase) base tables.now outs.old tables.now outs.new) }
+    ensures documents { (settings : Settings) (owed : Owed) (base : List Event) → DocumentsStand settings owed tables.now (behind base outs.old) → OnOk result (DocumentsStand settings owed tables.now (behind base outs.new)) }
 {
     let code = code_for(fault)?;
     if !phase.is_there() {
@@ -83,7 +84,8 @@ pub fn refuse_early(
     e: u64,
     message: &Message,
 ) -> Result<(), Memory>
-    ensures { (settings : Settings) (base : List Event) (body : List ℕ) → IsRead message.now body → OnOk result (Does (λ t events. Stands settings t events) (early_row e body (message_of body)) base tables.now outs.old tables.now outs.new) }
+    ensures does { (settings : Settings) (base : List Event) (body : List ℕ) → IsRead message.now body → OnOk result (Does (λ t events. Stands settings t events) (early_row e body (message_of body)) base tables.now outs.old tables.now outs.new) }
+    ensures documents { (settings : Settings) (owed : Owed) (base : List Event) → DocumentsStand settings owed tables.now (behind base outs.old) → OnOk result (DocumentsStand settings owed tables.now (behind base outs.new)) }
 {
     if message.sort() != Sort::Request {
         return Ok(());
