@@ -1,5 +1,5 @@
 -- An editor's request goes on behind a sync.
-use Rattle.std.proofs.Common.{◌≡◌, ℕ, ◌<◌, ◌^◌, Bool, true, false, ◌&&◌, List, [], ◌∷◌, ◌++◌, map, flat_map, filter, nat_eq, refl, ap, ap₂, sym, subst, ◌∙◌, append-nil, arith, bytes_eq, codes, if◌then◌else◌}
+use Rattle.std.proofs.Common.{◌≡◌, ℕ, ◌<◌, ◌^◌, Bool, true, false, ◌&&◌, List, [], ◌∷◌, ◌++◌, map, flat_map, filter, nat_eq, refl, ap, ap₂, sym, subst, ◌∙◌, append-nil, arith, if◌then◌else◌}
 use Rattle.std.specs.Prelude.{Option, Some, None, decimal, slice_get}
 use Rattle.json_text.specs.Json.{Json}
 use Rattle.mux_history.specs.declared.cause.Cause.TheVariants.{FromEditor}

@@ -1,6 +1,6 @@
 -- E7: an editor joins a group whose start is ready.
-use Rattle.std.proofs.Common.{◌≡◌, ℕ, Bool, true, false, ◌&&◌, List, [], refl, ap, sym, subst, ◌∙◌, append-nil, codes, if◌then◌else◌}
-use Rattle.std.specs.Prelude.{Option, Some, None}
+use Rattle.std.proofs.Common.{◌≡◌, ℕ, true, List, [], refl, ap, sym, subst, ◌∙◌, append-nil, if◌then◌else◌}
+use Rattle.std.specs.Prelude.{Option, Some}
 use Rattle.json_text.specs.Json.{Json}
 use Rattle.mux_history.specs.declared.cause.Cause.TheVariants.{FromEditor}
 use Rattle.mux_history.specs.declared.out.Out.{Out}
@@ -10,9 +10,9 @@ use Rattle.rpc_message.specs.Texts.{ok_text}
 use Rattle.event_model.specs.declared.phase.Phase.{Phase}
 use Rattle.event_model.specs.declared.phase.Phase.TheVariants.{Absent, New, Waiting, Answered, Running, Down, Closed, Gone}
 use Rattle.event_model.specs.Does.{Does}
-use Rattle.event_model.specs.Event.{Event, behind, heard, requests, with_cause}
+use Rattle.event_model.specs.Event.{Event, behind, heard, with_cause}
 use Rattle.event_model.specs.Phases.{Desk, desk_behind, desk_hears, desk_of}
-use Rattle.event_model.specs.Row.{choose, nothing, on, send}
+use Rattle.event_model.specs.Row.{nothing, on, send}
 use Rattle.event_model.specs.Settings.{Settings}
 use Rattle.event_model.specs.Spawns.{start_of}
 use Rattle.event_model.specs.Stages.{is_ready, life_of}

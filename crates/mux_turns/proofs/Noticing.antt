@@ -5,7 +5,7 @@ use Rattle.mux_history.specs.declared.cause.Cause.TheVariants.{FromEditor}
 use Rattle.mux_history.specs.declared.out.Out.{Out}
 use Rattle.document_model.specs.Sayings.{Saying}
 use Rattle.event_model.specs.declared.stage.Stage.TheVariants.{Ready}
-use Rattle.event_model.specs.Does.{Does, Done}
+use Rattle.event_model.specs.Does.{Does}
 use Rattle.event_model.specs.Event.{Event, behind, with_cause}
 use Rattle.event_model.specs.Row.{choose, nothing}
 use Rattle.event_model.specs.Settings.{Settings}
@@ -55,7 +55,7 @@ module _ (settings : Settings) (old t : Tables) (before : List Event) (e g s : �
           let is : noticing settings before g s e body what ≡ told = ap (λ c. if c then told else []) h in
           let paid = pays x.0 told (ap (λ ls. slice_get ls.items g) same ∙ x.1) (is_that_ready x.0.life.stage (ap is_ready (sym stage) ∙ h)) (are ∙ (ap (to s) is ∙ ap (λ n. to n told) (sym own))) in
           does_alike (λ _. is_first row_is h) (subst (λ bs. Does (λ k events. AllStand settings k events) (to_start s told) base (t, owes g bs) xs (t, nothing_owed) ys) (sym is)
-              (subst (λ n. Does (λ k events. AllStand settings k events) (to_start n told) base (t, owes g told) xs (t, nothing_owed) ys) own paid))
+          (subst (λ n. Does (λ k events. AllStand settings k events) (to_start n told) base (t, owes g told) xs (t, nothing_owed) ys) own paid))
       go false h =
           let none : noticing settings before g s e body what ≡ [] = ap (λ c. if c then told else []) h in
           let all : ys ≡ xs ++ [] = sent ∙ ap (λ zs. xs ++ zs) (are ∙ ap (to s) none) in

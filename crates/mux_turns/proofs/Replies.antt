@@ -1,6 +1,6 @@
 -- A start's first result, as a whole entry.
-use Rattle.std.proofs.Common.{◌≡◌, ℕ, Bool, true, false, List, [], ◌∷◌, ◌++◌, map, refl, ap, sym, subst, ◌∙◌, append-nil, append_assoc, codes, bytes_eq, if◌then◌else◌}
-use Rattle.std.specs.Prelude.{Option, Some, None, slice_get}
+use Rattle.std.proofs.Common.{◌≡◌, ℕ, true, false, List, [], ◌∷◌, ◌++◌, refl, ap, sym, ◌∙◌, append-nil, codes, if◌then◌else◌}
+use Rattle.std.specs.Prelude.{Option, Some, None}
 use Rattle.json_text.specs.Bare.{nowhere}
 use Rattle.json_text.specs.Json.{Json, object, no_members}
 use Rattle.mux_history.specs.declared.cause.Cause.TheVariants.{FromServer}
@@ -32,7 +32,7 @@ use Rattle.event_model.proofs.Turns.{alike, behind_more, does_alike, does_then}
 use Rattle.mux_model.specs.Rows.{to_start}
 use Rattle.mux_tables.specs.declared.tables.Tables.{Tables}
 use Rattle.mux_tables.specs.Documents.{AllStand, nothing_owed, owes, replaying, to}
-use Rattle.mux_tables.specs.Names.{NamesStand, id_in}
+use Rattle.mux_tables.specs.Names.{NamesStand}
 use Rattle.mux_turns.proofs.Matched.{whole_entry}
 use Rattle.mux_turns.specs.Welcomes.{AllAsking}
 

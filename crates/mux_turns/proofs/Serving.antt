@@ -1,19 +1,14 @@
 -- An editor that is served, behind a message of its own.
-use Rattle.std.proofs.Common.{◌≡◌, ℕ, Bool, true, false, ◌&&◌, ◌||◌, List, [], refl, ap, sym, ◌∙◌, codes, bytes_eq}
+use Rattle.std.proofs.Common.{◌≡◌, ℕ, Bool, true, false, ◌&&◌, List, refl, ap, ◌∙◌, codes, bytes_eq}
 use Rattle.std.specs.Prelude.{Option}
 use Rattle.json_text.specs.Json.{Json}
 use Rattle.mux_history.specs.declared.cause.Cause.TheVariants.{FromEditor}
-use Rattle.mux_history.specs.declared.out.Out.{Out}
 use Rattle.rpc_message.specs.Message.{Message, Id, message_of, notification, request}
-use Rattle.document_model.specs.Sayings.{saying_of, speaks}
 use Rattle.event_model.specs.declared.phase.Phase.{Phase}
 use Rattle.event_model.specs.declared.phase.Phase.TheVariants.{Absent, New, Waiting, Answered, Running, Down, Closed, Gone}
-use Rattle.event_model.specs.Does.{Does, Done}
 use Rattle.event_model.specs.Event.{Event, heard, requests, with_cause}
 use Rattle.event_model.specs.Phases.{Desk, desk_behind, desk_hears, desk_of, is_new, is_served}
-use Rattle.event_model.specs.Row.{Row}
 use Rattle.event_model.proofs.Frames.{one_more}
-use Rattle.event_model.proofs.Turns.{does_entry}
 use Rattle.group_words.specs.Houses.{places, stops}
 use Rattle.mux_tables.specs.Documents.{changes_documents}
 use Rattle.mux_tables.proofs.Frames.{itself}

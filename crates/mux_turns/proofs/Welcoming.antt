@@ -1,11 +1,10 @@
 -- Editors that wait are answered.
-use Rattle.std.proofs.Common.{◌≡◌, ℕ, ◌<◌, Bool, true, false, ◌&&◌, List, [], ◌∷◌, ◌++◌, length, map, get_or, refl, ap, sym, subst, ◌∙◌, append-nil, append_assoc, nat_eq, if◌then◌else◌}
+use Rattle.std.proofs.Common.{◌≡◌, ℕ, ◌<◌, Bool, true, false, ◌&&◌, List, [], ◌∷◌, ◌++◌, length, get_or, refl, ap, sym, subst, ◌∙◌, append-nil, append_assoc, nat_eq, if◌then◌else◌}
 use Rattle.std.specs.Prelude.{Option, Some, None, slice_get}
 use Rattle.std.specs.List.{All, range_with_len}
 use Rattle.std.proofs.lemmas.Bool.{eqb-true}
 use Rattle.std.proofs.lemmas.List.Elements.{All-get_or, filter_passes}
 use Rattle.std.proofs.lemmas.Slice.Eq.{bytes_eq-Decides}
-use Rattle.json_text.specs.Json.{Json}
 use Rattle.mux_history.specs.declared.out.Out.{Out}
 use Rattle.mux_history.specs.declared.out.Out.TheVariants.{ToEditor, ToServer, Spawn, CloseEditor, EndServer}
 use Rattle.rpc_message.specs.Message.{Message, request, notification, result, error, not_json, not_message, Id, id_bytes, message_of, result_bytes, same_id}
@@ -32,7 +31,7 @@ use Rattle.mux_tables.specs.Names.{NamesStand, id_in}
 use Rattle.mux_tables.specs.Stands.{Stands, Welcomes}
 use Rattle.mux_tables.proofs.DocumentOwed.{all_does}
 use Rattle.mux_tables.proofs.Frames.{itself}
-use Rattle.mux_turns.specs.Welcomes.{AllAsking, AreBodies, IsAsking, IsBody, IsGreeted, IsShown, Tells, is_greeted}
+use Rattle.mux_turns.specs.Welcomes.{AllAsking, AreBodies, IsBody, IsGreeted, IsShown, Tells, is_greeted}
 
 same_id_itself : (i : Id) → same_id i i ≡ true
 same_id_itself (messages.integer a) = (bytes_eq-Decides a a).1 refl

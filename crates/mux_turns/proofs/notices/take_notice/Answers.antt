@@ -19,7 +19,7 @@ returns c = λ settings before body method params g s read says stays served hom
     let u = c.hear_notice.new.self in
     let what = saying_by method params in
     let heard = c.in_ok-owed.ensures.stands settings before body st (unplaced (desk_of e before).phase (message_of body) served) (notice_stops before e (message_of body) method params says)
-        (stands_so before e body (notification method params) Running says (λ q i h. notice_runs method params stays body q i h) served) in
+    (stands_so before e body (notification method params) Running says (λ q i h. notice_runs method params stays body q i h) served) in
     let owed = c.in_ok-owed.ensures.documents settings before body method params g s read says served home starts st ds in
     whole_entry (λ k events. AllStand settings k events) (document_row settings before e body what) base (u, owes g (noticing settings before g s e body what)) (u, nothing_owed) c.args.outs.now c.pay.new.outs first (heard, owed.1)
     (noticed settings c.args.tables.now u before e g s body what c.args.outs.now c.pay.new.outs c.in_ok-owed.owed c.hear_notice.ensures.lasts st home starts owed.0 c.in_ok-pay.ensures.outs (λ z bodies at ready are. c.in_ok-pay.ensures.does settings base g z bodies at ready are))

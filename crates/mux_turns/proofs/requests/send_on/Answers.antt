@@ -17,5 +17,5 @@ returns c = λ settings before body method id params s read says other first at.
     let serve = serves method (not_own method other) in
     goes_on settings t before body method id params c.args.e c.args.g s n x.0 c.args.outs.now first x.1 at takes.0 next takes.1 says serve c.ask.new.self c.in_ok-text.text c.ask.new.outs (c.in_ok-text.ensures body read)
     (λ name goes. c.in_ok-ask.ensures.does settings (with_cause before (FromEditor c.args.e body)) s name method params at goes serve.passed
-        (sends settings t before body method id params c.args.e c.args.g s n x.0 c.args.outs.now first x.1 at takes.0 next takes.1 says serve c.new-id.result (c.new-id.ensures ∙ (c.in_ok-from_slice.ensures.items ∙ c.id_bytes.ensures body read)))
-        (works settings t before body method id params c.args.e c.args.g s n x.0 c.args.outs.now first x.1 at takes.0 next takes.1 says serve))
+    (sends settings t before body method id params c.args.e c.args.g s n x.0 c.args.outs.now first x.1 at takes.0 next takes.1 says serve c.new-id.result (c.new-id.ensures ∙ (c.in_ok-from_slice.ensures.items ∙ c.id_bytes.ensures body read)))
+    (works settings t before body method id params c.args.e c.args.g s n x.0 c.args.outs.now first x.1 at takes.0 next takes.1 says serve))

@@ -24,11 +24,11 @@ returns-in_ok-refuse_request-in-None c = λ settings before body method id param
     let u = c.hear_editor.new.self in
     let serve = serves method (not_own method other) in
     let heard = c.hear_editor.ensures.stands settings before body st (unplaced (desk_of e before).phase (message_of body) served) (request_stops method id params serve before e (message_of body) says)
-        (stands_so before e body (request id method params) Running says (λ q i h. request_runs method id params serve body q i h) served) in
+    (stands_so before e body (request id method params) Running says (λ q i h. request_runs method id params serve body q i h) served) in
     let docs = c.hear_editor.ensures.documents settings nothing_owed before body (request_keeps method id params serve before e (message_of body) says) ds in
     whole_entry (λ k events. AllStand settings k events) (request_row settings before e body) base (u, nothing_owed) (u, nothing_owed) c.args.outs.now c.refuse_request.new.outs first (heard, docs)
     (all_does settings u u nothing_owed nothing_owed base c.args.outs.now c.refuse_request.new.outs (c.in_ok-refuse_request-in-None.ensures.does settings before base body method id params read says (c.in-None.ensures.refused settings before body st))
-        (λ _ d. c.in_ok-refuse_request-in-None.ensures.documents settings nothing_owed base d))
+    (λ _ d. c.in_ok-refuse_request-in-None.ensures.documents settings nothing_owed base d))
 
 pub returns-in_ok-send_on-in-Some : goal.returns-in_ok-send_on-in-Some
 returns-in_ok-send_on-in-Some c = λ settings before body method id params read says other served first st ds.
@@ -38,8 +38,8 @@ returns-in_ok-send_on-in-Some c = λ settings before body method id params read 
     let s = start_there c.args.tables.now.lasts.items g c.in-Some.ensures.inside in
     let serve = serves method (not_own method other) in
     let heard = c.hear_editor.ensures.stands settings before body st (unplaced (desk_of e before).phase (message_of body) served) (request_stops method id params serve before e (message_of body) says)
-        (stands_so before e body (request id method params) Running says (λ q i h. request_runs method id params serve body q i h) served) in
+    (stands_so before e body (request id method params) Running says (λ q i h. request_runs method id params serve body q i h) served) in
     let docs = c.hear_editor.ensures.documents settings nothing_owed before body (request_keeps method id params serve before e (message_of body) says) ds in
     whole_entry (λ k events. AllStand settings k events) (request_row settings before e body) base (c.hear_editor.new.self, nothing_owed) (c.send_on.new.tables, nothing_owed) c.args.outs.now c.send_on.new.outs first (heard, docs)
     (does_alike (λ _. c.in-Some.ensures.goes settings before body s.0 s.1 st)
-        (c.in_ok-send_on-in-Some.ensures settings before body method id params s.0 read says other first (ap (λ ls. slice_get (map number_in ls.items) g) c.hear_editor.ensures.lasts ∙ s.1)))
+    (c.in_ok-send_on-in-Some.ensures settings before body method id params s.0 read says other first (ap (λ ls. slice_get (map number_in ls.items) g) c.hear_editor.ensures.lasts ∙ s.1)))

@@ -21,7 +21,7 @@ loop-e-preserved c = record {
       let told = c.loop-e.invariant.told in
       does_next (welcome body) items c.loop-e.e-index 0 c.loop-e-test.true (c.loop-e.invariant.does settings base body are shown all)
       (c.in_ok-greet.ensures.does settings base body are shown (greeted_behind base e c.args.outs.now c.loop-e.outs told.more told.is told.bodies known.0)
-          (c.loop-e.invariant.ids e ∙ (known.1 ∙ ap (λ w. Some (id_bytes w)) (sym (same_desk base e c.args.outs.now c.loop-e.outs told.more told.is told.bodies)))));
+      (c.loop-e.invariant.ids e ∙ (known.1 ∙ ap (λ w. Some (id_bytes w)) (sym (same_desk base e c.args.outs.now c.loop-e.outs told.more told.is told.bodies)))));
 }
 
 pub returns : goal.returns
@@ -29,6 +29,6 @@ returns c = λ settings base body are shown asking named.
     let items = c.deref-e-items.result.now in
     let now = behind base c.args.outs.now in
     does_knowing (λ k.
-        let is : items ≡ waiting_in settings c.args.g now = c.deref-e-items.ensures.value ∙ c.in_ok-numbers.ensures.those settings now k.0 in
-        does_look (λ _. ap (each (welcome body)) (sym is)) (does_whole (welcome body) items c.loop-e.e-index c.loop-e-test.false
-            (c.loop-e.invariant.does settings base body are shown (all_greeted settings c.args.tables.now.editors now c.args.g items is asking named))))
+    let is : items ≡ waiting_in settings c.args.g now = c.deref-e-items.ensures.value ∙ c.in_ok-numbers.ensures.those settings now k.0 in
+    does_look (λ _. ap (each (welcome body)) (sym is)) (does_whole (welcome body) items c.loop-e.e-index c.loop-e-test.false
+    (c.loop-e.invariant.does settings base body are shown (all_greeted settings c.args.tables.now.editors now c.args.g items is asking named))))
