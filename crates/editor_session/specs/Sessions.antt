@@ -4,7 +4,7 @@ use Rattle.std.specs.Prelude.{Option, Some, None}
 use Rattle.std.specs.List.{All, filter, range_with_len}
 use Rattle.event_model.specs.declared.phase.Phase.{Phase}
 use Rattle.event_model.specs.declared.phase.Phase.TheVariants.{Absent, New}
-use Rattle.event_model.specs.Phases.{is_begun, is_running, is_there, needs_server}
+use Rattle.event_model.specs.Phases.{is_begun, is_running, is_there, is_waiting, needs_server}
 use Rattle.editor_session.specs.declared.session.Session.{Session}
 use Rattle.editor_session.specs.declared.session.Wanted.{Wanted}
 use Rattle.editor_session.specs.declared.session.Wanted.TheVariants as wanted
@@ -45,6 +45,9 @@ AllJoined sessions = All (λ s. is_joined s.phase ≡ true) sessions
 abbrev pub runs_in : ℕ → Session → Bool
 runs_in group session = is_running session.phase && is_in group session.group
 
+abbrev pub waits_in : ℕ → Session → Bool
+waits_in group session = is_waiting session.phase && is_in group session.group
+
 abbrev pub is_of : ℕ → Session → Bool
 is_of group session = is_begun session.phase && is_in group session.group
 
@@ -53,6 +56,7 @@ needs_in group session = needs_server session.phase && is_in group session.group
 
 abbrev pub is_wanted : Wanted → Session → Bool
 is_wanted (wanted.Running group) session = runs_in group session
+is_wanted (wanted.Waiting group) session = waits_in group session
 is_wanted (wanted.Needing group) session = needs_in group session
 is_wanted (wanted.OfGroup group) session = is_of group session
 is_wanted wanted.There session = is_there session.phase

@@ -2,7 +2,7 @@
 ghost use Rattle.std.specs.Prelude.{◌≡◌, ◌≢◌, ◌+◌, ◌-◌, ◌^◌, ◌<◌, ◌≤◌, [], ◌∷◌, ◌++◌, length, true, IfOk, OnOk, OnErr, option_copied, Some};
 ghost use Rattle.event_model.specs.declared.phase.Phase.TheVariants.{Absent};
 ghost use Rattle.event_model.specs.Phases.{is_there};
-ghost use Rattle.editor_session.specs.Sessions.{is_joined, is_of, is_wanted, joined, needs_in, numbers_of, runs_in, session_of, with_session};
+ghost use Rattle.editor_session.specs.Sessions.{is_joined, is_of, is_wanted, joined, needs_in, numbers_of, runs_in, session_of, waits_in, with_session};
 
 use crate::session::{Session, Wanted};
 use event_model::Phase;
@@ -152,6 +152,13 @@ impl Editors {
         ensures { IfOk result (λ numbers. numbers.items ≡ numbers_of (λ s. runs_in group s) self.now) }
     {
         self.numbers(Wanted::Running(group))
+    }
+
+    /// The numbers, rising, of the editors of this group that wait for the answer to their `initialize`.
+    pub fn waiting(&self, group: u64) -> Result<Vec<u64>, Memory>
+        ensures { IfOk result (λ numbers. numbers.items ≡ numbers_of (λ s. waits_in group s) self.now) }
+    {
+        self.numbers(Wanted::Waiting(group))
     }
 
     /// The numbers, rising, of the editors of this group whose `initialize` came and whose link isn't to be ended.

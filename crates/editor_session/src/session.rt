@@ -1,7 +1,7 @@
 // One editor.
 ghost use Rattle.std.specs.Prelude.{◌≡◌};
 ghost use Rattle.event_model.specs.Phases.{is_there};
-ghost use Rattle.editor_session.specs.Sessions.{is_in, is_of, is_wanted, joined, needs_in, runs_in};
+ghost use Rattle.editor_session.specs.Sessions.{is_in, is_of, is_wanted, joined, needs_in, runs_in, waits_in};
 
 use event_model::Phase;
 use message_body::Body;
@@ -26,6 +26,8 @@ pub struct Session {
 pub enum Wanted {
     /// Those of this group that run.
     Running(u64),
+    /// Those of this group that wait.
+    Waiting(u64),
     /// Those of this group whose `initialize` came and whose link isn't to be ended.
     OfGroup(u64),
     /// Those of this group for which a server that exits is started again.
@@ -62,6 +64,13 @@ impl Session {
         self.phase.is_running() && self.is_in(group)
     }
 
+    // Whether it is of this group and waits.
+    fn is_waiting(&self, group: u64) -> bool
+        ensures { result ≡ waits_in group self.now }
+    {
+        self.phase.is_waiting() && self.is_in(group)
+    }
+
     // Whether it is of this group, from its `initialize` until its link is to be ended.
     fn is_of(&self, group: u64) -> bool
         ensures { result ≡ is_of group self.now }
@@ -89,6 +98,7 @@ impl Session {
     {
         match wanted {
             Wanted::Running(group) => self.is_running(group),
+            Wanted::Waiting(group) => self.is_waiting(group),
             Wanted::OfGroup(group) => self.is_of(group),
             Wanted::Needing(group) => self.needs_server(group),
             Wanted::There => self.is_there(),

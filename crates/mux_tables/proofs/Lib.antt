@@ -32,3 +32,4 @@ pub mod DocumentNoticed
 pub mod DocumentAsked
 pub mod DocumentNotes
 pub mod Homes
+pub mod Waits

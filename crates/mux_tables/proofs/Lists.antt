@@ -4,10 +4,10 @@ use Rattle.std.specs.Prelude.{Option, Some, None, slice_get}
 use Rattle.std.specs.List.{filter, range_with_len}
 use Rattle.event_model.specs.declared.phase.Phase.{Phase}
 use Rattle.event_model.specs.Event.{Event}
-use Rattle.event_model.specs.Phases.{desk_of, editors_of, is_begun, is_running, needs_server}
+use Rattle.event_model.specs.Phases.{desk_of, editors_of, is_begun, is_running, is_waiting, needs_server}
 use Rattle.event_model.specs.Settings.{Settings}
 use Rattle.editor_session.specs.declared.session.Session.{Session}
-use Rattle.editor_session.specs.Sessions.{session_of, numbers_of, is_of, is_in, needs_in, runs_in}
+use Rattle.editor_session.specs.Sessions.{session_of, numbers_of, is_of, is_in, needs_in, runs_in, waits_in}
 use Rattle.group_words.specs.Houses.{home_of, is_home, editors_in}
 use Rattle.mux_tables.specs.Stands.{EditorsStand, phase_in, group_in, those_in}
 
@@ -58,3 +58,12 @@ run_test g (x ∷ xs) (suc e) = run_test g xs e
 
 pub runs_so : (xs : List Session) (g : ℕ) → those_in is_running xs g ≡ numbers_of (λ s. runs_in g s) xs
 runs_so xs g = filter_same _ _ (run_test g xs) (range_with_len 0 (length xs))
+
+-- those that wait
+wait_test : (g : ℕ) (xs : List Session) (e : ℕ) → (is_waiting (phase_in (slice_get xs e)) && is_home g (group_in (slice_get xs e))) ≡ waits_in g (session_of xs e)
+wait_test g [] e = refl
+wait_test g (x ∷ xs) zero = ap (λ b. is_waiting x.phase && b) (home_same g x.group)
+wait_test g (x ∷ xs) (suc e) = wait_test g xs e
+
+pub waits_so : (xs : List Session) (g : ℕ) → those_in is_waiting xs g ≡ numbers_of (λ s. waits_in g s) xs
+waits_so xs g = filter_same _ _ (wait_test g xs) (range_with_len 0 (length xs))

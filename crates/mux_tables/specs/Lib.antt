@@ -1,3 +1,4 @@
 pub mod Documents
 pub mod Stands
 pub mod Cancels
+pub mod Names

@@ -44,6 +44,7 @@ impl Tables {
     pub fn hear_editor(&mut self, e: u64, phase: Phase)
         requires editor { e < length self.old.editors }
         requires joined { phase ≢ Absent }
+        ensures lasts { self.new.lasts ≡ self.old.lasts }
         ensures stands { (settings : Settings) (events : List Event) (body : List ℕ) → Stands settings self.old events → places (desk_of e events).phase (message_of body) ≡ false → stops events e (message_of body) ≡ false
             → (desk_of e (events ++ heard (FromEditor e body) ∷ [])).phase ≡ phase → Stands settings self.new (events ++ heard (FromEditor e body) ∷ []) }
         ensures documents { (settings : Settings) (owed : Owed) (events : List Event) (body : List ℕ) → changes_documents events e (message_of body) ≡ false → DocumentsStand settings owed self.old events → DocumentsStand settings owed self.new (events ++ heard (FromEditor e body) ∷ []) }
@@ -159,6 +160,7 @@ impl Tables {
     ) -> Result<Outs, Memory>
         requires editor { e < length self.old.editors }
         requires joined { phase ≢ Absent }
+        ensures lasts { self.new.lasts ≡ self.old.lasts }
         ensures stands { (settings : Settings) (events : List Event) (body : List ℕ) → Stands settings self.old events → places (desk_of e events).phase (message_of body) ≡ false → stops events e (message_of body) ≡ false
             → (desk_of e (events ++ heard (FromEditor e body) ∷ [])).phase ≡ phase → OnOk result (Stands settings self.new (events ++ heard (FromEditor e body) ∷ [])) }
         ensures documents { (settings : Settings) (events : List Event) (body method : List ℕ) (params : Option Json) (g s : ℕ) → IsRead message.now body → message_of body ≡ notification method params → is_served (desk_of e events).phase ≡ true → home_of settings e events ≡ Some g → start_of g events ≡ Some s

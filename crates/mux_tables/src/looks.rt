@@ -1,17 +1,19 @@
 // What the tables tell of the events.
-ghost use Rattle.std.specs.Prelude.{◌≡◌, ◌<◌, ◌&&◌, ℕ, List, map, Some, None, true, length, IfNone, IfOk, IfSome, MatchOption, nat_lt, slice_get};
+ghost use Rattle.std.specs.Prelude.{◌≡◌, ◌<◌, ◌&&◌, ℕ, List, map, Some, None, true, length, IfNone, IfOk, IfSome, MatchOption, nat_lt, option_copied, slice_get};
+ghost use Rattle.std.specs.List.{All};
 ghost use Rattle.event_model.specs.Event.{Event};
-ghost use Rattle.event_model.specs.Phases.{desk_of, is_running, is_there};
+ghost use Rattle.event_model.specs.Phases.{desk_of, is_running, is_there, is_waiting};
 ghost use Rattle.event_model.specs.Settings.{Settings};
 ghost use Rattle.event_model.specs.Stages.{is_ready, life_of};
 ghost use Rattle.group_words.specs.Houses.{editors_in, home_of};
 ghost use Rattle.mux_tables.specs.declared.tables.Start.{Start};
 ghost use Rattle.group_rows.specs.Forwarded.{forwarding_of, numbers_of};
+ghost use Rattle.mux_tables.specs.Names.{id_in};
 ghost use Rattle.mux_tables.specs.Stands.{Stands, is_over, number_in, start_for};
 
 use crate::tables::{Start, Tables};
 use event_model::Phase;
-use message_body::Memory;
+use message_body::{Body, Memory};
 
 impl Start {
     /// It is ready, and a number below the limit is left.
@@ -76,6 +78,23 @@ impl Tables {
     {
         let numbers = self.editors.running(g)?;
         Ok(numbers)
+    }
+
+    /// The numbers, rising, of the editors of this group that wait.
+    pub fn waiting(&self, g: u64) -> Result<Vec<u64>, Memory>
+        ensures inside { IfOk result (λ numbers. All (λ e. e < length self.now.editors) numbers.items) }
+        ensures those { (settings : Settings) (events : List Event) → Stands settings self.now events → IfOk result (λ numbers. numbers.items ≡ editors_in is_waiting g (λ e. home_of settings e events) events) }
+    {
+        let numbers = self.editors.waiting(g)?;
+        Ok(numbers)
+    }
+
+    /// The bytes of the id of an editor's `initialize`, where they are kept.
+    pub fn initialize_id(&self, e: u64) -> Option<&Body>
+        requires { e < length self.now.editors }
+        ensures { option_copied result ≡ id_in (slice_get self.now.editors e) }
+    {
+        self.editors.id(e)
     }
 
     /// The numbers, rising, of an editor's open requests at the group's last start.

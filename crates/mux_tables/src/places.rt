@@ -1,14 +1,15 @@
 // What rows ask of an editor's group, and of the last start there.
-ghost use Rattle.std.specs.Prelude.{◌≡◌, ◌<◌, ℕ, List, map, None, Some, length, IfNone, IfOk, IfSome, option_copied, slice_get};
+ghost use Rattle.std.specs.Prelude.{◌≡◌, ◌<◌, ◌&&◌, ℕ, List, map, None, Some, length, nat_lt, IfNone, IfOk, IfSome, option_copied, slice_get};
 ghost use Rattle.event_model.specs.Event.{Event};
 ghost use Rattle.event_model.specs.Settings.{Settings};
 ghost use Rattle.event_model.specs.Spawns.{start_of};
-ghost use Rattle.event_model.specs.Stages.{life_of};
+ghost use Rattle.event_model.specs.Stages.{is_ready, life_of};
 ghost use Rattle.group_rows.specs.Forwarded.{forwarding_of};
 ghost use Rattle.group_rows.specs.Leaves.{open_of};
 ghost use Rattle.group_rows.specs.Rows.{can_ask};
 ghost use Rattle.group_words.specs.Houses.{groups_of, home_of};
 ghost use Rattle.id_rewrite.specs.Tables.{IsInOrder, pending_of};
+ghost use Rattle.mux_tables.specs.declared.tables.Start.{Start};
 ghost use Rattle.mux_tables.specs.Cancels.{is_uncancelled};
 ghost use Rattle.mux_tables.specs.Stands.{Stands, forwarded_of, number_in, start_for};
 
@@ -77,9 +78,22 @@ impl Tables {
     /// Whether the group's last start takes a request: it is ready, and a number is left.
     pub fn can_ask(&self, g: usize) -> bool
         requires { g < length self.now.lasts.items }
-        ensures { (settings : Settings) (events : List Event) (s : ℕ) → slice_get (map number_in self.now.lasts.items) g ≡ Some s → Stands settings self.now events → result ≡ can_ask settings s events }
+        ensures stands { (settings : Settings) (events : List Event) (s : ℕ) → slice_get (map number_in self.now.lasts.items) g ≡ Some s → Stands settings self.now events → result ≡ can_ask settings s events }
+        ensures takes { (x : Start) → slice_get self.now.lasts.items g ≡ Some x → result ≡ (is_ready x.life.stage && nat_lt x.ids.next x.ids.limit) }
     {
         self.lasts[g].can_ask()
+    }
+
+    /// The number of the next request to the group's last start, where one is left.
+    pub fn next_number(&self, g: usize) -> u32
+        requires group { g < length self.now.lasts.items }
+        requires left { (x : Start) → slice_get self.now.lasts.items g ≡ Some x → x.ids.next < x.ids.limit }
+        ensures { (x : Start) → slice_get self.now.lasts.items g ≡ Some x → result ≡ x.ids.next }
+    {
+        let Ok(n) = self.lasts[g].ids.next() else {
+            unreachable!()
+        };
+        n
     }
 
     /// The numbers, rising, of an editor's open requests at the group's last start that it didn't cancel.

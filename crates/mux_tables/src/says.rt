@@ -20,6 +20,7 @@ ghost use Rattle.document_model.specs.Sayings.{nothing, saying_of};
 ghost use Rattle.group_rows.specs.Forwarded.{is_written, moves_ids};
 ghost use Rattle.group_rows.specs.Texts.{is_synced, worker_of};
 ghost use Rattle.mux_tables.specs.Documents.{AllStand, DocumentsStand, Leaves, Owed, nothing_owed, owes, syncing, to};
+ghost use Rattle.mux_tables.specs.Names.{id_in};
 ghost use Rattle.mux_tables.specs.Stands.{Keeps, Sends, Stands, Welcomes, number_in, start_for};
 
 use crate::documents::{leave, sync, unready};
@@ -57,6 +58,9 @@ impl Tables {
     /// The result of its `initialize` goes to an editor that waits.
     pub fn welcome(&mut self, outs: &mut Outs, e: u64, body: Body) -> Result<(), Memory>
         requires { e < length self.old.editors }
+        ensures count { OnOk result (length self.new.editors ≡ length self.old.editors) }
+        ensures ids { OnOk result ((n : ℕ) → id_in (slice_get self.new.editors n) ≡ id_in (slice_get self.old.editors n)) }
+        ensures outs { OnOk result (outs.new ≡ outs.old ++ ToEditor e body ∷ []) }
         ensures does { (settings : Settings) (base : List Event) → Welcomes e body (behind base outs.old) → OnOk result (Does (λ t events. Stands settings t events) (send (ToEditor e body)) base self.old outs.old self.new outs.new) }
         ensures documents { (settings : Settings) (owed : Owed) (base : List Event) → DocumentsStand settings owed self.old (behind base outs.old) → OnOk result (DocumentsStand settings owed self.new (behind base outs.new)) }
     {
@@ -85,7 +89,8 @@ impl Tables {
 
     /// The group's last start, which is ready, is sent the bodies that it is owed.
     pub fn pay(&self, outs: &mut Outs, owed: Outs) -> Result<(), Memory>
-        ensures { (settings : Settings) (base : List Event) (g : ℕ) (x : Start) (bodies : List (List ℕ)) → slice_get self.now.lasts.items g ≡ Some x → x.life.stage ≡ Ready → owed ≡ to x.life.start bodies
+        ensures outs { OnOk result (outs.new ≡ outs.old ++ owed) }
+        ensures does { (settings : Settings) (base : List Event) (g : ℕ) (x : Start) (bodies : List (List ℕ)) → slice_get self.now.lasts.items g ≡ Some x → x.life.stage ≡ Ready → owed ≡ to x.life.start bodies
             → OnOk result (Does (λ k events. AllStand settings k events) (to_start x.life.start bodies) base (self.now, owes g bodies) outs.old (self.now, nothing_owed) outs.new) }
     {
         outs.append(owed)?;
@@ -95,6 +100,7 @@ impl Tables {
     /// A body that is no editor's request, no `$/cancelRequest` and no `shutdown` goes to the group's last start.
     pub fn notify(&self, outs: &mut Outs, g: usize, text: Body) -> Result<(), Memory>
         requires { g < length self.now.lasts.items }
+        ensures outs { (s : ℕ) → slice_get (map number_in self.now.lasts.items) g ≡ Some s → OnOk result (outs.new ≡ outs.old ++ ToServer s text ∷ []) }
         ensures does { (settings : Settings) (base : List Event) (s : ℕ) → slice_get (map number_in self.now.lasts.items) g ≡ Some s → requests (codes "shutdown") (message_of text) ≡ false → moves_ids (message_of text) ≡ false
             → OnOk result (Does (λ t events. Stands settings t events) (send (ToServer s text)) base self.now outs.old self.now outs.new) }
         ensures documents { (settings : Settings) (owed : Owed) (base : List Event) → saying_of (message_of text) ≡ nothing → is_synced (message_of text) ≡ false → DocumentsStand settings owed self.now (behind base outs.old) → OnOk result (DocumentsStand settings owed self.now (behind base outs.new)) }

@@ -1,6 +1,6 @@
 // What each cause about a start does to the tables.
 ghost use Rattle.std.specs.Prelude.{◌≡◌, ◌≢◌, ◌<◌, ◌≤◌, ◌^◌, IfOk, OnOk, ◌++◌, ◌∷◌, [], ℕ, List, map, Some, false, true, length, nat_lt, option_map, slice_get, slice_set, find, MatchOption, ◌&&◌};
-ghost use Rattle.event_model.specs.declared.stage.Stage.TheVariants.{Ended, Initializing, Spawning};
+ghost use Rattle.event_model.specs.declared.stage.Stage.TheVariants.{Ended, Initializing, Ready, Spawning};
 ghost use Rattle.event_model.specs.Event.{Event, heard};
 ghost use Rattle.event_model.specs.Phases.{needs_server};
 ghost use Rattle.event_model.specs.Requests.{answered_id};
@@ -70,6 +70,9 @@ impl Tables {
     ) -> Result<Outs, Memory>
         requires group { g < length self.old.lasts.items }
         requires stage { (x : Start) → slice_get self.old.lasts.items g ≡ Some x → x.life.stage ≡ Initializing }
+        ensures editors { OnOk result (self.new.editors ≡ self.old.editors) }
+        ensures starts { OnOk result (map number_in self.new.lasts.items ≡ map number_in self.old.lasts.items) }
+        ensures ready { OnOk result ((x : Start) → slice_get self.new.lasts.items g ≡ Some x → x.life.stage ≡ Ready) }
         ensures stands { (settings : Settings) (events : List Event) (s : ℕ) (body : List ℕ) → slice_get (map number_in self.old.lasts.items) g ≡ Some s → is_first_result (message_of body) ≡ true → NamesAt (answered_id (message_of body)) n
             → Stands settings self.old events → OnOk result (Stands settings self.new (events ++ heard (FromServer s body) ∷ [])) }
         ensures documents { (settings : Settings) (events : List Event) (s : ℕ) (body : List ℕ) → slice_get (map number_in self.old.lasts.items) g ≡ Some s → encoding_by (message_of body) ≡ Some encoding → Stands settings self.old events → DocumentsStand settings nothing_owed self.old events

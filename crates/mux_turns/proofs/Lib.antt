@@ -1,8 +1,16 @@
 pub mod Answering
+pub mod Asking
 pub mod Beginning
 pub mod Cancels
+pub mod Classes
 pub mod Folders
+pub mod Joining
 pub mod Keeping
 pub mod Matched
+pub mod Noticing
 pub mod Numbers
+pub mod Ready
+pub mod Replies
 pub mod Rows
+pub mod Serving
+pub mod Welcoming

@@ -4,7 +4,7 @@ use Rattle.std.specs.Prelude.{Option, Some, None, MatchOption, find, option_map,
 use Rattle.mux_history.specs.declared.out.Out.{Out}
 use Rattle.rpc_message.specs.Message.{Id}
 use Rattle.event_model.specs.declared.stage.Stage.{Stage}
-use Rattle.event_model.specs.declared.stage.Stage.TheVariants.{Ready}
+use Rattle.event_model.specs.declared.stage.Stage.TheVariants.{Ready, Spawning}
 use Rattle.event_model.specs.Does.{Does, Done}
 use Rattle.event_model.specs.Event.{Event}
 use Rattle.event_model.specs.Row.{Row}
@@ -72,5 +72,11 @@ not_first b stage e = ap (λ k. b && is_initializing k) e ∙ go b
     go true = refl
     go false = refl
 
-pub whole_entry : (settings : Settings) (row : Row) (base : List Event) (t u : Tables) (xs ys : List Out) → xs ≡ [] → Stands settings t base → Does (λ t events. Stands settings t events) row base t xs u ys → Done (λ t events. Stands settings t events) row base [] u ys
-whole_entry settings row base t u xs ys first st d = does_entry st (subst (λ zs. Does (λ t events. Stands settings t events) row base t zs u ys) first d)
+pub not_spawning : (stage : Stage) → stage ≡ Ready → stage ≡ Spawning → ⊥
+not_spawning stage r e = clash (sym r ∙ e)
+  where
+    clash : Ready ≡ Spawning → ⊥
+    clash q = cc
+
+pub whole_entry : {K : Type 0} (Holds : K → List Event → Type 0) (row : Row) (base : List Event) (t u : K) (xs ys : List Out) → xs ≡ [] → Holds t base → Does Holds row base t xs u ys → Done Holds row base [] u ys
+whole_entry Holds row base t u xs ys first st d = does_entry st (subst (λ zs. Does Holds row base t zs u ys) first d)

@@ -22,7 +22,7 @@ no_start : (home : Option ℕ) (start : ℕ → Option ℕ) (p : Row) (f : ℕ �
 no_start None start p f h = refl
 no_start (Some g) start p f h = ap (λ o. on o p (f g)) h
 
-some_start : (home : Option ℕ) (start : ℕ → Option ℕ) (p : Row) (f : ℕ → ℕ → Row) (g s : ℕ) → home ≡ Some g → start g ≡ Some s → on home p (λ g. on (start g) p (f g)) ≡ f g s
+pub some_start : (home : Option ℕ) (start : ℕ → Option ℕ) (p : Row) (f : ℕ → ℕ → Row) (g s : ℕ) → home ≡ Some g → start g ≡ Some s → on home p (λ g. on (start g) p (f g)) ≡ f g s
 some_start home start p f g s h k = ap (λ o. on o p (λ g. on (start g) p (f g))) h ∙ ap (λ o. on o p (f g)) k
 
 -- a row of which is known which part it is

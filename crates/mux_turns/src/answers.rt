@@ -2,13 +2,14 @@
 ghost use Rattle.std.specs.Prelude.{◌≡◌, ◌<◌, ◌^◌, ℕ, List, [], Option, Some, IfSome, OnOk, bytes_eq, decimal, option_map, find, MatchOption, None, length, map, slice_get};
 ghost use Rattle.event_model.specs.declared.stage.Stage.TheVariants.{Ready};
 ghost use Rattle.event_model.specs.Does.{Does, Done};
-ghost use Rattle.event_model.specs.Event.{Event, with_cause};
+ghost use Rattle.event_model.specs.Event.{Event, behind, with_cause};
 ghost use Rattle.event_model.specs.Requests.{answered_id};
 ghost use Rattle.event_model.specs.Settings.{Settings};
 ghost use Rattle.group_rows.specs.Forwarded.{Forwarded, answered_by, forwarding_of};
 ghost use Rattle.group_rows.specs.Rows.{response_row};
 ghost use Rattle.mux_history.specs.declared.cause.Cause.TheVariants.{FromServer};
 ghost use Rattle.mux_tables.specs.declared.tables.Start.{Start};
+ghost use Rattle.mux_tables.specs.Documents.{DocumentsStand, Owed};
 ghost use Rattle.mux_tables.specs.Stands.{NamesAt, Stands, forwarded_as, number_in};
 ghost use Rattle.mux_turns.specs.Answers.{IsAsked, is_response};
 ghost use Rattle.rpc_message.specs.Message.{Id, message_of};
@@ -87,9 +88,10 @@ fn answer(
     pending: &Pending,
     message: &Message,
 ) -> Result<(), Memory>
-    ensures { (settings : Settings) (before : List Event) (body : List ℕ) (s n : ℕ) → IsRead message.now body → outs.old ≡ []
+    ensures does { (settings : Settings) (before : List Event) (body : List ℕ) (s n : ℕ) → IsRead message.now body → outs.old ≡ []
         → find (answered_by (answered_id (message_of body))) (forwarding_of s before).open_requests ≡ Some (forwarded_as n pending.now) → IsAsked before (forwarded_as n pending.now)
         → OnOk result (Does (λ t events. Stands settings t events) (response_row s before body (message_of body)) (with_cause before (FromServer s body)) tables.now outs.old tables.now outs.new) }
+    ensures documents { (settings : Settings) (owed : Owed) (base : List Event) → DocumentsStand settings owed tables.now (behind base outs.old) → OnOk result (DocumentsStand settings owed tables.now (behind base outs.new)) }
 {
     if !tables.phase(pending.editor).is_there() {
         return Ok(());
@@ -108,9 +110,10 @@ pub fn pass_on(
     asked: Option<Pending>,
     message: &Message,
 ) -> Result<(), Memory>
-    ensures { (settings : Settings) (before : List Event) (body : List ℕ) (s n : ℕ) → IsRead message.now body → outs.old ≡ []
+    ensures does { (settings : Settings) (before : List Event) (body : List ℕ) (s n : ℕ) → IsRead message.now body → outs.old ≡ []
         → find (answered_by (answered_id (message_of body))) (forwarding_of s before).open_requests ≡ option_map (forwarded_as n) asked → ((f : Forwarded) → option_map (forwarded_as n) asked ≡ Some f → IsAsked before f)
         → OnOk result (Does (λ t events. Stands settings t events) (response_row s before body (message_of body)) (with_cause before (FromServer s body)) tables.now outs.old tables.now outs.new) }
+    ensures documents { (settings : Settings) (owed : Owed) (base : List Event) → DocumentsStand settings owed tables.now (behind base outs.old) → OnOk result (DocumentsStand settings owed tables.now (behind base outs.new)) }
 {
     match asked {
         None => Ok(()),
@@ -138,9 +141,11 @@ pub fn take_answer(
     message: &Message,
 ) -> Result<(), Memory>
     requires { g < length tables.old.lasts.items }
-    ensures { (settings : Settings) (before : List Event) (body : List ℕ) (s : ℕ) (x : Start) → IsRead message.now body → outs.old ≡ [] → slice_get tables.old.lasts.items g ≡ Some x → x.life.stage ≡ Ready → slice_get (map number_in tables.old.lasts.items) g ≡ Some s
+    ensures does { (settings : Settings) (before : List Event) (body : List ℕ) (s : ℕ) (x : Start) → IsRead message.now body → outs.old ≡ [] → slice_get tables.old.lasts.items g ≡ Some x → x.life.stage ≡ Ready → slice_get (map number_in tables.old.lasts.items) g ≡ Some s
         → ((f : Forwarded) → find (answered_by (answered_id (message_of body))) (forwarding_of s before).open_requests ≡ Some f → IsAsked before f) → Stands settings tables.old before
         → OnOk result (Done (λ t events. Stands settings t events) (response_row s before body (message_of body)) (with_cause before (FromServer s body)) [] tables.new outs.new) }
+    ensures documents { (settings : Settings) (owed : Owed) (before : List Event) (body : List ℕ) (s : ℕ) (x : Start) → IsRead message.now body → outs.old ≡ [] → slice_get tables.old.lasts.items g ≡ Some x → x.life.stage ≡ Ready → slice_get (map number_in tables.old.lasts.items) g ≡ Some s
+        → Stands settings tables.old before → DocumentsStand settings owed tables.old before → OnOk result (DocumentsStand settings owed tables.new (behind (with_cause before (FromServer s body)) outs.new)) }
 {
     let n = answered_number(message);
     let asked = tables.hear_answer(g, n);

@@ -1,10 +1,11 @@
 //! L1: an editor that leaves.
 ghost use Rattle.std.specs.Prelude.{◌≡◌, ◌<◌, ℕ, List, map, Some, length, IfOk, IfSome, OnOk, slice_get};
 ghost use Rattle.event_model.specs.Does.{Does};
-ghost use Rattle.event_model.specs.Event.{Event};
+ghost use Rattle.event_model.specs.Event.{Event, behind};
 ghost use Rattle.event_model.specs.Row.{each};
 ghost use Rattle.event_model.specs.Settings.{Settings};
 ghost use Rattle.group_rows.specs.Leaves.{cancel, cancel_text, cancels_row};
+ghost use Rattle.mux_tables.specs.Documents.{DocumentsStand, Owed};
 ghost use Rattle.mux_tables.specs.Stands.{Stands, number_in};
 ghost use Rattle.mux_turns.specs.Leavings.{Leaves};
 
@@ -45,7 +46,8 @@ fn cancel_all(
     numbers: &[u32],
 ) -> Result<(), Memory>
     requires { g < length tables.old.lasts.items }
-    ensures { (settings : Settings) (base : List Event) (s : ℕ) → slice_get (map number_in tables.old.lasts.items) g ≡ Some s → OnOk result (Does (λ t events. Stands settings t events) (each (cancel s) numbers.now) base tables.old outs.old tables.new outs.new) }
+    ensures does { (settings : Settings) (base : List Event) (s : ℕ) → slice_get (map number_in tables.old.lasts.items) g ≡ Some s → OnOk result (Does (λ t events. Stands settings t events) (each (cancel s) numbers.now) base tables.old outs.old tables.new outs.new) }
+    ensures documents { (settings : Settings) (owed : Owed) (base : List Event) → DocumentsStand settings owed tables.old (behind base outs.old) → OnOk result (DocumentsStand settings owed tables.new (behind base outs.new)) }
 {
     for n in numbers {
         let text = cancel_request(alloc, *n)?;
@@ -77,7 +79,8 @@ pub fn leave(
     leaving: &Option<Departure>,
 ) -> Result<(), Memory>
     requires { IfSome leaving.now (λ l. l.group < length tables.old.lasts.items) }
-    ensures { (settings : Settings) (before base : List Event) (e : ℕ) → Leaves settings before e (map number_in tables.old.lasts.items) leaving.now → OnOk result (Does (λ t events. Stands settings t events) (cancels_row settings before e) base tables.old outs.old tables.new outs.new) }
+    ensures does { (settings : Settings) (before base : List Event) (e : ℕ) → Leaves settings before e (map number_in tables.old.lasts.items) leaving.now → OnOk result (Does (λ t events. Stands settings t events) (cancels_row settings before e) base tables.old outs.old tables.new outs.new) }
+    ensures documents { (settings : Settings) (owed : Owed) (base : List Event) → DocumentsStand settings owed tables.old (behind base outs.old) → OnOk result (DocumentsStand settings owed tables.new (behind base outs.new)) }
 {
     match leaving {
         None => Ok(()),

@@ -4,13 +4,19 @@
 mod answers;
 mod greeting;
 mod leaves;
+mod notices;
 mod placing;
 mod refusals;
+mod requests;
+mod results;
 mod starts;
 
 pub use answers::{answered_number, pass_on, take_answer};
 pub use greeting::opening;
 pub use leaves::{Departure, leave, leaving};
-pub use placing::{found, turn_away, waits};
+pub use notices::take_notice;
+pub use placing::{found, turn_away, waits, welcome};
 pub use refusals::{asked_at, refuse, refuse_early, refuse_request, reject};
+pub use requests::take_request;
+pub use results::take_result;
 pub use starts::{awaited_at, begin};

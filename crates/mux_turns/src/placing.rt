@@ -1,28 +1,36 @@
 //! E7: an editor's `initialize`, by the group in which it is placed (LSP 3.17, Initialize Request).
-ghost use Rattle.std.specs.Prelude.{◌≡◌, ◌<◌, ◌≤◌, ℕ, List, Option, length, OnOk, true};
+ghost use Rattle.std.specs.Prelude.{◌≡◌, ◌<◌, ◌≤◌, ℕ, List, [], Option, Some, length, OnOk, false, true};
 ghost use Rattle.event_model.specs.Does.{Alike, Does};
-ghost use Rattle.event_model.specs.Event.{Event, behind};
+ghost use Rattle.event_model.specs.Event.{Event, behind, with_cause};
+ghost use Rattle.event_model.specs.Phases.{desk_of};
 ghost use Rattle.event_model.specs.Row.{nothing};
 ghost use Rattle.event_model.specs.Settings.{Settings};
+ghost use Rattle.event_model.specs.Spawns.{start_of};
+ghost use Rattle.event_model.specs.Stages.{is_ready, life_of};
 ghost use Rattle.group_words.specs.declared.placed.Placed.TheVariants.{Joins, New, TooMany};
-ghost use Rattle.group_words.specs.Rows.{placed_row};
+ghost use Rattle.group_words.specs.Houses.{places};
+ghost use Rattle.group_words.specs.Rows.{placed_row, result_of, shown_of};
 ghost use Rattle.json_text.specs.Json.{Json};
+ghost use Rattle.mux_history.specs.declared.cause.Cause.TheVariants.{FromEditor};
+ghost use Rattle.mux_tables.specs.Documents.{AllStand, DocumentsStand, Owed, nothing_owed};
 ghost use Rattle.mux_tables.specs.Stands.{Stands};
 ghost use Rattle.mux_turns.specs.Founding.{IsNext};
-ghost use Rattle.rpc_message.specs.Message.{Id, message_of, request};
+ghost use Rattle.mux_turns.specs.Welcomes.{IsShown};
+ghost use Rattle.rpc_message.specs.Message.{Id, message_of, request, result_bytes};
 ghost use Rattle.rpc_message.specs.Parsed.{IsRead};
 
 use crate::refusals::refuse;
 use message_body::Memory;
 use mux_history::Outs;
 use mux_tables::Tables;
-use rpc_message::{ErrorCode, Message};
+use rpc_message::{ErrorCode, Message, ok_reply};
 use std::alloc::Global;
 
 /// E7: whether an editor that joins this group waits, as it stands before its `initialize`: the group has no start that is ready, and
 /// nothing is sent.
 pub fn waits(tables: &Tables, g: u64) -> bool
-    ensures { result ≡ true → (settings : Settings) (before : List Event) (e : ℕ) (body : List ℕ) → Stands settings tables.now before → Alike (placed_row e body before (Joins g)) nothing }
+    ensures waits { result ≡ true → (settings : Settings) (before : List Event) (e : ℕ) (body : List ℕ) → Stands settings tables.now before → Alike (placed_row e body before (Joins g)) nothing }
+    ensures ready { result ≡ false → (settings : Settings) (before : List Event) → Stands settings tables.now before → (s : ℕ) × (start_of g before ≡ Some s) × (is_ready (life_of s before).stage ≡ true) }
 {
     match tables.place_of(g) {
         None => true,
@@ -30,11 +38,32 @@ pub fn waits(tables: &Tables, g: u64) -> bool
     }
 }
 
+/// E7: the editor joins a group whose last start is ready: its `initialize` is answered at once, with what editors are shown of the
+/// result that the start gave.
+pub fn welcome(
+    tables: &mut Tables,
+    alloc: Global,
+    outs: &mut Outs,
+    e: u64,
+    message: &Message,
+    shown: &[u8],
+) -> Result<(), Memory>
+    requires { e < length tables.old.editors }
+    ensures { (settings : Settings) (before : List Event) (body method given : List ℕ) (id : Id) (params : Option Json) (g s : ℕ) → IsRead message.now body → message_of body ≡ request id method params → places (desk_of e before).phase (message_of body) ≡ true
+        → start_of g before ≡ Some s → is_ready (life_of s before).stage ≡ true → result_of s before ≡ Some given → shown.now ≡ shown_of (result_bytes given) → IsShown given → outs.old ≡ []
+        → OnOk result (Does (λ k events. AllStand settings k events) (placed_row e body before (Joins g)) (with_cause before (FromEditor e body)) (tables.old, nothing_owed) outs.old (tables.new, nothing_owed) outs.new) }
+{
+    let text = ok_reply(alloc, message.id_bytes(), shown)?;
+    tables.welcome(outs, e, text)?;
+    Ok(())
+}
+
 /// E7: a start is spawned for the new group, which has the next number.
 pub fn found(tables: &mut Tables, alloc: Global, outs: &mut Outs) -> Result<(), Memory>
     requires limit { 2 ≤ tables.old.requests }
     requires versions { 1 ≤ tables.old.versions }
-    ensures { (settings : Settings) (before base : List Event) (e n : ℕ) (body : List ℕ) → IsNext n (behind base outs.old) → OnOk result (Does (λ t events. Stands settings t events) (placed_row e body before (New n)) base tables.old outs.old tables.new outs.new) }
+    ensures does { (settings : Settings) (before base : List Event) (e n : ℕ) (body : List ℕ) → IsNext n (behind base outs.old) → OnOk result (Does (λ t events. Stands settings t events) (placed_row e body before (New n)) base tables.old outs.old tables.new outs.new) }
+    ensures documents { (settings : Settings) (owed : Owed) (base : List Event) → Stands settings tables.old (behind base outs.old) → DocumentsStand settings owed tables.old (behind base outs.old) → OnOk result (DocumentsStand settings owed tables.new (behind base outs.new)) }
 {
     tables.found(alloc, outs)?;
     Ok(())

@@ -1,12 +1,15 @@
 //! E2, E8 and E10: what an editor is answered with an error.
 ghost use Rattle.std.specs.Prelude.{◌≡◌, ◌<◌, ℕ, List, Option, Some, map, length, IfNone, IfOk, IfSome, OnOk, slice_get};
+ghost use Rattle.event_model.specs.declared.stage.Stage.TheVariants.{Ready};
 ghost use Rattle.event_model.specs.Does.{Alike, Does};
-ghost use Rattle.event_model.specs.Event.{Event};
+ghost use Rattle.event_model.specs.Event.{Event, behind};
 ghost use Rattle.event_model.specs.Row.{◌⨾◌};
 ghost use Rattle.event_model.specs.Settings.{Settings};
 ghost use Rattle.group_rows.specs.Rows.{answer_error, early_row, forward, request_row, sync_row};
 ghost use Rattle.json_text.specs.Json.{Json};
 ghost use Rattle.mux_model.specs.Rows.{malformed_code, malformed_row};
+ghost use Rattle.mux_tables.specs.declared.tables.Start.{Start};
+ghost use Rattle.mux_tables.specs.Documents.{DocumentsStand, Owed};
 ghost use Rattle.mux_tables.specs.Stands.{Stands, number_in};
 ghost use Rattle.rpc_message.specs.Codes.{code_of};
 ghost use Rattle.rpc_message.specs.Message.{Id, Message as Meaning, message_of, request};
@@ -42,7 +45,8 @@ pub fn reject(
     phase: Phase,
     fault: Malformed,
 ) -> Result<(), Memory>
-    ensures { (settings : Settings) (base : List Event) (body : List ℕ) → Refuses fault (message_of body) → OnOk result (Does (λ t events. Stands settings t events) (malformed_row e (message_of body) phase) base tables.now outs.old tables.now outs.new) }
+    ensures does { (settings : Settings) (base : List Event) (body : List ℕ) → Refuses fault (message_of body) → OnOk result (Does (λ t events. Stands settings t events) (malformed_row e (message_of body) phase) base tables.now outs.old tables.now outs.new) }
+    ensures documents { (settings : Settings) (owed : Owed) (base : List Event) → DocumentsStand settings owed tables.now (behind base outs.old) → OnOk result (DocumentsStand settings owed tables.now (behind base outs.new)) }
 {
     let code = code_for(fault)?;
     if !phase.is_there() {
@@ -62,8 +66,9 @@ pub fn refuse(
     message: &Message,
     code: ErrorCode,
 ) -> Result<(), Memory>
-    ensures { (settings : Settings) (base : List Event) (body method : List ℕ) (id : Id) (params : Option Json) → IsRead message.now body → message_of body ≡ request id method params
+    ensures does { (settings : Settings) (base : List Event) (body method : List ℕ) (id : Id) (params : Option Json) → IsRead message.now body → message_of body ≡ request id method params
         → OnOk result (Does (λ t events. Stands settings t events) (answer_error e body (code_of code)) base tables.now outs.old tables.now outs.new) }
+    ensures documents { (settings : Settings) (owed : Owed) (base : List Event) → DocumentsStand settings owed tables.now (behind base outs.old) → OnOk result (DocumentsStand settings owed tables.now (behind base outs.new)) }
 {
     let text = error_answer(alloc, message.id_bytes(), code)?;
     tables.tell(outs, e, text)?;
@@ -79,7 +84,8 @@ pub fn refuse_early(
     e: u64,
     message: &Message,
 ) -> Result<(), Memory>
-    ensures { (settings : Settings) (base : List Event) (body : List ℕ) → IsRead message.now body → OnOk result (Does (λ t events. Stands settings t events) (early_row e body (message_of body)) base tables.now outs.old tables.now outs.new) }
+    ensures does { (settings : Settings) (base : List Event) (body : List ℕ) → IsRead message.now body → OnOk result (Does (λ t events. Stands settings t events) (early_row e body (message_of body)) base tables.now outs.old tables.now outs.new) }
+    ensures documents { (settings : Settings) (owed : Owed) (base : List Event) → DocumentsStand settings owed tables.now (behind base outs.old) → OnOk result (DocumentsStand settings owed tables.now (behind base outs.new)) }
 {
     if message.sort() != Sort::Request {
         return Ok(());
@@ -93,6 +99,7 @@ pub fn refuse_early(
 /// is in no group, or the group has no start, or that start isn't ready or has no number left: then it is to be refused.
 pub fn asked_at(tables: &Tables, e: u64) -> Option<usize>
     ensures inside { IfSome result (λ g. g < length tables.now.lasts.items) }
+    ensures takes { IfSome result (λ g. (x : Start) → slice_get tables.now.lasts.items g ≡ Some x → (x.life.stage ≡ Ready) × (x.ids.next < x.ids.limit)) }
     ensures refused { IfNone result ((settings : Settings) (before : List Event) (body : List ℕ) → Stands settings tables.now before → Alike (request_row settings before e body) (answer_error e body request_failed)) }
     ensures goes { IfSome result (λ g. (settings : Settings) (before : List Event) (body : List ℕ) (s : ℕ) → slice_get (map number_in tables.now.lasts.items) g ≡ Some s → Stands settings tables.now before
         → Alike (request_row settings before e body) (sync_row settings before g s e ⨾ forward s body)) }
@@ -109,8 +116,9 @@ pub fn refuse_request(
     e: u64,
     message: &Message,
 ) -> Result<(), Memory>
-    ensures { (settings : Settings) (before base : List Event) (body method : List ℕ) (id : Id) (params : Option Json) → IsRead message.now body → message_of body ≡ request id method params → Alike (request_row settings before e body) (answer_error e body request_failed)
+    ensures does { (settings : Settings) (before base : List Event) (body method : List ℕ) (id : Id) (params : Option Json) → IsRead message.now body → message_of body ≡ request id method params → Alike (request_row settings before e body) (answer_error e body request_failed)
         → OnOk result (Does (λ t events. Stands settings t events) (request_row settings before e body) base tables.now outs.old tables.now outs.new) }
+    ensures documents { (settings : Settings) (owed : Owed) (base : List Event) → DocumentsStand settings owed tables.now (behind base outs.old) → OnOk result (DocumentsStand settings owed tables.now (behind base outs.new)) }
 {
     refuse(tables, alloc, outs, e, message, ErrorCode::RequestFailed)?;
     Ok(())

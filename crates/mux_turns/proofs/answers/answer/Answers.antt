@@ -7,8 +7,8 @@ use Rattle.mux_history.specs.declared.cause.Cause.TheVariants.{FromServer}
 use Rattle.mux_turns.proofs.Answering.{passed_on}
 use Rattle.mux_turns.proofs.answers.answer.Goals as goal
 
-pub returns : goal.returns
-returns c = λ settings before body s n read first found known.
+pub returns-clause-does : goal.returns-clause-does
+returns-clause-does c = λ settings before body s n read first found known.
     let base = with_cause before (FromServer s body) in
     passed_on settings c.args.tables.now before body s n c.args.outs.now first (Some c.args.pending.now) found c.args.pending.now refl c.phase.result (λ st. c.phase.ensures settings (behind base c.args.outs.now) st) c.in_ok-text.text c.tell.new.outs (sym c.is_there.ensures ∙ c.if-not-is_there.false) (c.in_ok-text.ensures body read ∙ ap (λ w. with_id_text body w) c.bytes.ensures) known
     (λ keeps. c.in_ok-tell.ensures.does settings base keeps)

@@ -8,10 +8,10 @@ use Rattle.mux_tables.specs.Stands.{Stands}
 use Rattle.mux_tables.proofs.Starts.{start_there}
 use Rattle.mux_turns.proofs.leaves.leave.Goals as goal
 
-pub returns-in_ok-cancel_all-in-Some : goal.returns-in_ok-cancel_all-in-Some
-returns-in_ok-cancel_all-in-Some c = λ settings before base e leaves.
+pub returns-in_ok-cancel_all-in-Some-clause-does : goal.returns-in_ok-cancel_all-in-Some-clause-does
+returns-in_ok-cancel_all-in-Some-clause-does c = λ settings before base e leaves.
     let kept = rw c.in-Some.is at leaves in
     let inside = rw c.in-Some.is at c.requires in
     let s = start_there c.args.tables.now.lasts.items c.in-Some.left.group inside in
     does_alike (λ _. kept s.0 s.1)
-    (subst (λ ns. Does (λ t events. Stands settings t events) (each (cancel s.0) ns) base c.args.tables.now c.args.outs.now c.cancel_all.new.tables c.cancel_all.new.outs) c.deref.ensures.value (c.in_ok-cancel_all-in-Some.ensures settings base s.0 s.1))
+    (subst (λ ns. Does (λ t events. Stands settings t events) (each (cancel s.0) ns) base c.args.tables.now c.args.outs.now c.cancel_all.new.tables c.cancel_all.new.outs) c.deref.ensures.value (c.in_ok-cancel_all-in-Some.ensures.does settings base s.0 s.1))

@@ -8,8 +8,8 @@ use Rattle.mux_model.specs.Rows.{malformed_code, malformed_text}
 use Rattle.mux_turns.proofs.Keeping.{chosen, keeps_error, malformed_says, told_as}
 use Rattle.mux_turns.proofs.refusals.reject.Goals as goal
 
-pub returns : goal.returns
-returns c = λ settings base body refuses.
+pub returns-clause-does : goal.returns-clause-does
+returns-clause-does c = λ settings base body refuses.
     let m = message_of body in
     let is = c.in_ok-text.ensures ∙ ap (λ k. error_text (codes "null") k) (c.in_ok-code.ensures m refuses) in
     chosen c.is_there.ensures c.if-not-is_there.false (told_as settings base c.args.tables.now c.args.tables.now c.args.outs.now c.tell.new.outs c.args.e c.in_ok-text.text (malformed_text m) is

@@ -1,6 +1,9 @@
 -- The result of `initialize` came.
-use Rattle.std.proofs.Common.{refl}
-use Rattle.mux_tables.proofs.Starts.{read_here}
+use Rattle.std.proofs.Common.{refl, ap, sym, ◌∙◌}
+use Rattle.event_model.proofs.Places.{get_set_same, same_item}
+use Rattle.restart_replay.specs.Standings.{Standing}
+use Rattle.mux_tables.specs.declared.tables.Start.{Start}
+use Rattle.mux_tables.proofs.Starts.{read_here, starts_stay}
 use Rattle.mux_tables.proofs.Served.{result_moves}
 use Rattle.rpc_message.specs.Message.{message_of}
 use Rattle.mux_tables.proofs.DocumentReady.{ready_documents}
@@ -16,3 +19,9 @@ returns-clause-documents c = λ settings events s body at gives st ds.
     let z = c.index_mut-last.result.now in
     ready_documents settings c.args.self.now _ events c.args.g s c.start-start.result c.args.encoding z (record z { life = c.result.new.self; ids = c.forget.new.ids }) body (message_of body) c.in_ok-owed.owed at c.requires.group c.index_mut-last.ensures.value (c.requires.stage z (read_here c.args.self.now.lasts.items c.args.g z c.requires.group c.index_mut-last.ensures.value))
     gives c.result.ensures c.start-start.ensures refl refl c.in_ok-owed.ensures st ds
+
+pub returns-clause-starts : goal.returns-clause-starts
+returns-clause-starts c = starts_stay c.args.self.now.lasts.items c.args.g c.index_mut-last.result.now (record c.index_mut-last.result.now { life = c.result.new.self; ids = c.forget.new.ids }) c.requires.group c.index_mut-last.ensures.value (ap (λ (l : Standing). l.start) c.result.ensures)
+
+pub returns-clause-ready : goal.returns-clause-ready
+returns-clause-ready c = λ x at. ap (λ (w : Start). w.life.stage) (sym (same_item (sym (get_set_same c.args.self.now.lasts.items c.args.g (record c.index_mut-last.result.now { life = c.result.new.self; ids = c.forget.new.ids }) c.requires.group) ∙ at))) ∙ ap (λ (l : Standing). l.stage) c.result.ensures

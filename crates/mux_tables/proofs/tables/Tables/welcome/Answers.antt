@@ -1,5 +1,9 @@
 -- The editor's `initialize` is answered.
-use Rattle.std.proofs.Common.{refl}
+use Rattle.std.proofs.Common.{refl, ap, ◌∙◌, length}
+use Rattle.std.specs.Prelude.{slice_get}
+use Rattle.std.proofs.lemmas.List.{length-set}
+use Rattle.mux_tables.specs.Names.{id_in}
+use Rattle.mux_tables.proofs.Waits.{ids_stay}
 use Rattle.event_model.specs.declared.phase.Phase.TheVariants.{Answered}
 use Rattle.mux_tables.proofs.Said.{welcome_does}
 use Rattle.mux_tables.proofs.DocumentSaid.{told_documents}
@@ -10,3 +14,9 @@ returns-clause-does c = λ settings base k. welcome_does settings c.args.self.no
 
 pub returns-clause-documents : goal.returns-clause-documents
 returns-clause-documents c = λ settings owed base ds. told_documents settings owed c.args.self.now _ base c.args.outs.now c.push.new.self c.args.e c.args.body refl refl refl c.in_ok-push.ensures.ok ds
+
+pub returns-clause-count : goal.returns-clause-count
+returns-clause-count c = ap length c.set.ensures ∙ length-set c.args.self.now.editors c.args.e _
+
+pub returns-clause-ids : goal.returns-clause-ids
+returns-clause-ids c = λ n. ap (λ xs. id_in (slice_get xs n)) c.set.ensures ∙ ids_stay c.args.self.now.editors c.args.e Answered c.requires n

@@ -1,0 +1,60 @@
+-- E7: an editor joins a group whose start is ready.
+use Rattle.std.proofs.Common.{◌≡◌, ℕ, true, List, [], refl, ap, sym, subst, ◌∙◌, append-nil, if◌then◌else◌}
+use Rattle.std.specs.Prelude.{Option, Some}
+use Rattle.json_text.specs.Json.{Json}
+use Rattle.mux_history.specs.declared.cause.Cause.TheVariants.{FromEditor}
+use Rattle.mux_history.specs.declared.out.Out.{Out}
+use Rattle.mux_history.specs.declared.out.Out.TheVariants.{ToEditor}
+use Rattle.rpc_message.specs.Message.{Message, Id, id_bytes, message_of, request, result_bytes}
+use Rattle.rpc_message.specs.Texts.{ok_text}
+use Rattle.event_model.specs.declared.phase.Phase.{Phase}
+use Rattle.event_model.specs.declared.phase.Phase.TheVariants.{Absent, New, Waiting, Answered, Running, Down, Closed, Gone}
+use Rattle.event_model.specs.Does.{Does}
+use Rattle.event_model.specs.Event.{Event, behind, heard, with_cause}
+use Rattle.event_model.specs.Phases.{Desk, desk_behind, desk_hears, desk_of}
+use Rattle.event_model.specs.Row.{nothing, on, send}
+use Rattle.event_model.specs.Settings.{Settings}
+use Rattle.event_model.specs.Spawns.{start_of}
+use Rattle.event_model.specs.Stages.{is_ready, life_of}
+use Rattle.event_model.proofs.Frames.{one_more}
+use Rattle.event_model.proofs.Turns.{alike, alike_then, does_alike}
+use Rattle.group_words.specs.declared.placed.Placed.TheVariants.{Joins}
+use Rattle.group_words.specs.Houses.{places}
+use Rattle.group_words.specs.Rows.{answer_with, placed_row, result_of, shown_of, welcomed}
+use Rattle.mux_tables.specs.declared.tables.Tables.{Tables}
+use Rattle.mux_tables.specs.Documents.{AllStand, DocumentsStand, nothing_owed}
+use Rattle.mux_tables.specs.Stands.{Stands, Welcomes}
+use Rattle.mux_tables.proofs.Frames.{itself}
+use Rattle.mux_turns.specs.Welcomes.{IsGreeted, IsShown, is_greeted}
+use Rattle.mux_turns.proofs.Rows.{is_first}
+use Rattle.mux_turns.proofs.Welcoming.{answered_does}
+
+-- its desk behind its `initialize`
+seated : (p : Phase) (i body : List ℕ) (m : Message) → places p m ≡ true → desk_hears p i body m ≡ record { phase = Waiting; initialize = body }
+seated New i body m h = ap (λ b. if b then record { phase = Waiting; initialize = body } else record { phase = New; initialize = i }) h
+seated Absent i body m h = absurd (cc)
+seated Waiting i body m h = absurd (cc)
+seated Answered i body m h = absurd (cc)
+seated Running i body m h = absurd (cc)
+seated Down i body m h = absurd (cc)
+seated Closed i body m h = absurd (cc)
+seated Gone i body m h = absurd (cc)
+
+module _ (settings : Settings) (t u : Tables) (before : List Event) (e g s : ℕ) (body method given text shown : List ℕ) (id : Id) (params : Option Json) (xs ys : List Out) (first : xs ≡ []) (says : message_of body ≡ request id method params)
+    (new : places (desk_of e before).phase (message_of body) ≡ true) (starts : start_of g before ≡ Some s) (ready : is_ready (life_of s before).stage ≡ true) (gave : result_of s before ≡ Some given) where
+  abbrev base : List Event
+  base = with_cause before (FromEditor e body)
+
+  desk : desk_of e (behind base xs) ≡ record { phase = Waiting; initialize = body }
+  desk = ap (λ es. desk_of e es) (ap (behind base) first ∙ append-nil base)
+      ∙ (one_more (desk_behind e) _ _ before (heard (FromEditor e body)) refl ∙ rw (itself e) (seated (desk_of e before).phase (desk_of e before).initialize body (message_of body) new))
+
+  greeted : IsGreeted (behind base xs) e
+  greeted = record { phase = ap (λ (d : Desk). is_greeted d.phase) desk; asks = record { name = id; method = method; params = params; says = ap (λ (d : Desk). message_of d.initialize) desk ∙ says } }
+
+  pub joins_ready : IsShown given → text ≡ ok_text (id_bytes body) shown → shown ≡ shown_of (result_bytes given) → (Welcomes e text (behind base xs) → Does (λ t events. Stands settings t events) (send (ToEditor e text)) base t xs u ys)
+      → (DocumentsStand settings nothing_owed t (behind base xs) → DocumentsStand settings nothing_owed u (behind base ys)) → Does (λ k events. AllStand settings k events) (placed_row e body before (Joins g)) base (t, nothing_owed) xs (u, nothing_owed) ys
+  joins_ready whole is are d docs =
+      let row = alike_then (is_first (ap (λ o. on o nothing (welcomed e body before)) starts) ready) (alike (ap (λ o. on o nothing (answer_with e body)) gave)) in
+      does_alike (λ _. row) (subst (λ i. Does (λ k events. AllStand settings k events) (send (ToEditor e (ok_text (id_bytes i) (shown_of (result_bytes given))))) base (t, nothing_owed) xs (u, nothing_owed) ys) (ap (λ (d : Desk). d.initialize) desk)
+      (answered_does settings t u base xs ys e given text shown greeted whole (is ∙ ap (λ (d : Desk). ok_text (id_bytes d.initialize) shown) (sym desk)) are d docs))

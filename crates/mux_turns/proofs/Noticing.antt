@@ -1,0 +1,67 @@
+-- What an editor says of a document is told to its group's start.
+use Rattle.std.proofs.Common.{◌≡◌, ℕ, Bool, true, false, List, [], ◌++◌, refl, ap, sym, subst, ◌∙◌, append-nil, if◌then◌else◌}
+use Rattle.std.specs.Prelude.{Some, slice_get}
+use Rattle.mux_history.specs.declared.cause.Cause.TheVariants.{FromEditor}
+use Rattle.mux_history.specs.declared.out.Out.{Out}
+use Rattle.document_model.specs.Sayings.{Saying}
+use Rattle.event_model.specs.declared.stage.Stage.TheVariants.{Ready}
+use Rattle.event_model.specs.Does.{Does}
+use Rattle.event_model.specs.Event.{Event, behind, with_cause}
+use Rattle.event_model.specs.Row.{choose, nothing}
+use Rattle.event_model.specs.Settings.{Settings}
+use Rattle.event_model.specs.Spawns.{start_of}
+use Rattle.event_model.specs.Stages.{Life, is_ready, life_of}
+use Rattle.event_model.proofs.Places.{same_item}
+use Rattle.event_model.proofs.Turns.{does_alike}
+use Rattle.mux_model.specs.Documents.{held_at}
+use Rattle.mux_model.specs.Rows.{to_start}
+use Rattle.group_words.specs.Houses.{home_of}
+use Rattle.group_rows.specs.Rows.{document_at, document_bodies, document_row}
+use Rattle.group_rows.specs.Texts.{encoding_of, texts_of}
+use Rattle.mux_tables.specs.declared.tables.Start.{Start}
+use Rattle.mux_tables.specs.declared.tables.Tables.{Tables}
+use Rattle.mux_tables.specs.Documents.{AllStand, DocumentsStand, nothing_owed, noticing, owes, to}
+use Rattle.mux_tables.specs.Stands.{Stands, of_life}
+use Rattle.mux_tables.proofs.DocumentOwed.{owes_nothing}
+use Rattle.mux_turns.proofs.Ready.{has_start, is_that_ready}
+use Rattle.mux_turns.proofs.Rows.{is_first, is_second, some_start}
+
+module _ (settings : Settings) (old t : Tables) (before : List Event) (e g s : ℕ) (body : List ℕ) (what : Saying) (xs ys owed : List Out) (same : t.lasts ≡ old.lasts) (st : Stands settings old before)
+    (home : home_of settings e before ≡ Some g) (starts : start_of g before ≡ Some s) (are : owed ≡ to s (noticing settings before g s e body what)) (sent : ys ≡ xs ++ owed) where
+  abbrev base : List Event
+  base = with_cause before (FromEditor e body)
+
+  abbrev told : List (List ℕ)
+  told = document_bodies settings.limits.versions (encoding_of g before) (texts_of settings g before) (λ u. held_at s u before) e body what
+
+  row_is : document_row settings before e body what ≡ choose (is_ready (life_of s before).stage) (to_start s told) nothing
+  row_is = some_start (home_of settings e before) (λ h. start_of h before) nothing (document_at settings before e body what) g s home starts
+
+  x : (x : Start) × (slice_get old.lasts.items g ≡ Some x)
+  x = has_start settings old before g s st starts
+
+  own : x.0.life.start ≡ s
+  own = same_item (sym (st.lasts.each g x.0 x.1).start ∙ starts)
+
+  stage : (life_of s before).stage ≡ x.0.life.stage
+  stage = subst (λ n. (life_of n before).stage ≡ x.0.life.stage) own (ap (λ (l : Life). l.stage) ((st.lasts.each g x.0 x.1).parts of_life))
+
+  pub noticed : ((z : Start) (bodies : List (List ℕ)) → slice_get t.lasts.items g ≡ Some z → z.life.stage ≡ Ready → owed ≡ to z.life.start bodies → Does (λ k events. AllStand settings k events) (to_start z.life.start bodies) base (t, owes g bodies) xs (t, nothing_owed) ys)
+      → Does (λ k events. AllStand settings k events) (document_row settings before e body what) base (t, owes g (noticing settings before g s e body what)) xs (t, nothing_owed) ys
+  noticed pays = go (is_ready (life_of s before).stage) refl
+    where
+      go : (b : Bool) → is_ready (life_of s before).stage ≡ b → Does (λ k events. AllStand settings k events) (document_row settings before e body what) base (t, owes g (noticing settings before g s e body what)) xs (t, nothing_owed) ys
+      go true h =
+          let is : noticing settings before g s e body what ≡ told = ap (λ c. if c then told else []) h in
+          let paid = pays x.0 told (ap (λ ls. slice_get ls.items g) same ∙ x.1) (is_that_ready x.0.life.stage (ap is_ready (sym stage) ∙ h)) (are ∙ (ap (to s) is ∙ ap (λ n. to n told) (sym own))) in
+          does_alike (λ _. is_first row_is h) (subst (λ bs. Does (λ k events. AllStand settings k events) (to_start s told) base (t, owes g bs) xs (t, nothing_owed) ys) (sym is)
+          (subst (λ n. Does (λ k events. AllStand settings k events) (to_start n told) base (t, owes g told) xs (t, nothing_owed) ys) own paid))
+      go false h =
+          let none : noticing settings before g s e body what ≡ [] = ap (λ c. if c then told else []) h in
+          let all : ys ≡ xs ++ [] = sent ∙ ap (λ zs. xs ++ zs) (are ∙ ap (to s) none) in
+          does_alike (λ _. is_second row_is h) (record {
+            done = λ k. record {
+              outs = all;
+              stands = subst (λ zs. AllStand settings (t, nothing_owed) (behind base zs)) (sym (all ∙ append-nil xs)) (k.0, owes_nothing settings t g (behind base xs) (subst (λ bs. DocumentsStand settings (owes g bs) t (behind base xs)) none k.1));
+            };
+          })

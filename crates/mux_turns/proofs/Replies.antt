@@ -1,0 +1,105 @@
+-- A start's first result, as a whole entry.
+use Rattle.std.proofs.Common.{◌≡◌, ℕ, true, false, List, [], ◌∷◌, ◌++◌, refl, ap, sym, ◌∙◌, append-nil, codes, if◌then◌else◌}
+use Rattle.std.specs.Prelude.{Option, Some, None}
+use Rattle.json_text.specs.Bare.{nowhere}
+use Rattle.json_text.specs.Json.{Json, object, no_members}
+use Rattle.mux_history.specs.declared.cause.Cause.TheVariants.{FromServer}
+use Rattle.mux_history.specs.declared.out.Out.{Out}
+use Rattle.mux_history.specs.declared.out.Out.TheVariants.{ToServer}
+use Rattle.rpc_message.specs.Message.{Message, Id, id_bytes, message_of, notification, result}
+use Rattle.rpc_message.specs.Message as messages
+use Rattle.rpc_message.specs.Texts.{initialized_text}
+use Rattle.rpc_message.proofs.Fixed.{initialized_law}
+use Rattle.position_codec.specs.declared.Encoding.{Encoding}
+use Rattle.document_model.specs.Sayings.{nothing, saying_of}
+use Rattle.event_model.specs.Does.{Does, Done}
+use Rattle.event_model.specs.Row.{each, look, on, send}
+use Rattle.event_model.specs.Row.{nothing as none_sent}
+use Rattle.event_model.specs.Spawns.{group_of}
+use Rattle.event_model.specs.Event.{Event, behind, heard, requests, said, with_cause}
+use Rattle.event_model.specs.Phases.{Desk, desk_behind, desk_of}
+use Rattle.event_model.specs.Settings.{Settings}
+use Rattle.event_model.specs.Stages.{is_first_result}
+use Rattle.event_model.proofs.Frames.{one_more}
+use Rattle.group_words.specs.Houses.{home_of}
+use Rattle.group_words.proofs.Frames.{home_stays}
+use Rattle.group_rows.specs.Forwarded.{moves_ids}
+use Rattle.group_rows.specs.Rows.{first_result, result_in, waiting_in, welcome}
+use Rattle.group_rows.specs.Texts.{is_synced}
+use Rattle.mux_model.specs.Documents.{encoding_by, encoding_in}
+use Rattle.editor_session.specs.declared.session.Session.{Session}
+use Rattle.event_model.proofs.Turns.{alike, behind_more, does_alike, does_then}
+use Rattle.mux_model.specs.Rows.{to_start}
+use Rattle.mux_tables.specs.declared.tables.Tables.{Tables}
+use Rattle.mux_tables.specs.Documents.{AllStand, nothing_owed, owes, replaying, to}
+use Rattle.mux_tables.specs.Names.{NamesStand}
+use Rattle.mux_turns.proofs.Matched.{whole_entry}
+use Rattle.mux_turns.specs.Welcomes.{AllAsking}
+
+-- how positions count, as the first result says
+pub first_encoding : (m : Message) (id : Option Id) (r : Json) (code : Encoding) → m ≡ result id r → is_first_result m ≡ true → code ≡ encoding_in r → encoding_by m ≡ Some code
+first_encoding m id r code says first is = ap encoding_by says ∙ (go id (ap is_first_result (sym says) ∙ first) ∙ ap (λ c. Some c) (sym is))
+  where
+    go : (id : Option Id) → is_first_result (result id r) ≡ true → encoding_by (result id r) ≡ Some (encoding_in r)
+    go (Some (messages.integer n)) h = ap (λ b. if b then Some (encoding_in r) else None) h
+    go (Some (messages.text cs)) h = absurd (cc)
+    go None h = absurd (cc)
+
+-- what the notification `initialized` is not
+pub record Quiet (body : List ℕ) : Type 0 where
+  pub runs : requests (codes "shutdown") (message_of body) ≡ false
+  pub counts : moves_ids (message_of body) ≡ false
+  pub says : saying_of (message_of body) ≡ nothing
+  pub aside : is_synced (message_of body) ≡ false
+
+pub initialized_quiet : (body : List ℕ) → body ≡ initialized_text → Quiet body
+initialized_quiet body is =
+    let says : message_of body ≡ notification (codes "initialized") (Some (object nowhere no_members)) = ap message_of is ∙ initialized_law in
+    record { runs = ap (requests (codes "shutdown")) says; counts = ap moves_ids says; says = ap saying_of says; aside = ap is_synced says }
+
+-- bodies to a start leave each editor where it is
+desk_told : (e s : ℕ) (bodies : List (List ℕ)) (events : List Event) → desk_of e (behind events (to s bodies)) ≡ desk_of e events
+desk_told e s [] events = ap (desk_of e) (append-nil events)
+desk_told e s (b ∷ bodies) events = ap (desk_of e) (behind_more events (ToServer s b ∷ []) (to s bodies))
+    ∙ (desk_told e s bodies (events ++ said (ToServer s b) ∷ []) ∙ one_more (desk_behind e) _ _ events (said (ToServer s b)) refl)
+
+home_told : (settings : Settings) (e s : ℕ) (bodies : List (List ℕ)) (events : List Event) → home_of settings e (behind events (to s bodies)) ≡ home_of settings e events
+home_told settings e s [] events = ap (home_of settings e) (append-nil events)
+home_told settings e s (b ∷ bodies) events = ap (home_of settings e) (behind_more events (ToServer s b ∷ []) (to s bodies))
+    ∙ (home_told settings e s bodies (events ++ said (ToServer s b) ∷ []) ∙ home_stays settings e events (said (ToServer s b)) refl)
+
+module _ (settings : Settings) (before : List Event) (s : ℕ) (body : List ℕ) (bodies : List (List ℕ)) (ys : List Out) (are : ys ≡ to s bodies) where
+  abbrev base : List Event
+  base = with_cause before (FromServer s body)
+
+  same_desk : (e : ℕ) → desk_of e (behind base ys) ≡ desk_of e before
+  same_desk e = ap (λ zs. desk_of e (behind base zs)) are ∙ (desk_told e s bodies base ∙ one_more (desk_behind e) _ _ before (heard (FromServer s body)) refl)
+
+  same_home : (e : ℕ) → home_of settings e (behind base ys) ≡ home_of settings e before
+  same_home e = ap (λ zs. home_of settings e (behind base zs)) are ∙ (home_told settings e s bodies base ∙ home_stays settings e before (heard (FromServer s body)) refl)
+
+  pub still_asking : AllAsking before → AllAsking (behind base ys)
+  still_asking asking e waits =
+      let a = asking e (ap (λ (d : Desk). d.phase) (sym (same_desk e)) ∙ waits) in
+      record { name = a.name; method = a.method; params = a.params; says = ap (λ (d : Desk). message_of d.initialize) (same_desk e) ∙ a.says }
+
+  pub still_named : (sessions : List Session) → NamesStand settings sessions before → NamesStand settings sessions (behind base ys)
+  still_named sessions named e g waits home =
+      named e g (ap (λ (d : Desk). d.phase) (sym (same_desk e)) ∙ waits) (sym (same_home e) ∙ home) ∙ ap (λ (d : Desk). Some (id_of d)) (sym (same_desk e))
+    where
+      id_of : Desk → List ℕ
+      id_of d = id_bytes d.initialize
+
+-- the parts of the entry, one after the other
+pub begun_entry : (settings : Settings) (before : List Event) (s g : ℕ) (body : List ℕ) (t u : Tables) (xs ys zs ws : List Out) → group_of s before ≡ Some g → xs ≡ [] → AllStand settings (t, owes g (replaying settings before g)) (with_cause before (FromServer s body))
+    → Does (λ k events. AllStand settings k events) (send (ToServer s initialized_text)) (with_cause before (FromServer s body)) (t, owes g (replaying settings before g)) xs (t, owes g (replaying settings before g)) ys
+    → Does (λ k events. AllStand settings k events) (to_start s (replaying settings before g)) (with_cause before (FromServer s body)) (t, owes g (replaying settings before g)) ys (t, nothing_owed) zs
+    → Does (λ k events. AllStand settings k events) (look (λ events. each (welcome body) (waiting_in settings g events))) (with_cause before (FromServer s body)) (t, nothing_owed) zs (u, nothing_owed) ws
+    → Done (λ k events. AllStand settings k events) (first_result settings before s body) (with_cause before (FromServer s body)) [] (u, nothing_owed) ws
+begun_entry settings before s g body t u xs ys zs ws home first all begins replays greets =
+    whole_entry (λ k events. AllStand settings k events) (first_result settings before s body) (with_cause before (FromServer s body)) (t, owes g (replaying settings before g)) (u, nothing_owed) xs ws first all
+    (does_alike (λ _. alike (ap (λ o. on o none_sent (result_in settings before s body)) home)) (does_then begins (does_then replays greets)))
+
+-- what the start was sent before editors are answered
+pub sent_so : (s : ℕ) (text : List ℕ) (bodies : List (List ℕ)) (xs ys zs owed : List Out) → xs ≡ [] → ys ≡ xs ++ ToServer s text ∷ [] → owed ≡ to s bodies → zs ≡ ys ++ owed → zs ≡ to s (text ∷ bodies)
+sent_so s text bodies xs ys zs owed first one are two = two ∙ (ap (λ ws. ws ++ owed) (one ∙ ap (λ ws. ws ++ ToServer s text ∷ []) first) ∙ ap (λ ws. ToServer s text ∷ ws) are)

@@ -1,0 +1,13 @@
+-- Which group's last start takes a request.
+use Rattle.mux_tables.proofs.Starts.{start_there}
+use Rattle.mux_turns.proofs.Ready.{taken}
+use Rattle.mux_turns.proofs.Rows.{unasked_at}
+use Rattle.mux_turns.proofs.refusals.asked_at.Goals as goal
+
+pub returns-then-can_ask-clause-takes : goal.returns-then-can_ask-clause-takes
+returns-then-can_ask-clause-takes c = λ x at. taken x c.can_ask.result (c.can_ask.ensures.takes x at) c.if-can_ask.true
+
+pub returns-else-can_ask-clause-refused : goal.returns-else-can_ask-clause-refused
+returns-else-can_ask-clause-refused c = λ settings before body st.
+    let s = start_there c.args.tables.now.lasts.items c.in_ok-g.g c.in_ok-g.ensures.inside in
+    unasked_at settings before c.args.e body c.in_ok-g.g s.0 c.can_ask.result (c.in_ok-g.ensures.home settings before st) (c.in_ok-g.ensures.start settings before s.0 s.1 st) (c.can_ask.ensures.stands settings before s.0 s.1 st) c.if-can_ask.false
