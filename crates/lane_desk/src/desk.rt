@@ -76,7 +76,9 @@ fn give<R: Wait>(
 ) -> bool
     requires counts { counts.editors + counts.servers < 2 ^ 63 }
     requires ends { length ends.old.items ≡ counts.editors + counts.servers + 1 }
-    ensures { MatchBool result (IsIn counts.editors counts.servers lane × Became (place counts.editors counts.servers lane) (Pushed order) ends.old.items ends.new.items) (Pairwise (λ _. Same) ends.old.items ends.new.items) }
+    ensures { MatchBool result (IsIn counts.editors counts.servers lane
+        × Became (place counts.editors counts.servers lane) (Pushed order) ends.old.items ends.new.items)
+        (Pairwise (λ _. Same) ends.old.items ends.new.items) }
 {
     match place_of(counts, lane) {
         Some(place) => push_order(rt, ends, place, order),
@@ -165,7 +167,8 @@ fn give_entry<R: Wait>(
     requires counts { counts.editors + counts.servers < 2 ^ 63 }
     requires ends { length ends.old.items ≡ counts.editors + counts.servers + 1 }
     requires lane { IsLane taken.lane seats.old }
-    ensures dealt { Pairwise (λ i. Dealt (name counts.editors counts.servers i) (given_by seats.old taken.lane (is_side taken.mark) kind outs).orders [] result) ends.old.items ends.new.items }
+    ensures dealt { Pairwise (λ i. Dealt (name counts.editors counts.servers i)
+        (given_by seats.old taken.lane (is_side taken.mark) kind outs).orders [] result) ends.old.items ends.new.items }
     ensures seats { IsTrue result → seats.new ≡ (given_by seats.old taken.lane (is_side taken.mark) kind outs).seats }
 {
     let Ok(orders) = seats.give(taken.lane, is_side(taken.mark), kind, outs) else {
@@ -188,7 +191,8 @@ fn act<K: Steps, R: Wait>(
     requires counts { counts.editors + counts.servers < 2 ^ 63 }
     requires ends { length ends.old.items ≡ counts.editors + counts.servers + 1 }
     requires lane { IsLane taken.lane seats.old }
-    ensures acted { Acted K.stands counts.editors counts.servers taken.lane taken.mark cause (not result.spent) core.old core.new ends.old.items ends.new.items seats.old seats.new }
+    ensures acted { Acted K.stands counts.editors counts.servers taken.lane taken.mark cause
+        (not result.spent) core.old core.new ends.old.items ends.new.items seats.old seats.new }
     ensures goes { result.took ≡ not result.spent }
     ensures later { K.faults core.old ≤ K.faults core.new }
     ensures journal { result.why ≡ Some StepFault.Journal → Rose (K.faults core.old) (K.faults core.new) }
@@ -223,7 +227,8 @@ pub fn take_turn<K: Steps, R: Wait>(
     requires kept { Kept K.stands counts.editors counts.servers true core.old ends.old.items seats.old }
     ensures kept { Kept K.stands counts.editors counts.servers (not result.spent) core.new ends.new.items seats.new }
     ensures goes { result.took ≡ true → result.spent ≡ false }
-    ensures nothing { result.took ≡ false → result.spent ≡ false → (x : HubSide) → slice_get ends.old.items (place counts.editors counts.servers lane) ≡ Some x → IsEmptied x }
+    ensures nothing { result.took ≡ false → result.spent ≡ false → (x : HubSide)
+        → slice_get ends.old.items (place counts.editors counts.servers lane) ≡ Some x → IsEmptied x }
     ensures ids { map ids ends.new.items ≡ map ids ends.old.items }
     ensures later { K.faults core.old ≤ K.faults core.new }
     ensures journal { result.why ≡ Some StepFault.Journal → Rose (K.faults core.old) (K.faults core.new) }

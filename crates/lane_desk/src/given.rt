@@ -130,7 +130,8 @@ fn give_outs(orders: &mut Orders, seats: &mut Seats, outs: Outs) -> Result<(), M
 // A start begins in the lane of this number.
 fn begin(orders: &mut Orders, seats: &mut Seats, i: usize, start: u64) -> Result<(), Memory>
     requires { i < length seats.old.servers }
-    ensures { OnOk result (Gives (give (lane.Server i) (order.Begin start) (begin_seat start) (with_orders orders.old.items seats.old)) orders.new.items seats.new) }
+    ensures { OnOk result (Gives (give (lane.Server i) (order.Begin start) (begin_seat start)
+        (with_orders orders.old.items seats.old)) orders.new.items seats.new) }
 {
     begin_at(&mut seats.servers, i as u32, start);
     orders.push((LaneName::Server(i as u32), Order::Begin(start)))?;

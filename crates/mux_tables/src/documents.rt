@@ -83,7 +83,8 @@ fn note_in(
     e: u64,
     message: &Message,
 ) -> Result<Outs, Memory>
-    ensures { (body : List ℕ) → IsRead message.now body → IfOk result (λ outs. record { outs = outs; after = documents.new } ≡ document_step e body (saying_of (message_of body)) documents.old) }
+    ensures { (body : List ℕ) → IsRead message.now body
+        → IfOk result (λ outs. record { outs = outs; after = documents.new } ≡ document_step e body (saying_of (message_of body)) documents.old) }
 {
     match notice_in(alloc, message)? {
         Notice::Opens {
@@ -106,7 +107,9 @@ fn note_at(
     e: u64,
     message: &Message,
 ) -> Result<Outs, Memory>
-    ensures { (body : List ℕ) → IsRead message.now body → IfOk result (λ outs. StepAt (λ d. document_step e body (saying_of (message_of body)) d) g (slice_get documents.old.items g) documents.old.items outs documents.new.items) }
+    ensures { (body : List ℕ) → IsRead message.now body
+        → IfOk result (λ outs. StepAt (λ d. document_step e body (saying_of (message_of body)) d) g
+        (slice_get documents.old.items g) documents.old.items outs documents.new.items) }
 {
     if g >= documents.len() {
         return Ok(Outs::new(alloc));
@@ -123,7 +126,9 @@ pub fn note(
     e: u64,
     message: &Message,
 ) -> Result<Outs, Memory>
-    ensures { (body : List ℕ) → IsRead message.now body → IfOk result (λ outs. StepFrom (λ d. document_step e body (saying_of (message_of body)) d) home documents.old.items outs documents.new.items) }
+    ensures { (body : List ℕ) → IsRead message.now body
+        → IfOk result (λ outs. StepFrom (λ d. document_step e body
+        (saying_of (message_of body)) d) home documents.old.items outs documents.new.items) }
 {
     let Some(g) = home else {
         return Ok(Outs::new(alloc))

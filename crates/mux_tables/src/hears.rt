@@ -33,8 +33,10 @@ impl Tables {
     pub fn hear_joined(&mut self, e: u64) -> Result<(), Memory>
         requires next { e ≡ length self.old.editors }
         requires room { e < 2 ^ 63 }
-        ensures stands { (settings : Settings) (events : List Event) → Stands settings self.old events → OnOk result (Stands settings self.new (events ++ heard (Joined e) ∷ [])) }
-        ensures documents { (settings : Settings) (owed : Owed) (events : List Event) → Stands settings self.old events → DocumentsStand settings owed self.old events → OnOk result (DocumentsStand settings owed self.new (events ++ heard (Joined e) ∷ [])) }
+        ensures stands { (settings : Settings) (events : List Event) → Stands settings self.old events
+            → OnOk result (Stands settings self.new (events ++ heard (Joined e) ∷ [])) }
+        ensures documents { (settings : Settings) (owed : Owed) (events : List Event) → Stands settings self.old events
+            → DocumentsStand settings owed self.old events → OnOk result (DocumentsStand settings owed self.new (events ++ heard (Joined e) ∷ [])) }
     {
         self.editors.join(e)?;
         Ok(())
@@ -47,7 +49,9 @@ impl Tables {
         ensures lasts { self.new.lasts ≡ self.old.lasts }
         ensures stands { (settings : Settings) (events : List Event) (body : List ℕ) → Stands settings self.old events → places (desk_of e events).phase (message_of body) ≡ false → stops events e (message_of body) ≡ false
             → (desk_of e (events ++ heard (FromEditor e body) ∷ [])).phase ≡ phase → Stands settings self.new (events ++ heard (FromEditor e body) ∷ []) }
-        ensures documents { (settings : Settings) (owed : Owed) (events : List Event) (body : List ℕ) → changes_documents events e (message_of body) ≡ false → DocumentsStand settings owed self.old events → DocumentsStand settings owed self.new (events ++ heard (FromEditor e body) ∷ []) }
+        ensures documents { (settings : Settings) (owed : Owed) (events : List Event) (body : List ℕ)
+            → changes_documents events e (message_of body) ≡ false → DocumentsStand settings owed self.old events
+            → DocumentsStand settings owed self.new (events ++ heard (FromEditor e body) ∷ []) }
     {
         self.editors.set(e, phase);
     }
@@ -87,7 +91,8 @@ impl Tables {
         ensures documents { self.new.documents ≡ self.old.documents }
         ensures requests { self.new.requests ≡ self.old.requests }
         ensures versions { self.new.versions ≡ self.old.versions }
-        ensures groups { OnOk result (self.new.groups ≡ with_groups (emptied (Some g) was (stays_in self.old.editors) self.old.time self.old.groups.groups) self.old.groups) }
+        ensures groups { OnOk result (self.new.groups
+            ≡ with_groups (emptied (Some g) was (stays_in self.old.editors) self.old.time self.old.groups.groups) self.old.groups) }
     {
         if !was {
             return Ok(());
@@ -109,7 +114,8 @@ impl Tables {
         ensures documents { self.new.documents ≡ self.old.documents }
         ensures requests { self.new.requests ≡ self.old.requests }
         ensures versions { self.new.versions ≡ self.old.versions }
-        ensures groups { OnOk result (self.new.groups ≡ with_groups (emptied home was (stays_in self.old.editors) self.old.time self.old.groups.groups) self.old.groups) }
+        ensures groups { OnOk result (self.new.groups
+            ≡ with_groups (emptied home was (stays_in self.old.editors) self.old.time self.old.groups.groups) self.old.groups) }
     {
         match home {
             None => Ok(()),
@@ -121,7 +127,8 @@ impl Tables {
     /// start is owed for them. Where the answer is an error the tables stand for nothing any more.
     pub fn hear_gone(&mut self, alloc: Global, e: u64) -> Result<Outs, Memory>
         requires { e < length self.old.editors }
-        ensures stands { (settings : Settings) (events : List Event) (why : Why) → Stands settings self.old events → OnOk result (Stands settings self.new (events ++ heard (EditorGone e why) ∷ [])) }
+        ensures stands { (settings : Settings) (events : List Event) (why : Why) → Stands settings self.old events
+            → OnOk result (Stands settings self.new (events ++ heard (EditorGone e why) ∷ [])) }
         ensures documents { (settings : Settings) (events : List Event) (why : Why) → Stands settings self.old events → DocumentsStand settings nothing_owed self.old events
             → IfOk result (λ owed. Leaves settings events e (home_of settings e events) (start_for settings e events) owed self.new (events ++ heard (EditorGone e why) ∷ [])) }
     {
@@ -179,7 +186,9 @@ impl Tables {
         requires joined { phase ≢ Absent }
         ensures stands { (settings : Settings) (events : List Event) (body : List ℕ) → Stands settings self.old events → places (desk_of e events).phase (message_of body) ≡ false → stops events e (message_of body) ≡ true
             → (desk_of e (events ++ heard (FromEditor e body) ∷ [])).phase ≡ phase → OnOk result (Stands settings self.new (events ++ heard (FromEditor e body) ∷ [])) }
-        ensures documents { (settings : Settings) (owed : Owed) (events : List Event) (body : List ℕ) → stops events e (message_of body) ≡ true → DocumentsStand settings owed self.old events → OnOk result (DocumentsStand settings owed self.new (events ++ heard (FromEditor e body) ∷ [])) }
+        ensures documents { (settings : Settings) (owed : Owed) (events : List Event) (body : List ℕ) → stops events e (message_of body) ≡ true
+            → DocumentsStand settings owed self.old events
+            → OnOk result (DocumentsStand settings owed self.new (events ++ heard (FromEditor e body) ∷ [])) }
     {
         let live = self.groups.live_groups()?;
         end_all(&mut self.groups, &live);
@@ -189,8 +198,10 @@ impl Tables {
 
     /// X7: the time is this many seconds: the groups that end by now, rising.
     pub fn hear_tick(&mut self, now: u64) -> Result<Vec<u64>, Memory>
-        ensures stands { (settings : Settings) (events : List Event) → Stands settings self.old events → OnOk result (Stands settings self.new (events ++ heard (Tick now) ∷ [])) }
-        ensures documents { (settings : Settings) (owed : Owed) (events : List Event) → DocumentsStand settings owed self.old events → OnOk result (DocumentsStand settings owed self.new (events ++ heard (Tick now) ∷ [])) }
+        ensures stands { (settings : Settings) (events : List Event) → Stands settings self.old events
+            → OnOk result (Stands settings self.new (events ++ heard (Tick now) ∷ [])) }
+        ensures documents { (settings : Settings) (owed : Owed) (events : List Event) → DocumentsStand settings owed self.old events
+            → OnOk result (DocumentsStand settings owed self.new (events ++ heard (Tick now) ∷ [])) }
     {
         let now = later(self.time, now);
         let due = self.groups.due(now)?;

@@ -55,7 +55,9 @@ impl Tables {
     pub fn group(&self, e: u64) -> Option<usize>
         requires { e < length self.now.editors }
         ensures inside { IfSome result (λ g. g < length self.now.lasts.items) }
-        ensures start { (settings : Settings) (events : List Event) → Stands settings self.now events → MatchOption result (start_for settings e events ≡ None) (λ g. (x : Start) → slice_get self.now.lasts.items g ≡ Some x → start_for settings e events ≡ Some x.life.start) }
+        ensures start { (settings : Settings) (events : List Event) → Stands settings self.now events
+            → MatchOption result (start_for settings e events ≡ None) (λ g. (x : Start) → slice_get self.now.lasts.items g ≡ Some x
+            → start_for settings e events ≡ Some x.life.start) }
     {
         let g = self.editors.group(e)? as usize;
         if g < self.lasts.len() { Some(g) } else { None }
@@ -74,7 +76,8 @@ impl Tables {
 
     /// The numbers, rising, of the editors of this group that run.
     pub fn running(&self, g: u64) -> Result<Vec<u64>, Memory>
-        ensures { (settings : Settings) (events : List Event) → Stands settings self.now events → IfOk result (λ numbers. numbers.items ≡ editors_in is_running g (λ e. home_of settings e events) events) }
+        ensures { (settings : Settings) (events : List Event) → Stands settings self.now events
+            → IfOk result (λ numbers. numbers.items ≡ editors_in is_running g (λ e. home_of settings e events) events) }
     {
         let numbers = self.editors.running(g)?;
         Ok(numbers)
@@ -83,7 +86,8 @@ impl Tables {
     /// The numbers, rising, of the editors of this group that wait.
     pub fn waiting(&self, g: u64) -> Result<Vec<u64>, Memory>
         ensures inside { IfOk result (λ numbers. All (λ e. e < length self.now.editors) numbers.items) }
-        ensures those { (settings : Settings) (events : List Event) → Stands settings self.now events → IfOk result (λ numbers. numbers.items ≡ editors_in is_waiting g (λ e. home_of settings e events) events) }
+        ensures those { (settings : Settings) (events : List Event) → Stands settings self.now events
+            → IfOk result (λ numbers. numbers.items ≡ editors_in is_waiting g (λ e. home_of settings e events) events) }
     {
         let numbers = self.editors.waiting(g)?;
         Ok(numbers)
@@ -100,7 +104,8 @@ impl Tables {
     /// The numbers, rising, of an editor's open requests at the group's last start.
     pub fn requests_of(&self, g: usize, e: u64) -> Result<Vec<u32>, Memory>
         requires { g < length self.now.lasts.items }
-        ensures { (settings : Settings) (events : List Event) (s : ℕ) → slice_get (map number_in self.now.lasts.items) g ≡ Some s → Stands settings self.now events → IfOk result (λ numbers. numbers.items ≡ numbers_of e (forwarding_of s events).open_requests) }
+        ensures { (settings : Settings) (events : List Event) (s : ℕ) → slice_get (map number_in self.now.lasts.items) g ≡ Some s
+            → Stands settings self.now events → IfOk result (λ numbers. numbers.items ≡ numbers_of e (forwarding_of s events).open_requests) }
     {
         let numbers = self.lasts[g].ids.of_editor(e)?;
         Ok(numbers)

@@ -44,7 +44,8 @@ impl Tables {
         ensures inside { IfSome result (λ g. g < length self.now.lasts.items) }
         ensures none { IfNone result ((settings : Settings) (events : List Event) → Stands settings self.now events → start_for settings e events ≡ None) }
         ensures home { IfSome result (λ g. (settings : Settings) (events : List Event) → Stands settings self.now events → home_of settings e events ≡ Some g) }
-        ensures start { IfSome result (λ g. (settings : Settings) (events : List Event) (s : ℕ) → slice_get (map number_in self.now.lasts.items) g ≡ Some s → Stands settings self.now events → start_of g events ≡ Some s) }
+        ensures start { IfSome result (λ g. (settings : Settings) (events : List Event) (s : ℕ)
+            → slice_get (map number_in self.now.lasts.items) g ≡ Some s → Stands settings self.now events → start_of g events ≡ Some s) }
     {
         if e >= self.editors.count() {
             return None;
@@ -57,7 +58,8 @@ impl Tables {
         ensures inside { IfSome result (λ place. place < length self.now.lasts.items) }
         ensures number { IfSome result (λ place. place ≡ g) }
         ensures none { IfNone result ((settings : Settings) (events : List Event) → Stands settings self.now events → start_of g events ≡ None) }
-        ensures start { IfSome result (λ place. (settings : Settings) (events : List Event) (s : ℕ) → slice_get (map number_in self.now.lasts.items) place ≡ Some s → Stands settings self.now events → start_of g events ≡ Some s) }
+        ensures start { IfSome result (λ place. (settings : Settings) (events : List Event) (s : ℕ)
+            → slice_get (map number_in self.now.lasts.items) place ≡ Some s → Stands settings self.now events → start_of g events ≡ Some s) }
     {
         let place = g as usize;
         if place < self.lasts.len() {
@@ -70,7 +72,8 @@ impl Tables {
     /// Where the group's last start stands.
     pub fn stage(&self, g: usize) -> Stage
         requires { g < length self.now.lasts.items }
-        ensures { (settings : Settings) (events : List Event) (s : ℕ) → slice_get (map number_in self.now.lasts.items) g ≡ Some s → Stands settings self.now events → result ≡ (life_of s events).stage }
+        ensures { (settings : Settings) (events : List Event) (s : ℕ) → slice_get (map number_in self.now.lasts.items) g ≡ Some s
+            → Stands settings self.now events → result ≡ (life_of s events).stage }
     {
         self.lasts[g].life.stage()
     }
@@ -78,7 +81,8 @@ impl Tables {
     /// Whether the group's last start takes a request: it is ready, and a number is left.
     pub fn can_ask(&self, g: usize) -> bool
         requires { g < length self.now.lasts.items }
-        ensures stands { (settings : Settings) (events : List Event) (s : ℕ) → slice_get (map number_in self.now.lasts.items) g ≡ Some s → Stands settings self.now events → result ≡ can_ask settings s events }
+        ensures stands { (settings : Settings) (events : List Event) (s : ℕ) → slice_get (map number_in self.now.lasts.items) g ≡ Some s
+            → Stands settings self.now events → result ≡ can_ask settings s events }
         ensures takes { (x : Start) → slice_get self.now.lasts.items g ≡ Some x → result ≡ (is_ready x.life.stage && nat_lt x.ids.next x.ids.limit) }
     {
         self.lasts[g].can_ask()
@@ -99,7 +103,8 @@ impl Tables {
     /// The numbers, rising, of an editor's open requests at the group's last start that it didn't cancel.
     pub fn uncancelled_of(&self, g: usize, e: u64) -> Result<Vec<u32>, Memory>
         requires { g < length self.now.lasts.items }
-        ensures { (settings : Settings) (events : List Event) (s : ℕ) → slice_get (map number_in self.now.lasts.items) g ≡ Some s → Stands settings self.now events → IfOk result (λ numbers. numbers.items ≡ open_of e (forwarding_of s events).open_requests) }
+        ensures { (settings : Settings) (events : List Event) (s : ℕ) → slice_get (map number_in self.now.lasts.items) g ≡ Some s
+            → Stands settings self.now events → IfOk result (λ numbers. numbers.items ≡ open_of e (forwarding_of s events).open_requests) }
     {
         let numbers = open_of(&self.lasts[g].ids, e)?;
         Ok(numbers)
@@ -107,7 +112,8 @@ impl Tables {
 
     /// What is kept of the group of a number; none where there is no such group.
     pub fn kept(&self, g: u64) -> Option<&Kept>
-        ensures { (settings : Settings) (events : List Event) → Stands settings self.now events → option_copied result ≡ slice_get (groups_of settings events) g }
+        ensures { (settings : Settings) (events : List Event) → Stands settings self.now events
+            → option_copied result ≡ slice_get (groups_of settings events) g }
     {
         self.groups.get(g)
     }

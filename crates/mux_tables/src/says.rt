@@ -48,8 +48,10 @@ impl Tables {
     /// A body goes to an editor, which it leaves in its phase.
     #[tactic(auto, using(crate::proofs::Said::told_does))]
     pub fn tell(&self, outs: &mut Outs, e: u64, body: Body) -> Result<(), Memory>
-        ensures does { (settings : Settings) (base : List Event) → Keeps e body (behind base outs.old) → OnOk result (Does (λ t events. Stands settings t events) (send (ToEditor e body)) base self.now outs.old self.now outs.new) }
-        ensures documents { (settings : Settings) (owed : Owed) (base : List Event) → DocumentsStand settings owed self.now (behind base outs.old) → OnOk result (DocumentsStand settings owed self.now (behind base outs.new)) }
+        ensures does { (settings : Settings) (base : List Event) → Keeps e body (behind base outs.old)
+            → OnOk result (Does (λ t events. Stands settings t events) (send (ToEditor e body)) base self.now outs.old self.now outs.new) }
+        ensures documents { (settings : Settings) (owed : Owed) (base : List Event) → DocumentsStand settings owed self.now (behind base outs.old)
+            → OnOk result (DocumentsStand settings owed self.now (behind base outs.new)) }
     {
         outs.push(Out::ToEditor(e, body))?;
         Ok(())
@@ -61,8 +63,10 @@ impl Tables {
         ensures count { OnOk result (length self.new.editors ≡ length self.old.editors) }
         ensures ids { OnOk result ((n : ℕ) → id_in (slice_get self.new.editors n) ≡ id_in (slice_get self.old.editors n)) }
         ensures outs { OnOk result (outs.new ≡ outs.old ++ ToEditor e body ∷ []) }
-        ensures does { (settings : Settings) (base : List Event) → Welcomes e body (behind base outs.old) → OnOk result (Does (λ t events. Stands settings t events) (send (ToEditor e body)) base self.old outs.old self.new outs.new) }
-        ensures documents { (settings : Settings) (owed : Owed) (base : List Event) → DocumentsStand settings owed self.old (behind base outs.old) → OnOk result (DocumentsStand settings owed self.new (behind base outs.new)) }
+        ensures does { (settings : Settings) (base : List Event) → Welcomes e body (behind base outs.old)
+            → OnOk result (Does (λ t events. Stands settings t events) (send (ToEditor e body)) base self.old outs.old self.new outs.new) }
+        ensures documents { (settings : Settings) (owed : Owed) (base : List Event) → DocumentsStand settings owed self.old (behind base outs.old)
+            → OnOk result (DocumentsStand settings owed self.new (behind base outs.new)) }
     {
         self.editors.set(e, Phase::Answered);
         outs.push(Out::ToEditor(e, body))?;
@@ -74,7 +78,8 @@ impl Tables {
     pub fn close(&mut self, alloc: Global, outs: &mut Outs, e: u64) -> Result<Outs, Memory>
         requires { e < length self.old.editors }
         ensures lasts { self.new.lasts ≡ self.old.lasts }
-        ensures does { (settings : Settings) (base : List Event) → OnOk result (Does (λ t events. Stands settings t events) (send (CloseEditor e)) base self.old outs.old self.new outs.new) }
+        ensures does { (settings : Settings) (base : List Event)
+            → OnOk result (Does (λ t events. Stands settings t events) (send (CloseEditor e)) base self.old outs.old self.new outs.new) }
         ensures documents { (settings : Settings) (base : List Event) → Stands settings self.old (behind base outs.old) → DocumentsStand settings nothing_owed self.old (behind base outs.old)
             → IfOk result (λ owed. Leaves settings (behind base outs.old) e (home_of settings e (behind base outs.old)) (start_for settings e (behind base outs.old)) owed self.new (behind base outs.new)) }
     {
@@ -103,7 +108,9 @@ impl Tables {
         ensures outs { (s : ℕ) → slice_get (map number_in self.now.lasts.items) g ≡ Some s → OnOk result (outs.new ≡ outs.old ++ ToServer s text ∷ []) }
         ensures does { (settings : Settings) (base : List Event) (s : ℕ) → slice_get (map number_in self.now.lasts.items) g ≡ Some s → requests (codes "shutdown") (message_of text) ≡ false → moves_ids (message_of text) ≡ false
             → OnOk result (Does (λ t events. Stands settings t events) (send (ToServer s text)) base self.now outs.old self.now outs.new) }
-        ensures documents { (settings : Settings) (owed : Owed) (base : List Event) → saying_of (message_of text) ≡ nothing → is_synced (message_of text) ≡ false → DocumentsStand settings owed self.now (behind base outs.old) → OnOk result (DocumentsStand settings owed self.now (behind base outs.new)) }
+        ensures documents { (settings : Settings) (owed : Owed) (base : List Event) → saying_of (message_of text) ≡ nothing
+            → is_synced (message_of text) ≡ false → DocumentsStand settings owed self.now (behind base outs.old)
+            → OnOk result (DocumentsStand settings owed self.now (behind base outs.new)) }
     {
         outs.push(Out::ToServer(self.lasts[g].life.start(), text))?;
         Ok(())
@@ -210,8 +217,10 @@ impl Tables {
         requires group { g < length self.old.lasts.items }
         requires runs { (x : Start) → slice_get self.old.lasts.items g ≡ Some x → x.life.stage ≢ Ended }
         ensures starts { OnOk result (map number_in self.new.lasts.items ≡ map number_in self.old.lasts.items) }
-        ensures does { (settings : Settings) (base : List Event) (s : ℕ) → slice_get (map number_in self.old.lasts.items) g ≡ Some s → OnOk result (Does (λ t events. Stands settings t events) (send (EndServer s)) base self.old outs.old self.new outs.new) }
-        ensures documents { (settings : Settings) (owed : Owed) (base : List Event) → DocumentsStand settings owed self.old (behind base outs.old) → OnOk result (DocumentsStand settings owed self.new (behind base outs.new)) }
+        ensures does { (settings : Settings) (base : List Event) (s : ℕ) → slice_get (map number_in self.old.lasts.items) g ≡ Some s
+            → OnOk result (Does (λ t events. Stands settings t events) (send (EndServer s)) base self.old outs.old self.new outs.new) }
+        ensures documents { (settings : Settings) (owed : Owed) (base : List Event) → DocumentsStand settings owed self.old (behind base outs.old)
+            → OnOk result (DocumentsStand settings owed self.new (behind base outs.new)) }
     {
         unready(&mut self.documents, g);
         let last = &mut self.lasts[g];
@@ -224,8 +233,12 @@ impl Tables {
     pub fn found(&mut self, alloc: Global, outs: &mut Outs) -> Result<(), Memory>
         requires limit { 2 ≤ self.old.requests }
         requires versions { 1 ≤ self.old.versions }
-        ensures does { (settings : Settings) (base : List Event) → OnOk result (Does (λ t events. Stands settings t events) (spawn (length self.old.lasts.items)) base self.old outs.old self.new outs.new) }
-        ensures documents { (settings : Settings) (owed : Owed) (base : List Event) → Stands settings self.old (behind base outs.old) → DocumentsStand settings owed self.old (behind base outs.old) → OnOk result (DocumentsStand settings owed self.new (behind base outs.new)) }
+        ensures does { (settings : Settings) (base : List Event)
+            → OnOk result (Does (λ t events. Stands settings t events)
+            (spawn (length self.old.lasts.items)) base self.old outs.old self.new outs.new) }
+        ensures documents { (settings : Settings) (owed : Owed) (base : List Event) → Stands settings self.old (behind base outs.old)
+            → DocumentsStand settings owed self.old (behind base outs.old)
+            → OnOk result (DocumentsStand settings owed self.new (behind base outs.new)) }
     {
         let s = self.origins.len() as u64;
         let g = self.lasts.len() as u64;
@@ -248,8 +261,11 @@ impl Tables {
         requires limit { 2 ≤ self.old.requests }
         requires group { g < length self.old.lasts.items }
         requires ended { (x : Start) → slice_get self.old.lasts.items g ≡ Some x → x.life.stage ≡ Ended }
-        ensures does { (settings : Settings) (base : List Event) → OnOk result (Does (λ t events. Stands settings t events) (spawn g) base self.old outs.old self.new outs.new) }
-        ensures documents { (settings : Settings) (owed : Owed) (base : List Event) → Stands settings self.old (behind base outs.old) → DocumentsStand settings owed self.old (behind base outs.old) → OnOk result (DocumentsStand settings owed self.new (behind base outs.new)) }
+        ensures does { (settings : Settings) (base : List Event)
+            → OnOk result (Does (λ t events. Stands settings t events) (spawn g) base self.old outs.old self.new outs.new) }
+        ensures documents { (settings : Settings) (owed : Owed) (base : List Event) → Stands settings self.old (behind base outs.old)
+            → DocumentsStand settings owed self.old (behind base outs.old)
+            → OnOk result (DocumentsStand settings owed self.new (behind base outs.new)) }
     {
         let s = self.origins.len() as u64;
         let life = Life::new(s, g as u64);

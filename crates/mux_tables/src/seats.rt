@@ -17,7 +17,8 @@ use message_body::Body;
 // An editor waits, in the group in which it is placed.
 pub fn seat(editors: &mut Editors, e: u64, id: Body, placed: Placed)
     requires { e < length editors.old }
-    ensures { (x : Session) → slice_get editors.old e ≡ Some x → (y : Session) × (editors.new ≡ slice_set editors.old e y) × (y.phase ≡ Waiting) × (y.group ≡ home_by placed x.group) }
+    ensures { (x : Session) → slice_get editors.old e ≡ Some x → (y : Session) × (editors.new ≡ slice_set editors.old e y) × (y.phase ≡ Waiting)
+        × (y.group ≡ home_by placed x.group) }
 {
     editors.set(e, Phase::Waiting);
     match placed {

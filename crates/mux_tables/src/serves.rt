@@ -50,8 +50,10 @@ impl Tables {
     /// The program of the group's last start runs.
     pub fn hear_started(&mut self, g: usize)
         requires { g < length self.old.lasts.items }
-        ensures stands { (settings : Settings) (events : List Event) (s : ℕ) → slice_get (map number_in self.old.lasts.items) g ≡ Some s → Stands settings self.old events → Stands settings self.new (events ++ heard (Started s) ∷ []) }
-        ensures documents { (settings : Settings) (owed : Owed) (events : List Event) (s : ℕ) → DocumentsStand settings owed self.old events → DocumentsStand settings owed self.new (events ++ heard (Started s) ∷ []) }
+        ensures stands { (settings : Settings) (events : List Event) (s : ℕ) → slice_get (map number_in self.old.lasts.items) g ≡ Some s
+            → Stands settings self.old events → Stands settings self.new (events ++ heard (Started s) ∷ []) }
+        ensures documents { (settings : Settings) (owed : Owed) (events : List Event) (s : ℕ) → DocumentsStand settings owed self.old events
+            → DocumentsStand settings owed self.new (events ++ heard (Started s) ∷ []) }
     {
         let last = &mut self.lasts[g];
         begin(&mut last.life);
@@ -115,7 +117,8 @@ impl Tables {
         requires runs { (x : Start) → slice_get self.old.lasts.items g ≡ Some x → x.life.stage ≢ Ended }
         requires room { (x : Kept) → slice_get self.old.groups.groups g ≡ Some x → x.exits < 2 ^ 63 }
         ensures exits { (z : Start) → slice_get self.old.lasts.items g ≡ Some z → OnOk result (Exits restarts self.old g z self.new) }
-        ensures documents { (d : Documents) → slice_get self.old.documents.items g ≡ Some d → OnOk result (self.new.documents.items ≡ slice_set self.old.documents.items g (unready_row d)) }
+        ensures documents { (d : Documents) → slice_get self.old.documents.items g ≡ Some d
+            → OnOk result (self.new.documents.items ≡ slice_set self.old.documents.items g (unready_row d)) }
         ensures versions { self.new.versions ≡ self.old.versions }
     {
         let wanted = self.needs_server(g as u64)?;
@@ -135,8 +138,11 @@ impl Tables {
         requires group { g < length self.old.lasts.items }
         requires runs { (x : Start) → slice_get self.old.lasts.items g ≡ Some x → x.life.stage ≢ Ended }
         requires room { (x : Kept) → slice_get self.old.groups.groups g ≡ Some x → x.exits < 2 ^ 63 }
-        ensures stands { (settings : Settings) (events : List Event) (s : ℕ) → settings.limits.restarts ≡ restarts → slice_get (map number_in self.old.lasts.items) g ≡ Some s → Stands settings self.old events → OnOk result (Stands settings self.new (events ++ heard (ServerGone s) ∷ [])) }
-        ensures documents { (settings : Settings) (owed : Owed) (events : List Event) (s : ℕ) → DocumentsStand settings owed self.old events → OnOk result (DocumentsStand settings owed self.new (events ++ heard (ServerGone s) ∷ [])) }
+        ensures stands { (settings : Settings) (events : List Event) (s : ℕ) → settings.limits.restarts ≡ restarts
+            → slice_get (map number_in self.old.lasts.items) g ≡ Some s → Stands settings self.old events
+            → OnOk result (Stands settings self.new (events ++ heard (ServerGone s) ∷ [])) }
+        ensures documents { (settings : Settings) (owed : Owed) (events : List Event) (s : ℕ) → DocumentsStand settings owed self.old events
+            → OnOk result (DocumentsStand settings owed self.new (events ++ heard (ServerGone s) ∷ [])) }
     {
         self.exit(alloc, restarts, g)?;
         Ok(())
@@ -148,8 +154,11 @@ impl Tables {
         requires group { g < length self.old.lasts.items }
         requires runs { (x : Start) → slice_get self.old.lasts.items g ≡ Some x → x.life.stage ≢ Ended }
         requires room { (x : Kept) → slice_get self.old.groups.groups g ≡ Some x → x.exits < 2 ^ 63 }
-        ensures stands { (settings : Settings) (events : List Event) (s : ℕ) → settings.limits.restarts ≡ restarts → slice_get (map number_in self.old.lasts.items) g ≡ Some s → Stands settings self.old events → OnOk result (Stands settings self.new (events ++ heard (StartFailed s) ∷ [])) }
-        ensures documents { (settings : Settings) (owed : Owed) (events : List Event) (s : ℕ) → DocumentsStand settings owed self.old events → OnOk result (DocumentsStand settings owed self.new (events ++ heard (StartFailed s) ∷ [])) }
+        ensures stands { (settings : Settings) (events : List Event) (s : ℕ) → settings.limits.restarts ≡ restarts
+            → slice_get (map number_in self.old.lasts.items) g ≡ Some s → Stands settings self.old events
+            → OnOk result (Stands settings self.new (events ++ heard (StartFailed s) ∷ [])) }
+        ensures documents { (settings : Settings) (owed : Owed) (events : List Event) (s : ℕ) → DocumentsStand settings owed self.old events
+            → OnOk result (DocumentsStand settings owed self.new (events ++ heard (StartFailed s) ∷ [])) }
     {
         self.exit(alloc, restarts, g)?;
         Ok(())
@@ -164,7 +173,8 @@ impl Tables {
             → Stands settings self.old events → Stands settings self.new (events ++ heard (FromServer s body) ∷ []) }
         ensures documents { (settings : Settings) (owed : Owed) (events : List Event) (s : ℕ) (body : List ℕ) (x : Start) → slice_get self.old.lasts.items g ≡ Some x → slice_get (map number_in self.old.lasts.items) g ≡ Some s
             → (is_first_result (message_of body) && is_initializing x.life.stage) ≡ false → x.life.stage ≢ Spawning → Stands settings self.old events → DocumentsStand settings owed self.old events → DocumentsStand settings owed self.new (events ++ heard (FromServer s body) ∷ []) }
-        ensures found { (settings : Settings) (events : List Event) (s k : ℕ) → slice_get (map number_in self.old.lasts.items) g ≡ Some s → n ≡ Some k → Stands settings self.old events → find (is_under k) (forwarding_of s events).open_requests ≡ option_map (forwarded_as k) result }
+        ensures found { (settings : Settings) (events : List Event) (s k : ℕ) → slice_get (map number_in self.old.lasts.items) g ≡ Some s → n ≡ Some k
+            → Stands settings self.old events → find (is_under k) (forwarding_of s events).open_requests ≡ option_map (forwarded_as k) result }
         ensures editors { self.new.editors ≡ self.old.editors }
     {
         let last = &mut self.lasts[g];

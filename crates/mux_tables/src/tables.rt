@@ -48,7 +48,8 @@ impl Tables {
     #[tactic(auto, using(crate::proofs::Begins::begins, crate::proofs::DocumentBegins::documents_begin))]
     pub fn new(alloc: Global, groups: u32, idle: u64, requests: u32, versions: u32) -> Tables
         requires { 2 ≤ requests }
-        ensures stands { (settings : Settings) → settings.limits.groups ≡ groups → settings.limits.idle ≡ idle → settings.limits.requests ≡ requests → Stands settings result [] }
+        ensures stands { (settings : Settings) → settings.limits.groups ≡ groups → settings.limits.idle ≡ idle → settings.limits.requests ≡ requests
+            → Stands settings result [] }
         ensures documents { (settings : Settings) → settings.limits.versions ≡ versions → DocumentsStand settings nothing_owed result [] }
     {
         Tables {

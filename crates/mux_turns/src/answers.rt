@@ -91,7 +91,8 @@ fn answer(
     ensures does { (settings : Settings) (before : List Event) (body : List ℕ) (s n : ℕ) → IsRead message.now body → outs.old ≡ []
         → find (answered_by (answered_id (message_of body))) (forwarding_of s before).open_requests ≡ Some (forwarded_as n pending.now) → IsAsked before (forwarded_as n pending.now)
         → OnOk result (Does (λ t events. Stands settings t events) (response_row s before body (message_of body)) (with_cause before (FromServer s body)) tables.now outs.old tables.now outs.new) }
-    ensures documents { (settings : Settings) (owed : Owed) (base : List Event) → DocumentsStand settings owed tables.now (behind base outs.old) → OnOk result (DocumentsStand settings owed tables.now (behind base outs.new)) }
+    ensures documents { (settings : Settings) (owed : Owed) (base : List Event) → DocumentsStand settings owed tables.now (behind base outs.old)
+        → OnOk result (DocumentsStand settings owed tables.now (behind base outs.new)) }
 {
     if !tables.phase(pending.editor).is_there() {
         return Ok(());
@@ -113,7 +114,8 @@ pub fn pass_on(
     ensures does { (settings : Settings) (before : List Event) (body : List ℕ) (s n : ℕ) → IsRead message.now body → outs.old ≡ []
         → find (answered_by (answered_id (message_of body))) (forwarding_of s before).open_requests ≡ option_map (forwarded_as n) asked → ((f : Forwarded) → option_map (forwarded_as n) asked ≡ Some f → IsAsked before f)
         → OnOk result (Does (λ t events. Stands settings t events) (response_row s before body (message_of body)) (with_cause before (FromServer s body)) tables.now outs.old tables.now outs.new) }
-    ensures documents { (settings : Settings) (owed : Owed) (base : List Event) → DocumentsStand settings owed tables.now (behind base outs.old) → OnOk result (DocumentsStand settings owed tables.now (behind base outs.new)) }
+    ensures documents { (settings : Settings) (owed : Owed) (base : List Event) → DocumentsStand settings owed tables.now (behind base outs.old)
+        → OnOk result (DocumentsStand settings owed tables.now (behind base outs.new)) }
 {
     match asked {
         None => Ok(()),

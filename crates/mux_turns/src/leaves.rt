@@ -46,8 +46,10 @@ fn cancel_all(
     numbers: &[u32],
 ) -> Result<(), Memory>
     requires { g < length tables.old.lasts.items }
-    ensures does { (settings : Settings) (base : List Event) (s : ℕ) → slice_get (map number_in tables.old.lasts.items) g ≡ Some s → OnOk result (Does (λ t events. Stands settings t events) (each (cancel s) numbers.now) base tables.old outs.old tables.new outs.new) }
-    ensures documents { (settings : Settings) (owed : Owed) (base : List Event) → DocumentsStand settings owed tables.old (behind base outs.old) → OnOk result (DocumentsStand settings owed tables.new (behind base outs.new)) }
+    ensures does { (settings : Settings) (base : List Event) (s : ℕ) → slice_get (map number_in tables.old.lasts.items) g ≡ Some s
+        → OnOk result (Does (λ t events. Stands settings t events) (each (cancel s) numbers.now) base tables.old outs.old tables.new outs.new) }
+    ensures documents { (settings : Settings) (owed : Owed) (base : List Event) → DocumentsStand settings owed tables.old (behind base outs.old)
+        → OnOk result (DocumentsStand settings owed tables.new (behind base outs.new)) }
 {
     for n in numbers {
         let text = cancel_request(alloc, *n)?;
@@ -59,7 +61,8 @@ fn cancel_all(
 /// L1: what an editor leaves, as it stands before anything is said; none where its group has no start that is ready.
 pub fn leaving(tables: &Tables, e: u64) -> Result<Option<Departure>, Memory>
     ensures inside { IfOk result (λ o. IfSome o (λ l. l.group < length tables.now.lasts.items)) }
-    ensures leaves { (settings : Settings) (before : List Event) → Stands settings tables.now before → IfOk result (λ o. Leaves settings before e (map number_in tables.now.lasts.items) o) }
+    ensures leaves { (settings : Settings) (before : List Event) → Stands settings tables.now before
+        → IfOk result (λ o. Leaves settings before e (map number_in tables.now.lasts.items) o) }
 {
     let Some(group) = tables.place(e) else {
         return Ok(None);
@@ -79,8 +82,11 @@ pub fn leave(
     leaving: &Option<Departure>,
 ) -> Result<(), Memory>
     requires { IfSome leaving.now (λ l. l.group < length tables.old.lasts.items) }
-    ensures does { (settings : Settings) (before base : List Event) (e : ℕ) → Leaves settings before e (map number_in tables.old.lasts.items) leaving.now → OnOk result (Does (λ t events. Stands settings t events) (cancels_row settings before e) base tables.old outs.old tables.new outs.new) }
-    ensures documents { (settings : Settings) (owed : Owed) (base : List Event) → DocumentsStand settings owed tables.old (behind base outs.old) → OnOk result (DocumentsStand settings owed tables.new (behind base outs.new)) }
+    ensures does { (settings : Settings) (before base : List Event) (e : ℕ)
+        → Leaves settings before e (map number_in tables.old.lasts.items) leaving.now
+        → OnOk result (Does (λ t events. Stands settings t events) (cancels_row settings before e) base tables.old outs.old tables.new outs.new) }
+    ensures documents { (settings : Settings) (owed : Owed) (base : List Event) → DocumentsStand settings owed tables.old (behind base outs.old)
+        → OnOk result (DocumentsStand settings owed tables.new (behind base outs.new)) }
 {
     match leaving {
         None => Ok(()),

@@ -29,8 +29,10 @@ use std::alloc::Global;
 /// E7: whether an editor that joins this group waits, as it stands before its `initialize`: the group has no start that is ready, and
 /// nothing is sent.
 pub fn waits(tables: &Tables, g: u64) -> bool
-    ensures waits { result ≡ true → (settings : Settings) (before : List Event) (e : ℕ) (body : List ℕ) → Stands settings tables.now before → Alike (placed_row e body before (Joins g)) nothing }
-    ensures ready { result ≡ false → (settings : Settings) (before : List Event) → Stands settings tables.now before → (s : ℕ) × (start_of g before ≡ Some s) × (is_ready (life_of s before).stage ≡ true) }
+    ensures waits { result ≡ true → (settings : Settings) (before : List Event) (e : ℕ) (body : List ℕ) → Stands settings tables.now before
+        → Alike (placed_row e body before (Joins g)) nothing }
+    ensures ready { result ≡ false → (settings : Settings) (before : List Event) → Stands settings tables.now before → (s : ℕ)
+        × (start_of g before ≡ Some s) × (is_ready (life_of s before).stage ≡ true) }
 {
     match tables.place_of(g) {
         None => true,
@@ -62,8 +64,11 @@ pub fn welcome(
 pub fn found(tables: &mut Tables, alloc: Global, outs: &mut Outs) -> Result<(), Memory>
     requires limit { 2 ≤ tables.old.requests }
     requires versions { 1 ≤ tables.old.versions }
-    ensures does { (settings : Settings) (before base : List Event) (e n : ℕ) (body : List ℕ) → IsNext n (behind base outs.old) → OnOk result (Does (λ t events. Stands settings t events) (placed_row e body before (New n)) base tables.old outs.old tables.new outs.new) }
-    ensures documents { (settings : Settings) (owed : Owed) (base : List Event) → Stands settings tables.old (behind base outs.old) → DocumentsStand settings owed tables.old (behind base outs.old) → OnOk result (DocumentsStand settings owed tables.new (behind base outs.new)) }
+    ensures does { (settings : Settings) (before base : List Event) (e n : ℕ) (body : List ℕ) → IsNext n (behind base outs.old)
+        → OnOk result (Does (λ t events. Stands settings t events) (placed_row e body before (New n)) base tables.old outs.old tables.new outs.new) }
+    ensures documents { (settings : Settings) (owed : Owed) (base : List Event) → Stands settings tables.old (behind base outs.old)
+        → DocumentsStand settings owed tables.old (behind base outs.old)
+        → OnOk result (DocumentsStand settings owed tables.new (behind base outs.new)) }
 {
     tables.found(alloc, outs)?;
     Ok(())

@@ -45,8 +45,11 @@ pub fn reject(
     phase: Phase,
     fault: Malformed,
 ) -> Result<(), Memory>
-    ensures does { (settings : Settings) (base : List Event) (body : List ℕ) → Refuses fault (message_of body) → OnOk result (Does (λ t events. Stands settings t events) (malformed_row e (message_of body) phase) base tables.now outs.old tables.now outs.new) }
-    ensures documents { (settings : Settings) (owed : Owed) (base : List Event) → DocumentsStand settings owed tables.now (behind base outs.old) → OnOk result (DocumentsStand settings owed tables.now (behind base outs.new)) }
+    ensures does { (settings : Settings) (base : List Event) (body : List ℕ) → Refuses fault (message_of body)
+        → OnOk result (Does (λ t events. Stands settings t events)
+        (malformed_row e (message_of body) phase) base tables.now outs.old tables.now outs.new) }
+    ensures documents { (settings : Settings) (owed : Owed) (base : List Event) → DocumentsStand settings owed tables.now (behind base outs.old)
+        → OnOk result (DocumentsStand settings owed tables.now (behind base outs.new)) }
 {
     let code = code_for(fault)?;
     if !phase.is_there() {
@@ -68,7 +71,8 @@ pub fn refuse(
 ) -> Result<(), Memory>
     ensures does { (settings : Settings) (base : List Event) (body method : List ℕ) (id : Id) (params : Option Json) → IsRead message.now body → message_of body ≡ request id method params
         → OnOk result (Does (λ t events. Stands settings t events) (answer_error e body (code_of code)) base tables.now outs.old tables.now outs.new) }
-    ensures documents { (settings : Settings) (owed : Owed) (base : List Event) → DocumentsStand settings owed tables.now (behind base outs.old) → OnOk result (DocumentsStand settings owed tables.now (behind base outs.new)) }
+    ensures documents { (settings : Settings) (owed : Owed) (base : List Event) → DocumentsStand settings owed tables.now (behind base outs.old)
+        → OnOk result (DocumentsStand settings owed tables.now (behind base outs.new)) }
 {
     let text = error_answer(alloc, message.id_bytes(), code)?;
     tables.tell(outs, e, text)?;
@@ -84,8 +88,11 @@ pub fn refuse_early(
     e: u64,
     message: &Message,
 ) -> Result<(), Memory>
-    ensures does { (settings : Settings) (base : List Event) (body : List ℕ) → IsRead message.now body → OnOk result (Does (λ t events. Stands settings t events) (early_row e body (message_of body)) base tables.now outs.old tables.now outs.new) }
-    ensures documents { (settings : Settings) (owed : Owed) (base : List Event) → DocumentsStand settings owed tables.now (behind base outs.old) → OnOk result (DocumentsStand settings owed tables.now (behind base outs.new)) }
+    ensures does { (settings : Settings) (base : List Event) (body : List ℕ) → IsRead message.now body
+        → OnOk result (Does (λ t events. Stands settings t events)
+        (early_row e body (message_of body)) base tables.now outs.old tables.now outs.new) }
+    ensures documents { (settings : Settings) (owed : Owed) (base : List Event) → DocumentsStand settings owed tables.now (behind base outs.old)
+        → OnOk result (DocumentsStand settings owed tables.now (behind base outs.new)) }
 {
     if message.sort() != Sort::Request {
         return Ok(());
@@ -100,7 +107,8 @@ pub fn refuse_early(
 pub fn asked_at(tables: &Tables, e: u64) -> Option<usize>
     ensures inside { IfSome result (λ g. g < length tables.now.lasts.items) }
     ensures takes { IfSome result (λ g. (x : Start) → slice_get tables.now.lasts.items g ≡ Some x → (x.life.stage ≡ Ready) × (x.ids.next < x.ids.limit)) }
-    ensures refused { IfNone result ((settings : Settings) (before : List Event) (body : List ℕ) → Stands settings tables.now before → Alike (request_row settings before e body) (answer_error e body request_failed)) }
+    ensures refused { IfNone result ((settings : Settings) (before : List Event) (body : List ℕ) → Stands settings tables.now before
+        → Alike (request_row settings before e body) (answer_error e body request_failed)) }
     ensures goes { IfSome result (λ g. (settings : Settings) (before : List Event) (body : List ℕ) (s : ℕ) → slice_get (map number_in tables.now.lasts.items) g ≡ Some s → Stands settings tables.now before
         → Alike (request_row settings before e body) (sync_row settings before g s e ⨾ forward s body)) }
 {
@@ -118,7 +126,8 @@ pub fn refuse_request(
 ) -> Result<(), Memory>
     ensures does { (settings : Settings) (before base : List Event) (body method : List ℕ) (id : Id) (params : Option Json) → IsRead message.now body → message_of body ≡ request id method params → Alike (request_row settings before e body) (answer_error e body request_failed)
         → OnOk result (Does (λ t events. Stands settings t events) (request_row settings before e body) base tables.now outs.old tables.now outs.new) }
-    ensures documents { (settings : Settings) (owed : Owed) (base : List Event) → DocumentsStand settings owed tables.now (behind base outs.old) → OnOk result (DocumentsStand settings owed tables.now (behind base outs.new)) }
+    ensures documents { (settings : Settings) (owed : Owed) (base : List Event) → DocumentsStand settings owed tables.now (behind base outs.old)
+        → OnOk result (DocumentsStand settings owed tables.now (behind base outs.new)) }
 {
     refuse(tables, alloc, outs, e, message, ErrorCode::RequestFailed)?;
     Ok(())

@@ -30,9 +30,11 @@ fn is_spawning(stage: Stage) -> bool
 /// program gives nothing.
 pub fn awaited_at(tables: &Tables, s: u64) -> Option<usize>
     ensures inside { IfSome result (λ g. g < length tables.now.lasts.items) }
-    ensures idle { IfNone result ((settings : Settings) (before : List Event) → Stands settings tables.now before → started settings s before (life_of s before).stage ≡ nothing) }
+    ensures idle { IfNone result ((settings : Settings) (before : List Event) → Stands settings tables.now before
+        → started settings s before (life_of s before).stage ≡ nothing) }
     ensures found { IfSome result (λ g. slice_get (map number_in tables.now.lasts.items) g ≡ Some s) }
-    ensures begins { IfSome result (λ g. (settings : Settings) (before : List Event) → Stands settings tables.now before → started settings s before (life_of s before).stage ≡ begin_in settings before s g) }
+    ensures begins { IfSome result (λ g. (settings : Settings) (before : List Event) → Stands settings tables.now before
+        → started settings s before (life_of s before).stage ≡ begin_in settings before s g) }
 {
     let g = tables.last(s)?;
     if is_spawning(tables.stage(g)) {
