@@ -19,7 +19,8 @@ use std::thread::Threads;
 
 // The next link of a port, or how none came.
 fn next_link<P: Port>(port: &mut P) -> Result<Link<P::In, P::Out>, Arrival>
-    ensures link { IfOk result (λ link. P.links port.old ≡ prepend_to (session_of P.In.Source.taken P.In.Source.left P.In.Source.faults P.Out.Sink.written P.Out.Sink.faults link.source link.sink ∷ []) (P.links port.new)) }
+    ensures link { IfOk result (λ link. P.links port.old ≡ prepend_to
+        (session_of P.In.Source.taken P.In.Source.left P.In.Source.faults P.Out.Sink.written P.Out.Sink.faults link.source link.sink ∷ []) (P.links port.new)) }
     ensures held { OnOk result (P.held port.new ≡ P.held port.old + 1) }
     ensures none { OnErr result (P.links port.new ≡ P.links port.old) }
     ensures closed { IsErrOf result Arrival.Closed → IfSome (P.links port.old) (λ left. left ≡ []) ⊎ Rose (P.faults port.old) (P.faults port.new) }
@@ -41,7 +42,9 @@ fn next_link<P: Port>(port: &mut P) -> Result<Link<P::In, P::Out>, Arrival>
 // Hands a link back.
 fn hang_up<P: Port>(port: &mut P, link: Link<P::In, P::Out>)
     requires { 0 < P.held port.old }
-    ensures session { P.sessions port.new ≡ append_to (P.sessions port.old) (session_of P.In.Source.taken P.In.Source.left P.In.Source.faults P.Out.Sink.written P.Out.Sink.faults link.source link.sink ∷ []) }
+    ensures session { P.sessions port.new
+        ≡ append_to (P.sessions port.old)
+        (session_of P.In.Source.taken P.In.Source.left P.In.Source.faults P.Out.Sink.written P.Out.Sink.faults link.source link.sink ∷ []) }
     ensures links { P.links port.new ≡ P.links port.old }
     ensures later { P.faults port.old ≤ P.faults port.new }
 {
@@ -63,7 +66,12 @@ fn serve_link<K: Steps + Drop + Send, N: Naming + Send + Sync, P: Port, R: Threa
 ) -> Served
     requires { 0 < P.held port.old }
     ensures lane { IsSameLane ends result.ends }
-    ensures turn { Takes (WholeLink Posted.Link limit) (CutLink Posted.Link limit) (record (standing P.sessions P.links P.faults port.old ends) { left = prepend_to (session_of P.In.Source.taken P.In.Source.left P.In.Source.faults P.Out.Sink.written P.Out.Sink.faults link.source link.sink ∷ []) (P.links port.old) }) (standing P.sessions P.links P.faults port.new result.ends) result.is_whole }
+    ensures turn { Takes (WholeLink Posted.Link limit) (CutLink Posted.Link limit)
+        (record (standing P.sessions P.links P.faults port.old ends) {
+          left = prepend_to
+              (session_of P.In.Source.taken P.In.Source.left P.In.Source.faults P.Out.Sink.written P.Out.Sink.faults link.source link.sink ∷ [])
+              (P.links port.old);
+        }) (standing P.sessions P.links P.faults port.new result.ends) result.is_whole }
 {
     let mut ends = ends;
     if !post(rt, board, &mut ends.inn, Posted::Link) {
@@ -102,7 +110,8 @@ pub fn editor_lane<
     ends: Ends,
 ) -> Lane
     ensures lane { IsSameLane ends result.ends }
-    ensures ran { RanAs (WholeLink Posted.Link limit) (CutLink Posted.Link limit) (standing P.sessions P.links P.faults port.old ends) (standing P.sessions P.links P.faults port.new result.ends) result.end }
+    ensures ran { RanAs (WholeLink Posted.Link limit) (CutLink Posted.Link limit) (standing P.sessions P.links P.faults port.old ends)
+        (standing P.sessions P.links P.faults port.new result.ends) result.end }
     ensures closed { result.end ≡ LaneEnd.Through → IfSome (P.links port.new) (λ left. left ≡ []) ⊎ Rose (P.faults port.old) (P.faults port.new) }
 {
     let name = LaneName::Editor(lane);

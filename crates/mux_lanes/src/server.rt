@@ -21,7 +21,8 @@ use std::thread::Threads;
 
 // Starts the program of these words.
 fn start<B: Berth>(berth: &mut B, words: &[String]) -> Result<Link<B::In, B::Out>, StartFault>
-    ensures run { IfOk result (λ link. B.left berth.old ≡ prepend_to (session_of B.In.Source.taken B.In.Source.left B.In.Source.faults B.Out.Sink.written B.Out.Sink.faults link.source link.sink ∷ []) (B.left berth.new)) }
+    ensures run { IfOk result (λ link. B.left berth.old ≡ prepend_to
+        (session_of B.In.Source.taken B.In.Source.left B.In.Source.faults B.Out.Sink.written B.Out.Sink.faults link.source link.sink ∷ []) (B.left berth.new)) }
     ensures held { OnOk result (B.held berth.new ≡ B.held berth.old + 1) }
     ensures none { OnErr result (B.left berth.new ≡ B.left berth.old) }
     ensures failed { IsErrOf result StartFault.Failed → Rose (B.faults berth.old) (B.faults berth.new) }
@@ -40,7 +41,9 @@ fn start<B: Berth>(berth: &mut B, words: &[String]) -> Result<Link<B::In, B::Out
 // Hands a run back.
 fn finish<B: Berth>(berth: &mut B, link: Link<B::In, B::Out>)
     requires { 0 < B.held berth.old }
-    ensures run { B.runs berth.new ≡ append_to (B.runs berth.old) (session_of B.In.Source.taken B.In.Source.left B.In.Source.faults B.Out.Sink.written B.Out.Sink.faults link.source link.sink ∷ []) }
+    ensures run { B.runs berth.new
+        ≡ append_to (B.runs berth.old)
+        (session_of B.In.Source.taken B.In.Source.left B.In.Source.faults B.Out.Sink.written B.Out.Sink.faults link.source link.sink ∷ []) }
     ensures left { B.left berth.new ≡ B.left berth.old }
     ensures later { B.faults berth.old ≤ B.faults berth.new }
 {
@@ -115,7 +118,12 @@ fn serve_run<K: Steps + Drop + Send, N: Naming + Send + Sync, B: Berth, R: Threa
 ) -> Served
     requires { 0 < B.held berth.old }
     ensures lane { IsSameLane ends result.ends }
-    ensures turn { Takes (WholeLink Posted.Up limit) (CutLink Posted.Up limit) (record (standing B.runs B.left B.faults berth.old ends) { left = prepend_to (session_of B.In.Source.taken B.In.Source.left B.In.Source.faults B.Out.Sink.written B.Out.Sink.faults link.source link.sink ∷ []) (B.left berth.old) }) (standing B.runs B.left B.faults berth.new result.ends) result.is_whole }
+    ensures turn { Takes (WholeLink Posted.Up limit) (CutLink Posted.Up limit)
+        (record (standing B.runs B.left B.faults berth.old ends) {
+          left = prepend_to
+              (session_of B.In.Source.taken B.In.Source.left B.In.Source.faults B.Out.Sink.written B.Out.Sink.faults link.source link.sink ∷ [])
+              (B.left berth.old);
+        }) (standing B.runs B.left B.faults berth.new result.ends) result.is_whole }
 {
     let mut ends = ends;
     if !post(rt, board, &mut ends.inn, Posted::Up) {
@@ -149,7 +157,8 @@ fn serve_start<K: Steps + Drop + Send, N: Naming + Send + Sync, B: Berth, R: Thr
     ends: Ends,
 ) -> Served
     ensures lane { IsSameLane ends result.ends }
-    ensures turn { Takes (WholeStart limit) (CutStart limit) (standing B.runs B.left B.faults berth.old ends) (standing B.runs B.left B.faults berth.new result.ends) result.is_whole }
+    ensures turn { Takes (WholeStart limit) (CutStart limit) (standing B.runs B.left B.faults berth.old ends)
+        (standing B.runs B.left B.faults berth.new result.ends) result.is_whole }
 {
     let mut ends = ends;
     match start(berth, words) {
@@ -188,7 +197,8 @@ pub fn server_lane<
     ends: Ends,
 ) -> Lane
     ensures lane { IsSameLane ends result.ends }
-    ensures ran { RanAs (Begun (WholeStart limit)) (CutBegun limit) (standing B.runs B.left B.faults berth.old ends) (standing B.runs B.left B.faults berth.new result.ends) result.end }
+    ensures ran { RanAs (Begun (WholeStart limit)) (CutBegun limit) (standing B.runs B.left B.faults berth.old ends)
+        (standing B.runs B.left B.faults berth.new result.ends) result.end }
     ensures goes_on { result.end ≢ LaneEnd.Through }
 {
     let name = LaneName::Server(lane);

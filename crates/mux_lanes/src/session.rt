@@ -86,7 +86,8 @@ fn read_part<K: Steps + Drop, N: Naming, S: Source + Drop, R: Wait>(
     inn: LaneIn,
 ) -> ReadPart<S>
     ensures queue { result.inn.queue ≡ inn.queue }
-    ensures read { ReadAs limit (S.taken source) (S.taken result.source) (S.left result.source) (S.faults source) (S.faults result.source) inn.pushed result.inn.pushed result.stop }
+    ensures read { ReadAs limit (S.taken source) (S.taken result.source) (S.left result.source) (S.faults source)
+        (S.faults result.source) inn.pushed result.inn.pushed result.stop }
 {
     let mut source = source;
     let mut inn = inn;
@@ -123,7 +124,8 @@ fn write_part<K: Steps + Drop, N: Naming, S: Sink + Drop, R: Wait>(
     out: LaneOut,
 ) -> WrittenPart<S>
     ensures queues { (result.out.orders.queue ≡ out.orders.queue) × (result.out.sides.queue ≡ out.sides.queue) }
-    ensures wrote { WroteAs (S.written sink) (S.written result.sink) (S.faults sink) (S.faults result.sink) out.orders.taken result.out.orders.taken out.sides.pushed result.out.sides.pushed result.wrote }
+    ensures wrote { WroteAs (S.written sink) (S.written result.sink) (S.faults sink)
+        (S.faults result.sink) out.orders.taken result.out.orders.taken out.sides.pushed result.out.sides.pushed result.wrote }
 {
     let mut sink = sink;
     let mut out = out;
@@ -175,8 +177,10 @@ pub fn run_session<
     ends: Ends,
 ) -> Ran<I, O>
     ensures queues { IsSameLane ends result.ends }
-    ensures read { ReadAs limit (I.taken link.source) (I.taken result.link.source) (I.left result.link.source) (I.faults link.source) (I.faults result.link.source) ends.inn.pushed result.ends.inn.pushed result.stop }
-    ensures wrote { WroteAs (O.written link.sink) (O.written result.link.sink) (O.faults link.sink) (O.faults result.link.sink) ends.out.orders.taken result.ends.out.orders.taken ends.out.sides.pushed result.ends.out.sides.pushed result.wrote }
+    ensures read { ReadAs limit (I.taken link.source) (I.taken result.link.source) (I.left result.link.source) (I.faults link.source)
+        (I.faults result.link.source) ends.inn.pushed result.ends.inn.pushed result.stop }
+    ensures wrote { WroteAs (O.written link.sink) (O.written result.link.sink) (O.faults link.sink)
+        (O.faults result.link.sink) ends.out.orders.taken result.ends.out.orders.taken ends.out.sides.pushed result.ends.out.sides.pushed result.wrote }
 {
     let desk = SessionDesk {
         board,
@@ -191,11 +195,13 @@ pub fn run_session<
         move || -> WrittenPart<O>
             requires { IsSync R.row }
             ensures queues { (result.out.orders.queue ≡ out.orders.queue) × (result.out.sides.queue ≡ out.sides.queue) }
-            ensures wrote { WroteAs (O.written sink) (O.written result.sink) (O.faults sink) (O.faults result.sink) out.orders.taken result.out.orders.taken out.sides.pushed result.out.sides.pushed result.wrote }
+            ensures wrote { WroteAs (O.written sink) (O.written result.sink) (O.faults sink)
+                (O.faults result.sink) out.orders.taken result.out.orders.taken out.sides.pushed result.out.sides.pushed result.wrote }
         { write_part(rt, alloc, desk, sink, out) },
         move || -> ReadPart<I>
             ensures queue { result.inn.queue ≡ inn.queue }
-            ensures read { ReadAs limit (I.taken source) (I.taken result.source) (I.left result.source) (I.faults source) (I.faults result.source) inn.pushed result.inn.pushed result.stop }
+            ensures read { ReadAs limit (I.taken source) (I.taken result.source) (I.left result.source) (I.faults source)
+                (I.faults result.source) inn.pushed result.inn.pushed result.stop }
         { read_part(rt, alloc, limit, desk, source, inn) },
     );
     let ReadPart { source, inn, stop } = read;
