@@ -57,7 +57,8 @@ fn passes(pending: bool, other: bool, token: bool) -> bool
 
 // A request of an editor that was answered: of a class that is passed on, without tokens, under an id that isn't open.
 fn built_ask(pending: &[Pending], message: &Message) -> bool
-    ensures { (body method : List ℕ) (id : Id) (params : Option Json) → IsRead message.now body → message_of body ≡ request id method params → AllByRecursion (λ p. MeansId p.id) pending.now
+    ensures { (body method : List ℕ) (id : Id) (params : Option Json) → IsRead message.now body → message_of body ≡ request id method params
+        → AllByRecursion (λ p. MeansId p.id) pending.now
         → result ≡ (not (is_open id (ids_of pending.now)) && is_other (class_of method Editor false) && not (has_token params)) }
 {
     let class = class_in(message);
@@ -67,7 +68,8 @@ fn built_ask(pending: &[Pending], message: &Message) -> bool
 
 // A request in a phase.
 fn built_request(phase: Phase, pending: &[Pending], message: &Message) -> bool
-    ensures { (body method waiting : List ℕ) (id : Id) (params : Option Json) → IsRead message.now body → message_of body ≡ request id method params → AllByRecursion (λ p. MeansId p.id) pending.now
+    ensures { (body method waiting : List ℕ) (id : Id) (params : Option Json) → IsRead message.now body → message_of body ≡ request id method params
+        → AllByRecursion (λ p. MeansId p.id) pending.now
         → result ≡ built_request phase (open_in phase pending.now waiting) id method params }
 {
     match phase {

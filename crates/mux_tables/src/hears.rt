@@ -47,7 +47,8 @@ impl Tables {
         requires editor { e < length self.old.editors }
         requires joined { phase ≢ Absent }
         ensures lasts { self.new.lasts ≡ self.old.lasts }
-        ensures stands { (settings : Settings) (events : List Event) (body : List ℕ) → Stands settings self.old events → places (desk_of e events).phase (message_of body) ≡ false → stops events e (message_of body) ≡ false
+        ensures stands { (settings : Settings) (events : List Event) (body : List ℕ) → Stands settings self.old events
+            → places (desk_of e events).phase (message_of body) ≡ false → stops events e (message_of body) ≡ false
             → (desk_of e (events ++ heard (FromEditor e body) ∷ [])).phase ≡ phase → Stands settings self.new (events ++ heard (FromEditor e body) ∷ []) }
         ensures documents { (settings : Settings) (owed : Owed) (events : List Event) (body : List ℕ)
             → changes_documents events e (message_of body) ≡ false → DocumentsStand settings owed self.old events
@@ -70,10 +71,12 @@ impl Tables {
         requires capabilities { length capabilities.now ≤ 268435456 }
         requires ceiling { MatchOption ceiling (Unit {0}) (λ c. length c.now ≤ 268435456) }
         ensures inside { IfOk result (λ p. Inside p (length self.new.groups.groups)) }
-        ensures moves { (settings : Settings) (before : List Event) (x : Session) (body : List ℕ) → Stands settings self.old before → slice_get self.old.editors e ≡ Some x → x.phase ≡ New → requests (codes "initialize") (message_of body) ≡ true
+        ensures moves { (settings : Settings) (before : List Event) (x : Session) (body : List ℕ) → Stands settings self.old before
+            → slice_get self.old.editors e ≡ Some x → x.phase ≡ New → requests (codes "initialize") (message_of body) ≡ true
             → key ≡ key_for settings before e body → declared_text capabilities.now (option_copied ceiling.entry) ≡ Some (declared_for settings before e body)
             → IfOk result (λ p. (p ≡ placed_for settings before e body (groups_of settings before)) × Stands settings self.new (before ++ heard (FromEditor e body) ∷ [])) }
-        ensures documents { (settings : Settings) (owed : Owed) (before : List Event) (x : Session) (body : List ℕ) → Stands settings self.old before → slice_get self.old.editors e ≡ Some x → x.phase ≡ New → DocumentsStand settings owed self.old before
+        ensures documents { (settings : Settings) (owed : Owed) (before : List Event) (x : Session) (body : List ℕ) → Stands settings self.old before
+            → slice_get self.old.editors e ≡ Some x → x.phase ≡ New → DocumentsStand settings owed self.old before
             → IfOk result (λ p. DocumentsStand settings owed self.new (before ++ heard (FromEditor e body) ∷ [])) }
     {
         let placed = self.groups.place(key, capabilities, ceiling)?;
@@ -129,7 +132,8 @@ impl Tables {
         requires { e < length self.old.editors }
         ensures stands { (settings : Settings) (events : List Event) (why : Why) → Stands settings self.old events
             → OnOk result (Stands settings self.new (events ++ heard (EditorGone e why) ∷ [])) }
-        ensures documents { (settings : Settings) (events : List Event) (why : Why) → Stands settings self.old events → DocumentsStand settings nothing_owed self.old events
+        ensures documents { (settings : Settings) (events : List Event) (why : Why) → Stands settings self.old events
+            → DocumentsStand settings nothing_owed self.old events
             → IfOk result (λ owed. Leaves settings events e (home_of settings e events) (start_for settings e events) owed self.new (events ++ heard (EditorGone e why) ∷ [])) }
     {
         let phase = self.editors.phase(e);
@@ -144,9 +148,12 @@ impl Tables {
     /// them. Where the answer is an error the tables stand for nothing any more.
     pub fn hear_shutdown(&mut self, alloc: Global, e: u64) -> Result<Outs, Memory>
         requires { e < length self.old.editors }
-        ensures stands { (settings : Settings) (events : List Event) (body : List ℕ) → is_served (desk_of e events).phase ≡ true → requests (codes "shutdown") (message_of body) ≡ true
+        ensures stands { (settings : Settings) (events : List Event) (body : List ℕ) → is_served (desk_of e events).phase ≡ true
+            → requests (codes "shutdown") (message_of body) ≡ true
             → Stands settings self.old events → OnOk result (Stands settings self.new (events ++ heard (FromEditor e body) ∷ [])) }
-        ensures documents { (settings : Settings) (events : List Event) (body : List ℕ) → is_served (desk_of e events).phase ≡ true → requests (codes "shutdown") (message_of body) ≡ true → Stands settings self.old events → DocumentsStand settings nothing_owed self.old events
+        ensures documents { (settings : Settings) (events : List Event) (body : List ℕ) → is_served (desk_of e events).phase ≡ true
+            → requests (codes "shutdown") (message_of body) ≡ true → Stands settings self.old events
+            → DocumentsStand settings nothing_owed self.old events
             → IfOk result (λ owed. Leaves settings events e (home_of settings e events) (start_for settings e events) owed self.new (events ++ heard (FromEditor e body) ∷ [])) }
     {
         let home = self.editors.group(e);
@@ -168,9 +175,12 @@ impl Tables {
         requires editor { e < length self.old.editors }
         requires joined { phase ≢ Absent }
         ensures lasts { self.new.lasts ≡ self.old.lasts }
-        ensures stands { (settings : Settings) (events : List Event) (body : List ℕ) → Stands settings self.old events → places (desk_of e events).phase (message_of body) ≡ false → stops events e (message_of body) ≡ false
+        ensures stands { (settings : Settings) (events : List Event) (body : List ℕ) → Stands settings self.old events
+            → places (desk_of e events).phase (message_of body) ≡ false → stops events e (message_of body) ≡ false
             → (desk_of e (events ++ heard (FromEditor e body) ∷ [])).phase ≡ phase → OnOk result (Stands settings self.new (events ++ heard (FromEditor e body) ∷ [])) }
-        ensures documents { (settings : Settings) (events : List Event) (body method : List ℕ) (params : Option Json) (g s : ℕ) → IsRead message.now body → message_of body ≡ notification method params → is_served (desk_of e events).phase ≡ true → home_of settings e events ≡ Some g → start_of g events ≡ Some s
+        ensures documents { (settings : Settings) (events : List Event) (body method : List ℕ) (params : Option Json) (g s : ℕ)
+            → IsRead message.now body → message_of body ≡ notification method params → is_served (desk_of e events).phase ≡ true
+            → home_of settings e events ≡ Some g → start_of g events ≡ Some s
             → Stands settings self.old events → DocumentsStand settings nothing_owed self.old events
             → IfOk result (λ owed. (owed ≡ to s (noticing settings events g s e body (saying_by method params))) × DocumentsStand settings (owes g (noticing settings events g s e body (saying_by method params))) self.new (events ++ heard (FromEditor e body) ∷ [])) }
     {
@@ -184,7 +194,8 @@ impl Tables {
     pub fn hear_stop(&mut self, e: u64, phase: Phase) -> Result<Vec<u64>, Memory>
         requires editor { e < length self.old.editors }
         requires joined { phase ≢ Absent }
-        ensures stands { (settings : Settings) (events : List Event) (body : List ℕ) → Stands settings self.old events → places (desk_of e events).phase (message_of body) ≡ false → stops events e (message_of body) ≡ true
+        ensures stands { (settings : Settings) (events : List Event) (body : List ℕ) → Stands settings self.old events
+            → places (desk_of e events).phase (message_of body) ≡ false → stops events e (message_of body) ≡ true
             → (desk_of e (events ++ heard (FromEditor e body) ∷ [])).phase ≡ phase → OnOk result (Stands settings self.new (events ++ heard (FromEditor e body) ∷ [])) }
         ensures documents { (settings : Settings) (owed : Owed) (events : List Event) (body : List ℕ) → stops events e (message_of body) ≡ true
             → DocumentsStand settings owed self.old events

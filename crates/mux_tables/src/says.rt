@@ -80,7 +80,8 @@ impl Tables {
         ensures lasts { self.new.lasts ≡ self.old.lasts }
         ensures does { (settings : Settings) (base : List Event)
             → OnOk result (Does (λ t events. Stands settings t events) (send (CloseEditor e)) base self.old outs.old self.new outs.new) }
-        ensures documents { (settings : Settings) (base : List Event) → Stands settings self.old (behind base outs.old) → DocumentsStand settings nothing_owed self.old (behind base outs.old)
+        ensures documents { (settings : Settings) (base : List Event) → Stands settings self.old (behind base outs.old)
+            → DocumentsStand settings nothing_owed self.old (behind base outs.old)
             → IfOk result (λ owed. Leaves settings (behind base outs.old) e (home_of settings e (behind base outs.old)) (start_for settings e (behind base outs.old)) owed self.new (behind base outs.new)) }
     {
         let phase = self.editors.phase(e);
@@ -95,7 +96,8 @@ impl Tables {
     /// The group's last start, which is ready, is sent the bodies that it is owed.
     pub fn pay(&self, outs: &mut Outs, owed: Outs) -> Result<(), Memory>
         ensures outs { OnOk result (outs.new ≡ outs.old ++ owed) }
-        ensures does { (settings : Settings) (base : List Event) (g : ℕ) (x : Start) (bodies : List (List ℕ)) → slice_get self.now.lasts.items g ≡ Some x → x.life.stage ≡ Ready → owed ≡ to x.life.start bodies
+        ensures does { (settings : Settings) (base : List Event) (g : ℕ) (x : Start) (bodies : List (List ℕ))
+            → slice_get self.now.lasts.items g ≡ Some x → x.life.stage ≡ Ready → owed ≡ to x.life.start bodies
             → OnOk result (Does (λ k events. AllStand settings k events) (to_start x.life.start bodies) base (self.now, owes g bodies) outs.old (self.now, nothing_owed) outs.new) }
     {
         outs.append(owed)?;
@@ -106,7 +108,8 @@ impl Tables {
     pub fn notify(&self, outs: &mut Outs, g: usize, text: Body) -> Result<(), Memory>
         requires { g < length self.now.lasts.items }
         ensures outs { (s : ℕ) → slice_get (map number_in self.now.lasts.items) g ≡ Some s → OnOk result (outs.new ≡ outs.old ++ ToServer s text ∷ []) }
-        ensures does { (settings : Settings) (base : List Event) (s : ℕ) → slice_get (map number_in self.now.lasts.items) g ≡ Some s → requests (codes "shutdown") (message_of text) ≡ false → moves_ids (message_of text) ≡ false
+        ensures does { (settings : Settings) (base : List Event) (s : ℕ) → slice_get (map number_in self.now.lasts.items) g ≡ Some s
+            → requests (codes "shutdown") (message_of text) ≡ false → moves_ids (message_of text) ≡ false
             → OnOk result (Does (λ t events. Stands settings t events) (send (ToServer s text)) base self.now outs.old self.now outs.new) }
         ensures documents { (settings : Settings) (owed : Owed) (base : List Event) → saying_of (message_of text) ≡ nothing
             → is_synced (message_of text) ≡ false → DocumentsStand settings owed self.now (behind base outs.old)
@@ -129,7 +132,9 @@ impl Tables {
         requires group { g < length self.old.lasts.items }
         requires left { (x : Start) → slice_get self.old.lasts.items g ≡ Some x → x.ids.next < x.ids.limit }
         ensures starts { OnOk result (map number_in self.new.lasts.items ≡ map number_in self.old.lasts.items) }
-        ensures does { (settings : Settings) (base : List Event) (s : ℕ) (name : Id) (method : List ℕ) (ps : Option Json) → slice_get (map number_in self.old.lasts.items) g ≡ Some s → message_of text ≡ message.request name method ps → is_own method ≡ false → Sends s e id (behind base outs.old)
+        ensures does { (settings : Settings) (base : List Event) (s : ℕ) (name : Id) (method : List ℕ) (ps : Option Json)
+            → slice_get (map number_in self.old.lasts.items) g ≡ Some s → message_of text ≡ message.request name method ps → is_own method ≡ false
+            → Sends s e id (behind base outs.old)
             → OnOk result (Does (λ t events. Stands settings t events) (send (ToServer s text)) base self.old outs.old self.new outs.new) }
     {
         let last = &mut self.lasts[g];
@@ -161,7 +166,9 @@ impl Tables {
         requires left { (x : Start) → slice_get self.old.lasts.items g ≡ Some x → x.ids.next < x.ids.limit }
         requires ready { (x : Start) → slice_get self.old.lasts.items g ≡ Some x → x.life.stage ≡ Ready }
         ensures starts { OnOk result (map number_in self.new.lasts.items ≡ map number_in self.old.lasts.items) }
-        ensures does { (settings : Settings) (base : List Event) (s : ℕ) (name : Id) (method : List ℕ) (ps : Option Json) → slice_get (map number_in self.old.lasts.items) g ≡ Some s → message_of text ≡ message.request name method ps → is_own method ≡ false → Sends s e id (behind base outs.old) → worker_of (behind base outs.old) ≡ Some e
+        ensures does { (settings : Settings) (base : List Event) (s : ℕ) (name : Id) (method : List ℕ) (ps : Option Json)
+            → slice_get (map number_in self.old.lasts.items) g ≡ Some s → message_of text ≡ message.request name method ps → is_own method ≡ false
+            → Sends s e id (behind base outs.old) → worker_of (behind base outs.old) ≡ Some e
             → OnOk result (Does (λ k events. AllStand settings k events) (look (λ now. to_start s (syncing settings now g s e) ⨾ send (ToServer s text))) base (self.old, nothing_owed) outs.old (self.new, nothing_owed) outs.new) }
     {
         let told = sync(alloc, &mut self.documents, g, e)?;
@@ -183,9 +190,12 @@ impl Tables {
     pub fn cancel(&mut self, outs: &mut Outs, g: usize, n: u32, text: Body) -> Result<(), Memory>
         requires { g < length self.old.lasts.items }
         ensures starts { OnOk result (map number_in self.new.lasts.items ≡ map number_in self.old.lasts.items) }
-        ensures does { (settings : Settings) (base : List Event) (s : ℕ) (method : List ℕ) (ps : Option Json) → slice_get (map number_in self.old.lasts.items) g ≡ Some s → message_of text ≡ message.notification method ps → bytes_eq method (codes "$/cancelRequest") ≡ true
+        ensures does { (settings : Settings) (base : List Event) (s : ℕ) (method : List ℕ) (ps : Option Json)
+            → slice_get (map number_in self.old.lasts.items) g ≡ Some s → message_of text ≡ message.notification method ps
+            → bytes_eq method (codes "$/cancelRequest") ≡ true
             → ((k : ℕ) → k < 2 ^ 32 → is_written (named_of (codes "id") ps) k ≡ nat_eq k n) → OnOk result (Does (λ t events. Stands settings t events) (send (ToServer s text)) base self.old outs.old self.new outs.new) }
-        ensures documents { (settings : Settings) (owed : Owed) (base : List Event) (method : List ℕ) (ps : Option Json) → message_of text ≡ message.notification method ps → bytes_eq method (codes "$/cancelRequest") ≡ true
+        ensures documents { (settings : Settings) (owed : Owed) (base : List Event) (method : List ℕ) (ps : Option Json)
+            → message_of text ≡ message.notification method ps → bytes_eq method (codes "$/cancelRequest") ≡ true
             → DocumentsStand settings owed self.old (behind base outs.old) → OnOk result (DocumentsStand settings owed self.new (behind base outs.new)) }
     {
         let last = &mut self.lasts[g];
@@ -199,9 +209,11 @@ impl Tables {
         requires group { g < length self.old.lasts.items }
         requires ready { (x : Start) → slice_get self.old.lasts.items g ≡ Some x → x.life.stage ≡ Ready }
         ensures starts { OnOk result (map number_in self.new.lasts.items ≡ map number_in self.old.lasts.items) }
-        ensures does { (settings : Settings) (base : List Event) (s : ℕ) (name : Id) (ps : Option Json) → slice_get (map number_in self.old.lasts.items) g ≡ Some s → message_of text ≡ message.request name (codes "shutdown") ps
+        ensures does { (settings : Settings) (base : List Event) (s : ℕ) (name : Id) (ps : Option Json)
+            → slice_get (map number_in self.old.lasts.items) g ≡ Some s → message_of text ≡ message.request name (codes "shutdown") ps
             → OnOk result (Does (λ t events. Stands settings t events) (send (ToServer s text)) base self.old outs.old self.new outs.new) }
-        ensures documents { (settings : Settings) (owed : Owed) (base : List Event) (name : Id) (ps : Option Json) → message_of text ≡ message.request name (codes "shutdown") ps
+        ensures documents { (settings : Settings) (owed : Owed) (base : List Event) (name : Id) (ps : Option Json)
+            → message_of text ≡ message.request name (codes "shutdown") ps
             → DocumentsStand settings owed self.old (behind base outs.old) → OnOk result (DocumentsStand settings owed self.new (behind base outs.new)) }
     {
         let now = self.time;

@@ -75,9 +75,13 @@ impl Tables {
         ensures editors { OnOk result (self.new.editors ≡ self.old.editors) }
         ensures starts { OnOk result (map number_in self.new.lasts.items ≡ map number_in self.old.lasts.items) }
         ensures ready { OnOk result ((x : Start) → slice_get self.new.lasts.items g ≡ Some x → x.life.stage ≡ Ready) }
-        ensures stands { (settings : Settings) (events : List Event) (s : ℕ) (body : List ℕ) → slice_get (map number_in self.old.lasts.items) g ≡ Some s → is_first_result (message_of body) ≡ true → NamesAt (answered_id (message_of body)) n
+        ensures stands { (settings : Settings) (events : List Event) (s : ℕ) (body : List ℕ)
+            → slice_get (map number_in self.old.lasts.items) g ≡ Some s → is_first_result (message_of body) ≡ true
+            → NamesAt (answered_id (message_of body)) n
             → Stands settings self.old events → OnOk result (Stands settings self.new (events ++ heard (FromServer s body) ∷ [])) }
-        ensures documents { (settings : Settings) (events : List Event) (s : ℕ) (body : List ℕ) → slice_get (map number_in self.old.lasts.items) g ≡ Some s → encoding_by (message_of body) ≡ Some encoding → Stands settings self.old events → DocumentsStand settings nothing_owed self.old events
+        ensures documents { (settings : Settings) (events : List Event) (s : ℕ) (body : List ℕ)
+            → slice_get (map number_in self.old.lasts.items) g ≡ Some s → encoding_by (message_of body) ≡ Some encoding
+            → Stands settings self.old events → DocumentsStand settings nothing_owed self.old events
             → IfOk result (λ owed. (owed ≡ to s (replaying settings events g)) × DocumentsStand settings (owes g (replaying settings events g)) self.new (events ++ heard (FromServer s body) ∷ [])) }
     {
         let last = &mut self.lasts[g];
@@ -92,9 +96,12 @@ impl Tables {
     pub fn hear_refusal(&mut self, g: usize, n: Option<u32>)
         requires group { g < length self.old.lasts.items }
         requires stage { (x : Start) → slice_get self.old.lasts.items g ≡ Some x → x.life.stage ≡ Initializing }
-        ensures stands { (settings : Settings) (events : List Event) (s : ℕ) (body : List ℕ) → slice_get (map number_in self.old.lasts.items) g ≡ Some s → is_first_error (message_of body) ≡ true → NamesAt (answered_id (message_of body)) n
+        ensures stands { (settings : Settings) (events : List Event) (s : ℕ) (body : List ℕ)
+            → slice_get (map number_in self.old.lasts.items) g ≡ Some s → is_first_error (message_of body) ≡ true
+            → NamesAt (answered_id (message_of body)) n
             → Stands settings self.old events → Stands settings self.new (events ++ heard (FromServer s body) ∷ []) }
-        ensures documents { (settings : Settings) (owed : Owed) (events : List Event) (s : ℕ) (body : List ℕ) → slice_get (map number_in self.old.lasts.items) g ≡ Some s → is_first_error (message_of body) ≡ true
+        ensures documents { (settings : Settings) (owed : Owed) (events : List Event) (s : ℕ) (body : List ℕ)
+            → slice_get (map number_in self.old.lasts.items) g ≡ Some s → is_first_error (message_of body) ≡ true
             → Stands settings self.old events → DocumentsStand settings owed self.old events → DocumentsStand settings owed self.new (events ++ heard (FromServer s body) ∷ []) }
     {
         end_at(&mut self.groups, g as u64);
@@ -168,10 +175,12 @@ impl Tables {
     /// answers, which isn't open any more. `n` is the number that its id writes.
     pub fn hear_answer(&mut self, g: usize, n: Option<u32>) -> Option<Pending>
         requires { g < length self.old.lasts.items }
-        ensures moves { (settings : Settings) (events : List Event) (s : ℕ) (body : List ℕ) (x : Start) → slice_get self.old.lasts.items g ≡ Some x → slice_get (map number_in self.old.lasts.items) g ≡ Some s
+        ensures moves { (settings : Settings) (events : List Event) (s : ℕ) (body : List ℕ) (x : Start) → slice_get self.old.lasts.items g ≡ Some x
+            → slice_get (map number_in self.old.lasts.items) g ≡ Some s
             → (is_first_result (message_of body) && is_initializing x.life.stage) ≡ false → (is_first_error (message_of body) && is_initializing x.life.stage) ≡ false → NamesAt (answered_id (message_of body)) n
             → Stands settings self.old events → Stands settings self.new (events ++ heard (FromServer s body) ∷ []) }
-        ensures documents { (settings : Settings) (owed : Owed) (events : List Event) (s : ℕ) (body : List ℕ) (x : Start) → slice_get self.old.lasts.items g ≡ Some x → slice_get (map number_in self.old.lasts.items) g ≡ Some s
+        ensures documents { (settings : Settings) (owed : Owed) (events : List Event) (s : ℕ) (body : List ℕ) (x : Start)
+            → slice_get self.old.lasts.items g ≡ Some x → slice_get (map number_in self.old.lasts.items) g ≡ Some s
             → (is_first_result (message_of body) && is_initializing x.life.stage) ≡ false → x.life.stage ≢ Spawning → Stands settings self.old events → DocumentsStand settings owed self.old events → DocumentsStand settings owed self.new (events ++ heard (FromServer s body) ∷ []) }
         ensures found { (settings : Settings) (events : List Event) (s k : ℕ) → slice_get (map number_in self.old.lasts.items) g ≡ Some s → n ≡ Some k
             → Stands settings self.old events → find (is_under k) (forwarding_of s events).open_requests ≡ option_map (forwarded_as k) result }

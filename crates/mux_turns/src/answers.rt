@@ -143,10 +143,13 @@ pub fn take_answer(
     message: &Message,
 ) -> Result<(), Memory>
     requires { g < length tables.old.lasts.items }
-    ensures does { (settings : Settings) (before : List Event) (body : List ℕ) (s : ℕ) (x : Start) → IsRead message.now body → outs.old ≡ [] → slice_get tables.old.lasts.items g ≡ Some x → x.life.stage ≡ Ready → slice_get (map number_in tables.old.lasts.items) g ≡ Some s
+    ensures does { (settings : Settings) (before : List Event) (body : List ℕ) (s : ℕ) (x : Start) → IsRead message.now body → outs.old ≡ []
+        → slice_get tables.old.lasts.items g ≡ Some x → x.life.stage ≡ Ready → slice_get (map number_in tables.old.lasts.items) g ≡ Some s
         → ((f : Forwarded) → find (answered_by (answered_id (message_of body))) (forwarding_of s before).open_requests ≡ Some f → IsAsked before f) → Stands settings tables.old before
         → OnOk result (Done (λ t events. Stands settings t events) (response_row s before body (message_of body)) (with_cause before (FromServer s body)) [] tables.new outs.new) }
-    ensures documents { (settings : Settings) (owed : Owed) (before : List Event) (body : List ℕ) (s : ℕ) (x : Start) → IsRead message.now body → outs.old ≡ [] → slice_get tables.old.lasts.items g ≡ Some x → x.life.stage ≡ Ready → slice_get (map number_in tables.old.lasts.items) g ≡ Some s
+    ensures documents { (settings : Settings) (owed : Owed) (before : List Event) (body : List ℕ) (s : ℕ) (x : Start) → IsRead message.now body
+        → outs.old ≡ [] → slice_get tables.old.lasts.items g ≡ Some x → x.life.stage ≡ Ready
+        → slice_get (map number_in tables.old.lasts.items) g ≡ Some s
         → Stands settings tables.old before → DocumentsStand settings owed tables.old before → OnOk result (DocumentsStand settings owed tables.new (behind (with_cause before (FromServer s body)) outs.new)) }
 {
     let n = answered_number(message);

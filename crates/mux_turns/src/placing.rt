@@ -51,7 +51,8 @@ pub fn welcome(
     shown: &[u8],
 ) -> Result<(), Memory>
     requires { e < length tables.old.editors }
-    ensures { (settings : Settings) (before : List Event) (body method given : List ℕ) (id : Id) (params : Option Json) (g s : ℕ) → IsRead message.now body → message_of body ≡ request id method params → places (desk_of e before).phase (message_of body) ≡ true
+    ensures { (settings : Settings) (before : List Event) (body method given : List ℕ) (id : Id) (params : Option Json) (g s : ℕ)
+        → IsRead message.now body → message_of body ≡ request id method params → places (desk_of e before).phase (message_of body) ≡ true
         → start_of g before ≡ Some s → is_ready (life_of s before).stage ≡ true → result_of s before ≡ Some given → shown.now ≡ shown_of (result_bytes given) → IsShown given → outs.old ≡ []
         → OnOk result (Does (λ k events. AllStand settings k events) (placed_row e body before (Joins g)) (with_cause before (FromEditor e body)) (tables.old, nothing_owed) outs.old (tables.new, nothing_owed) outs.new) }
 {
@@ -84,7 +85,8 @@ pub fn turn_away(
     message: &Message,
 ) -> Result<(), Memory>
     requires { e < length tables.old.editors }
-    ensures { (settings : Settings) (before base : List Event) (body method : List ℕ) (id : Id) (params : Option Json) → IsRead message.now body → message_of body ≡ request id method params
+    ensures { (settings : Settings) (before base : List Event) (body method : List ℕ) (id : Id) (params : Option Json) → IsRead message.now body
+        → message_of body ≡ request id method params
         → OnOk result (Does (λ t events. Stands settings t events) (placed_row e body before TooMany) base tables.old outs.old tables.new outs.new) }
 {
     refuse(tables, alloc, outs, e, message, ErrorCode::RequestFailed)?;

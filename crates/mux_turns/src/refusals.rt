@@ -69,7 +69,8 @@ pub fn refuse(
     message: &Message,
     code: ErrorCode,
 ) -> Result<(), Memory>
-    ensures does { (settings : Settings) (base : List Event) (body method : List ℕ) (id : Id) (params : Option Json) → IsRead message.now body → message_of body ≡ request id method params
+    ensures does { (settings : Settings) (base : List Event) (body method : List ℕ) (id : Id) (params : Option Json) → IsRead message.now body
+        → message_of body ≡ request id method params
         → OnOk result (Does (λ t events. Stands settings t events) (answer_error e body (code_of code)) base tables.now outs.old tables.now outs.new) }
     ensures documents { (settings : Settings) (owed : Owed) (base : List Event) → DocumentsStand settings owed tables.now (behind base outs.old)
         → OnOk result (DocumentsStand settings owed tables.now (behind base outs.new)) }
@@ -109,7 +110,8 @@ pub fn asked_at(tables: &Tables, e: u64) -> Option<usize>
     ensures takes { IfSome result (λ g. (x : Start) → slice_get tables.now.lasts.items g ≡ Some x → (x.life.stage ≡ Ready) × (x.ids.next < x.ids.limit)) }
     ensures refused { IfNone result ((settings : Settings) (before : List Event) (body : List ℕ) → Stands settings tables.now before
         → Alike (request_row settings before e body) (answer_error e body request_failed)) }
-    ensures goes { IfSome result (λ g. (settings : Settings) (before : List Event) (body : List ℕ) (s : ℕ) → slice_get (map number_in tables.now.lasts.items) g ≡ Some s → Stands settings tables.now before
+    ensures goes { IfSome result (λ g. (settings : Settings) (before : List Event) (body : List ℕ) (s : ℕ)
+        → slice_get (map number_in tables.now.lasts.items) g ≡ Some s → Stands settings tables.now before
         → Alike (request_row settings before e body) (sync_row settings before g s e ⨾ forward s body)) }
 {
     let g = tables.place(e)?;
@@ -124,7 +126,8 @@ pub fn refuse_request(
     e: u64,
     message: &Message,
 ) -> Result<(), Memory>
-    ensures does { (settings : Settings) (before base : List Event) (body method : List ℕ) (id : Id) (params : Option Json) → IsRead message.now body → message_of body ≡ request id method params → Alike (request_row settings before e body) (answer_error e body request_failed)
+    ensures does { (settings : Settings) (before base : List Event) (body method : List ℕ) (id : Id) (params : Option Json) → IsRead message.now body
+        → message_of body ≡ request id method params → Alike (request_row settings before e body) (answer_error e body request_failed)
         → OnOk result (Does (λ t events. Stands settings t events) (request_row settings before e body) base tables.now outs.old tables.now outs.new) }
     ensures documents { (settings : Settings) (owed : Owed) (base : List Event) → DocumentsStand settings owed tables.now (behind base outs.old)
         → OnOk result (DocumentsStand settings owed tables.now (behind base outs.new)) }

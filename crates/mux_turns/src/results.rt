@@ -54,7 +54,8 @@ fn greet(
     ensures count { OnOk result (length tables.new.editors ≡ length tables.old.editors) }
     ensures ids { OnOk result ((n : ℕ) → id_in (slice_get tables.new.editors n) ≡ id_in (slice_get tables.old.editors n)) }
     ensures told { OnOk result (Tells outs.old outs.new) }
-    ensures does { (settings : Settings) (base : List Event) (body : List ℕ) → shown.now ≡ shown_of (result_bytes body) → IsShown body → IsGreeted (behind base outs.old) e → id_in (slice_get tables.old.editors e) ≡ Some (id_bytes (desk_of e (behind base outs.old)).initialize)
+    ensures does { (settings : Settings) (base : List Event) (body : List ℕ) → shown.now ≡ shown_of (result_bytes body) → IsShown body
+        → IsGreeted (behind base outs.old) e → id_in (slice_get tables.old.editors e) ≡ Some (id_bytes (desk_of e (behind base outs.old)).initialize)
         → OnOk result (Does (λ k events. AllStand settings k events) (welcome body e) base (tables.old, nothing_owed) outs.old (tables.new, nothing_owed) outs.new) }
 {
     match tables.initialize_id(e) {
@@ -75,7 +76,8 @@ fn greet_all(
     g: u64,
     shown: &[u8],
 ) -> Result<(), Memory>
-    ensures { (settings : Settings) (base : List Event) (body : List ℕ) → shown.now ≡ shown_of (result_bytes body) → IsShown body → AllAsking (behind base outs.old) → NamesStand settings tables.old.editors (behind base outs.old)
+    ensures { (settings : Settings) (base : List Event) (body : List ℕ) → shown.now ≡ shown_of (result_bytes body) → IsShown body
+        → AllAsking (behind base outs.old) → NamesStand settings tables.old.editors (behind base outs.old)
         → OnOk result (Does (λ k events. AllStand settings k events) (look (λ events. each (welcome body) (waiting_in settings g events))) base (tables.old, nothing_owed) outs.old (tables.new, nothing_owed) outs.new) }
 {
     let numbers = tables.waiting(g)?;
@@ -96,7 +98,9 @@ pub fn take_result(
 ) -> Result<(), Memory>
     requires group { g < length tables.old.lasts.items }
     requires stage { (x : Start) → slice_get tables.old.lasts.items g ≡ Some x → x.life.stage ≡ Initializing }
-    ensures { (settings : Settings) (before : List Event) (body : List ℕ) (id : Option Id) (value : Json) (s : ℕ) → IsRead message.now body → message_of body ≡ outcome id value → is_first_result (message_of body) ≡ true → slice_get (map number_in tables.old.lasts.items) g ≡ Some s → outs.old ≡ []
+    ensures { (settings : Settings) (before : List Event) (body : List ℕ) (id : Option Id) (value : Json) (s : ℕ) → IsRead message.now body
+        → message_of body ≡ outcome id value → is_first_result (message_of body) ≡ true → slice_get (map number_in tables.old.lasts.items) g ≡ Some s
+        → outs.old ≡ []
         → IsShown body → AllAsking before → NamesStand settings tables.old.editors before → Stands settings tables.old before → DocumentsStand settings nothing_owed tables.old before
         → OnOk result (Done (λ k events. AllStand settings k events) (first_result settings before s body) (with_cause before (FromServer s body)) [] (tables.new, nothing_owed) outs.new) }
 {
