@@ -22,6 +22,8 @@ pub struct MemBerth {
 }
 
 impl MemBerth {
+    /// A berth that gives these runs, in this order. Starts are numbered from 0; those in `fails`
+    /// fail.
     pub fn new(alloc: Global, runs: Vec<(MemSource, MemSink)>, fails: Vec<u64>) -> MemBerth
         ensures runs { ⟦<MemBerth as Berth>⟧.runs result ≡ Some [] }
         ensures left { ⟦<MemBerth as Berth>⟧.left result ≡ Some (map link_of runs.items) }

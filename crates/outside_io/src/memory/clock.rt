@@ -12,6 +12,7 @@ pub struct SetClock {
 }
 
 impl SetClock {
+    /// A clock that gives these moments, in seconds, in this order, and then none.
     pub fn new(moments: Vec<u64>) -> SetClock
         ensures given { ⟦<SetClock as Clock>⟧.given result ≡ Some [] }
         ensures left { ⟦<SetClock as Clock>⟧.left result ≡ Some moments.items }

@@ -31,6 +31,8 @@ pub struct MemDoor {
 }
 
 impl MemDoor {
+    /// A door that gives these ports, in this order. Calls are numbered from 0; those in `fails`
+    /// fail.
     pub fn new(alloc: Global, ports: Vec<MemPort>, fails: Vec<u64>) -> MemDoor
         ensures calls { ⟦<MemDoor as Door>⟧.calls result ≡ Some [] }
         ensures left { ⟦<MemDoor as Door>⟧.left result ≡ Some (map port_of ports.items) }

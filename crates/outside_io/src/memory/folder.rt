@@ -14,6 +14,7 @@ pub struct MemFolder {
 }
 
 impl MemFolder {
+    /// A folder of these files, each by its name and its bytes.
     pub fn new(files: Vec<(String, Vec<u8>)>) -> MemFolder
         ensures files { ⟦<MemFolder as Folder>⟧.files result ≡ Some (map file_of files.items) }
         ensures faults { ⟦<MemFolder as Folder>⟧.faults result ≡ 0 }

@@ -19,6 +19,7 @@ pub struct MemPort {
 }
 
 impl MemPort {
+    /// A port that gives these links, in this order, and is closed behind them.
     pub fn new(alloc: Global, links: Vec<(MemSource, MemSink)>) -> MemPort
         ensures sessions { ⟦<MemPort as Port>⟧.sessions result ≡ Some [] }
         ensures links { ⟦<MemPort as Port>⟧.links result ≡ Some (map link_of links.items) }

@@ -19,6 +19,8 @@ pub struct MemSink {
 }
 
 impl MemSink {
+    /// A sink that has no bytes yet. Writes are numbered from 0; those in `fails` fail. What is
+    /// written is counted by `meter`.
     pub fn new(alloc: Global, fails: Vec<u64>, meter: Option<Meter>) -> MemSink
         ensures written { ⟦<MemSink as Sink>⟧.written result ≡ Some [] }
         ensures faults { ⟦<MemSink as Sink>⟧.faults result ≡ 0 }

@@ -29,6 +29,8 @@ pub struct MemSource {
 }
 
 impl MemSource {
+    /// A source that gives these bytes and then its end. Reads are numbered from 0; those in
+    /// `fails` fail.
     pub fn new(bytes: Vec<u8>, fails: Vec<u64>, gate: Option<Gate>) -> MemSource
         ensures left { ⟦<MemSource as Source>⟧.left result ≡ Some bytes.items }
         ensures taken { ⟦<MemSource as Source>⟧.taken result ≡ Some [] }

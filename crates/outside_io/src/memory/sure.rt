@@ -14,6 +14,7 @@ pub struct SureSource {
 }
 
 impl SureSource {
+    /// A source that gives these bytes and then its end.
     pub fn new(bytes: Vec<u8>) -> SureSource
         ensures left { ⟦<SureSource as Source>⟧.left result ≡ Some bytes.items }
         ensures taken { ⟦<SureSource as Source>⟧.taken result ≡ Some [] }
@@ -42,6 +43,7 @@ impl Source for SureSource {
 pub struct SureSink;
 
 impl SureSink {
+    /// A sink whose writes all succeed.
     pub fn new() -> SureSink {
         SureSink
     }
