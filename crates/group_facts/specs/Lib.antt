@@ -2,4 +2,5 @@ pub mod Built
 pub mod Example
 pub mod Facts
 pub mod Legal
+pub mod Settled
 pub mod Why

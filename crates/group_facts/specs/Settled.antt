@@ -1,0 +1,46 @@
+-- What else holds of every legal history: of the groups, and of which requests are open.
+use Rattle.std.specs.Prelude.{◌≡◌, ◌↔◌, ℕ, ◌≤◌, true, List, [], ◌∷◌, length, IsUtf8}
+use Rattle.std.specs.Prelude.{None, Some, slice_get}
+use Rattle.std.specs.List.{AllByRecursion}
+use Rattle.rpc_message.specs.Message.{Id, message_of}
+use Rattle.rpc_message.specs.ValueTexts.{IsIdText}
+use Rattle.event_model.specs.declared.phase.Phase.TheVariants.{New, Waiting}
+use Rattle.event_model.specs.Event.{Event}
+use Rattle.event_model.specs.Phases.{desk_of, has_id, is_served}
+use Rattle.event_model.specs.Requests.{is_open, open_of}
+use Rattle.event_model.specs.Settings.{Settings}
+use Rattle.event_model.specs.Spawns.{start_of}
+use Rattle.group_words.specs.declared.kept.Kept.{Kept}
+use Rattle.group_words.specs.Houses.{groups_of, home_of, meant_of}
+use Rattle.group_rows.specs.Forwarded.{Forwarded, forwarding_of}
+
+-- the uris and names of folders
+abbrev pub AreUtf8 : List (List ℕ × List ℕ) → Type 0
+AreUtf8 folders = AllByRecursion (λ (f : List ℕ × List ℕ). IsUtf8 f.0 × IsUtf8 f.1) folders
+
+-- the `initialize` of an editor that waits, under this id, is its only open request
+pub record IsOnly (events : List Event) (e : ℕ) : Type 0 where
+  pub id : Id
+  pub asked : has_id id (message_of (desk_of e events).initialize) ≡ true
+  pub ids : open_of e events ≡ id ∷ []
+
+-- a request of e under this id is open at the last start of its group
+pub record IsSent (settings : Settings) (events : List Event) (e : ℕ) (id : Id) : Type 0 where
+  pub group : ℕ
+  pub start : ℕ
+  pub home : home_of settings e events ≡ Some group
+  pub last : start_of group events ≡ Some start
+  pub place : ℕ
+  pub request : Forwarded
+  pub at : slice_get (forwarding_of start events).open_requests place ≡ Some request
+  pub editor : request.editor ≡ e
+  pub text : IsIdText id request.id
+
+-- no editor named a server, each group has a start, and each open request of an editor that is served was sent on
+pub record Settled (settings : Settings) (events : List Event) : Type 0 where
+  pub unnamed : (e : ℕ) → (meant_of settings.servers e events).server ≡ None
+  pub spelt : AllByRecursion (λ (x : Kept). AreUtf8 x.key.folders) (groups_of settings events)
+  pub begun : (g : ℕ) → (start_of g events ≡ None) ↔ (length (groups_of settings events) ≤ g)
+  pub unasked : (e : ℕ) → (desk_of e events).phase ≡ New → open_of e events ≡ []
+  pub waiting : (e : ℕ) → (desk_of e events).phase ≡ Waiting → IsOnly events e
+  pub sent : (e : ℕ) (id : Id) → is_served (desk_of e events).phase ≡ true → is_open id (open_of e events) ≡ true → IsSent settings events e id
