@@ -6,6 +6,7 @@ pub mod Everywhere
 pub mod Facts
 pub mod Forwards
 pub mod Housed
+pub mod Keeping
 pub mod Known
 pub mod Levels
 pub mod Numbered
