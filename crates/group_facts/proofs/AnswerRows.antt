@@ -66,7 +66,7 @@ nobody_found [] f h = cc
 nobody_found (g ∷ fs) f h = nobody_found fs f h
 
 -- only responses answer an id
-answers_only : (m : Message) (f : Forwarded) (fs : List Forwarded) → find (answered_by (answered_id m)) fs ≡ Some f → is_response m ≡ true
+pub answers_only : (m : Message) (f : Forwarded) (fs : List Forwarded) → find (answered_by (answered_id m)) fs ≡ Some f → is_response m ≡ true
 answers_only (result id r) f fs h = refl
 answers_only (error id e) f fs h = refl
 answers_only (request id method params) f fs h = absurd (nobody_found fs f h)
@@ -74,7 +74,7 @@ answers_only (notification method params) f fs h = absurd (nobody_found fs f h)
 answers_only not_json f fs h = absurd (nobody_found fs f h)
 answers_only not_message f fs h = absurd (nobody_found fs f h)
 
-response_is : (id : Id) (m : Message) → IsResponseTo id m → (is_response m ≡ true) × (answered_id m ≡ Some id)
+pub response_is : (id : Id) (m : Message) → IsResponseTo id m → (is_response m ≡ true) × (answered_id m ≡ Some id)
 response_is id m (is_result r e) = (ap is_response e, ap answered_id e)
 response_is id m (is_error x e) = (ap is_response e, ap answered_id e)
 

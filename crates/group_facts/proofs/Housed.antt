@@ -27,7 +27,7 @@ use Rattle.group_facts.specs.Facts.{Housed, IsHoused}
 
 -- No group is forgotten
 
-ended_length : (test : Kept → Bool) (xs : List Kept) → length (end_where test xs) ≡ length xs
+pub ended_length : (test : Kept → Bool) (xs : List Kept) → length (end_where test xs) ≡ length xs
 ended_length test [] = refl
 ended_length test (x ∷ xs) = omega (arith, ended_length test xs)
 

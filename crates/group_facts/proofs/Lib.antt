@@ -1,9 +1,12 @@
 pub mod AnswerRows
 pub mod Apart
 pub mod Askers
+pub mod Begun
 pub mod DocumentRow
+pub mod Entries
 pub mod Everywhere
 pub mod Facts
+pub mod Folders
 pub mod Forwards
 pub mod Housed
 pub mod Keeping
@@ -11,14 +14,20 @@ pub mod Known
 pub mod Levels
 pub mod Numbered
 pub mod Numbers
+pub mod OpenByOut
+pub mod OpenByPhase
 pub mod Opened
-pub mod Plain
+pub mod OwnEntry
 pub mod PlacingRow
+pub mod Plain
 pub mod RequestRow
 pub mod RestLaws
+pub mod Sent
+pub mod Settling
 pub mod SharedRows
 pub mod Table
 pub mod Tellings
+pub mod Unnamed
 pub mod Waiting
 mod Worked
 pub mod Written

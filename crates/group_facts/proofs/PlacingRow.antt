@@ -41,7 +41,7 @@ use Rattle.group_facts.proofs.RequestRow.{R, asked, desk_taken, either_desk}
 use Rattle.group_facts.specs.Why.{is_starting, shuts, turns_away, welcomes}
 
 -- a new group is the next one
-abbrev IsNext : ℕ → Placed → Type 0
+abbrev pub IsNext : ℕ → Placed → Type 0
 IsNext n (Founds g) = g ≡ n
 IsNext n (Evicts a g) = g ≡ n
 IsNext n other = Unit {0}
@@ -54,7 +54,7 @@ founded_next limit groups = go (nat_lt (live_count groups) limit) (idlest_from 0
     go false None = tt
     go false (Some x) = refl
 
-placed_next : (limit : ℕ) (key : Common) (declared : List ℕ) (groups : List Kept) → IsNext (length groups) (placed_in limit key declared groups)
+pub placed_next : (limit : ℕ) (key : Common) (declared : List ℕ) (groups : List Kept) → IsNext (length groups) (placed_in limit key declared groups)
 placed_next limit key declared groups = go (first_from 0 (takes key declared) groups)
   where
     go : (o : Option ℕ) → IsNext (length groups) (joining o (founding limit groups))

@@ -1,5 +1,5 @@
 -- E8 and E10: a request of an editor comes too early, or goes on behind a sync, or is refused.
-use Rattle.std.proofs.Common.{◌≡◌, ℕ, Bool, true, false, ◌||◌, List, [], ◌∷◌, ◌<◌, ◌^◌, nat_lt, codes, bytes_eq, decimal, if◌then◌else◌, Option, refl, sym, ◌∙◌, ap, ap₂, subst, arith, ltb-true}
+use Rattle.std.proofs.Common.{◌≡◌, ℕ, Bool, true, false, ◌||◌, List, [], ◌∷◌, ◌<◌, ◌^◌, nat_lt, codes, bytes_eq, decimal, if◌then◌else◌, Option, Some, refl, sym, ◌∙◌, ap, ap₂, subst, arith, ltb-true}
 use Rattle.std.proofs.lemmas.Bool.{and_parts}
 use Rattle.std.proofs.lemmas.Slice.Eq.{bytes_eq-Decides}
 use Rattle.json_text.specs.Json.{Json}
@@ -15,7 +15,7 @@ use Rattle.event_model.specs.declared.phase.Phase.TheVariants.{New, Waiting}
 use Rattle.event_model.specs.Event.{Event, heard, same_id, behind, with_cause}
 use Rattle.event_model.specs.Phases.{Desk, desk_of, desk_hears, has_id, is_there}
 use Rattle.event_model.specs.Requests.{is_open, is_own, open_of}
-use Rattle.event_model.specs.Row.{on, ◌⨾◌}
+use Rattle.event_model.specs.Row.{on, outs, ◌⨾◌}
 use Rattle.event_model.specs.Settings.{Settings}
 use Rattle.event_model.specs.Spawns.{start_of}
 use Rattle.event_model.specs.Stages.{is_ready, life_of}
@@ -152,9 +152,21 @@ module _ (settings : Settings) (before : List Event) (e : ℕ) (body : List ℕ)
             low : (forwarding_of s events).next < 2 ^ 64
             low = let below : (forwarding_of s events).next < settings.limits.requests = ltb-true (forwarding_of s events).next settings.limits.requests room in let wide : settings.limits.requests < 2 ^ 32 = range.requests in omega (arith, below, wide)
 
+        -- behind the sync
+        abbrev synced : List Event
+        synced = behind asked (outs (sync_row settings before g s e) asked)
+
+        synced_calm : Calm settings range before (FromEditor e body) asked s synced
+        synced_calm = subst (λ z. Calm settings range before (FromEditor e body) asked s (behind asked z)) (sym (outs_to_start s bodies asked)) sync.calm
+
+        pub synced_sender : (forwarding_of s synced).sender ≡ Some (record { editor = e; id = id_bytes body })
+        synced_sender = synced_calm.still.sender ∙ ap (λ (x : Forwarding). x.sender) (forwarding_more s before (heard (FromEditor e body))) ∙ ap (sender_of e body) says
+
+        pub goes_on : IsForward settings (FromEditor e body) synced s (with_id_text body (decimal (forwarding_of s synced).next))
+        goes_on = goes synced synced_calm
+
         asks : Because R asked (sync_row settings before g s e ⨾ forward s body)
-        asks = by_then (tells_row settings range before (FromEditor e body) asked s asked bodies sync)
-            (by_look (by_send (forwarded (goes _ (subst (λ z. Calm settings range before (FromEditor e body) asked s (behind asked z)) (sym (outs_to_start s bodies asked)) sync.calm)))))
+        asks = by_then (tells_row settings range before (FromEditor e body) asked s asked bodies sync) (by_look (by_send (forwarded goes_on)))
 
       at_start : (g s : ℕ) → Because R asked (request_at settings before e body g s)
       at_start g s = by_choose (λ can. asks g s can) (λ cannot. fails)

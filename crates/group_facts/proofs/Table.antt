@@ -32,7 +32,7 @@ use Rattle.group_facts.proofs.PlacingRow.{initialize_why}
 use Rattle.group_facts.proofs.RequestRow.{R, asked, early_new, early_waiting, plain_other, request_why}
 use Rattle.group_facts.specs.Why.{Why, rejects}
 
-not_so : (b : Bool) → not b ≡ true → b ≡ false
+pub not_so : (b : Bool) → not b ≡ true → b ≡ false
 not_so true h = absurd (cc)
 not_so false h = refl
 

@@ -93,7 +93,7 @@ waiting_took settings before cause h e rest = waits_took before cause h e
 
 -- Behind the entry the one that was turned away is closed
 
-new_is : (phase : Phase) → is_new phase ≡ true → phase ≡ New
+pub new_is : (phase : Phase) → is_new phase ≡ true → phase ≡ New
 new_is New h = refl
 new_is Absent h = absurd (cc)
 new_is Waiting h = absurd (cc)
@@ -103,7 +103,7 @@ new_is Down h = absurd (cc)
 new_is Closed h = absurd (cc)
 new_is Gone h = absurd (cc)
 
-whole_is : (m : Message) → requests (codes "initialize") m ≡ true → is_malformed m ≡ false
+pub whole_is : (m : Message) → requests (codes "initialize") m ≡ true → is_malformed m ≡ false
 whole_is (request id method params) h = refl
 whole_is (notification method params) h = refl
 whole_is (result id r) h = refl
@@ -121,7 +121,7 @@ module _ (settings : Settings) (before : List Event) (n : ℕ) (body : List ℕ)
   abbrev answer : List ℕ
   answer = error_text (id_bytes body) request_failed
 
-  turned_outs : (e : ℕ) → turned_away settings before (FromEditor n body) e ≡ true → outs_of settings before (FromEditor n body) ≡ ToEditor n answer ∷ CloseEditor n ∷ []
+  pub turned_outs : (e : ℕ) → turned_away settings before (FromEditor n body) e ≡ true → outs_of settings before (FromEditor n body) ≡ ToEditor n answer ∷ CloseEditor n ∷ []
   turned_outs e turned =
       let parts = and_parts (nat_eq n e) (places (desk_of n before).phase (message_of body) && is_too_many (placed_for settings before n body (groups_of settings before))) turned in
       let more = and_parts (places (desk_of n before).phase (message_of body)) (is_too_many (placed_for settings before n body (groups_of settings before))) parts.1 in

@@ -6,6 +6,7 @@ ghost use Rattle.event_model.specs.Settings.{Settings};
 ghost use Rattle.mux_facts.specs.Ranges.{InRange};
 ghost use Rattle.group_facts.specs.Facts.{Known};
 ghost use Rattle.group_facts.specs.Legal.{Legal};
+ghost use Rattle.group_facts.specs.Settled.{Settled};
 ghost use Rattle.group_facts.specs.Why.{HasReasons};
 
 /// A law: each out of every entry is sent for one of the reasons of `specs/Why.antt`, at its place.
@@ -16,4 +17,9 @@ pub fn every_out()
 /// A law: what `Known` says holds of all events of a legal history.
 pub fn every_history()
     ensures { (settings : Settings) → InRange settings → (history : List Entry) → Legal settings history → Known settings (events_of history) }
+{}
+
+/// A law: what `Settled` says holds of all events of a legal history.
+pub fn every_settled()
+    ensures { (settings : Settings) → InRange settings → (history : List Entry) → Legal settings history → Settled settings (events_of history) }
 {}

@@ -1,0 +1,299 @@
+-- A group is founded in the entry that spawns its first start, and nothing else founds or spawns.
+use Rattle.std.proofs.Common.{◌≡◌, ℕ, ◌+◌, ◌≤◌, Bool, true, false, not, ◌&&◌, List, [], ◌∷◌, ◌++◌, map, length, nat_eq, codes, if◌then◌else◌, Option, Some, None, refl, sym, ◌∙◌, ap, subst, arith, append-nil, append_assoc}
+use Rattle.std.specs.Prelude.{◌↔◌}
+use Rattle.std.specs.List.{AllByRecursion}
+use Rattle.std.proofs.lemmas.Bool.{and_parts}
+use Rattle.std.proofs.lemmas.List.{length-append}
+use Rattle.std.proofs.lemmas.List.Sums.{fold-append}
+use Rattle.mux_history.specs.declared.cause.Cause.{Cause}
+use Rattle.mux_history.specs.declared.cause.Cause.TheVariants.{Joined, FromEditor, Started, FromServer}
+use Rattle.mux_history.specs.declared.out.Out.{Out}
+use Rattle.mux_history.specs.declared.out.Out.TheVariants.{ToEditor, ToServer, Spawn, CloseEditor, EndServer}
+use Rattle.document_model.specs.Sayings.{Saying, saying_by}
+use Rattle.rpc_message.specs.Message.{Message, request, notification, result, error, not_json, not_message, message_of}
+use Rattle.rpc_message.specs.Texts.{initialized_text, request_failed}
+use Rattle.event_model.specs.declared.phase.Phase.{Phase}
+use Rattle.event_model.specs.declared.phase.Phase.TheVariants.{New, Waiting, Answered, Running}
+use Rattle.event_model.specs.declared.stage.Stage.{Stage}
+use Rattle.event_model.specs.declared.stage.Stage.TheVariants.{Spawning, Initializing, Ready}
+use Rattle.event_model.specs.Event.{Event, behind, heard, requests, said, with_cause}
+use Rattle.event_model.specs.Phases.{desk_of, is_new}
+use Rattle.event_model.specs.Row.{Row, each, look, nothing, on, outs}
+use Rattle.event_model.specs.Settings.{Settings}
+use Rattle.event_model.specs.Spawns.{group_of, start_behind, start_of, starts_of}
+use Rattle.event_model.specs.Stages.{is_initializing, life_of}
+use Rattle.event_model.proofs.Frames.{never}
+use Rattle.mux_model.specs.Documents.{held_at}
+use Rattle.mux_model.specs.Rows.{malformed_row, to_start}
+use Rattle.mux_facts.proofs.Keeps.{behind_both}
+use Rattle.mux_facts.proofs.Reasons.{Because, Reasons, by_nothing, by_send, by_then, by_choose, by_look, by_on}
+use Rattle.mux_facts.proofs.Words.{number_same, same_number}
+use Rattle.group_words.specs.declared.kept.Kept.{Kept}
+use Rattle.group_words.specs.declared.placed.Placed.{Placed}
+use Rattle.group_words.specs.declared.placed.Placed.TheVariants.{Joins, New as Founds, Evicts, TooMany}
+use Rattle.group_words.specs.Houses.{at_group, declared_for, emptied, groups_hear, groups_of, house_of, idle_if_live, is_first_error, key_for, placed_for, places, stops}
+use Rattle.group_words.specs.Placing.{busy, changed, end_where, ended, founded, is_live, with_editor}
+use Rattle.group_words.specs.Rows.{end_group, end_start, initialize_row, placed_row}
+use Rattle.group_words.proofs.Frames.{changed_length, groups_more, groups_stay, touches_groups}
+use Rattle.group_rows.specs.Forwarded.{Forwarded}
+use Rattle.group_rows.specs.Rows.{answer_error, begin_in, document_at, document_bodies, document_row, early_row, first_result, from_server, message_row, outs_of, pass_on, replay_bodies, request_at, request_row, response_row, result_in, row_of, served_row, started, sync_bodies, waiting_in, welcome}
+use Rattle.group_rows.specs.Texts.{encoding_of, texts_of}
+use Rattle.group_facts.specs.Built.{built_behind}
+use Rattle.group_facts.proofs.Housed.{ended_length}
+use Rattle.group_facts.proofs.PlacingRow.{IsNext, placed_next}
+use Rattle.group_facts.proofs.Waiting.{new_is, whole_is}
+
+-- Outs that spawn none
+
+abbrev pub NoSpawn : Out → Type 0
+NoSpawn (Spawn s g) = ⊥
+NoSpawn out = Unit {0}
+
+abbrev pub Quiet : List Event → Row → Type 0
+Quiet events row = Because (λ events out. NoSpawn out) events row
+
+-- what holds of each out of a row
+pub all_outs : (P : Out → Type 0) (events : List Event) (xs : List Out) → Reasons (λ places out. P out) events xs → AllByRecursion P xs
+all_outs P events [] h = tt
+all_outs P events (x ∷ xs) h = (h.0, all_outs P (events ++ said x ∷ []) xs h.1)
+
+-- The start of a group
+
+pub start_more : (g : ℕ) (events : List Event) (event : Event) → start_of g (events ++ event ∷ []) ≡ start_behind g (start_of g events) event
+start_more g events event = fold-append (start_behind g) None events (event ∷ [])
+
+pub start_did : (g : ℕ) (events : List Event) (out : Out) → NoSpawn out → start_of g (events ++ said out ∷ []) ≡ start_of g events
+start_did g events (Spawn s h) quiet = absurd quiet
+start_did g events (ToEditor e body) quiet = start_more g events (said (ToEditor e body))
+start_did g events (ToServer s body) quiet = start_more g events (said (ToServer s body))
+start_did g events (CloseEditor e) quiet = start_more g events (said (CloseEditor e))
+start_did g events (EndServer s) quiet = start_more g events (said (EndServer s))
+
+pub start_took : (g : ℕ) (events : List Event) (cause : Cause) → start_of g (with_cause events cause) ≡ start_of g events
+start_took g events (Joined e) = start_more g events (heard (Joined e))
+start_took g events cause = start_more g events (heard cause)
+
+pub starts_stay : (g : ℕ) (events : List Event) (xs : List Out) → AllByRecursion NoSpawn xs → start_of g (behind events xs) ≡ start_of g events
+starts_stay g events [] h = ap (start_of g) (append-nil events)
+starts_stay g events (x ∷ xs) h = ap (start_of g) (sym (append_assoc events (said x ∷ []) (map said xs))) ∙ starts_stay g (events ++ said x ∷ []) xs h.1 ∙ start_did g events x h.0
+
+-- Rows that spawn none
+
+pub quiet_bodies : (s : ℕ) (bodies : List (List ℕ)) (events : List Event) → Quiet events (to_start s bodies)
+quiet_bodies s [] events = by_nothing
+quiet_bodies s (b ∷ bodies) events = by_then (by_send tt) (quiet_bodies s bodies (behind events (ToServer s b ∷ [])))
+
+quiet_welcomes : (body : List ℕ) (ns : List ℕ) (events : List Event) → Quiet events (each (welcome body) ns)
+quiet_welcomes body [] events = by_nothing
+quiet_welcomes body (n ∷ ns) events = by_then (by_look (by_send tt)) (quiet_welcomes body ns (behind events (outs (welcome body n) events)))
+
+quiet_malformed : (e : ℕ) (m : Message) (phase : Phase) (events : List Event) → Quiet events (malformed_row e m phase)
+quiet_malformed e m phase events = by_choose (λ there. by_send tt) (λ gone. by_nothing)
+
+quiet_early : (e : ℕ) (body : List ℕ) (m : Message) (events : List Event) → Quiet events (early_row e body m)
+quiet_early e body (request id method params) events = by_send tt
+quiet_early e body (notification method params) events = by_nothing
+quiet_early e body (result id r) events = by_nothing
+quiet_early e body (error id x) events = by_nothing
+quiet_early e body not_json events = by_nothing
+quiet_early e body not_message events = by_nothing
+
+module _ (settings : Settings) (before : List Event) where
+  quiet_at : (e : ℕ) (body : List ℕ) (events : List Event) (g s : ℕ) → Quiet events (request_at settings before e body g s)
+  quiet_at e body events g s = by_choose (λ can. by_then (quiet_bodies s (sync_bodies settings.limits.versions (λ u. held_at s u before) e (texts_of settings g before).opens) events) (by_look (by_send tt))) (λ cannot. by_send tt)
+
+  quiet_group : (e : ℕ) (body : List ℕ) (events : List Event) (g : ℕ) → Quiet events (on (start_of g before) (answer_error e body request_failed) (request_at settings before e body g))
+  quiet_group e body events g = by_on (λ none. by_send tt) (λ s start. quiet_at e body events g s)
+
+  quiet_request : (e : ℕ) (body : List ℕ) (events : List Event) → Quiet events (request_row settings before e body)
+  quiet_request e body events = by_on (λ none. by_send tt) (λ g home. quiet_group e body events g)
+
+  quiet_told : (e : ℕ) (body : List ℕ) (x : Saying) (events : List Event) (g s : ℕ) → Quiet events (document_at settings before e body x g s)
+  quiet_told e body x events g s = by_choose (λ ready. quiet_bodies s (document_bodies settings.limits.versions (encoding_of g before) (texts_of settings g before) (λ u. held_at s u before) e body x) events) (λ off. by_nothing)
+
+  quiet_documents : (e : ℕ) (body : List ℕ) (x : Saying) (events : List Event) (g : ℕ) → Quiet events (on (start_of g before) nothing (document_at settings before e body x g))
+  quiet_documents e body x events g = by_on (λ none. by_nothing) (λ s start. quiet_told e body x events g s)
+
+  quiet_document : (e : ℕ) (body : List ℕ) (x : Saying) (events : List Event) → Quiet events (document_row settings before e body x)
+  quiet_document e body x events = by_on (λ none. by_nothing) (λ g home. quiet_documents e body x events g)
+
+  quiet_served : (e : ℕ) (body : List ℕ) (m : Message) (events : List Event) → Quiet events (served_row settings before e body m)
+  quiet_served e body (request id method params) events = quiet_request e body events
+  quiet_served e body (notification method params) events = quiet_document e body (saying_by method params) events
+  quiet_served e body (result id r) events = by_nothing
+  quiet_served e body (error id x) events = by_nothing
+  quiet_served e body not_json events = by_nothing
+  quiet_served e body not_message events = by_nothing
+
+  quiet_message : (e : ℕ) (body : List ℕ) (m : Message) (phase : Phase) (events : List Event) → places phase m ≡ false → Quiet events (message_row settings before e body m phase)
+  quiet_message e body m New events h = by_choose (λ yes. never (sym yes ∙ h)) (λ no. quiet_early e body m events)
+  quiet_message e body m Waiting events h = quiet_early e body m events
+  quiet_message e body m Answered events h = quiet_served e body m events
+  quiet_message e body m Running events h = quiet_served e body m events
+  quiet_message e body m other events h = by_nothing
+
+  quiet_editor : (e : ℕ) (body : List ℕ) (events : List Event) → places (desk_of e before).phase (message_of body) ≡ false → Quiet events (row_of settings before (FromEditor e body))
+  quiet_editor e body events h = by_choose (λ malformed. quiet_malformed e (message_of body) (desk_of e before).phase events) (λ fine. quiet_message e body (message_of body) (desk_of e before).phase events h)
+
+  quiet_waiting : (body : List ℕ) (g : ℕ) (events : List Event) → Quiet events (look (λ places. each (welcome body) (waiting_in settings g places)))
+  quiet_waiting body g events = by_look (quiet_welcomes body (waiting_in settings g events) events)
+
+  quiet_result : (s : ℕ) (body : List ℕ) (g : ℕ) (events : List Event) → Quiet events (result_in settings before s body g)
+  quiet_result s body g events = by_then (by_send tt) (by_then (quiet_bodies s (replay_bodies [] (texts_of settings g before).opens (texts_of settings g before).opens) (behind events (ToServer s initialized_text ∷ []))) (quiet_waiting body g _))
+
+  quiet_first : (s : ℕ) (body : List ℕ) (events : List Event) → Quiet events (first_result settings before s body)
+  quiet_first s body events = by_on (λ none. by_nothing) (λ g home. quiet_result s body g events)
+
+  quiet_passed : (body : List ℕ) (f : Forwarded) (events : List Event) → Quiet events (pass_on before body f)
+  quiet_passed body f events = by_choose (λ there. by_send tt) (λ gone. by_nothing)
+
+  quiet_response : (s : ℕ) (body : List ℕ) (m : Message) (events : List Event) → Quiet events (response_row s before body m)
+  quiet_response s body m events = by_on (λ none. by_nothing) (λ f found. quiet_passed body f events)
+
+  quiet_server : (s : ℕ) (body : List ℕ) (m : Message) (stage : Stage) (events : List Event) → Quiet events (from_server settings s before body m stage)
+  quiet_server s body m Initializing events = by_choose (λ first. quiet_first s body events) (λ off. by_nothing)
+  quiet_server s body m Ready events = quiet_response s body m events
+  quiet_server s body m other events = by_nothing
+
+  quiet_begin : (s g : ℕ) (events : List Event) → Quiet events (begin_in settings before s g)
+  quiet_begin s g events = by_on (λ none. by_nothing) (λ x found. by_send tt)
+
+  quiet_started : (s : ℕ) (stage : Stage) (events : List Event) → Quiet events (started settings s before stage)
+  quiet_started s Spawning events = by_on (λ none. by_nothing) (λ g home. quiet_begin s g events)
+  quiet_started s other events = by_nothing
+
+  quiet_end : (s : ℕ) (stage : Stage) (events : List Event) → Quiet events (end_start s stage)
+  quiet_end s Ready events = by_look (by_send tt)
+  quiet_end s Spawning events = by_send tt
+  quiet_end s Initializing events = by_send tt
+  quiet_end s other events = by_nothing
+
+  quiet_ended : (g : ℕ) (events : List Event) → Quiet events (end_group g)
+  quiet_ended g events = by_look (by_on (λ none. by_nothing) (λ s start. quiet_end s (life_of s events).stage events))
+
+-- How many groups there are
+
+at_same : (home : Option ℕ) (b : Bool) (groups : List Kept) → length (if b then at_group home (λ g. ended) groups else groups) ≡ length groups
+at_same None true groups = refl
+at_same (Some g) true groups = changed_length g ended groups
+at_same home false groups = refl
+
+emptied_same : (home : Option ℕ) (was : Bool) (stays : ℕ → Bool) (now : ℕ) (groups : List Kept) → length (emptied home was stays now groups) ≡ length groups
+emptied_same None was stays now groups = refl
+emptied_same (Some g) was stays now groups = go (was && not (stays g))
+  where
+    go : (b : Bool) → length (if b then changed g (idle_if_live now) groups else groups) ≡ length groups
+    go true = changed_length g (idle_if_live now) groups
+    go false = refl
+
+module _ (settings : Settings) where
+  abbrev count : List Event → ℕ
+  count events = length (groups_of settings events)
+
+  hears_same : (events : List Event) (e : ℕ) (body : List ℕ) → places (desk_of e events).phase (message_of body) ≡ false → length (groups_hear settings events e body (message_of body) (groups_of settings events)) ≡ count events
+  hears_same events e body off = go (places (desk_of e events).phase (message_of body)) off (stops events e (message_of body))
+    where
+      go : (b : Bool) → b ≡ false → (c : Bool) → length (if b then with_editor (placed_for settings events e body (groups_of settings events)) (key_for settings events e body) (declared_for settings events e body) (groups_of settings events)
+          else if c then end_where is_live (groups_of settings events) else groups_of settings events) ≡ count events
+      go true off c = never off
+      go false off true = ended_length is_live (groups_of settings events)
+      go false off false = refl
+
+  counts_stay : (events : List Event) (event : Event) → touches_groups event ≡ false → count (events ++ event ∷ []) ≡ count events
+  counts_stay events event quiet = ap length (groups_stay settings events event quiet)
+
+  count_did : (events : List Event) (out : Out) → count (events ++ said out ∷ []) ≡ count events
+  count_did events (CloseEditor e) = ap length (groups_more settings events (said (CloseEditor e))) ∙ emptied_same ((house_of settings events).home e) _ _ _ (groups_of settings events)
+  count_did events out = counts_stay events (said out) refl
+
+  count_behind : (events : List Event) (xs : List Out) → count (behind events xs) ≡ count events
+  count_behind events [] = ap count (append-nil events)
+  count_behind events (x ∷ xs) = ap count (sym (append_assoc events (said x ∷ []) (map said xs))) ∙ count_behind (events ++ said x ∷ []) xs ∙ count_did events x
+
+  -- What an entry founds
+
+  -- none, and nothing is spawned; or the next one, and its start is the last out
+  pub data Founding (before : List Event) (cause : Cause) : Type 0 where
+    quiet : AllByRecursion NoSpawn (outs_of settings before cause) → count (with_cause before cause) ≡ count before → Founding before cause
+    founds : (xs : List Out) (s : ℕ) → AllByRecursion NoSpawn xs → outs_of settings before cause ≡ xs ++ Spawn s (count before) ∷ [] → count (with_cause before cause) ≡ count before + 1 → Founding before cause
+
+  module _ (before : List Event) (e : ℕ) (body : List ℕ) (here : places (desk_of e before).phase (message_of body) ≡ true) where
+    abbrev now : List Event
+    now = with_cause before (FromEditor e body)
+
+    pub placed_outs : outs_of settings before (FromEditor e body) ≡ outs (initialize_row settings before e body) now
+    placed_outs = let place = and_parts (is_new (desk_of e before).phase) (requests (codes "initialize") (message_of body)) here in rw (whole_is (message_of body) place.1, new_is (desk_of e before).phase place.0, place.1) refl
+
+    groups_now : groups_of settings now ≡ with_editor (placed_for settings before e body (groups_of settings before)) (key_for settings before e body) (declared_for settings before e body) (groups_of settings before)
+    groups_now = groups_more settings before (heard (FromEditor e body)) ∙ rw here refl
+
+    by_placed : (p : Placed) → IsNext (count before) p → outs_of settings before (FromEditor e body) ≡ outs (placed_row e body before p) now
+        → groups_of settings now ≡ with_editor p (key_for settings before e body) (declared_for settings before e body) (groups_of settings before) → Founding before (FromEditor e body)
+    by_placed (Joins g) next sent groups = quiet (subst (AllByRecursion NoSpawn) (sym sent) (all_outs NoSpawn now _ joins.why)) (ap length groups ∙ changed_length g busy (groups_of settings before))
+      where
+        joins : Quiet now (placed_row e body before (Joins g))
+        joins = by_on (λ none. by_nothing) (λ s start. by_choose (λ ready. by_on (λ none. by_nothing) (λ given found. by_send tt)) (λ no. by_nothing))
+    by_placed (Founds g) next sent groups = founds [] (starts_of now) tt (sent ∙ ap (λ k. Spawn (starts_of now) k ∷ []) next)
+        (ap length groups ∙ length-append (groups_of settings before) (founded (key_for settings before e body) (declared_for settings before e body) ∷ []))
+    by_placed (Evicts a g) next sent groups = founds (outs (end_group a) now) (starts_of (behind now (outs (end_group a) now))) (all_outs NoSpawn now _ (quiet_ended settings before a now).why) (sent ∙ ap (λ k. outs (end_group a) now ++ Spawn (starts_of (behind now (outs (end_group a) now))) k ∷ []) next)
+        (ap length groups ∙ length-append (changed a ended (groups_of settings before)) (founded (key_for settings before e body) (declared_for settings before e body) ∷ []) ∙ ap (λ k. k + 1) (changed_length a ended (groups_of settings before)))
+    by_placed TooMany next sent groups = quiet (subst (AllByRecursion NoSpawn) (sym sent) (tt, (tt, tt))) (ap length groups)
+
+    placing : Founding before (FromEditor e body)
+    placing = by_placed (placed_for settings before e body (groups_of settings before)) (placed_next settings.limits.groups (key_for settings before e body) (declared_for settings before e body) (groups_of settings before)) placed_outs groups_now
+
+  from_an_editor : (before : List Event) (e : ℕ) (body : List ℕ) → Founding before (FromEditor e body)
+  from_an_editor before e body = go (places (desk_of e before).phase (message_of body)) refl
+    where
+      go : (b : Bool) → places (desk_of e before).phase (message_of body) ≡ b → Founding before (FromEditor e body)
+      go true here = placing before e body here
+      go false off = quiet (all_outs NoSpawn (with_cause before (FromEditor e body)) _ (quiet_editor settings before e body (with_cause before (FromEditor e body)) off).why)
+          (ap length (groups_more settings before (heard (FromEditor e body))) ∙ hears_same before e body off)
+
+  pub founding_of : (before : List Event) (cause : Cause) → built_behind settings before cause ≡ true → Founding before cause
+  founding_of before (FromEditor e body) built = from_an_editor before e body
+  founding_of before (FromServer s body) built = quiet (all_outs NoSpawn _ _ (quiet_server settings before s body (message_of body) (life_of s before).stage (with_cause before (FromServer s body))).why)
+      (ap length (groups_more settings before (heard (FromServer s body))) ∙ at_same (group_of s before) (is_first_error (message_of body) && is_initializing (life_of s before).stage) (groups_of settings before))
+  founding_of before (Started s) built = quiet (all_outs NoSpawn _ _ (quiet_started settings before s (life_of s before).stage (with_cause before (Started s))).why) (counts_stay before (heard (Started s)) refl)
+  founding_of before (Joined e) built = quiet tt (counts_stay before (heard (Joined e)) refl)
+  founding_of before cause built = absurd (cc)
+
+  -- Each group has a start
+
+  abbrev pub Begun : List Event → Type 0
+  Begun events = (g : ℕ) → (start_of g events ≡ None) ↔ (length (groups_of settings events) ≤ g)
+
+  module _ (before : List Event) (cause : Cause) (h : Begun before) where
+    abbrev later : List Out → List Event
+    later xs = behind (with_cause before cause) xs
+
+    still : (xs : List Out) (g : ℕ) → AllByRecursion NoSpawn xs → start_of g (later xs) ≡ start_of g before
+    still xs g all = starts_stay g (with_cause before cause) xs all ∙ start_took g before cause
+
+    begun_quiet : (xs : List Out) → AllByRecursion NoSpawn xs → count (with_cause before cause) ≡ count before → Begun (later xs)
+    begun_quiet xs all same g = subst (λ k. (start_of g (later xs) ≡ None) ↔ (k ≤ g)) (sym (count_behind (with_cause before cause) xs ∙ same)) (subst (λ o. (o ≡ None) ↔ (count before ≤ g)) (sym (still xs g all)) (h g))
+
+    begun_spawned : (xs : List Out) (s : ℕ) → AllByRecursion NoSpawn xs → count (with_cause before cause) ≡ count before + 1 → Begun (later (xs ++ Spawn s (count before) ∷ []))
+    begun_spawned xs s all more g = subst (λ z. (start_of g z ≡ None) ↔ (count z ≤ g)) (sym (behind_both (with_cause before cause) xs (Spawn s (count before) ∷ [])))
+        (subst (λ k. (start_of g last ≡ None) ↔ (k ≤ g)) (sym (count_did (later xs) (Spawn s (count before)) ∙ count_behind (with_cause before cause) xs ∙ more))
+        (subst (λ o. (o ≡ None) ↔ (count before + 1 ≤ g)) (sym (start_more g (later xs) (said (Spawn s (count before))) ∙ ap (λ o. if nat_eq (count before) g then Some s else o) (still xs g all))) (go (nat_eq (count before) g) refl)))
+      where
+        last : List Event
+        last = later xs ++ said (Spawn s (count before)) ∷ []
+
+        other : nat_eq (count before) g ≡ false → count before ≤ g → count before + 1 ≤ g
+        other far le = past (λ same. never (sym (ap (λ z. nat_eq (count before) z) same ∙ same_number (count before)) ∙ far)) le
+          where
+            past : (g ≡ count before → ⊥) → count before ≤ g → count before + 1 ≤ g
+            past f le = omega (arith, f, le)
+
+        go : (b : Bool) → nat_eq (count before) g ≡ b → ((if b then Some s else start_of g before) ≡ None) ↔ (count before + 1 ≤ g)
+        go true same = (λ none. absurd (cc), λ le. absurd (let is : count before ≡ g = number_same (count before) g same in omega (arith, is, le)))
+        go false far = (λ none. other far ((h g).0 none), λ le. (h g).1 (omega (arith, le)))
+
+  pub begun_rests : (before : List Event) (cause : Cause) → built_behind settings before cause ≡ true → Begun before → Begun (behind (with_cause before cause) (outs_of settings before cause))
+  begun_rests before cause built h = go (founding_of before cause built)
+    where
+      go : Founding before cause → Begun (behind (with_cause before cause) (outs_of settings before cause))
+      go (quiet all same) = begun_quiet before cause h (outs_of settings before cause) all same
+      go (founds xs s all sent more) = subst (λ z. Begun (behind (with_cause before cause) z)) (sym sent) (begun_spawned before cause h xs s all more)

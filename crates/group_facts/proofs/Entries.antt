@@ -1,0 +1,218 @@
+-- What is open at every editor, behind each sort of entry.
+use Rattle.std.proofs.Common.{◌≡◌, ℕ, ◌+◌, ◌<◌, ◌≤◌, ◌^◌, Bool, true, false, not, ◌&&◌, ◌||◌, List, [], ◌∷◌, ◌++◌, find, nat_eq, if◌then◌else◌, Some, None, ◌⊎◌, inl, inr, refl, sym, ◌∙◌, ap, ap₂, subst, arith, append-nil}
+use Rattle.std.proofs.lemmas.Bool.{and_parts}
+use Rattle.mux_history.specs.declared.cause.Cause.{Cause}
+use Rattle.mux_history.specs.declared.cause.Cause.TheVariants.{Joined, FromEditor, Started, FromServer}
+use Rattle.mux_history.specs.declared.out.Out.TheVariants.{ToEditor}
+use Rattle.rpc_message.specs.Message.{Message, request, notification, result, error, not_json, not_message, Id, message_of}
+use Rattle.rpc_message.specs.Texts.{with_id_text}
+use Rattle.event_model.specs.declared.phase.Phase.{Phase}
+use Rattle.event_model.specs.declared.phase.Phase.TheVariants.{Absent, New, Waiting, Answered, Running, Down, Closed, Gone}
+use Rattle.event_model.specs.declared.stage.Stage.{Stage}
+use Rattle.event_model.specs.declared.stage.Stage.TheVariants.{Unspawned, Spawning, Initializing, Ready, Stopping, Ending, Ended}
+use Rattle.event_model.specs.Event.{Event, behind, heard, said, with_cause}
+use Rattle.event_model.specs.Phases.{Desk, desk_hears, desk_of, editors_of, is_malformed, is_served, is_there}
+use Rattle.event_model.specs.Requests.{answered_id, asks, is_open, open_of, without}
+use Rattle.event_model.specs.Row.{choose, nothing, on, outs, send}
+use Rattle.event_model.specs.Settings.{Settings}
+use Rattle.event_model.specs.Stages.{is_first_result, life_of}
+use Rattle.event_model.proofs.Frames.{never}
+use Rattle.mux_model.specs.Fits.{fits_behind}
+use Rattle.mux_facts.specs.Ranges.{InRange}
+use Rattle.mux_facts.proofs.Bodies.{passed_says}
+use Rattle.mux_facts.proofs.Folds.{desk_more, opens_more}
+use Rattle.mux_facts.proofs.Table.{FirstResult, first_result_is}
+use Rattle.mux_facts.proofs.Words.{number_same, same_number}
+use Rattle.group_words.specs.Houses.{groups_of, placed_for, places}
+use Rattle.group_rows.specs.Forwarded.{Forwarded, answered_by, forwarding_of}
+use Rattle.group_rows.specs.Rows.{from_server, outs_of, pass_on, response_row}
+use Rattle.group_facts.specs.Built.{built_answer, built_behind, is_shown_whole}
+use Rattle.group_facts.specs.Facts.{is_too_many, is_up, turned_away}
+use Rattle.group_facts.proofs.AnswerRows.{answers_only, response_is}
+use Rattle.group_facts.proofs.Begun.{Begun}
+use Rattle.group_facts.proofs.Facts.{Facts}
+use Rattle.group_facts.proofs.OwnEntry.{Nobody, message_rests, placed_open, turned_rests}
+use Rattle.group_facts.proofs.Sent.{Found, IsOf, OneOf, Passed, SentAt, found_one, none_first, rising_of, sent_answered, sent_heard, sent_joined, sent_started}
+use Rattle.group_facts.proofs.OpenByPhase.{OpenDesk, OpenIf, answered_closed, if_other}
+use Rattle.group_facts.proofs.OpenByOut.{OpenAt, S, open_at, open_entry}
+
+abbrev pub OpenAll : Settings → List Event → Type 0
+OpenAll settings events = (e : ℕ) → OpenAt settings e Nobody events
+
+module _ (settings : Settings) (range : InRange settings) (before : List Event) (facts : Facts settings before) (begun : Begun settings before) (h : OpenAll settings before) where
+  abbrev later : Cause → List Event
+  later cause = behind (with_cause before cause) (outs_of settings before cause)
+
+  -- Entries of editors
+
+  -- the message of another editor
+  other_heard : (n : ℕ) (body : List ℕ) (e : ℕ) → nat_eq n e ≡ false → OpenAt settings e Nobody (with_cause before (FromEditor n body))
+  other_heard n body e other = open_at settings e Nobody before (heard (FromEditor n body)) (go (nat_eq n e) other)
+    where
+      sent : (id : Id) → SentAt settings before e id ⊎ ⊥ → SentAt settings (with_cause before (FromEditor n body)) e id ⊎ ⊥
+      sent id (inl k) = inl (sent_heard settings e id before n body (ap (λ b. b && places (desk_of n before).phase (message_of body)) other) k)
+      sent id (inr k) = inr k
+
+      go : (b : Bool) → b ≡ false → OpenDesk (S settings e Nobody (with_cause before (FromEditor n body))) (if b then desk_hears (desk_of e before).phase (desk_of e before).initialize body (message_of body) else desk_of e before) (if b then asks (message_of body) (open_of e before) else open_of e before)
+      go true other = never other
+      go false other = if_other (S settings e Nobody before) (S settings e Nobody (with_cause before (FromEditor n body))) (desk_of e before).phase (desk_of e before).initialize (open_of e before) (λ served id is. sent id) (h e)
+
+  other_stays : (n : ℕ) (body : List ℕ) (e : ℕ) → nat_eq n e ≡ false → turned_away settings before (FromEditor n body) e ≡ false
+  other_stays n body e other = ap (λ b. b && (places (desk_of n before).phase (message_of body) && is_too_many (placed_for settings before n body (groups_of settings before)))) other
+
+  own_entry : (n : ℕ) (body : List ℕ) → built_behind settings before (FromEditor n body) ≡ true → OpenAt settings n Nobody (later (FromEditor n body))
+  own_entry n body built = go (places (desk_of n before).phase (message_of body)) refl (turned_away settings before (FromEditor n body) n) refl
+    where
+      go : (b : Bool) → places (desk_of n before).phase (message_of body) ≡ b → (c : Bool) → turned_away settings before (FromEditor n body) n ≡ c → OpenAt settings n Nobody (later (FromEditor n body))
+      go b place true turned = turned_rests settings before n body turned
+      go true place false stays = open_entry settings n Nobody before (FromEditor n body) stays range facts begun built (placed_open settings before n body (h n) place)
+      go false place false stays = message_rests settings before n body (h n) range facts built place
+
+  editor_entry : (n : ℕ) (body : List ℕ) → built_behind settings before (FromEditor n body) ≡ true → OpenAll settings (later (FromEditor n body))
+  editor_entry n body built e = go (nat_eq n e) refl
+    where
+      go : (b : Bool) → nat_eq n e ≡ b → OpenAt settings e Nobody (later (FromEditor n body))
+      go true same = subst (λ k. OpenAt settings k Nobody (later (FromEditor n body))) (number_same n e same) (own_entry n body built)
+      go false other = open_entry settings e Nobody before (FromEditor n body) (other_stays n body e other) range facts begun built (other_heard n body e other)
+
+  -- an editor that joins
+  joined_now : (n e : ℕ) → fits_behind before (Joined n) ≡ true → OpenAt settings e Nobody (with_cause before (Joined n))
+  joined_now n e fits = open_at settings e Nobody before (heard (Joined n)) (go (nat_eq n e) refl)
+    where
+      sent : (id : Id) → SentAt settings before e id ⊎ ⊥ → SentAt settings (with_cause before (Joined n)) e id ⊎ ⊥
+      sent id (inl k) = inl (sent_joined settings e id before n k)
+      sent id (inr k) = inr k
+
+      absent : nat_eq n e ≡ true → (desk_of e before).phase ≡ Absent
+      absent same = (facts.steady).editors e (let joined : n ≡ editors_of before = number_same n (editors_of before) fits in let is : n ≡ e = number_same n e same in omega (arith, joined, is))
+
+      go : (b : Bool) → nat_eq n e ≡ b → OpenDesk (S settings e Nobody (with_cause before (Joined n))) (if b then record { phase = New; initialize = [] } else desk_of e before) (open_of e before)
+      go true same = subst (λ p. OpenIf (S settings e Nobody before) p (desk_of e before).initialize (open_of e before)) (absent same) (h e)
+      go false other = if_other (S settings e Nobody before) (S settings e Nobody (with_cause before (Joined n))) (desk_of e before).phase (desk_of e before).initialize (open_of e before) (λ served id is. sent id) (h e)
+
+  -- a program that begins
+  started_now : (s e : ℕ) → OpenAt settings e Nobody (with_cause before (Started s))
+  started_now s e = open_at settings e Nobody before (heard (Started s)) (if_other (S settings e Nobody before) (S settings e Nobody (with_cause before (Started s))) (desk_of e before).phase (desk_of e before).initialize (open_of e before) (λ served id is. sent id) (h e))
+    where
+      sent : (id : Id) → SentAt settings before e id ⊎ ⊥ → SentAt settings (with_cause before (Started s)) e id ⊎ ⊥
+      sent id (inl k) = inl (sent_started settings e id before s k)
+      sent id (inr k) = inr k
+
+  -- Entries of starts
+
+  module _ (s : ℕ) (body : List ℕ) (built : built_behind settings before (FromServer s body) ≡ true) where
+    abbrev now : List Event
+    now = with_cause before (FromServer s body)
+
+    abbrev fs : List Forwarded
+    fs = (forwarding_of s before).open_requests
+
+    module _ (e : ℕ) where
+      -- those that the response answers are excused
+      abbrev Answers : Id → Type 0
+      Answers id = Passed settings e id before s body
+
+      response_now : OpenAt settings e Answers now
+      response_now = open_at settings e Answers before (heard (FromServer s body)) (if_other (S settings e Nobody before) (S settings e Answers now) (desk_of e before).phase (desk_of e before).initialize (open_of e before) (λ served id is. sent id) (h e))
+        where
+          sent : (id : Id) → SentAt settings before e id ⊎ ⊥ → SentAt settings now e id ⊎ Answers id
+          sent id (inl k) = sent_answered settings e id before s body k
+          sent id (inr k) = absurd k
+
+      -- and their editors get it
+
+      low : is_up (life_of s before).stage ≡ true → (forwarding_of s before).next < 2 ^ 64
+      low up = let b = (facts.steady).bounded s up in
+          let second : (forwarding_of s before).next ≤ settings.limits.requests + 2 = b.1 in
+          let wide : settings.limits.requests < 2 ^ 32 = range.requests in
+          omega (arith, second, wide)
+
+      none_answered : (id : Id) → answered_id (message_of body) ≡ None → Passed settings e id before s body → ⊥
+      none_answered id none k = nobody fs (subst (λ o. OneOf (λ (f : Forwarded). IsOf e id f × (answered_by o f ≡ true)) fs) none k)
+        where
+          nobody : (gs : List Forwarded) → OneOf (λ (f : Forwarded). IsOf e id f × (answered_by None f ≡ true)) gs → ⊥
+          nobody [] k = k
+          nobody (g ∷ gs) (inl p) = absurd (let clash : false ≡ true = p.1 in cc)
+          nobody (g ∷ gs) (inr q) = nobody gs q
+
+      -- of a start that is ready
+      module _ (id : Id) (f : Forwarded) (found : find (answered_by (answered_id (message_of body))) fs ≡ Some f) (of : IsOf e id f) where
+        abbrev text : List ℕ
+        text = with_id_text body f.id
+
+        response_outs : (there : Bool) → is_there (desk_of f.editor before).phase ≡ there → outs (response_row s before body (message_of body)) now ≡ outs (choose there (send (ToEditor f.editor text)) nothing) now
+        response_outs there is = ap (λ o. outs (on o nothing (pass_on before body)) now) found ∙ ap (λ b. outs (choose b (send (ToEditor f.editor text)) nothing) now) is
+
+        answers : answered_id (message_of text) ≡ Some id
+        answers = (response_is id (message_of text) (passed_says body f.id id (answers_only (message_of body) f fs found) of.1)).1
+
+        closed : is_open id (open_of e (now ++ said (ToEditor f.editor text) ∷ [])) ≡ false
+        closed = ap (is_open id) (opens_more e now (said (ToEditor f.editor text)) ∙ ap₂ (λ b o. if b then without o (open_of e now) else open_of e now) (ap (λ k. nat_eq k e) of.0 ∙ same_number e) answers) ∙ answered_closed id (open_of e now)
+
+        gone_not : (phase : Phase) → is_there phase ≡ false → is_served phase ≡ true → ⊥
+        gone_not Answered gone served = never gone
+        gone_not Running gone served = never gone
+        gone_not Absent gone served = never (sym served)
+        gone_not New gone served = never (sym served)
+        gone_not Waiting gone served = never (sym served)
+        gone_not Down gone served = never (sym served)
+        gone_not Closed gone served = never (sym served)
+        gone_not Gone gone served = never (sym served)
+
+        answered_not : (there : Bool) → is_there (desk_of f.editor before).phase ≡ there → is_served (desk_of e (behind now (outs (response_row s before body (message_of body)) now))).phase ≡ true
+            → is_open id (open_of e (behind now (outs (response_row s before body (message_of body)) now))) ≡ true → ⊥
+        answered_not true is served still = never (sym (subst (λ z. is_open id (open_of e (behind now z)) ≡ true) (response_outs true is) still) ∙ closed)
+        answered_not false is served still = gone_not (desk_of e before).phase (ap (λ k. is_there (desk_of k before).phase) (sym of.0) ∙ is)
+            (sym (ap (λ z. is_served (desk_of e z).phase) (ap (behind now) (response_outs false is) ∙ append-nil now) ∙ ap (λ (d : Desk). is_served d.phase) (desk_more e before (heard (FromServer s body)))) ∙ served)
+
+      abbrev Stays : Stage → Id → Type 0
+      Stays stage id = is_served (desk_of e (behind now (outs (from_server settings s before body (message_of body) stage) now))).phase ≡ true → is_open id (open_of e (behind now (outs (from_server settings s before body (message_of body) stage) now))) ≡ true → ⊥
+
+      ready_not : (life_of s before).stage ≡ Ready → (id : Id) → Passed settings e id before s body → Stays Ready id
+      ready_not at id k served still =
+          let p : Found (IsOf e id) (answered_id (message_of body)) (forwarding_of s before).next (low (ap is_up at)) fs = found_one (IsOf e id) (answered_id (message_of body)) (forwarding_of s before).next (low (ap is_up at)) 2 fs (rising_of s before) k in
+          answered_not id p.first p.found p.holds (is_there (desk_of (p.first).editor before).phase) refl served still
+
+      first_not : (life_of s before).stage ≡ Initializing → is_first_result (message_of body) ≡ true → (id : Id) → Passed settings e id before s body → ⊥
+      first_not at first id k =
+          let r : FirstResult (message_of body) = first_result_is (message_of body) first in
+          none_first (IsOf e id) (answered_id (message_of body)) (forwarding_of s before).next (low (ap is_up at)) (ap answered_id r.is) fs (rising_of s before) k
+
+      malformed_none : (m : Message) → is_malformed m ≡ true → answered_id m ≡ None
+      malformed_none not_json h = refl
+      malformed_none not_message h = refl
+      malformed_none (request id method params) h = absurd (cc)
+      malformed_none (notification method params) h = absurd (cc)
+      malformed_none (result id r) h = absurd (cc)
+      malformed_none (error id x) h = absurd (cc)
+
+      fine_not : (stage : Stage) → (life_of s before).stage ≡ stage → built_answer stage fs (message_of body) ≡ true → (id : Id) → Passed settings e id before s body → Stays stage id
+      fine_not Initializing at answer id k served still = first_not at answer id k
+      fine_not Ready at answer id k served still = ready_not at id k served still
+      fine_not Unspawned at answer id k served still = never (sym answer)
+      fine_not Spawning at answer id k served still = never (sym answer)
+      fine_not Stopping at answer id k served still = never (sym answer)
+      fine_not Ending at answer id k served still = never (sym answer)
+      fine_not Ended at answer id k served still = never (sym answer)
+
+      passed_not : (id : Id) → Passed settings e id before s body → Stays (life_of s before).stage id
+      passed_not id k served still = go (is_malformed (message_of body)) refl built
+        where
+          go : (b : Bool) → is_malformed (message_of body) ≡ b → (b || (built_answer (life_of s before).stage fs (message_of body) && (not (is_first_result (message_of body)) || is_shown_whole body))) ≡ true → ⊥
+          go true malformed h = none_answered id (malformed_none (message_of body) malformed) k
+          go false fine h = fine_not (life_of s before).stage refl (and_parts (built_answer (life_of s before).stage fs (message_of body)) (not (is_first_result (message_of body)) || is_shown_whole body) h).0 id k served still
+
+      server_at : OpenAt settings e Nobody (later (FromServer s body))
+      server_at = if_other (S settings e Answers (later (FromServer s body))) (S settings e Nobody (later (FromServer s body))) (desk_of e (later (FromServer s body))).phase (desk_of e (later (FromServer s body))).initialize (open_of e (later (FromServer s body)))
+          (λ served id still k. go id served still k) (open_entry settings e Answers before (FromServer s body) refl range facts begun built response_now)
+        where
+          go : (id : Id) → is_served (desk_of e (later (FromServer s body))).phase ≡ true → is_open id (open_of e (later (FromServer s body))) ≡ true → SentAt settings (later (FromServer s body)) e id ⊎ Answers id → SentAt settings (later (FromServer s body)) e id ⊎ ⊥
+          go id served still (inl k) = inl k
+          go id served still (inr k) = inr (passed_not id k served still)
+
+  pub open_rests : (cause : Cause) → fits_behind before cause ≡ true → built_behind settings before cause ≡ true → OpenAll settings (later cause)
+  open_rests (FromEditor n body) fits built = editor_entry n body built
+  open_rests (FromServer s body) fits built = λ e. server_at s body built e
+  open_rests (Joined n) fits built = λ e. open_entry settings e Nobody before (Joined n) refl range facts begun built (joined_now n e fits)
+  open_rests (Started s) fits built = λ e. open_entry settings e Nobody before (Started s) refl range facts begun built (started_now s e)
+  open_rests cause fits built = absurd (cc)

@@ -1,0 +1,135 @@
+-- What is open at an editor, behind each out of an entry that has its reason.
+use Rattle.std.proofs.Common.{◌≡◌, ℕ, Bool, true, false, List, [], ◌∷◌, ◌++◌, map, length, nat_eq, if◌then◌else◌, None, ◌⊎◌, inl, inr, refl, sym, ◌∙◌, subst, subst₂, arith, append-nil, append_assoc}
+use Rattle.std.specs.List.{AllByRecursion}
+use Rattle.mux_history.specs.declared.cause.Cause.{Cause}
+use Rattle.mux_history.specs.declared.out.Out.{Out}
+use Rattle.mux_history.specs.declared.out.Out.TheVariants.{ToEditor, ToServer, Spawn, CloseEditor, EndServer}
+use Rattle.rpc_message.specs.Message.{Id, message_of}
+use Rattle.event_model.specs.Event.{Event, behind, said, with_cause}
+use Rattle.event_model.specs.Phases.{Desk, desk_behind, desk_of, phase_closed, phase_told}
+use Rattle.event_model.specs.Requests.{answered_id, open_behind, open_of, without}
+use Rattle.event_model.specs.Settings.{Settings}
+use Rattle.event_model.specs.Spawns.{start_of}
+use Rattle.event_model.proofs.Frames.{never}
+use Rattle.mux_facts.specs.Ranges.{InRange}
+use Rattle.mux_facts.proofs.Folds.{desk_more, opens_more}
+use Rattle.mux_facts.proofs.Keeps.{behind_both}
+use Rattle.mux_facts.proofs.Reasons.{Reasons}
+use Rattle.mux_facts.proofs.Words.{number_same, same_number}
+use Rattle.group_words.specs.Houses.{groups_of}
+use Rattle.group_rows.specs.Rows.{outs_of}
+use Rattle.group_facts.specs.Built.{built_behind}
+use Rattle.group_facts.specs.Facts.{turned_away}
+use Rattle.group_facts.specs.Why.{Why, WhyToEditor, rejects, refuses, turns_away, welcomes, passes}
+use Rattle.group_facts.proofs.Begun.{Begun, Founding, NoSpawn, founding_of, founds, quiet, starts_stay, start_took}
+use Rattle.group_facts.proofs.Facts.{Facts}
+use Rattle.group_facts.proofs.Sent.{SentAt, sent_did, sent_spawn}
+use Rattle.group_facts.proofs.Table.{reasons}
+use Rattle.group_facts.proofs.OpenByPhase.{OpenDesk, OpenIf, if_closed, if_null, if_other, if_passed, if_refused, if_welcomed}
+
+reasons_left : (R : List Event → Out → Type 0) (events : List Event) (xs ys : List Out) → Reasons R events (xs ++ ys) → Reasons R events xs
+reasons_left R events [] ys h = tt
+reasons_left R events (x ∷ xs) ys h = (h.0, reasons_left R (events ++ said x ∷ []) xs ys h.1)
+
+module _ (settings : Settings) (e : ℕ) (E : Id → Type 0) where
+  -- it was sent on, or is excused
+  abbrev pub S : List Event → Id → Type 0
+  S events id = SentAt settings events e id ⊎ E id
+
+  abbrev pub OpenAt : List Event → Type 0
+  OpenAt events = OpenIf (S events) (desk_of e events).phase (desk_of e events).initialize (open_of e events)
+
+  -- where it stands behind a body to it, and behind the end of its link
+  abbrev pub told : List Event → List ℕ → Desk
+  told events body = record { phase = phase_told (desk_of e events).phase (desk_of e events).initialize (message_of body); initialize = (desk_of e events).initialize }
+
+  abbrev shut : List Event → Desk
+  shut events = record { phase = phase_closed (desk_of e events).phase; initialize = (desk_of e events).initialize }
+
+  -- one event more
+  pub open_at : (events : List Event) (event : Event) → OpenIf (S (events ++ event ∷ [])) (desk_behind e (desk_of e events) event).phase (desk_behind e (desk_of e events) event).initialize (open_behind e (open_of e events) event) → OpenAt (events ++ event ∷ [])
+  open_at events event h = subst₂ (OpenDesk (S (events ++ event ∷ []))) (sym (desk_more e events event)) (sym (opens_more e events event)) h
+
+  pub or_later : (events later : List Event) (id : Id) → (SentAt settings events e id → SentAt settings later e id) → S events id → S later id
+  or_later events later id f (inl k) = inl (f k)
+  or_later events later id f (inr k) = inr k
+
+  pub open_still : (events later : List Event) → ((id : Id) → SentAt settings events e id → SentAt settings later e id) → OpenAt events → OpenIf (S later) (desk_of e events).phase (desk_of e events).initialize (open_of e events)
+  open_still events later f h = if_other (S events) (S later) (desk_of e events).phase (desk_of e events).initialize (open_of e events) (λ served id is. or_later events later id (f id)) h
+
+  -- a body to a start
+  pub open_sent : (events : List Event) (s : ℕ) (body : List ℕ) → OpenAt events → OpenAt (events ++ said (ToServer s body) ∷ [])
+  open_sent events s body h = open_at events (said (ToServer s body)) (open_still events (events ++ said (ToServer s body) ∷ []) (λ id. sent_did settings e id events (ToServer s body) tt) h)
+
+  -- the first start of a group
+  open_spawned : (events : List Event) (n g : ℕ) → start_of g events ≡ None → OpenAt events → OpenAt (events ++ said (Spawn n g) ∷ [])
+  open_spawned events n g none h = open_at events (said (Spawn n g)) (open_still events (events ++ said (Spawn n g) ∷ []) (λ id. sent_spawn settings e id events n g none) h)
+
+  pub open_closed : (events : List Event) → OpenAt (events ++ said (CloseEditor e) ∷ [])
+  open_closed events = open_at events (said (CloseEditor e)) (go (nat_eq e e) (same_number e))
+    where
+      go : (b : Bool) → b ≡ true → OpenDesk (S (events ++ said (CloseEditor e) ∷ [])) (if b then shut events else desk_of e events) (open_of e events)
+      go true same = if_closed (S (events ++ said (CloseEditor e) ∷ [])) (desk_of e events).phase (desk_of e events).initialize (open_of e events)
+      go false same = never (sym same)
+
+  module _ (before : List Event) (cause : Cause) (stays : turned_away settings before cause e ≡ false) where
+    -- a body to it, for its reason
+    told_by : (T : Id → Type 0) (events : List Event) (body : List ℕ) → WhyToEditor settings before cause events e body → OpenIf T (desk_of e events).phase (desk_of e events).initialize (open_of e events)
+        → OpenIf T (phase_told (desk_of e events).phase (desk_of e events).initialize (message_of body)) (desk_of e events).initialize (without (answered_id (message_of body)) (open_of e events))
+    told_by T events body (rejects k) h = subst (λ m. OpenIf T (phase_told (desk_of e events).phase (desk_of e events).initialize m) (desk_of e events).initialize (without (answered_id m) (open_of e events))) (sym k.says)
+        (if_null T (desk_of e events).phase (desk_of e events).initialize (open_of e events) k.x h)
+    told_by T events body (refuses k) h = subst (λ m. OpenIf T (phase_told (desk_of e events).phase (desk_of e events).initialize m) (desk_of e events).initialize (without (answered_id m) (open_of e events))) (sym k.says)
+        (if_refused T (desk_of e events).phase (desk_of e events).initialize (open_of e events) k.id k.x k.others h)
+    told_by T events body (turns_away k) h = never (sym k.turned ∙ stays)
+    told_by T events body (welcomes k) h = subst (λ m. OpenIf T (phase_told (desk_of e events).phase (desk_of e events).initialize m) (desk_of e events).initialize (without (answered_id m) (open_of e events))) (sym k.says)
+        (if_welcomed T (desk_of e events).phase (desk_of e events).initialize (open_of e events) k.id (k.waiting).params k.r (k.waiting).phase (k.waiting).asks h)
+    told_by T events body (passes k) h = if_passed T (desk_of e events).phase (desk_of e events).initialize (open_of e events) (message_of body) k.late h
+
+    pick_told : (T : Id → Type 0) (events : List Event) (n : ℕ) (body : List ℕ) → WhyToEditor settings before cause events n body → OpenIf T (desk_of e events).phase (desk_of e events).initialize (open_of e events)
+        → OpenIf T (desk_behind e (desk_of e events) (said (ToEditor n body))).phase (desk_behind e (desk_of e events) (said (ToEditor n body))).initialize (open_behind e (open_of e events) (said (ToEditor n body)))
+    pick_told T events n body why h = go (nat_eq n e) (λ same. told_by T events body (subst (λ z. WhyToEditor settings before cause events z body) (number_same n e same) why) h)
+      where
+        go : (b : Bool) → (b ≡ true → OpenDesk T (told events body) (without (answered_id (message_of body)) (open_of e events)))
+            → OpenDesk T (if b then told events body else desk_of e events) (if b then without (answered_id (message_of body)) (open_of e events) else open_of e events)
+        go true f = f refl
+        go false f = h
+
+    pick_closed : (T : Id → Type 0) (events : List Event) (n : ℕ) → OpenIf T (desk_of e events).phase (desk_of e events).initialize (open_of e events)
+        → OpenIf T (desk_behind e (desk_of e events) (said (CloseEditor n))).phase (desk_behind e (desk_of e events) (said (CloseEditor n))).initialize (open_of e events)
+    pick_closed T events n h = go (nat_eq n e)
+      where
+        go : (b : Bool) → OpenDesk T (if b then shut events else desk_of e events) (open_of e events)
+        go true = if_closed T (desk_of e events).phase (desk_of e events).initialize (open_of e events)
+        go false = h
+
+    open_did : (events : List Event) (out : Out) → Why settings before cause events out → NoSpawn out → OpenAt events → OpenAt (events ++ said out ∷ [])
+    open_did events (ToEditor n body) why calm h = open_at events (said (ToEditor n body)) (pick_told (S (events ++ said (ToEditor n body) ∷ [])) events n body why (open_still events (events ++ said (ToEditor n body) ∷ []) (λ id. sent_did settings e id events (ToEditor n body) calm) h))
+    open_did events (ToServer s body) why calm h = open_sent events s body h
+    open_did events (CloseEditor n) why calm h = open_at events (said (CloseEditor n)) (pick_closed (S (events ++ said (CloseEditor n) ∷ [])) events n (open_still events (events ++ said (CloseEditor n) ∷ []) (λ id. sent_did settings e id events (CloseEditor n) calm) h))
+    open_did events (EndServer s) why calm h = open_at events (said (EndServer s)) (open_still events (events ++ said (EndServer s) ∷ []) (λ id. sent_did settings e id events (EndServer s) calm) h)
+    open_did events (Spawn s g) why calm h = absurd calm
+
+    abbrev R : List Event → Out → Type 0
+    R places out = Why settings before cause places out
+
+    abbrev now : List Event
+    now = with_cause before cause
+
+    abbrev N : ℕ
+    N = length (groups_of settings before)
+
+    open_outs : (events : List Event) (xs : List Out) → Reasons R events xs → AllByRecursion NoSpawn xs → OpenAt events → OpenAt (behind events xs)
+    open_outs events [] why calm h = subst OpenAt (sym (append-nil events)) h
+    open_outs events (x ∷ xs) why calm h = subst OpenAt (append_assoc events (said x ∷ []) (map said xs)) (open_outs (events ++ said x ∷ []) xs why.1 calm.1 (open_did events x why.0 calm.0 h))
+
+    -- all outs of an entry
+    pub open_entry : InRange settings → Facts settings before → Begun settings before → built_behind settings before cause ≡ true → OpenAt (with_cause before cause) → OpenAt (behind (with_cause before cause) (outs_of settings before cause))
+    open_entry range facts begun built h = go (founding_of settings before cause built) (reasons settings range before facts cause built).why
+      where
+        last : (xs : List Out) (s : ℕ) → AllByRecursion NoSpawn xs → Reasons R now (xs ++ Spawn s N ∷ []) → OpenAt (behind now (xs ++ Spawn s N ∷ []))
+        last xs s calm why = subst OpenAt (sym (behind_both now xs (Spawn s N ∷ [])))
+            (open_spawned (behind now xs) s N (starts_stay N now xs calm ∙ start_took N before cause ∙ (begun N).1 (omega arith)) (open_outs now xs (reasons_left R now xs (Spawn s N ∷ []) why) calm h))
+
+        go : Founding settings before cause → Reasons R now (outs_of settings before cause) → OpenAt (behind now (outs_of settings before cause))
+        go (quiet calm same) why = open_outs now (outs_of settings before cause) why calm h
+        go (founds xs s calm sent more) why = subst (λ z. OpenAt (behind now z)) (sym sent) (last xs s calm (subst (Reasons R now) sent why))

@@ -1,0 +1,356 @@
+-- What is open at an editor, behind the entry of a message of its own.
+use Rattle.std.proofs.Common.{◌≡◌, ℕ, Bool, true, false, not, ◌&&◌, List, [], ◌∷◌, ◌++◌, map, nat_eq, codes, decimal, if◌then◌else◌, Option, Some, None, ◌⊎◌, inl, inr, refl, sym, ◌∙◌, ap, ap₂, subst, subst₂, append-nil, append_assoc}
+use Rattle.std.specs.List.{AllByRecursion}
+use Rattle.std.proofs.lemmas.Bool.{and_parts}
+use Rattle.std.proofs.lemmas.Slice.Eq.{bytes_eq-Decides}
+use Rattle.json_text.specs.Json.{Json}
+use Rattle.document_model.specs.Sayings.{Saying, saying_by}
+use Rattle.mux_history.specs.declared.cause.Cause.TheVariants.{FromEditor}
+use Rattle.mux_history.specs.declared.out.Out.{Out}
+use Rattle.mux_history.specs.declared.out.Out.TheVariants.{ToEditor, ToServer, Spawn, CloseEditor, EndServer}
+use Rattle.rpc_message.specs.Message.{Message, request, notification, result, error, not_json, not_message, Id, id_bytes, integer, message_of}
+use Rattle.rpc_message.specs.Texts.{Code, error_text, error_tree, request_failed, server_not_initialized, with_id_text}
+use Rattle.rpc_message.proofs.Ids.{request_id_bytes}
+use Rattle.event_model.specs.declared.phase.Phase.{Phase}
+use Rattle.event_model.specs.declared.phase.Phase.TheVariants.{Absent, New, Waiting, Answered, Running, Down, Closed, Gone}
+use Rattle.event_model.specs.Event.{Event, behind, heard, requests, said, with_cause}
+use Rattle.event_model.specs.Members.{has_token}
+use Rattle.event_model.specs.Phases.{Desk, desk_hears, desk_of, has_id, is_new, is_served, is_there, phase_told}
+use Rattle.event_model.specs.Requests.{answered_id, asks, is_open, is_own, open_of, without}
+use Rattle.event_model.specs.Row.{choose, nothing, on, outs, send, ◌⨾◌}
+use Rattle.event_model.specs.Settings.{Settings}
+use Rattle.event_model.specs.Spawns.{start_of}
+use Rattle.event_model.proofs.Frames.{never}
+use Rattle.mux_model.specs.Documents.{held_at}
+use Rattle.mux_model.specs.Rows.{malformed_code, malformed_row, malformed_text, to_start}
+use Rattle.mux_facts.specs.Ranges.{InRange}
+use Rattle.mux_facts.proofs.Bodies.{malformed_says, refusal_says}
+use Rattle.mux_facts.proofs.Folds.{opens_more}
+use Rattle.mux_facts.proofs.Keeps.{behind_both}
+use Rattle.mux_facts.proofs.Late.{error_told}
+use Rattle.mux_facts.proofs.Reasons.{Because, by_nothing, by_send, by_then, by_choose, by_on}
+use Rattle.mux_facts.proofs.Table.{late_taken}
+use Rattle.mux_facts.proofs.Why.{is_early}
+use Rattle.mux_facts.proofs.Words.{same_id_itself, same_number}
+use Rattle.group_words.specs.Houses.{home_of, house_of, placed_for, places}
+use Rattle.group_words.specs.Placing.{home_by}
+use Rattle.group_words.specs.Rows.{initialize_row}
+use Rattle.group_words.proofs.Frames.{home_more, home_stays}
+use Rattle.group_rows.specs.Forwarded.{Forwarding, forwarding_of, numbered}
+use Rattle.group_rows.specs.Rows.{answer_error, can_ask, document_at, document_bodies, document_row, early_row, forward, from_editor, message_row, outs_of, request_at, request_row, sync_row}
+use Rattle.group_rows.specs.Texts.{encoding_of, texts_of}
+use Rattle.group_facts.specs.Built.{built_as, built_from_editor, is_plain, opens_well}
+use Rattle.group_facts.specs.Facts.{turned_away}
+use Rattle.group_facts.specs.Why.{IsForward}
+use Rattle.group_facts.proofs.Begun.{NoSpawn, all_outs, quiet_bodies, start_did, start_took, starts_stay}
+use Rattle.group_facts.proofs.Facts.{Facts}
+use Rattle.group_facts.proofs.Forwards.{more_requests}
+use Rattle.group_facts.proofs.Numbers.{forwarding_sent}
+use Rattle.group_facts.proofs.RequestRow.{desk_taken, goes_on, plain_other, synced_sender}
+use Rattle.group_facts.proofs.Sent.{IsOf, OneOf, SentAt, one_last, sent_did, sent_heard}
+use Rattle.group_facts.proofs.Table.{not_so}
+use Rattle.group_facts.proofs.OpenByPhase.{OpenDesk, OpenIf, if_asked, if_hears, if_null, if_other, without_last}
+use Rattle.group_facts.proofs.Waiting.{new_is, turned_outs}
+use Rattle.group_facts.proofs.OpenByOut.{OpenAt, S, open_at, open_closed, open_sent, open_still, or_later, told}
+
+-- no request is excused
+abbrev pub Nobody : Id → Type 0
+Nobody id = ⊥
+
+-- Homes
+
+home_did : (settings : Settings) (e : ℕ) (events : List Event) (out : Out) → home_of settings e (events ++ said out ∷ []) ≡ home_of settings e events
+home_did settings e events (ToEditor n body) = home_stays settings e events (said (ToEditor n body)) refl
+home_did settings e events (ToServer s body) = home_stays settings e events (said (ToServer s body)) refl
+home_did settings e events (Spawn s g) = home_stays settings e events (said (Spawn s g)) refl
+home_did settings e events (CloseEditor n) = home_stays settings e events (said (CloseEditor n)) refl
+home_did settings e events (EndServer s) = home_stays settings e events (said (EndServer s)) refl
+
+homes_stay : (settings : Settings) (e : ℕ) (events : List Event) (xs : List Out) → home_of settings e (behind events xs) ≡ home_of settings e events
+homes_stay settings e events [] = ap (home_of settings e) (append-nil events)
+homes_stay settings e events (x ∷ xs) = ap (home_of settings e) (sym (append_assoc events (said x ∷ []) (map said xs))) ∙ homes_stay settings e (events ++ said x ∷ []) xs ∙ home_did settings e events x
+
+-- Outs that are bodies to starts
+
+abbrev ToStart : Out → Type 0
+ToStart (ToServer s body) = Unit {0}
+ToStart other = ⊥
+
+starts_bodies : (s : ℕ) (bodies : List (List ℕ)) (events : List Event) → Because (λ places out. ToStart out) events (to_start s bodies)
+starts_bodies s [] events = by_nothing
+starts_bodies s (b ∷ bodies) events = by_then (by_send tt) (starts_bodies s bodies (behind events (ToServer s b ∷ [])))
+
+open_bodies : (settings : Settings) (e : ℕ) (E : Id → Type 0) (events : List Event) (xs : List Out) → AllByRecursion ToStart xs → OpenAt settings e E events → OpenAt settings e E (behind events xs)
+open_bodies settings e E events [] all h = subst (OpenAt settings e E) (sym (append-nil events)) h
+open_bodies settings e E events (ToServer s body ∷ xs) all h = subst (OpenAt settings e E) (append_assoc events (said (ToServer s body) ∷ []) (map said xs)) (open_bodies settings e E (events ++ said (ToServer s body) ∷ []) xs all.1 (open_sent settings e E events s body h))
+open_bodies settings e E events (ToEditor n body ∷ xs) all h = absurd (all.0)
+open_bodies settings e E events (Spawn s g ∷ xs) all h = absurd (all.0)
+open_bodies settings e E events (CloseEditor n ∷ xs) all h = absurd (all.0)
+open_bodies settings e E events (EndServer s ∷ xs) all h = absurd (all.0)
+
+served_old : (phase : Phase) → is_served phase ≡ true → is_new phase ≡ false
+served_old New h = absurd (cc)
+served_old Absent h = refl
+served_old Waiting h = refl
+served_old Answered h = refl
+served_old Running h = refl
+served_old Down h = refl
+served_old Closed h = refl
+served_old Gone h = refl
+
+and_no : (a b c : Bool) → b ≡ false → (a && (b && c)) ≡ false
+and_no true b c h = ap (λ z. z && c) h
+and_no false b c h = refl
+
+module _ (settings : Settings) (before : List Event) (n : ℕ) (body : List ℕ) where
+  abbrev now : List Event
+  now = with_cause before (FromEditor n body)
+
+  abbrev ids : List Id
+  ids = open_of n before
+
+  abbrev here : Desk
+  here = desk_of n now
+
+  abbrev Rests : List Out → Type 0
+  Rests xs = OpenAt settings n Nobody (behind now xs)
+
+  abbrev told_now : List ℕ → List Event
+  told_now text = now ++ said (ToEditor n text) ∷ []
+
+  open_now : open_of n now ≡ asks (message_of body) ids
+  open_now = opens_more n before (heard (FromEditor n body)) ∙ ap (λ b. if b then asks (message_of body) ids else ids) (same_number n)
+
+  -- a body to it
+  open_told : (E : Id → Type 0) (events : List Event) (text : List ℕ) (m : Message) → message_of text ≡ m
+      → OpenIf (S settings n E (events ++ said (ToEditor n text) ∷ [])) (phase_told (desk_of n events).phase (desk_of n events).initialize m) (desk_of n events).initialize (without (answered_id m) (open_of n events)) → OpenAt settings n E (events ++ said (ToEditor n text) ∷ [])
+  open_told E events text m says h = open_at settings n E events (said (ToEditor n text)) (go (nat_eq n n) (same_number n))
+    where
+      go : (b : Bool) → b ≡ true → OpenDesk (S settings n E (events ++ said (ToEditor n text) ∷ [])) (if b then told settings n E events text else desk_of n events) (if b then without (answered_id (message_of text)) (open_of n events) else open_of n events)
+      go true same = subst (λ k. OpenIf (S settings n E (events ++ said (ToEditor n text) ∷ [])) (phase_told (desk_of n events).phase (desk_of n events).initialize k) (desk_of n events).initialize (without (answered_id k) (open_of n events))) (sym says) h
+      go false same = never (sym same)
+
+  module _ (h : OpenAt settings n Nobody before) where
+    -- what it sent before is still sent
+    still_sent : (E : Id → Type 0) → OpenIf (S settings n E now) (desk_of n before).phase (desk_of n before).initialize ids
+    still_sent E = if_other (S settings n Nobody before) (S settings n E now) (desk_of n before).phase (desk_of n before).initialize ids (λ served id is k. go id served k) h
+      where
+        go : (id : Id) → is_served (desk_of n before).phase ≡ true → SentAt settings before n id ⊎ ⊥ → SentAt settings now n id ⊎ E id
+        go id served (inl k) = inl (sent_heard settings n id before n body (and_no (nat_eq n n) (is_new (desk_of n before).phase) (requests (codes "initialize") (message_of body)) (served_old (desk_of n before).phase served)) k)
+        go id served (inr k) = absurd k
+
+    heard_if : (E : Id → Type 0) → ((desk_of n before).phase ≡ New → requests (codes "initialize") (message_of body) ≡ false) → OpenIf (S settings n E now) here.phase here.initialize ids
+    heard_if E other = subst (λ (d : Desk). OpenIf (S settings n E now) d.phase d.initialize ids) (sym (desk_taken settings before n body))
+        (if_hears (S settings n E now) (desk_of n before).phase (desk_of n before).initialize body (message_of body) ids other (still_sent E))
+
+    -- a message that is no request
+    no_request : (m : Message) → message_of body ≡ m → asks m ids ≡ ids → requests (codes "initialize") m ≡ false → OpenAt settings n Nobody now
+    no_request m says same none = subst (λ z. OpenIf (S settings n Nobody now) here.phase here.initialize z) (sym (open_now ∙ ap (λ k. asks k ids) says ∙ same)) (heard_if Nobody (λ new. ap (requests (codes "initialize")) says ∙ none))
+
+    rests_here : OpenAt settings n Nobody now → Rests []
+    rests_here k = subst (OpenAt settings n Nobody) (sym (append-nil now)) k
+
+    -- one that is none at all
+    malformed_rests : (m : Message) (phase : Phase) → message_of body ≡ m → asks m ids ≡ ids → requests (codes "initialize") m ≡ false → Rests (outs (malformed_row n m phase) now)
+    malformed_rests m phase says same none = go (is_there phase)
+      where
+        heard : OpenAt settings n Nobody now
+        heard = no_request m says same none
+
+        go : (b : Bool) → Rests (outs (choose b (send (ToEditor n (malformed_text m))) nothing) now)
+        go true = open_told Nobody now (malformed_text m) (error None (error_tree (malformed_code m))) (malformed_says m)
+            (if_null (S settings n Nobody (told_now (malformed_text m))) here.phase here.initialize (open_of n now) (error_tree (malformed_code m)) (open_still settings n Nobody now (told_now (malformed_text m)) (λ id. sent_did settings n id now (ToEditor n (malformed_text m)) tt) heard))
+        go false = rests_here heard
+
+    -- Requests
+
+    module _ (id : Id) (method : List ℕ) (params : Option Json) (says : message_of body ≡ request id method params) (fresh : is_open id ids ≡ false) where
+      asked_now : open_of n now ≡ ids ++ id ∷ []
+      asked_now = open_now ∙ ap (λ m. asks m ids) says
+
+      -- refused in its own entry
+      refused : ((desk_of n before).phase ≡ New → requests (codes "initialize") (message_of body) ≡ false) → (code : Code) → Rests (ToEditor n (error_text (id_bytes body) code) ∷ [])
+      refused other code = open_told Nobody now (error_text (id_bytes body) code) (error (Some id) (error_tree code)) (refusal_says body id method params code says)
+          (subst₂ (λ p z. OpenIf (S settings n Nobody (told_now (error_text (id_bytes body) code))) p here.initialize z) (sym (error_told here.phase here.initialize (Some id) (error_tree code))) (sym (ap (without (Some id)) asked_now ∙ without_last id ids fresh))
+          (if_other (S settings n Nobody now) (S settings n Nobody (told_now (error_text (id_bytes body) code))) here.phase here.initialize ids (λ served i is. or_later settings n Nobody now (told_now (error_text (id_bytes body) code)) i (sent_did settings n i now (ToEditor n (error_text (id_bytes body) code)) tt)) (heard_if Nobody other)))
+
+      -- or sent on
+      module _ (range : InRange settings) (facts : Facts settings before) (there : is_there (desk_of n before).phase ≡ true) (late : is_early (desk_of n before).phase ≡ false) (other : is_own method ≡ false) where
+        no_first : (desk_of n before).phase ≡ New → requests (codes "initialize") (message_of body) ≡ false
+        no_first new = never (sym (ap is_early new) ∙ late)
+
+        module _ (g s : ℕ) (home : home_of settings n before ≡ Some g) (start : start_of g before ≡ Some s) (can : can_ask settings s before ≡ true) where
+          abbrev sync : List Out
+          sync = outs (sync_row settings before g s n) now
+
+          abbrev synced : List Event
+          synced = behind now sync
+
+          abbrev text : List ℕ
+          text = with_id_text body (decimal (forwarding_of s synced).next)
+
+          abbrev gone : List Event
+          gone = synced ++ said (ToServer s text) ∷ []
+
+          -- it alone isn't sent yet
+          Itself : Id → Type 0
+          Itself i = i ≡ id
+
+          asked_open : OpenAt settings n Itself now
+          unfolding Itself
+          asked_open = subst (OpenIf (S settings n Itself now) here.phase here.initialize) (sym asked_now)
+              (if_asked (S settings n Itself now) here.phase here.initialize ids id (late_taken before n body late) (inr refl) (heard_if Itself no_first))
+
+          quiet_sync : AllByRecursion NoSpawn sync
+          quiet_sync = all_outs NoSpawn now sync (quiet_bodies s _ now).why
+
+          forward_is : IsForward settings (FromEditor n body) synced s text
+          forward_is = goes_on settings before n body id method params says there (facts.steady).asked fresh range (facts.base).opened late other g s can
+
+          list_now : (forwarding_of s gone).open_requests ≡ (forwarding_of s synced).open_requests ++ numbered (Some (record { editor = n; id = id_bytes body })) (forwarding_of s synced).next
+          list_now = ap (λ (x : Forwarding). x.open_requests) (forwarding_sent synced s text (request (integer (decimal (forwarding_of s synced).next)) forward_is.method forward_is.params) forward_is.says
+              ∙ ap (λ c. if c then forwarding_of s synced else more_requests (forwarding_of s synced)) forward_is.other)
+              ∙ ap (λ o. (forwarding_of s synced).open_requests ++ numbered o (forwarding_of s synced).next) (synced_sender settings before n body id method params says there (facts.steady).asked fresh range (facts.base).opened late other g s can)
+
+          sent_now : SentAt settings gone n id
+          sent_now = record {
+            group = g;
+            start = s;
+            home = home_did settings n synced (ToServer s text) ∙ homes_stay settings n now sync ∙ home_heard ∙ home;
+            last = start_did g synced (ToServer s text) tt ∙ starts_stay g now sync quiet_sync ∙ start_took g before (FromEditor n body) ∙ start;
+            among = subst (OneOf (IsOf n id)) (sym list_now) (one_last (IsOf n id) (forwarding_of s synced).open_requests (record { number = (forwarding_of s synced).next; editor = n; id = id_bytes body; cancelled = false }) (refl, request_id_bytes body id method params says));
+          }
+            where
+              home_heard : home_of settings n now ≡ home_of settings n before
+              home_heard = home_more settings n before (heard (FromEditor n body))
+                  ∙ ap (λ b. if b then home_by (placed_for settings before n body (house_of settings before).groups) (home_of settings n before) else home_of settings n before)
+                  (and_no (nat_eq n n) (is_new (desk_of n before).phase) (requests (codes "initialize") (message_of body)) (old (desk_of n before).phase late))
+                where
+                  old : (phase : Phase) → is_early phase ≡ false → is_new phase ≡ false
+                  old New e = absurd (cc)
+                  old Absent e = refl
+                  old Waiting e = refl
+                  old Answered e = refl
+                  old Running e = refl
+                  old Down e = refl
+                  old Closed e = refl
+                  old Gone e = refl
+
+          forwarded_rests : Rests (sync ++ ToServer s text ∷ [])
+          unfolding Itself
+          forwarded_rests = subst (OpenAt settings n Nobody) (sym (behind_both now sync (ToServer s text ∷ [])))
+              (if_other (S settings n Itself gone) (S settings n Nobody gone) (desk_of n gone).phase (desk_of n gone).initialize (open_of n gone) (λ served i is k. go i k)
+              (open_sent settings n Itself synced s text (open_bodies settings n Itself now sync (all_outs ToStart now sync (starts_bodies s _ now).why) asked_open)))
+            where
+              go : (i : Id) → SentAt settings gone n i ⊎ (i ≡ id) → SentAt settings gone n i ⊎ ⊥
+              go i (inl k) = inl k
+              go i (inr same) = inl (subst (SentAt settings gone n) (sym same) sent_now)
+
+        -- E10
+        by_can : (g s : ℕ) → home_of settings n before ≡ Some g → start_of g before ≡ Some s → (b : Bool) → can_ask settings s before ≡ b → Rests (outs (choose b (sync_row settings before g s n ⨾ forward s body) (answer_error n body request_failed)) now)
+        by_can g s home start true can = forwarded_rests g s home start can
+        by_can g s home start false can = refused no_first request_failed
+
+        by_start : (g : ℕ) → home_of settings n before ≡ Some g → (o : Option ℕ) → start_of g before ≡ o → Rests (outs (on o (answer_error n body request_failed) (request_at settings before n body g)) now)
+        by_start g home None start = refused no_first request_failed
+        by_start g home (Some s) start = by_can g s home start (can_ask settings s before) refl
+
+        by_home : (o : Option ℕ) → home_of settings n before ≡ o → Rests (outs (on o (answer_error n body request_failed) (λ g. on (start_of g before) (answer_error n body request_failed) (request_at settings before n body g))) now)
+        by_home None home = refused no_first request_failed
+        by_home (Some g) home = by_start g home (start_of g before) refl
+
+        request_rests : Rests (outs (request_row settings before n body) now)
+        request_rests = by_home (home_of settings n before) refl
+
+    -- Notifications
+
+    document_rests : (method : List ℕ) (params : Option Json) → message_of body ≡ notification method params → Rests (outs (document_row settings before n body (saying_by method params)) now)
+    document_rests method params says = open_bodies settings n Nobody now (outs (document_row settings before n body (saying_by method params)) now) (all_outs ToStart now _ (bodies (saying_by method params)).why) (no_request (notification method params) says refl refl)
+      where
+        told_at : (x : Saying) (g s : ℕ) → Because (λ places out. ToStart out) now (document_at settings before n body x g s)
+        told_at x g s = by_choose (λ ready. starts_bodies s (document_bodies settings.limits.versions (encoding_of g before) (texts_of settings g before) (λ u. held_at s u before) n body x) now) (λ off. by_nothing)
+
+        told_group : (x : Saying) (g : ℕ) → Because (λ places out. ToStart out) now (on (start_of g before) nothing (document_at settings before n body x g))
+        told_group x g = by_on (λ none. by_nothing) (λ s start. told_at x g s)
+
+        bodies : (x : Saying) → Because (λ places out. ToStart out) now (document_row settings before n body x)
+        bodies x = by_on (λ none. by_nothing) (λ g home. told_group x g)
+
+    notified_rests : (method : List ℕ) (params : Option Json) → message_of body ≡ notification method params → (phase : Phase) → Rests (outs (message_row settings before n body (notification method params) phase) now)
+    notified_rests method params says Answered = document_rests method params says
+    notified_rests method params says Running = document_rests method params says
+    notified_rests method params says New = rests_here (no_request (notification method params) says refl refl)
+    notified_rests method params says Waiting = rests_here (no_request (notification method params) says refl refl)
+    notified_rests method params says Absent = rests_here (no_request (notification method params) says refl refl)
+    notified_rests method params says Down = rests_here (no_request (notification method params) says refl refl)
+    notified_rests method params says Closed = rests_here (no_request (notification method params) says refl refl)
+    notified_rests method params says Gone = rests_here (no_request (notification method params) says refl refl)
+
+    -- Any message that doesn't place it
+
+    module _ (range : InRange settings) (facts : Facts settings before) where
+      abbrev BuiltAs : Phase → Message → Type 0
+      BuiltAs phase m = built_from_editor phase ids (opens_well settings before n body) m ≡ true
+
+      asked_rests : (id : Id) (method : List ℕ) (params : Option Json) → message_of body ≡ request id method params → (phase : Phase) → (desk_of n before).phase ≡ phase → BuiltAs phase (request id method params) → places phase (request id method params) ≡ false
+          → Rests (outs (message_row settings before n body (request id method params) phase) now)
+      asked_rests id method params says phase at built off = go phase at (not_so (is_open id ids) parts.0) parts.1 off
+        where
+          parts : (not (is_open id ids) ≡ true) × (built_as phase (opens_well settings before n body) method params ≡ true)
+          parts = and_parts (not (is_open id ids)) (built_as phase (opens_well settings before n body) method params) built
+
+          served : is_open id ids ≡ false → is_there (desk_of n before).phase ≡ true → is_early (desk_of n before).phase ≡ false → is_plain method && not (has_token params) ≡ true → Rests (outs (request_row settings before n body) now)
+          served fresh there late plain = request_rests id method params says fresh range facts there late (plain_other method (and_parts (is_plain method) (not (has_token params)) plain).0)
+
+          go : (phase : Phase) → (desk_of n before).phase ≡ phase → is_open id ids ≡ false → built_as phase (opens_well settings before n body) method params ≡ true → places phase (request id method params) ≡ false → Rests (outs (message_row settings before n body (request id method params) phase) now)
+          go New at fresh sort off = subst (λ b. Rests (outs (choose b (initialize_row settings before n body) (early_row n body (request id method params))) now)) (sym off)
+              (refused id method params says fresh (λ new. ap (requests (codes "initialize")) says ∙ off) server_not_initialized)
+          go Waiting at fresh sort off = refused id method params says fresh (λ new. absurd (let clash : ◌≡◌ {A = Phase} Waiting New = sym at ∙ new in cc)) server_not_initialized
+          go Answered at fresh sort off = served fresh (ap is_there at) (ap is_early at) sort
+          go Running at fresh sort off = served fresh (ap is_there at) (ap is_early at) sort
+          go Absent at fresh sort off = absurd (cc)
+          go Down at fresh sort off = absurd (cc)
+          go Closed at fresh sort off = absurd (cc)
+          go Gone at fresh sort off = absurd (cc)
+
+      own_rests : (m : Message) → message_of body ≡ m → BuiltAs (desk_of n before).phase m → places (desk_of n before).phase m ≡ false → Rests (outs (from_editor settings before n body m (desk_of n before).phase) now)
+      own_rests (request id method params) says built off = asked_rests id method params says (desk_of n before).phase refl built off
+      own_rests (notification method params) says built off = notified_rests method params says (desk_of n before).phase
+      own_rests not_json says built off = malformed_rests not_json (desk_of n before).phase says refl refl
+      own_rests not_message says built off = malformed_rests not_message (desk_of n before).phase says refl refl
+      own_rests (result id r) says built off = absurd (cc)
+      own_rests (error id x) says built off = absurd (cc)
+
+      pub message_rests : BuiltAs (desk_of n before).phase (message_of body) → places (desk_of n before).phase (message_of body) ≡ false → OpenAt settings n Nobody (behind now (outs_of settings before (FromEditor n body)))
+      message_rests built off = own_rests (message_of body) refl built off
+
+    -- Its first `initialize`
+
+    first_open : (m : Message) → message_of body ≡ m → (desk_of n before).phase ≡ New → requests (codes "initialize") m ≡ true → OpenAt settings n Nobody now
+    first_open (request id method params) says new first = subst₂ (λ (d : Desk) z. OpenIf (S settings n Nobody now) d.phase d.initialize z) (sym desk) (sym alone)
+        (record { id = id; asked = ap (has_id id) says ∙ same_id_itself id; alone = refl })
+      where
+        named : message_of body ≡ request id (codes "initialize") params
+        named = says ∙ ap (λ z. request id z params) (sym ((bytes_eq-Decides (codes "initialize") method).0 first))
+
+        desk : here ≡ record { phase = Waiting; initialize = body }
+        desk = desk_taken settings before n body ∙ ap₂ (λ p m. desk_hears p (desk_of n before).initialize body m) new named
+
+        none : ids ≡ []
+        none = subst (λ p. OpenIf (S settings n Nobody before) p (desk_of n before).initialize ids) new h
+
+        alone : open_of n now ≡ id ∷ []
+        alone = open_now ∙ ap₂ asks says none
+    first_open (notification method params) says new first = absurd (cc)
+    first_open (result id r) says new first = absurd (cc)
+    first_open (error id x) says new first = absurd (cc)
+    first_open not_json says new first = absurd (cc)
+    first_open not_message says new first = absurd (cc)
+
+    pub placed_open : places (desk_of n before).phase (message_of body) ≡ true → OpenAt settings n Nobody now
+    placed_open place = let p = and_parts (is_new (desk_of n before).phase) (requests (codes "initialize") (message_of body)) place in first_open (message_of body) refl (new_is (desk_of n before).phase p.0) p.1
+
+  -- one that is turned away
+  pub turned_rests : turned_away settings before (FromEditor n body) n ≡ true → OpenAt settings n Nobody (behind now (outs_of settings before (FromEditor n body)))
+  turned_rests turned = subst (λ xs. OpenAt settings n Nobody (behind now xs)) (sym (turned_outs settings before n body n turned))
+      (subst (OpenAt settings n Nobody) (append_assoc now (said (ToEditor n (error_text (id_bytes body) request_failed)) ∷ []) (said (CloseEditor n) ∷ [])) (open_closed settings n Nobody (now ++ said (ToEditor n (error_text (id_bytes body) request_failed)) ∷ [])))

@@ -1,0 +1,109 @@
+-- What is settled behind every legal history.
+use Rattle.std.proofs.Common.{◌≡◌, ℕ, true, List, [], ◌∷◌, ◌++◌, map, IsTrue, ◌⊎◌, inl, inr, refl, sym, subst, arith, append-nil, append_assoc}
+use Rattle.std.specs.List.{AllByRecursion}
+use Rattle.mux_history.specs.declared.cause.Cause.{Cause}
+use Rattle.mux_history.specs.declared.entry.Entry.{Entry}
+use Rattle.mux_history.specs.declared.out.Out.{Out}
+use Rattle.rpc_message.specs.Message.{Id}
+use Rattle.event_model.specs.declared.phase.Phase.TheVariants.{Waiting}
+use Rattle.event_model.specs.Event.{Event, behind, events_of, said, with_cause}
+use Rattle.event_model.specs.Phases.{desk_of, is_served}
+use Rattle.event_model.specs.Requests.{is_open, open_of}
+use Rattle.event_model.specs.Row.{outs}
+use Rattle.event_model.specs.Settings.{Settings}
+use Rattle.mux_model.specs.Fits.{fits_behind}
+use Rattle.mux_facts.specs.Ranges.{InRange}
+use Rattle.mux_facts.proofs.Keeps.{events_more}
+use Rattle.group_words.specs.declared.kept.Kept.{Kept}
+use Rattle.group_words.specs.Houses.{groups_of}
+use Rattle.group_rows.specs.Rows.{outs_of}
+use Rattle.group_facts.specs.Built.{built_behind}
+use Rattle.group_facts.specs.Legal.{Legal, LegalFrom}
+use Rattle.group_facts.specs.Settled.{AreUtf8, IsOnly, IsSent, Settled}
+use Rattle.group_facts.proofs.Entries.{OpenAll, open_rests}
+use Rattle.group_facts.proofs.Begun.{Begun, begun_rests}
+use Rattle.group_facts.proofs.Facts.{Facts}
+use Rattle.group_facts.proofs.Folders.{folders_utf8}
+use Rattle.group_facts.proofs.Keeping.{Keeps, all_did, all_took}
+use Rattle.group_facts.proofs.Known.{entry_keeps, no_facts}
+use Rattle.group_facts.proofs.OwnEntry.{Nobody}
+use Rattle.group_facts.proofs.Sent.{SentAt, sent_is}
+use Rattle.group_facts.proofs.Unnamed.{Unnamed, unnamed_did, unnamed_took}
+use Rattle.group_facts.proofs.OpenByPhase.{IsOne, OpenIf, if_served}
+use Rattle.group_facts.proofs.OpenByOut.{S}
+
+-- Folders
+
+abbrev Spelt : Kept → Type 0
+Spelt x = AreUtf8 x.key.folders
+
+abbrev AllSpelt : Settings → List Event → Type 0
+AllSpelt settings events = AllByRecursion Spelt (groups_of settings events)
+
+spelt_keeps : Keeps Spelt
+spelt_keeps = record { ends = λ x h. h; busies = λ x h. h; idles = λ now x h. h }
+
+-- A whole history
+
+module _ (settings : Settings) (range : InRange settings) where
+  pub record Rests (events : List Event) : Type 0 where
+    facts : Facts settings events
+    unnamed : Unnamed settings events
+    spelt : AllSpelt settings events
+    begun : Begun settings events
+    opens : OpenAll settings events
+
+  -- what each event keeps, an entry keeps
+  entry_all : (I : List Event → Type 0) → ((events : List Event) (out : Out) → I events → I (events ++ said out ∷ [])) → (events : List Event) (outs : List Out) → I events → I (behind events outs)
+  entry_all I did events [] h = subst I (sym (append-nil events)) h
+  entry_all I did events (out ∷ outs) h = subst I (append_assoc events (said out ∷ []) (map said outs)) (entry_all I did (events ++ said out ∷ []) outs (did events out h))
+
+  entry_rests : (before : List Event) (cause : Cause) → fits_behind before cause ≡ true → built_behind settings before cause ≡ true → Rests before → Rests (behind (with_cause before cause) (outs_of settings before cause))
+  entry_rests before cause fits built h = record {
+    facts = entry_keeps settings range before cause fits built h.facts;
+    unnamed = entry_all (Unnamed settings) (unnamed_did settings) (with_cause before cause) (outs_of settings before cause) (unnamed_took settings before cause built h.unnamed);
+    spelt = entry_all (AllSpelt settings) (all_did Spelt spelt_keeps settings) (with_cause before cause) (outs_of settings before cause) (all_took Spelt spelt_keeps settings before cause built (λ e body made place. folders_utf8 body) h.spelt);
+    begun = begun_rests settings before cause built h.begun;
+    opens = open_rests settings range before h.facts h.begun h.opens cause fits built;
+  }
+
+  no_rests : Rests []
+  no_rests = record {
+    facts = no_facts settings range;
+    unnamed = λ e. refl;
+    spelt = tt;
+    begun = λ g. (λ none. omega arith, λ le. refl);
+    opens = λ e. refl;
+  }
+
+  rests_more : (before : List Entry) (entry : Entry) → IsTrue (fits_behind (events_of before) entry.cause) → IsTrue (built_behind settings (events_of before) entry.cause) → entry.outs ≡ outs_of settings (events_of before) entry.cause → Rests (events_of before) → Rests (events_of (before ++ entry ∷ []))
+  rests_more before entry fits built sent h = subst Rests (sym (events_more before entry)) (subst (λ z. Rests (behind (with_cause (events_of before) entry.cause) z)) (sym sent) (entry_rests (events_of before) entry.cause fits built h))
+
+  from_here : (before rest : List Entry) → LegalFrom settings before rest → Rests (events_of before) → Rests (events_of (before ++ rest))
+  from_here before [] legal h = subst (λ z. Rests (events_of z)) (sym (append-nil before)) h
+  from_here before (entry ∷ rest) legal h = subst (λ z. Rests (events_of z)) (append_assoc before (entry ∷ []) rest) (from_here (before ++ entry ∷ []) rest legal.3 (rests_more before entry legal.0 legal.1 legal.2 h))
+
+  -- by phase
+
+  only : (events : List Event) (e : ℕ) → OpenAll settings events → (desk_of e events).phase ≡ Waiting → IsOnly events e
+  only events e h at = let k : IsOne (desk_of e events).initialize (open_of e events) = subst (λ p. OpenIf (S settings e Nobody events) p (desk_of e events).initialize (open_of e events)) at (h e) in record { id = k.id; asked = k.asked; ids = k.alone }
+
+  sent_on : (events : List Event) (e : ℕ) (id : Id) → OpenAll settings events → is_served (desk_of e events).phase ≡ true → is_open id (open_of e events) ≡ true → IsSent settings events e id
+  sent_on events e id h served still = sent_is settings events e id (go (if_served (S settings e Nobody events) (desk_of e events).phase (desk_of e events).initialize (open_of e events) served (h e) id still))
+    where
+      go : SentAt settings events e id ⊎ ⊥ → SentAt settings events e id
+      go (inl k) = k
+      go (inr k) = absurd k
+
+  pub settled_of : (events : List Event) → Rests events → Settled settings events
+  settled_of events h = record {
+    unnamed = h.unnamed;
+    spelt = h.spelt;
+    begun = h.begun;
+    unasked = λ e at. subst (λ p. OpenIf (S settings e Nobody events) p (desk_of e events).initialize (open_of e events)) at (h.opens e);
+    waiting = λ e at. only events e h.opens at;
+    sent = λ e id served still. sent_on events e id h.opens served still;
+  }
+
+  pub settled_holds : (history : List Entry) → Legal settings history → Settled settings (events_of history)
+  settled_holds history legal = settled_of (events_of history) (from_here [] history legal no_rests)
