@@ -1,5 +1,5 @@
 -- Legal histories of two editors, worked out by the checker.
-use Rattle.std.proofs.Common.{◌≡◌, true, ◌&&◌, List, [], ◌∷◌, ◌++◌, refl, ◌∙◌, ap}
+use Rattle.std.proofs.Common.{◌≡◌, true, false, ◌&&◌, List, [], ◌∷◌, ◌++◌, codes, refl, ◌∙◌, ap}
 use Rattle.std.specs.Fmt.{digits}
 use Rattle.std.proofs.lemmas.Bool.{and_parts}
 use Rattle.json.specs.Print.{escape_byte}
@@ -8,17 +8,19 @@ use Rattle.json_text.specs.Named.{named}
 use Rattle.lsp_method.specs.Class.{own_request, own_notification, goes_nowhere, editor_request, editor_notification}
 use Rattle.mux_history.specs.declared.cause.Cause.{Cause}
 use Rattle.mux_history.specs.declared.entry.Entry.{Entry}
-use Rattle.rpc_message.specs.Message.{message_of, no_name_twice, is_integer, member_bytes}
+use Rattle.rpc_message.specs.Message.{integer, message_of, no_name_twice, is_integer, member_bytes}
 use Rattle.rpc_message.specs.Texts.{with_id_text}
 use Rattle.event_model.specs.Event.{Event, behind, events_of, with_cause}
+use Rattle.event_model.specs.Requests.{open_of}
 use Rattle.event_model.specs.Settings.{Settings}
 use Rattle.mux_model.specs.Fits.{fits_behind}
 use Rattle.mux_facts.proofs.Keeps.{events_more}
 use Rattle.group_words.specs.Example.{with_groups}
 use Rattle.group_rows.specs.Example.{both_ask, closing, switching, two_groups}
+use Rattle.group_rows.specs.Forwarded.{forwarding_of}
 use Rattle.group_rows.specs.Rows.{outs_of}
 use Rattle.group_facts.specs.Built.{built_behind}
-use Rattle.group_facts.specs.Example.{one_group, played, played_from, taken_from}
+use Rattle.group_facts.specs.Example.{one_group, one_waits, played, played_from, taken_from, two_ask}
 use Rattle.group_facts.specs.Legal.{Legal, LegalFrom}
 
 -- what is taken is legal
@@ -53,3 +55,25 @@ two_groups_are_legal = legal (with_groups 8) two_groups refl
 one_group_is_legal : Legal (with_groups 1) (played (with_groups 1) one_group)
 unfolding computes message_of named no_name_twice is_integer member_bytes with_id_text escape_byte digits own_request own_notification goes_nowhere editor_request editor_notification
 one_group_is_legal = legal (with_groups 1) one_group refl
+
+-- Which requests are open
+
+one_waits_is_legal : Legal (with_groups 8) (played (with_groups 8) one_waits)
+unfolding computes message_of named no_name_twice is_integer member_bytes with_id_text escape_byte digits own_request own_notification goes_nowhere editor_request editor_notification
+one_waits_is_legal = legal (with_groups 8) one_waits refl
+
+the_first_waits : open_of 0 (events_of (played (with_groups 8) one_waits)) ≡ integer (codes "0") ∷ []
+unfolding computes message_of named no_name_twice is_integer member_bytes with_id_text escape_byte digits own_request own_notification goes_nowhere editor_request editor_notification
+the_first_waits = refl
+
+two_ask_are_legal : Legal (with_groups 8) (played (with_groups 8) two_ask)
+unfolding computes message_of named no_name_twice is_integer member_bytes with_id_text escape_byte digits own_request own_notification goes_nowhere editor_request editor_notification
+two_ask_are_legal = legal (with_groups 8) two_ask refl
+
+the_second_asks : open_of 1 (events_of (played (with_groups 8) two_ask)) ≡ integer (codes "1") ∷ []
+unfolding computes message_of named no_name_twice is_integer member_bytes with_id_text escape_byte digits own_request own_notification goes_nowhere editor_request editor_notification
+the_second_asks = refl
+
+both_are_sent : (forwarding_of 0 (events_of (played (with_groups 8) two_ask))).open_requests ≡ record { number = 2; editor = 0; id = codes "1"; cancelled = false } ∷ record { number = 3; editor = 1; id = codes "1"; cancelled = false } ∷ []
+unfolding computes message_of named no_name_twice is_integer member_bytes with_id_text escape_byte digits own_request own_notification goes_nowhere editor_request editor_notification
+both_are_sent = refl

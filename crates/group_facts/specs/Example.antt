@@ -6,6 +6,7 @@ use Rattle.mux_history.specs.declared.entry.Entry.{Entry}
 use Rattle.event_model.specs.Event.{Event, behind, events_of, with_cause}
 use Rattle.event_model.specs.Settings.{Settings}
 use Rattle.mux_model.specs.Fits.{fits_behind}
+use Rattle.group_rows.specs.Example.{two_editors}
 use Rattle.group_rows.specs.Rows.{outs_of}
 use Rattle.group_facts.specs.Built.{built_behind}
 
@@ -30,4 +31,18 @@ one_group = Joined 0
     ∷ FromEditor 0 (codes "{\"jsonrpc\":\"2.0\",\"id\":0,\"method\":\"initialize\",\"params\":{\"rootUri\":\"file:///w\",\"capabilities\":{}}}")
     ∷ Joined 1
     ∷ FromEditor 1 (codes "{\"jsonrpc\":\"2.0\",\"id\":0,\"method\":\"initialize\",\"params\":{\"rootUri\":\"file:///v\",\"capabilities\":{}}}")
+    ∷ []
+
+-- a request that comes too early, of an editor that waits
+abbrev pub one_waits : List Cause
+one_waits = Joined 0
+    ∷ FromEditor 0 (codes "{\"jsonrpc\":\"2.0\",\"id\":0,\"method\":\"initialize\",\"params\":{\"rootUri\":\"file:///w\",\"capabilities\":{}}}")
+    ∷ FromEditor 0 (codes "{\"jsonrpc\":\"2.0\",\"id\":1,\"method\":\"textDocument/hover\",\"params\":{}}")
+    ∷ []
+
+-- two editors ask under one id
+abbrev pub two_ask : List Cause
+two_ask = two_editors
+    ++ FromEditor 0 (codes "{\"jsonrpc\":\"2.0\",\"id\":1,\"method\":\"textDocument/hover\",\"params\":{}}")
+    ∷ FromEditor 1 (codes "{\"jsonrpc\":\"2.0\",\"id\":1,\"method\":\"textDocument/hover\",\"params\":{}}")
     ∷ []
