@@ -57,13 +57,13 @@ abbrev mutual
 
 -- its compact text says it
 
-one_more_item : (j : Json) (js : Items) (x rest : List ℕ) → says j x → says_more_items js rest → says_more_items (item j js) (44 ∷ (x ++ rest))
+pub one_more_item : (j : Json) (js : Items) (x rest : List ℕ) → says j x → says_more_items js rest → says_more_items (item j js) (44 ∷ (x ++ rest))
 one_more_item j js x rest h g = (44 ∷ [], x ++ rest, refl, refl, ([], x ++ rest, refl, tt, (x, rest, refl, h, ([], rest, refl, tt, g))))
 
-first_item : (j : Json) (js : Items) (x rest : List ℕ) → says j x → says_more_items js rest → says_items (item j js) (x ++ rest)
+pub first_item : (j : Json) (js : Items) (x rest : List ℕ) → says j x → says_more_items js rest → says_items (item j js) (x ++ rest)
 first_item j js x rest h g = ([], x ++ rest, refl, tt, (x, rest, refl, h, ([], rest, refl, tt, g)))
 
-array_says : (s : Span) (js : Items) (xs : List (List ℕ)) → says_items js (listed false xs) → says (array s js) (bracketed xs)
+pub array_says : (s : Span) (js : Items) (xs : List (List ℕ)) → says_items js (listed false xs) → says (array s js) (bracketed xs)
 array_says s js xs h = (91 ∷ [], listed false xs ++ 93 ∷ [], refl, refl, (listed false xs, 93 ∷ [], refl, h, refl))
 
 object_says : (s : Span) (ms : Members) (xs : List (List ℕ)) → says_members ms (listed false xs) → says (object s ms) (braced xs)
@@ -327,3 +327,10 @@ meet_text_says = text_of (λ j k. meet_tree j k) meet_written meet_deep
 
 pub declared_text_says : (a b : List ℕ) (j k : Json) → tree_of a ≡ Some j → tree_of b ≡ Some k → meets j k ≡ true → (text : List ℕ) × (declared_of a b ≡ Some text) × SaysTree text (declared_tree j k)
 declared_text_says = text_of (λ j k. declared_tree j k) declared_written declared_deep
+
+-- and it stands as it is written, no deeper than the first
+pub declared_stands : (a b : List ℕ) (j k : Json) → tree_of a ≡ Some j → tree_of b ≡ Some k → meets j k ≡ true
+    → (declared_of a b ≡ Some (compact a (declared_tree j k))) × says (declared_tree j k) (compact a (declared_tree j k)) × (depth (declared_tree j k) ≤ depth j)
+declared_stands a b j k h g m =
+    let t : IsText a j × (depth j ≤ 1024) = tree_sound a j h in
+    (met_is (λ j k. declared_tree j k) a b j k h g m, compact_says a (declared_tree j k) (declared_written a j k (part_written a j (whole_part a j t.0))), declared_deep j k)
