@@ -70,7 +70,7 @@ module _ (settings : Settings) where
   still_long : (events : List Event) (event : Event) → touches_groups event ≡ false → Longer events (events ++ event ∷ [])
   still_long events event quiet = subst (λ z. length (groups_of settings events) ≤ length z) (sym (groups_stay settings events event quiet)) (omega arith)
 
-  longer_took : (events : List Event) (cause : Cause) → built_behind settings events cause ≡ true → Longer events (with_cause events cause)
+  pub longer_took : (events : List Event) (cause : Cause) → built_behind settings events cause ≡ true → Longer events (with_cause events cause)
   longer_took events (FromEditor e body) built = subst (λ z. length (groups_of settings events) ≤ length z) (sym (groups_more settings events (heard (FromEditor e body)))) (hears_longer events e body)
   longer_took events (FromServer s body) built = subst (λ z. length (groups_of settings events) ≤ length z) (sym (groups_more settings events (heard (FromServer s body))))
       (at_length (group_of s events) (is_first_error (message_of body) && is_initializing (life_of s events).stage) (groups_of settings events))
@@ -78,7 +78,7 @@ module _ (settings : Settings) where
   longer_took events (Started s) built = still_long events (heard (Started s)) refl
   longer_took events cause built = absurd (cc)
 
-  longer_did : (events : List Event) (out : Out) → Longer events (events ++ said out ∷ [])
+  pub longer_did : (events : List Event) (out : Out) → Longer events (events ++ said out ∷ [])
   longer_did events (CloseEditor e) = subst (λ z. length (groups_of settings events) ≤ length z) (sym (groups_more settings events (said (CloseEditor e)))) (emptied_length ((house_of settings events).home e) _ _ _ (groups_of settings events))
   longer_did events out = still_long events (said out) refl
 

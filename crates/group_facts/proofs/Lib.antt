@@ -22,6 +22,7 @@ pub mod PlacingRow
 pub mod Plain
 pub mod RequestRow
 pub mod RestLaws
+pub mod Seated
 pub mod Sent
 pub mod Settling
 pub mod SharedRows

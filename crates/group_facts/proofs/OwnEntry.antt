@@ -59,7 +59,7 @@ Nobody id = ⊥
 
 -- Homes
 
-home_did : (settings : Settings) (e : ℕ) (events : List Event) (out : Out) → home_of settings e (events ++ said out ∷ []) ≡ home_of settings e events
+pub home_did : (settings : Settings) (e : ℕ) (events : List Event) (out : Out) → home_of settings e (events ++ said out ∷ []) ≡ home_of settings e events
 home_did settings e events (ToEditor n body) = home_stays settings e events (said (ToEditor n body)) refl
 home_did settings e events (ToServer s body) = home_stays settings e events (said (ToServer s body)) refl
 home_did settings e events (Spawn s g) = home_stays settings e events (said (Spawn s g)) refl

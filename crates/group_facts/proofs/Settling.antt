@@ -27,6 +27,7 @@ use Rattle.group_facts.proofs.Folders.{folders_utf8}
 use Rattle.group_facts.proofs.Keeping.{Keeps, all_did, all_took}
 use Rattle.group_facts.proofs.Known.{entry_keeps, no_facts}
 use Rattle.group_facts.proofs.OwnEntry.{Nobody}
+use Rattle.group_facts.proofs.Seated.{AllPlaced, placed_rests, seat}
 use Rattle.group_facts.proofs.Sent.{SentAt, sent_is}
 use Rattle.group_facts.proofs.Unnamed.{Unnamed, unnamed_did, unnamed_took}
 use Rattle.group_facts.proofs.OpenByPhase.{IsOne, OpenIf, if_served}
@@ -52,6 +53,7 @@ module _ (settings : Settings) (range : InRange settings) where
     spelt : AllSpelt settings events
     begun : Begun settings events
     opens : OpenAll settings events
+    placed : AllPlaced settings events
 
   -- what each event keeps, an entry keeps
   entry_all : (I : List Event → Type 0) → ((events : List Event) (out : Out) → I events → I (events ++ said out ∷ [])) → (events : List Event) (outs : List Out) → I events → I (behind events outs)
@@ -65,6 +67,7 @@ module _ (settings : Settings) (range : InRange settings) where
     spelt = entry_all (AllSpelt settings) (all_did Spelt spelt_keeps settings) (with_cause before cause) (outs_of settings before cause) (all_took Spelt spelt_keeps settings before cause built (λ e body made place. folders_utf8 body) h.spelt);
     begun = begun_rests settings before cause built h.begun;
     opens = open_rests settings range before h.facts h.begun h.opens cause fits built;
+    placed = placed_rests settings before h.placed cause built;
   }
 
   no_rests : Rests []
@@ -74,6 +77,7 @@ module _ (settings : Settings) (range : InRange settings) where
     spelt = tt;
     begun = λ g. (λ none. omega arith, λ le. refl);
     opens = λ e. refl;
+    placed = λ e needs. absurd (cc);
   }
 
   rests_more : (before : List Entry) (entry : Entry) → IsTrue (fits_behind (events_of before) entry.cause) → IsTrue (built_behind settings (events_of before) entry.cause) → entry.outs ≡ outs_of settings (events_of before) entry.cause → Rests (events_of before) → Rests (events_of (before ++ entry ∷ []))
@@ -103,6 +107,7 @@ module _ (settings : Settings) (range : InRange settings) where
     unasked = λ e at. subst (λ p. OpenIf (S settings e Nobody events) p (desk_of e events).initialize (open_of e events)) at (h.opens e);
     waiting = λ e at. only events e h.opens at;
     sent = λ e id served still. sent_on events e id h.opens served still;
+    seated = λ e needs. seat settings events e h.begun (h.placed e needs);
   }
 
   pub settled_holds : (history : List Entry) → Legal settings history → Settled settings (events_of history)

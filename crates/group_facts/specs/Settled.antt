@@ -6,7 +6,7 @@ use Rattle.rpc_message.specs.Message.{Id, message_of}
 use Rattle.rpc_message.specs.ValueTexts.{IsIdText}
 use Rattle.event_model.specs.declared.phase.Phase.TheVariants.{New, Waiting}
 use Rattle.event_model.specs.Event.{Event}
-use Rattle.event_model.specs.Phases.{desk_of, has_id, is_served}
+use Rattle.event_model.specs.Phases.{desk_of, has_id, is_served, needs_server}
 use Rattle.event_model.specs.Requests.{is_open, open_of}
 use Rattle.event_model.specs.Settings.{Settings}
 use Rattle.event_model.specs.Spawns.{start_of}
@@ -36,7 +36,15 @@ pub record IsSent (settings : Settings) (events : List Event) (e : ℕ) (id : Id
   pub editor : request.editor ≡ e
   pub text : IsIdText id request.id
 
--- no editor named a server, each group has a start, and each open request of an editor that is served was sent on
+-- e is in a group that has a start
+pub record IsSeated (settings : Settings) (events : List Event) (e : ℕ) : Type 0 where
+  pub group : ℕ
+  pub start : ℕ
+  pub home : home_of settings e events ≡ Some group
+  pub last : start_of group events ≡ Some start
+
+-- no editor named a server, each group has a start, each open request of an editor that is served was sent on, and an editor that
+-- needs a server is in a group that has a start
 pub record Settled (settings : Settings) (events : List Event) : Type 0 where
   pub unnamed : (e : ℕ) → (meant_of settings.servers e events).server ≡ None
   pub spelt : AllByRecursion (λ (x : Kept). AreUtf8 x.key.folders) (groups_of settings events)
@@ -44,3 +52,4 @@ pub record Settled (settings : Settings) (events : List Event) : Type 0 where
   pub unasked : (e : ℕ) → (desk_of e events).phase ≡ New → open_of e events ≡ []
   pub waiting : (e : ℕ) → (desk_of e events).phase ≡ Waiting → IsOnly events e
   pub sent : (e : ℕ) (id : Id) → is_served (desk_of e events).phase ≡ true → is_open id (open_of e events) ≡ true → IsSent settings events e id
+  pub seated : (e : ℕ) → needs_server (desk_of e events).phase ≡ true → IsSeated settings events e
