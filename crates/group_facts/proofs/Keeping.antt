@@ -59,27 +59,26 @@ module _ (P : Kept → Type 0) (keeps : Keeps P) where
   all_emptied (Some g) was stays now groups h = either_way All (was && not (stays g)) (changed g (idle_if_live now) groups) groups (all_changed (idle_if_live now) (idle_live now) g groups h) h
 
   module _ (settings : Settings) where
-    -- what it must hold of, where an editor's `initialize` founds a group
+    -- what it must hold of, where an editor founds a group
     abbrev pub Founded : List Event → Type 0
-    Founded events = (e : ℕ) (body : List ℕ) → built_behind settings events (FromEditor e body) ≡ true → places (desk_of e events).phase (message_of body) ≡ true → P (founded (key_for settings events e body) (declared_for settings events e body))
+    Founded events = (e : ℕ) (body : List ℕ) → P (founded (key_for settings events e body) (declared_for settings events e body))
 
-    from_editor : (events : List Event) (e : ℕ) (body : List ℕ) → (places (desk_of e events).phase (message_of body) ≡ true → P (founded (key_for settings events e body) (declared_for settings events e body)))
+    from_editor : (events : List Event) (e : ℕ) (body : List ℕ) → P (founded (key_for settings events e body) (declared_for settings events e body))
         → All (groups_of settings events) → All (groups_hear settings events e body (message_of body) (groups_of settings events))
-    from_editor events e body f h = go (places (desk_of e events).phase (message_of body)) refl (stops events e (message_of body))
+    from_editor events e body k h = go (places (desk_of e events).phase (message_of body)) (stops events e (message_of body))
       where
-        go : (b : Bool) → places (desk_of e events).phase (message_of body) ≡ b → (c : Bool)
-            → All (if b then with_editor (placed_for settings events e body (groups_of settings events)) (key_for settings events e body) (declared_for settings events e body) (groups_of settings events)
+        go : (b c : Bool) → All (if b then with_editor (placed_for settings events e body (groups_of settings events)) (key_for settings events e body) (declared_for settings events e body) (groups_of settings events)
             else if c then end_where is_live (groups_of settings events) else groups_of settings events)
-        go true at c = all_placed (placed_for settings events e body (groups_of settings events)) (key_for settings events e body) (declared_for settings events e body) (groups_of settings events) (f at) h
-        go false at true = all_ended is_live (groups_of settings events) h
-        go false at false = h
+        go true c = all_placed (placed_for settings events e body (groups_of settings events)) (key_for settings events e body) (declared_for settings events e body) (groups_of settings events) k h
+        go false true = all_ended is_live (groups_of settings events) h
+        go false false = h
 
     -- an event that the groups don't speak of
     stay : (events : List Event) (event : Event) → touches_groups event ≡ false → All (groups_of settings events) → All (groups_of settings (events ++ event ∷ []))
     stay events event quiet h = subst All (sym (groups_stay settings events event quiet)) h
 
     pub all_took : (events : List Event) (cause : Cause) → built_behind settings events cause ≡ true → Founded events → All (groups_of settings events) → All (groups_of settings (with_cause events cause))
-    all_took events (FromEditor e body) built f h = subst All (sym (groups_more settings events (heard (FromEditor e body)))) (from_editor events e body (f e body built) h)
+    all_took events (FromEditor e body) built f h = subst All (sym (groups_more settings events (heard (FromEditor e body)))) (from_editor events e body (f e body) h)
     all_took events (FromServer s body) built f h = subst All (sym (groups_more settings events (heard (FromServer s body))))
         (either_way All (is_first_error (message_of body) && is_initializing (life_of s events).stage) (at_group (group_of s events) (λ g. ended) (groups_of settings events)) (groups_of settings events) (all_at (group_of s events) (groups_of settings events) h) h)
     all_took events (Joined e) built f h = stay events (heard (Joined e)) refl h

@@ -6,7 +6,6 @@ pub mod DocumentRow
 pub mod Entries
 pub mod Everywhere
 pub mod Facts
-pub mod Folders
 pub mod Forwards
 pub mod Housed
 pub mod Keeping

@@ -39,7 +39,7 @@ use Rattle.group_words.proofs.Frames.{home_more, home_stays}
 use Rattle.group_rows.specs.Forwarded.{Forwarding, forwarding_of, numbered}
 use Rattle.group_rows.specs.Rows.{answer_error, can_ask, document_at, document_bodies, document_row, early_row, forward, from_editor, message_row, outs_of, request_at, request_row, sync_row}
 use Rattle.group_rows.specs.Texts.{encoding_of, texts_of}
-use Rattle.group_facts.specs.Built.{built_as, built_from_editor, is_plain, opens_well}
+use Rattle.group_facts.specs.Built.{built_as, built_from_editor, is_plain}
 use Rattle.group_facts.specs.Facts.{turned_away}
 use Rattle.group_facts.specs.Why.{IsForward}
 use Rattle.group_facts.proofs.Begun.{NoSpawn, all_outs, quiet_bodies, start_did, start_took, starts_stay}
@@ -290,19 +290,19 @@ module _ (settings : Settings) (before : List Event) (n : ℕ) (body : List ℕ)
 
     module _ (range : InRange settings) (facts : Facts settings before) where
       abbrev BuiltAs : Phase → Message → Type 0
-      BuiltAs phase m = built_from_editor phase ids (opens_well settings before n body) m ≡ true
+      BuiltAs phase m = built_from_editor phase ids m ≡ true
 
       asked_rests : (id : Id) (method : List ℕ) (params : Option Json) → message_of body ≡ request id method params → (phase : Phase) → (desk_of n before).phase ≡ phase → BuiltAs phase (request id method params) → places phase (request id method params) ≡ false
           → Rests (outs (message_row settings before n body (request id method params) phase) now)
       asked_rests id method params says phase at built off = go phase at (not_so (is_open id ids) parts.0) parts.1 off
         where
-          parts : (not (is_open id ids) ≡ true) × (built_as phase (opens_well settings before n body) method params ≡ true)
-          parts = and_parts (not (is_open id ids)) (built_as phase (opens_well settings before n body) method params) built
+          parts : (not (is_open id ids) ≡ true) × (built_as phase method params ≡ true)
+          parts = and_parts (not (is_open id ids)) (built_as phase method params) built
 
           served : is_open id ids ≡ false → is_there (desk_of n before).phase ≡ true → is_early (desk_of n before).phase ≡ false → is_plain method && not (has_token params) ≡ true → Rests (outs (request_row settings before n body) now)
           served fresh there late plain = request_rests id method params says fresh range facts there late (plain_other method (and_parts (is_plain method) (not (has_token params)) plain).0)
 
-          go : (phase : Phase) → (desk_of n before).phase ≡ phase → is_open id ids ≡ false → built_as phase (opens_well settings before n body) method params ≡ true → places phase (request id method params) ≡ false → Rests (outs (message_row settings before n body (request id method params) phase) now)
+          go : (phase : Phase) → (desk_of n before).phase ≡ phase → is_open id ids ≡ false → built_as phase method params ≡ true → places phase (request id method params) ≡ false → Rests (outs (message_row settings before n body (request id method params) phase) now)
           go New at fresh sort off = subst (λ b. Rests (outs (choose b (initialize_row settings before n body) (early_row n body (request id method params))) now)) (sym off)
               (refused id method params says fresh (λ new. ap (requests (codes "initialize")) says ∙ off) server_not_initialized)
           go Waiting at fresh sort off = refused id method params says fresh (λ new. absurd (let clash : ◌≡◌ {A = Phase} Waiting New = sym at ∙ new in cc)) server_not_initialized

@@ -16,6 +16,7 @@ use Rattle.mux_facts.specs.Ranges.{InRange}
 use Rattle.mux_facts.proofs.Keeps.{events_more}
 use Rattle.group_words.specs.declared.kept.Kept.{Kept}
 use Rattle.group_words.specs.Houses.{groups_of}
+use Rattle.group_words.proofs.Openings.{folders_utf8}
 use Rattle.group_rows.specs.Rows.{outs_of}
 use Rattle.group_facts.specs.Built.{built_behind}
 use Rattle.group_facts.specs.Legal.{Legal, LegalFrom}
@@ -23,7 +24,6 @@ use Rattle.group_facts.specs.Settled.{AreUtf8, IsOnly, IsSent, Settled}
 use Rattle.group_facts.proofs.Entries.{OpenAll, open_rests}
 use Rattle.group_facts.proofs.Begun.{Begun, begun_rests}
 use Rattle.group_facts.proofs.Facts.{Facts}
-use Rattle.group_facts.proofs.Folders.{folders_utf8}
 use Rattle.group_facts.proofs.Keeping.{Keeps, all_did, all_took}
 use Rattle.group_facts.proofs.Known.{entry_keeps, no_facts}
 use Rattle.group_facts.proofs.OwnEntry.{Nobody}
@@ -64,7 +64,7 @@ module _ (settings : Settings) (range : InRange settings) where
   entry_rests before cause fits built h = record {
     facts = entry_keeps settings range before cause fits built h.facts;
     unnamed = entry_all (Unnamed settings) (unnamed_did settings) (with_cause before cause) (outs_of settings before cause) (unnamed_took settings before cause built h.unnamed);
-    spelt = entry_all (AllSpelt settings) (all_did Spelt spelt_keeps settings) (with_cause before cause) (outs_of settings before cause) (all_took Spelt spelt_keeps settings before cause built (λ e body made place. folders_utf8 body) h.spelt);
+    spelt = entry_all (AllSpelt settings) (all_did Spelt spelt_keeps settings) (with_cause before cause) (outs_of settings before cause) (all_took Spelt spelt_keeps settings before cause built (λ e body. folders_utf8 body) h.spelt);
     begun = begun_rests settings before cause built h.begun;
     opens = open_rests settings range before h.facts h.begun h.opens cause fits built;
     placed = placed_rests settings before h.placed cause built;

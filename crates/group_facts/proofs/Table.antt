@@ -24,7 +24,7 @@ use Rattle.mux_facts.proofs.Why.{is_early}
 use Rattle.group_words.specs.Rows.{shown_of}
 use Rattle.group_rows.specs.Forwarded.{forwarding_of}
 use Rattle.group_rows.specs.Rows.{from_editor, message_row, row_of, served_row}
-use Rattle.group_facts.specs.Built.{built_answer, built_as, built_behind, built_from_editor, built_from_server, is_plain, is_shown_whole, opens_well}
+use Rattle.group_facts.specs.Built.{built_answer, built_as, built_behind, built_from_editor, built_from_server, is_plain, is_shown_whole}
 use Rattle.group_facts.proofs.AnswerRows.{server_why, start_why}
 use Rattle.group_facts.proofs.DocumentRow.{document_why}
 use Rattle.group_facts.proofs.Facts.{Facts}
@@ -41,12 +41,12 @@ module _ (settings : Settings) (range : InRange settings) (before : List Event) 
   Mine row = Because (R settings before e body) (asked settings before e body) row
 
   abbrev BuiltAs : Phase → Message → Type 0
-  BuiltAs phase m = built_from_editor phase (open_of e before) (opens_well settings before e body) m ≡ true
+  BuiltAs phase m = built_from_editor phase (open_of e before) m ≡ true
 
   -- a request that is built: its id isn't open
   module _ (id : Id) (method : List ℕ) (params : Option Json) (phase : Phase) (built : BuiltAs phase (request id method params)) where
-    parts : (not (is_open id (open_of e before)) ≡ true) × (built_as phase (opens_well settings before e body) method params ≡ true)
-    parts = and_parts (not (is_open id (open_of e before))) (built_as phase (opens_well settings before e body) method params) built
+    parts : (not (is_open id (open_of e before)) ≡ true) × (built_as phase method params ≡ true)
+    parts = and_parts (not (is_open id (open_of e before))) (built_as phase method params) built
 
     fresh : is_open id (open_of e before) ≡ false
     fresh = not_so (is_open id (open_of e before)) parts.0

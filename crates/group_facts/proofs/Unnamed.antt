@@ -1,5 +1,5 @@
 -- No editor names a server: `lspmux/open` isn't built.
-use Rattle.std.proofs.Common.{◌≡◌, ℕ, Bool, true, false, not, ◌&&◌, List, [], ◌∷◌, ◌++◌, nat_eq, bytes_eq, codes, if◌then◌else◌, Option, None, refl, sym, ◌∙◌, ap, subst}
+use Rattle.std.proofs.Common.{◌≡◌, ℕ, Bool, true, false, not, ◌&&◌, ◌||◌, List, [], ◌∷◌, ◌++◌, nat_eq, bytes_eq, codes, if◌then◌else◌, Option, None, refl, sym, ◌∙◌, ap, subst}
 use Rattle.std.proofs.lemmas.Bool.{and_parts}
 use Rattle.std.proofs.lemmas.List.Sums.{fold-append}
 use Rattle.std.proofs.lemmas.Slice.Eq.{bytes_eq-Decides}
@@ -20,7 +20,7 @@ use Rattle.event_model.specs.Requests.{is_open, open_of}
 use Rattle.event_model.specs.Settings.{Settings}
 use Rattle.document_model.proofs.ScalarTrees.{either_way}
 use Rattle.group_words.specs.Houses.{Meant, meant_behind, meant_of, server_named, settles}
-use Rattle.group_facts.specs.Built.{built_as, built_behind, built_from_editor, is_plain, opens_well}
+use Rattle.group_facts.specs.Built.{built_as, built_behind, built_from_editor, is_plain}
 
 -- no method that is built is `lspmux/open`
 
@@ -35,36 +35,36 @@ plain_unnamed : (method : List ℕ) → is_plain method ≡ true → bytes_eq (c
 unfolding editor_request own_request
 plain_unnamed method h = not_named method (λ same. let k : is_plain (codes "lspmux/open") ≡ true = subst (λ m. is_plain m ≡ true) same h in cc)
 
-first_unnamed : (well : Bool) (method : List ℕ) → (if bytes_eq (codes "initialize") method then well else is_plain method) ≡ true → bytes_eq (codes "lspmux/open") method ≡ false
-first_unnamed well method h = go (bytes_eq (codes "initialize") method) refl h
+first_unnamed : (method : List ℕ) → (bytes_eq (codes "initialize") method || is_plain method) ≡ true → bytes_eq (codes "lspmux/open") method ≡ false
+first_unnamed method h = go (bytes_eq (codes "initialize") method) refl h
   where
-    go : (b : Bool) → bytes_eq (codes "initialize") method ≡ b → (if b then well else is_plain method) ≡ true → bytes_eq (codes "lspmux/open") method ≡ false
+    go : (b : Bool) → bytes_eq (codes "initialize") method ≡ b → (b || is_plain method) ≡ true → bytes_eq (codes "lspmux/open") method ≡ false
     go true e k = ap (λ m. bytes_eq (codes "lspmux/open") m) (sym ((bytes_eq-Decides (codes "initialize") method).0 e))
     go false e k = plain_unnamed method k
 
-as_unnamed : (phase : Phase) (well : Bool) (method : List ℕ) (params : Option Json) → built_as phase well method params ≡ true → bytes_eq (codes "lspmux/open") method ≡ false
-as_unnamed New well method params h = first_unnamed well method h
-as_unnamed Waiting well method params h = plain_unnamed method h
-as_unnamed Answered well method params h = plain_unnamed method (and_parts (is_plain method) (not (has_token params)) h).0
-as_unnamed Running well method params h = plain_unnamed method (and_parts (is_plain method) (not (has_token params)) h).0
-as_unnamed Absent well method params h = absurd (cc)
-as_unnamed Down well method params h = absurd (cc)
-as_unnamed Closed well method params h = absurd (cc)
-as_unnamed Gone well method params h = absurd (cc)
+as_unnamed : (phase : Phase) (method : List ℕ) (params : Option Json) → built_as phase method params ≡ true → bytes_eq (codes "lspmux/open") method ≡ false
+as_unnamed New method params h = first_unnamed method h
+as_unnamed Waiting method params h = plain_unnamed method h
+as_unnamed Answered method params h = plain_unnamed method (and_parts (is_plain method) (not (has_token params)) h).0
+as_unnamed Running method params h = plain_unnamed method (and_parts (is_plain method) (not (has_token params)) h).0
+as_unnamed Absent method params h = absurd (cc)
+as_unnamed Down method params h = absurd (cc)
+as_unnamed Closed method params h = absurd (cc)
+as_unnamed Gone method params h = absurd (cc)
 
 abbrev server_in : Meant → Option ℕ
 server_in x = x.server
 
 -- what is built settles none
-settles_none : (servers : List Server) (x : Meant) (phase : Phase) (ids : List Id) (well : Bool) (m : Message) → built_from_editor phase ids well m ≡ true → x.server ≡ None → (settles servers x m).server ≡ None
-settles_none servers x phase ids well (request id method params) built h =
+settles_none : (servers : List Server) (x : Meant) (phase : Phase) (ids : List Id) (m : Message) → built_from_editor phase ids m ≡ true → x.server ≡ None → (settles servers x m).server ≡ None
+settles_none servers x phase ids (request id method params) built h =
     ap (λ b. server_in (if b then record { settled = true; server = server_named servers (string_of (named_of (codes "server") params)) } else record { settled = bytes_eq (codes "initialize") method; server = None }))
-    (as_unnamed phase well method params (and_parts (not (is_open id ids)) (built_as phase well method params) built).1)
-settles_none servers x phase ids well (notification method params) built h = h
-settles_none servers x phase ids well (result id r) built h = h
-settles_none servers x phase ids well (error id e) built h = h
-settles_none servers x phase ids well not_json built h = h
-settles_none servers x phase ids well not_message built h = h
+    (as_unnamed phase method params (and_parts (not (is_open id ids)) (built_as phase method params) built).1)
+settles_none servers x phase ids (notification method params) built h = h
+settles_none servers x phase ids (result id r) built h = h
+settles_none servers x phase ids (error id e) built h = h
+settles_none servers x phase ids not_json built h = h
+settles_none servers x phase ids not_message built h = h
 
 -- one event more
 
@@ -81,7 +81,7 @@ module _ (settings : Settings) where
   pub unnamed_took : (events : List Event) (cause : Cause) → built_behind settings events cause ≡ true → Unnamed settings events → Unnamed settings (with_cause events cause)
   unnamed_took events (FromEditor n body) built h = by_step events (heard (FromEditor n body)) (λ e. let x : Meant = meant_of settings.servers e events in
       either_way (λ (y : Meant). y.server ≡ None) (nat_eq n e && not x.settled) (settles settings.servers x (message_of body)) x
-      (settles_none settings.servers x (desk_of n events).phase (open_of n events) (opens_well settings events n body) (message_of body) built (h e)) (h e))
+      (settles_none settings.servers x (desk_of n events).phase (open_of n events) (message_of body) built (h e)) (h e))
   unnamed_took events (Joined n) built h = by_step events (heard (Joined n)) h
   unnamed_took events cause built h = by_step events (heard cause) h
 

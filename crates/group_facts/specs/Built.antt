@@ -1,8 +1,8 @@
 -- Which causes meet only rows of the table over several editors and groups that are built, until all are.
 -- Not built: requests under an id that is open (E3), requests of the multiplexer's own (E4 to E6), `initialize` in another phase than New, `shutdown` and `exit` (E9), requests of another class than Other, and behind the answer to `initialize` those with tokens;
 -- notifications but `initialized` and those on documents; responses of editors; a server's own requests and notifications; results that read versions; a refused `initialize` (S3); the end of a link or of a program; ticks, and drained bytes.
--- Of E7 and S2, what is read back must be what was meant: the daemon's own `initialize` a request, and a result of which editors are shown all.
-use Rattle.std.specs.Prelude.{ℕ, Bool, true, false, not, ◌&&◌, ◌||◌, List, find, codes, bytes_eq, if◌then◌else◌}
+-- Of S2, what is read back must be what was meant: editors are shown all of the result.
+use Rattle.std.specs.Prelude.{ℕ, Bool, true, false, not, ◌&&◌, ◌||◌, List, find, codes, bytes_eq}
 use Rattle.std.specs.Prelude.{Option, Some, None}
 use Rattle.mux_history.specs.declared.cause.Cause.{Cause}
 use Rattle.mux_history.specs.declared.cause.Cause.TheVariants.{Joined, FromEditor, Started, FromServer}
@@ -11,7 +11,7 @@ use Rattle.json_text.specs.Json.{Json}
 use Rattle.document_model.specs.Sayings.{speaks, saying_by}
 use Rattle.lsp_method.specs.Class.{class_of}
 use Rattle.lsp_method.specs.declared.variants.Origin.TheVariants.{Editor}
-use Rattle.rpc_message.specs.Message.{Message, request, notification, result, error, not_json, not_message, Id, integer, message_of, result_bytes}
+use Rattle.rpc_message.specs.Message.{Message, request, notification, result, error, not_json, not_message, Id, message_of, result_bytes}
 use Rattle.event_model.specs.declared.phase.Phase.{Phase}
 use Rattle.event_model.specs.declared.phase.Phase.TheVariants.{New, Waiting, Answered, Running}
 use Rattle.event_model.specs.declared.stage.Stage.{Stage}
@@ -23,37 +23,28 @@ use Rattle.event_model.specs.Requests.{open_of, is_open}
 use Rattle.event_model.specs.Settings.{Settings}
 use Rattle.event_model.specs.Stages.{life_of, is_first_result}
 use Rattle.mux_model.specs.Built.{is_other}
-use Rattle.group_words.specs.Houses.{key_for, declared_for}
-use Rattle.group_words.specs.Placing.{founded}
-use Rattle.group_words.specs.Rows.{initialize_of, shown_of}
+use Rattle.group_words.specs.Rows.{shown_of}
 use Rattle.group_rows.specs.Forwarded.{Forwarded, answered_by, forwarding_of}
-
--- E7: the daemon's own `initialize` to a start of the group that this editor would found is a request with the number 1
-abbrev pub is_own_initialize : Message → Bool
-is_own_initialize (request (integer n) method params) = bytes_eq n (codes "1") && bytes_eq method (codes "initialize")
-is_own_initialize other = false
-
-abbrev pub opens_well : Settings → List Event → ℕ → List ℕ → Bool
-opens_well settings before e body = is_own_initialize (message_of (initialize_of (founded (key_for settings before e body) (declared_for settings before e body))))
 
 -- E8 and E10: the request is of class Other
 abbrev pub is_plain : List ℕ → Bool
 is_plain method = is_other (class_of method Editor false)
 
-abbrev pub built_as : Phase → Bool → List ℕ → Option Json → Bool
-built_as New well method params = if bytes_eq (codes "initialize") method then well else is_plain method
-built_as Waiting well method params = is_plain method
-built_as Answered well method params = is_plain method && not (has_token params)
-built_as Running well method params = is_plain method && not (has_token params)
-built_as other well method params = false
+-- in New also E7
+abbrev pub built_as : Phase → List ℕ → Option Json → Bool
+built_as New method params = bytes_eq (codes "initialize") method || is_plain method
+built_as Waiting method params = is_plain method
+built_as Answered method params = is_plain method && not (has_token params)
+built_as Running method params = is_plain method && not (has_token params)
+built_as other method params = false
 
-abbrev pub built_from_editor : Phase → List Id → Bool → Message → Bool
-built_from_editor phase ids well (request id method params) = not (is_open id ids) && built_as phase well method params
-built_from_editor phase ids well (notification method params) = notifies (codes "initialized") (notification method params) || speaks (saying_by method params)
-built_from_editor phase ids well not_json = true
-built_from_editor phase ids well not_message = true
-built_from_editor phase ids well (result id r) = false
-built_from_editor phase ids well (error id e) = false
+abbrev pub built_from_editor : Phase → List Id → Message → Bool
+built_from_editor phase ids (request id method params) = not (is_open id ids) && built_as phase method params
+built_from_editor phase ids (notification method params) = notifies (codes "initialized") (notification method params) || speaks (saying_by method params)
+built_from_editor phase ids not_json = true
+built_from_editor phase ids not_message = true
+built_from_editor phase ids (result id r) = false
+built_from_editor phase ids (error id e) = false
 
 -- S2: editors are shown all of the result
 abbrev pub is_shown_whole : List ℕ → Bool
@@ -81,7 +72,7 @@ built_from_server stage fs body m = is_malformed m || (built_answer stage fs m &
 abbrev pub built_behind : Settings → List Event → Cause → Bool
 built_behind settings before (Joined e) = true
 built_behind settings before (Started s) = true
-built_behind settings before (FromEditor e body) = built_from_editor (desk_of e before).phase (open_of e before) (opens_well settings before e body) (message_of body)
+built_behind settings before (FromEditor e body) = built_from_editor (desk_of e before).phase (open_of e before) (message_of body)
 built_behind settings before (FromServer s body) = built_from_server (life_of s before).stage (forwarding_of s before).open_requests body (message_of body)
 built_behind settings before other = false
 

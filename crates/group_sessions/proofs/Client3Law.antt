@@ -27,7 +27,7 @@ use Rattle.mux_facts.proofs.Words.{id_same, number_same}
 use Rattle.session_laws.specs.ClientRules.{ClientRule3, KeepsClient3, Opening, may_hear, opening_behind, opening_told}
 use Rattle.session_laws.proofs.Client3Law as client_3
 use Rattle.session_laws.proofs.Client3Law.{AsksOnce, Expects, Link, LinkAt, closed_link, late_told, may_answer, may_welcome, none_open, opening, other_not, same_request, took_it, welcomed}
-use Rattle.group_facts.specs.Built.{built_behind, built_from_editor, is_plain, opens_well}
+use Rattle.group_facts.specs.Built.{built_behind, built_from_editor, is_plain}
 use Rattle.group_facts.specs.Legal.{Legal}
 use Rattle.group_facts.specs.Why.{WhyToEditor, rejects, refuses, turns_away, welcomes, passes}
 use Rattle.group_facts.proofs.RestLaws.{Law, law_holds}
@@ -35,23 +35,23 @@ use Rattle.group_sessions.proofs.Client2Law.{response_to}
 
 -- A request `initialize` is one of a new editor
 
-no_initialize : (phase : Phase) (ids : List Id) (well : Bool) (m : Message) → (phase ≡ New → ⊥) → built_from_editor phase ids well m ≡ true → requests (codes "initialize") m ≡ false
-no_initialize Waiting ids well (request id method params) other h = other_not method (and_parts (not (is_open id ids)) (is_plain method) h).1
-no_initialize Answered ids well (request id method params) other h = other_not method (and_parts (is_plain method) (not (has_token params)) (and_parts (not (is_open id ids)) (is_plain method && not (has_token params)) h).1).0
-no_initialize Running ids well (request id method params) other h = other_not method (and_parts (is_plain method) (not (has_token params)) (and_parts (not (is_open id ids)) (is_plain method && not (has_token params)) h).1).0
-no_initialize New ids well (request id method params) other h = absurd (other refl)
-no_initialize Absent ids well (request id method params) other h = absurd (let none = (and_parts (not (is_open id ids)) false h).1 in cc)
-no_initialize Down ids well (request id method params) other h = absurd (let none = (and_parts (not (is_open id ids)) false h).1 in cc)
-no_initialize Closed ids well (request id method params) other h = absurd (let none = (and_parts (not (is_open id ids)) false h).1 in cc)
-no_initialize Gone ids well (request id method params) other h = absurd (let none = (and_parts (not (is_open id ids)) false h).1 in cc)
-no_initialize phase ids well (notification method params) other h = refl
-no_initialize phase ids well (result id r) other h = refl
-no_initialize phase ids well (error id x) other h = refl
-no_initialize phase ids well not_json other h = refl
-no_initialize phase ids well not_message other h = refl
+no_initialize : (phase : Phase) (ids : List Id) (m : Message) → (phase ≡ New → ⊥) → built_from_editor phase ids m ≡ true → requests (codes "initialize") m ≡ false
+no_initialize Waiting ids (request id method params) other h = other_not method (and_parts (not (is_open id ids)) (is_plain method) h).1
+no_initialize Answered ids (request id method params) other h = other_not method (and_parts (is_plain method) (not (has_token params)) (and_parts (not (is_open id ids)) (is_plain method && not (has_token params)) h).1).0
+no_initialize Running ids (request id method params) other h = other_not method (and_parts (is_plain method) (not (has_token params)) (and_parts (not (is_open id ids)) (is_plain method && not (has_token params)) h).1).0
+no_initialize New ids (request id method params) other h = absurd (other refl)
+no_initialize Absent ids (request id method params) other h = absurd (let none = (and_parts (not (is_open id ids)) false h).1 in cc)
+no_initialize Down ids (request id method params) other h = absurd (let none = (and_parts (not (is_open id ids)) false h).1 in cc)
+no_initialize Closed ids (request id method params) other h = absurd (let none = (and_parts (not (is_open id ids)) false h).1 in cc)
+no_initialize Gone ids (request id method params) other h = absurd (let none = (and_parts (not (is_open id ids)) false h).1 in cc)
+no_initialize phase ids (notification method params) other h = refl
+no_initialize phase ids (result id r) other h = refl
+no_initialize phase ids (error id x) other h = refl
+no_initialize phase ids not_json other h = refl
+no_initialize phase ids not_message other h = refl
 
 built_once : (settings : Settings) (before : List Event) (cause : Cause) → built_behind settings before cause ≡ true → AsksOnce before cause
-built_once settings before (FromEditor n body) built = λ other. no_initialize (desk_of n before).phase (open_of n before) (opens_well settings before n body) (message_of body) other built
+built_once settings before (FromEditor n body) built = λ other. no_initialize (desk_of n before).phase (open_of n before) (message_of body) other built
 built_once settings before cause built = tt
 
 -- Ids that were answered
