@@ -71,6 +71,9 @@ impl Tables {
         requires capabilities { length capabilities.now ≤ 268435456 }
         requires ceiling { MatchOption ceiling (Unit {0}) (λ c. length c.now ≤ 268435456) }
         ensures inside { IfOk result (λ p. Inside p (length self.new.groups.groups)) }
+        ensures count { length self.new.editors ≡ length self.old.editors }
+        ensures requests { self.new.requests ≡ self.old.requests }
+        ensures versions { self.new.versions ≡ self.old.versions }
         ensures moves { (settings : Settings) (before : List Event) (x : Session) (body : List ℕ) → Stands settings self.old before
             → slice_get self.old.editors e ≡ Some x → x.phase ≡ New → requests (codes "initialize") (message_of body) ≡ true
             → key ≡ key_for settings before e body → declared_text capabilities.now (option_copied ceiling.entry) ≡ Some (declared_for settings before e body)
