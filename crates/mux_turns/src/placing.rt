@@ -2,7 +2,7 @@
 ghost use Rattle.std.specs.Prelude.{◌≡◌, ◌<◌, ◌≤◌, ℕ, List, [], Option, Some, length, OnOk, false, true};
 ghost use Rattle.event_model.specs.Does.{Alike, Does};
 ghost use Rattle.event_model.specs.Event.{Event, behind, with_cause};
-ghost use Rattle.event_model.specs.Phases.{desk_of};
+ghost use Rattle.event_model.specs.Phases.{desk_of, is_served};
 ghost use Rattle.event_model.specs.Row.{nothing};
 ghost use Rattle.event_model.specs.Settings.{Settings};
 ghost use Rattle.event_model.specs.Spawns.{start_of};
@@ -86,11 +86,11 @@ pub fn turn_away(
 ) -> Result<(), Memory>
     requires { e < length tables.old.editors }
     ensures { (settings : Settings) (before base : List Event) (body method : List ℕ) (id : Id) (params : Option Json) → IsRead message.now body
-        → message_of body ≡ request id method params
-        → OnOk result (Does (λ t events. Stands settings t events) (placed_row e body before TooMany) base tables.old outs.old tables.new outs.new) }
+        → message_of body ≡ request id method params → is_served (desk_of e (behind base outs.old)).phase ≡ false
+        → OnOk result (Does (λ k events. AllStand settings k events) (placed_row e body before TooMany) base (tables.old, nothing_owed) outs.old (tables.new, nothing_owed) outs.new) }
 {
     refuse(tables, alloc, outs, e, message, ErrorCode::RequestFailed)?;
-    // It was placed in no group, so no start is owed a word of its documents.
+    // It isn't served, so no start is owed a word of its documents.
     tables.close(alloc, outs, e)?;
     Ok(())
 }
