@@ -94,14 +94,6 @@ module _ (settings : Settings) (t u : Tables) (events : List Event) (e : ℕ) (b
     names = λ n. named_by (goes_then (goes n (compare e n)) (one_more (desk_behind n) _ _ events ev refl)) (home_more settings n events ev ∙ rw (stays, and_off (nat_eq e n)) refl) (ap (λ z. id_in (slice_get z n)) is ∙ id_at n (compare e n)) (s.names n);
   }
     where
-      goes : (n : ℕ) → Same e n → Goes (desk_of n events) (desk_behind n (desk_of n events) ev)
-      goes _ same = rw (itself e) (goes_heard (desk_of e events).phase (desk_of e events).initialize body (message_of body) stays)
-      goes n (other h) = rw (ne_eqb e n (λ q. h (sym q))) (goes_so refl)
-
-      id_at : (n : ℕ) → Same e n → id_in (slice_get (slice_set t.editors e y) n) ≡ id_in (slice_get t.editors n)
-      id_at _ same = ap id_in here ∙ ap id_in (sym (slice_get-get_or t.editors e absent l))
-      id_at n (other h) = ap id_in (get_set_other t.editors e n y h)
-
       x : Session
       x = session_of t.editors e
 
@@ -118,6 +110,14 @@ module _ (settings : Settings) (t u : Tables) (events : List Event) (e : ℕ) (b
       home_at : (n : ℕ) → Same e n → group_in (slice_get t.editors n) ≡ group_in (slice_get (slice_set t.editors e y) n)
       home_at _ same = ap group_in (slice_get-get_or t.editors e absent l) ∙ ap group_in (sym here)
       home_at n (other h) = ap group_in (sym (get_set_other t.editors e n y h))
+
+      goes : (n : ℕ) → Same e n → Goes (desk_of n events) (desk_behind n (desk_of n events) ev)
+      goes _ same = rw (itself e) (goes_heard (desk_of e events).phase (desk_of e events).initialize body (message_of body) stays)
+      goes n (other h) = rw (ne_eqb e n (λ q. h (sym q))) (goes_so refl)
+
+      id_at : (n : ℕ) → Same e n → id_in (slice_get (slice_set t.editors e y) n) ≡ id_in (slice_get t.editors n)
+      id_at _ same = ap id_in here ∙ ap id_in (sym (slice_get-get_or t.editors e absent l))
+      id_at n (other h) = ap id_in (get_set_other t.editors e n y h)
 
   all_heard : (GroupsStand settings t.groups events → GroupsStand settings u.groups (events ++ ev ∷ [])) → Stands settings t events → Stands settings u (events ++ ev ∷ [])
   all_heard go = house_moves settings t u events ev (λ n. refl) refl (ap (λ v. v.items) ls) (ap (λ v. v.items) os) r (λ h. record {

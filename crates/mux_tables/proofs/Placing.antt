@@ -48,12 +48,6 @@ module _ (settings : Settings) (events : List Event) (e : ℕ) (body : List ℕ)
     names = λ n. named_by (goes_so (one_more (desk_behind n) _ _ events (took (FromEditor e body) m) refl)) (home_more settings n events (took (FromEditor e body) m)) (ap (λ z. id_in (slice_get z n)) is) (named n (compare e n));
   }
     where
-      named : (n : ℕ) → Same e n → NameStands (if nat_eq e n then desk_hears (desk_of n events).phase (desk_of n events).initialize body m else desk_of n events)
-          (if nat_eq e n && places (desk_of e events).phase m then home_by (placed (groups_of settings events)) (home_of settings n events) else home_of settings n events) (id_in (slice_get (slice_set t e y) n))
-      named _ same = rw (itself e, here, places_first (desk_of e events).phase m was_new first, hears_desk (desk_of e events).phase (desk_of e events).initialize body m was_new first, now)
-          (named_first (desk_of e events) _ (placed groups) body was_new (s.names e) keeps)
-      named n (other h) = rw (ne_eqb e n (λ q. h (sym q)), get_set_other t e n y h) (s.names n)
-
       was_new : (desk_of e events).phase ≡ New
       was_new = s.phase e ∙ (ap phase_in at ∙ new)
 
@@ -67,6 +61,12 @@ module _ (settings : Settings) (events : List Event) (e : ℕ) (body : List ℕ)
       home_at : (n : ℕ) → Same e n → (if nat_eq e n && places (desk_of e events).phase m then home_by (placed (groups_of settings events)) (home_of settings n events) else home_of settings n events) ≡ group_in (slice_get (slice_set t e y) n)
       home_at _ same = rw (itself e, here, places_first (desk_of e events).phase m was_new first) (ap (λ gs. home_by (placed gs) (home_of settings e events)) now ∙ (ap (home_by (placed groups)) (s.home e ∙ ap group_in at) ∙ sym home))
       home_at n (other h) = rw (ne_eqb e n (λ q. h (sym q)), get_set_other t e n y h) (s.home n)
+
+      named : (n : ℕ) → Same e n → NameStands (if nat_eq e n then desk_hears (desk_of n events).phase (desk_of n events).initialize body m else desk_of n events)
+          (if nat_eq e n && places (desk_of e events).phase m then home_by (placed (groups_of settings events)) (home_of settings n events) else home_of settings n events) (id_in (slice_get (slice_set t e y) n))
+      named _ same = rw (itself e, here, places_first (desk_of e events).phase m was_new first, hears_desk (desk_of e events).phase (desk_of e events).initialize body m was_new first, now)
+          (named_first (desk_of e events) _ (placed groups) body was_new (s.names e) keeps)
+      named n (other h) = rw (ne_eqb e n (λ q. h (sym q)), get_set_other t e n y h) (s.names n)
 
   placed_groups : (t u : Table) → (desk_of e events).phase ≡ New → u.limit ≡ t.limit → u.idle ≡ t.idle
       → u.groups ≡ with_editor (placed_in t.limit (key_for settings events e body) (declared_for settings events e body) t.groups) (key_for settings events e body) (declared_for settings events e body) t.groups
