@@ -202,7 +202,7 @@ either_way : {A : Type 0} (b : Bool) (x : A) → (if b then x else x) ≡ x
 either_way true x = refl
 either_way false x = refl
 
-result_quiet : (s : ℕ) (o : Option (List ℕ)) (ev : Event) → touches of_shown ev ≡ false → result_behind s o ev ≡ o
+pub result_quiet : (s : ℕ) (o : Option (List ℕ)) (ev : Event) → touches of_shown ev ≡ false → result_behind s o ev ≡ o
 result_quiet s None (took (FromServer n body) m) h = rw h (either_way (nat_eq n s) None)
 result_quiet s None other h = refl
 result_quiet s (Some b) ev h = refl

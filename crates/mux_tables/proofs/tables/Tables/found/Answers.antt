@@ -1,5 +1,6 @@
 -- A start for a new group.
 use Rattle.std.proofs.Common.{refl, false, rules}
+use Rattle.std.specs.Prelude.{None}
 use Rattle.mux_tables.proofs.Spawned.{found_gives}
 use Rattle.mux_tables.proofs.DocumentSpawned.{found_gives_documents}
 use Rattle.mux_tables.proofs.tables.Tables.found.Goals as goal

@@ -1,6 +1,7 @@
 -- A start for a group that has one already.
 use Rattle.std.proofs.Common.{refl, false, rules}
 use Rattle.event_model.proofs.Places.{item_at}
+use Rattle.std.specs.Prelude.{None}
 use Rattle.mux_tables.proofs.Spawned.{respawn_gives}
 use Rattle.mux_tables.proofs.DocumentSpawned.{respawn_gives_documents}
 use Rattle.mux_tables.proofs.tables.Tables.respawn.Goals as goal
