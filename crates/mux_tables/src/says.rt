@@ -267,6 +267,7 @@ impl Tables {
             life,
             started: false,
             ids,
+            shown: None,
         })?;
         outs.push(Out::Spawn(s, g))?;
         Ok(())
@@ -291,6 +292,7 @@ impl Tables {
             life,
             started: false,
             ids,
+            shown: None,
         };
         outs.push(Out::Spawn(s, g as u64))?;
         Ok(())

@@ -21,7 +21,7 @@ ghost use Rattle.rpc_message.specs.Parsed.{IsRead};
 
 use crate::evicting::replace;
 use crate::greeting::bytes_of;
-use crate::placing::{found, turn_away};
+use crate::placing::{found, turn_away, welcome};
 use event_model::Server;
 use group_keys::{key_of, offered};
 use group_words::Placed;
