@@ -6,7 +6,7 @@ use Rattle.mux_turns.proofs.Evictions.{evicts_none, evicts_some}
 use Rattle.mux_turns.proofs.evicting.evict.Goals as goal
 
 pub returns-in-None-clause-does : goal.returns-in-None-clause-does
-returns-in-None-clause-does c = λ settings base numbered. evicts_none settings c.args.tables.now c.args.tables.now base c.args.outs.now c.args.outs.now c.args.g (λ st. c.in-None.ensures settings (behind base c.args.outs.now) st)
+returns-in-None-clause-does c = λ settings base numbered. evicts_none settings c.args.tables.now c.args.tables.now base c.args.outs.now c.args.outs.now c.args.g (λ st. c.in-None.ensures.none settings (behind base c.args.outs.now) st)
 
 pub returns-in_ok-end_start-in-Some-clause-does : goal.returns-in_ok-end_start-in-Some-clause-does
 returns-in_ok-end_start-in-Some-clause-does c = λ settings base numbered.

@@ -23,6 +23,6 @@ returns-in_ok-welcome-in-Some c = λ settings before body method id params s rea
     does_knowing (λ k.
     let was = was_shown settings c.args.tables.now c.welcome.new.self before c.args.e c.args.g s body method id params c.args.outs.now c.welcome.new.outs first says new starts ready _ c.requires.group
     (λ n at r. c.in-Some.ensures settings (behind base c.args.outs.now) n at k.0 r) k.0 in
-    joins_ready settings c.args.tables.now c.welcome.new.self before c.args.e c.args.g s body method id params c.args.outs.now c.welcome.new.outs first says new starts ready was.0 text c.bytes.result was.1 (whole was.0 was.1)
-    (c.in_ok-text-in-Some.ensures ∙ ap (λ w. ok_text w c.bytes.result) (c.id_bytes.ensures body read)) (c.bytes.ensures ∙ same_item was.2)
+    joins_ready settings c.args.tables.now c.welcome.new.self before c.args.e c.args.g s body method id params c.args.outs.now c.welcome.new.outs first says new starts ready was.0 text c.bytes.result.now was.1 (whole was.0 was.1)
+    (c.in_ok-text-in-Some.ensures ∙ ap (λ w. ok_text w c.bytes.result.now) (c.id_bytes.ensures body read)) (c.bytes.ensures ∙ same_item was.2)
     (λ w. c.in_ok-welcome-in-Some.ensures.does settings base w) (λ ds. c.in_ok-welcome-in-Some.ensures.documents settings nothing_owed base ds))
