@@ -1,21 +1,16 @@
 -- Messages of an editor that place it nowhere, and change no document.
-use Rattle.std.proofs.Common.{◌≡◌, ℕ, Bool, true, false, not, ◌&&◌, ◌||◌, List, [], refl, ap, sym, subst, ◌∙◌, codes, bytes_eq, if◌then◌else◌}
-use Rattle.std.specs.Prelude.{Option, Some, None}
+use Rattle.std.proofs.Common.{◌≡◌, ℕ, Bool, true, false, ◌&&◌, ◌||◌, List, refl, ap, ◌∙◌, codes}
+use Rattle.std.specs.Prelude.{Some}
 use Rattle.document_model.specs.Sayings.{saying_of, speaks}
-use Rattle.json_nodes.specs.Doc.{Doc}
 use Rattle.mux_history.specs.declared.cause.Cause.TheVariants.{FromEditor}
-use Rattle.mux_history.specs.declared.out.Out.{Out}
-use Rattle.rpc_message.specs.declared.envelope.Envelope.{Envelope}
-use Rattle.rpc_message.specs.declared.envelope.Envelope.TheVariants.{Request, Notification, Outcome, Failure}
 use Rattle.rpc_message.specs.declared.sort.Malformed.{Malformed}
 use Rattle.rpc_message.specs.declared.sort.Malformed.TheVariants as fault
 use Rattle.rpc_message.specs.declared.sort.Sort.TheVariants as sort
-use Rattle.rpc_message.specs.Envelopes.{Tells}
 use Rattle.rpc_message.specs.Message.{Message, message_of, request, notification, result, error, not_json, not_message}
 use Rattle.rpc_message.specs.Sorts.{Refuses, sort_of}
 use Rattle.event_model.specs.declared.phase.Phase.{Phase}
 use Rattle.event_model.specs.declared.phase.Phase.TheVariants.{Absent, New, Waiting, Answered, Running, Down, Closed, Gone}
-use Rattle.event_model.specs.Event.{Event, heard, notifies, requests, with_cause}
+use Rattle.event_model.specs.Event.{Event, heard, requests, with_cause}
 use Rattle.event_model.specs.Phases.{Desk, desk_behind, desk_hears, desk_of, is_malformed, is_new, is_served}
 use Rattle.event_model.proofs.Frames.{one_more}
 use Rattle.group_facts.specs.Facts.{is_early}

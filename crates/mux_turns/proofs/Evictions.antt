@@ -1,6 +1,6 @@
 -- E7: a group ends, and another one is founded in its place.
 use Rattle.std.specs.Str.{chars}
-use Rattle.std.proofs.Common.{◌≡◌, ℕ, ◌+◌, ◌<◌, ◌≤◌, ◌^◌, Bool, true, false, ◌&&◌, List, [], ◌∷◌, ◌++◌, codes, decimal, length, refl, ap, sym, subst, ◌∙◌, append-nil, arith, nat_lt}
+use Rattle.std.proofs.Common.{◌≡◌, ℕ, ◌<◌, ◌≤◌, ◌^◌, Bool, true, false, ◌&&◌, List, ◌++◌, codes, decimal, refl, ap, sym, subst, ◌∙◌, append-nil, arith, nat_lt}
 use Rattle.std.specs.Prelude.{Option, Some, None, slice_get, map}
 use Rattle.std.proofs.lemmas.Bool.Decides.{nat_tests}
 use Rattle.json_text.specs.Json.{Json}
@@ -15,7 +15,7 @@ use Rattle.event_model.specs.declared.stage.Stage.TheVariants.{Unspawned, Spawni
 use Rattle.event_model.specs.Does.{Does}
 use Rattle.event_model.specs.Event.{Event, behind, heard, said, with_cause}
 use Rattle.event_model.specs.Requests.{Asking, asking_behind, asking_of}
-use Rattle.event_model.specs.Row.{Row, nothing, look, on, outs, send}
+use Rattle.event_model.specs.Row.{nothing, look, on, outs, send}
 use Rattle.event_model.specs.Settings.{Settings}
 use Rattle.event_model.specs.Spawns.{start_behind, start_of}
 use Rattle.event_model.specs.Stages.{Life, is_ready, life_behind, life_of}

@@ -1,6 +1,6 @@
 -- E7 as a whole entry.
-use Rattle.std.proofs.Common.{◌≡◌, ℕ, zero, suc, ◌+◌, ◌<◌, ◌≤◌, Bool, true, false, ◌&&◌, ◌↔◌, List, [], ◌∷◌, ◌++◌, length, refl, ap, ap₂, sym, subst, ◌∙◌, append-nil, arith, nat_eq, nat_lt, codes, if◌then◌else◌}
-use Rattle.std.specs.Prelude.{Option, Some, None, IfSome, MatchOption, is_some, map, option_map, slice_get, flat_map, filter}
+use Rattle.std.proofs.Common.{◌≡◌, ℕ, zero, suc, ◌<◌, Bool, true, false, List, [], ◌∷◌, length, refl, ap, ap₂, sym, subst, ◌∙◌, append-nil, arith, nat_eq, nat_lt, codes, if◌then◌else◌}
+use Rattle.std.specs.Prelude.{Option, Some, None, IfSome, is_some, map, option_map, slice_get, flat_map, filter}
 use Rattle.std.specs.List.{AllByRecursion}
 use Rattle.std.specs.Option.{option_and_then}
 use Rattle.std.proofs.lemmas.Bool.{eqb-true}
@@ -14,14 +14,12 @@ use Rattle.rpc_message.specs.Texts.{error_text, error_tree, request_failed}
 use Rattle.rpc_message.specs.ValueTexts.{IsShallowText}
 use Rattle.rpc_message.proofs.Ids.{result_bytes_law}
 use Rattle.document_model.specs.Opens.{Open}
-use Rattle.document_model.specs.Helds.{HeldText}
 use Rattle.document_model.specs.Texts.{Texts}
 use Rattle.event_model.specs.declared.phase.Phase.{Phase}
 use Rattle.event_model.specs.declared.phase.Phase.TheVariants.{Absent, New, Waiting, Answered, Running, Down, Closed, Gone}
 use Rattle.event_model.specs.declared.settings.Server.{Server}
-use Rattle.event_model.specs.declared.stage.Stage.{Stage}
 use Rattle.event_model.specs.Does.{Alike, Does, Done}
-use Rattle.event_model.specs.Event.{Event, behind, heard, requests, said, took, with_cause}
+use Rattle.event_model.specs.Event.{Event, behind, heard, requests, took, with_cause}
 use Rattle.event_model.specs.Members.{options_of, params_of}
 use Rattle.event_model.specs.Phases.{Desk, desk_behind, desk_hears, desk_of, is_served}
 use Rattle.event_model.specs.Row.{nothing, choose, on, send}
@@ -34,7 +32,6 @@ use Rattle.event_model.proofs.Turns.{alike, alike_then, behind_more, does_alike,
 use Rattle.editor_session.specs.declared.session.Session.{Session}
 use Rattle.capability_meet.specs.DeclaredTree.{declared_of, declared_tree}
 use Rattle.capability_meet.specs.MeetTree.{whole_text}
-use Rattle.focus_switch.specs.Documents.{Documents}
 use Rattle.group_facts.specs.Facts.{Numbered, Plain}
 use Rattle.group_facts.specs.Settled.{Settled}
 use Rattle.group_rows.specs.Rows.{answer_error, leave_bodies, left}
@@ -44,14 +41,14 @@ use Rattle.group_words.specs.declared.idle.Idle.{Idle}
 use Rattle.group_words.specs.declared.kept.Kept.{Kept}
 use Rattle.group_words.specs.declared.placed.Placed.{Placed}
 use Rattle.group_words.specs.declared.placed.Placed.TheVariants.{Joins, New as Founds, Evicts, TooMany}
-use Rattle.group_words.specs.Houses.{ceiling_of, declared_for, folders_of, given_or, groups_of, home_of, is_object, key_for, meant_of, normal_of, offered, placed_for, places, server_for}
+use Rattle.group_words.specs.Houses.{ceiling_of, declared_for, folders_of, given_or, groups_of, home_of, is_object, key_for, normal_of, offered, placed_for, places, server_for}
 use Rattle.group_words.specs.Keys.{Common}
 use Rattle.group_words.specs.Placing.{evicting, first_from, founding, idlest_from, joining, live_count, placed_in, takes}
 use Rattle.group_words.specs.Rows.{answer_with, initialize_row, placed_row, result_behind, result_of, welcomed}
 use Rattle.mux_model.specs.Documents.{held_at}
 use Rattle.mux_tables.specs.declared.tables.Start.{Start}
 use Rattle.mux_tables.specs.declared.tables.Tables.{Tables}
-use Rattle.mux_tables.specs.Documents.{AllStand, DocumentsStand, IsOwned, Leaves, leaving, nothing_owed, owes, to}
+use Rattle.mux_tables.specs.Documents.{AllStand, DocumentsStand, IsOwned, Leaves, leaving, nothing_owed, owes}
 use Rattle.mux_tables.specs.Stands.{Stands, phase_in, start_for}
 use Rattle.mux_tables.proofs.DocumentLeft.{get_past}
 use Rattle.mux_tables.proofs.DocumentMoves.{documents_at}

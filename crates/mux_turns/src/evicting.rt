@@ -55,12 +55,7 @@ fn is_starting(stage: Stage) -> bool
 }
 
 // The group's last start, which is ready, is sent `shutdown` under its next number (LSP 3.17, Shutdown Request).
-fn shut_down(
-    tables: &mut Tables,
-    alloc: Global,
-    outs: &mut Outs,
-    g: usize,
-) -> Result<(), Memory>
+fn shut_down(tables: &mut Tables, alloc: Global, outs: &mut Outs, g: usize) -> Result<(), Memory>
     requires group { g < length tables.old.lasts.items }
     requires ready { (x : Start) → slice_get tables.old.lasts.items g ≡ Some x → x.life.stage ≡ Ready }
     ensures requests { tables.new.requests ≡ tables.old.requests }
@@ -76,12 +71,7 @@ fn shut_down(
 }
 
 // The group's last start ends, by where it stands.
-fn end_start(
-    tables: &mut Tables,
-    alloc: Global,
-    outs: &mut Outs,
-    g: usize,
-) -> Result<(), Memory>
+fn end_start(tables: &mut Tables, alloc: Global, outs: &mut Outs, g: usize) -> Result<(), Memory>
     requires { g < length tables.old.lasts.items }
     ensures requests { tables.new.requests ≡ tables.old.requests }
     ensures versions { tables.new.versions ≡ tables.old.versions }
@@ -102,12 +92,7 @@ fn end_start(
 
 /// E7: this group ends, for another one: its last start is sent `shutdown` where it is ready, and its program is to be ended where it
 /// gave no result yet.
-pub fn evict(
-    tables: &mut Tables,
-    alloc: Global,
-    outs: &mut Outs,
-    g: u64,
-) -> Result<(), Memory>
+pub fn evict(tables: &mut Tables, alloc: Global, outs: &mut Outs, g: u64) -> Result<(), Memory>
     ensures requests { tables.new.requests ≡ tables.old.requests }
     ensures versions { tables.new.versions ≡ tables.old.versions }
     ensures does { (settings : Settings) (base : List Event) → Numbered (behind base outs.old)
@@ -123,12 +108,7 @@ pub fn evict(
 }
 
 /// E7: this group ends, and a start is spawned for the new group, which has the next number.
-pub fn replace(
-    tables: &mut Tables,
-    alloc: Global,
-    outs: &mut Outs,
-    g: u64,
-) -> Result<(), Memory>
+pub fn replace(tables: &mut Tables, alloc: Global, outs: &mut Outs, g: u64) -> Result<(), Memory>
     requires limit { 2 ≤ tables.old.requests }
     requires versions { 1 ≤ tables.old.versions }
     ensures { (settings : Settings) (before base : List Event) (e n : ℕ) (body : List ℕ) → IsNext n (behind base outs.old)

@@ -1,5 +1,5 @@
 -- The last start ends, by where it stands.
-use Rattle.std.proofs.Common.{ap, sym, subst, ◌∙◌}
+use Rattle.std.proofs.Common.{ap, sym, ◌∙◌}
 use Rattle.event_model.specs.Stages.{is_ready}
 use Rattle.group_facts.specs.Why.{is_starting}
 use Rattle.event_model.proofs.Turns.{does_knowing}

@@ -1,5 +1,4 @@
 -- A group ends.
-use Rattle.std.proofs.Common.{length}
 use Rattle.event_model.specs.Event.{behind}
 use Rattle.mux_tables.proofs.Starts.{start_there}
 use Rattle.mux_turns.proofs.Evictions.{evicts_none, evicts_some}

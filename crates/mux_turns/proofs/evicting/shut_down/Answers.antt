@@ -1,5 +1,4 @@
 -- The last start is sent `shutdown`.
-use Rattle.std.proofs.Common.{◌∙◌}
 use Rattle.mux_tables.specs.Documents.{nothing_owed}
 use Rattle.mux_turns.proofs.Evictions.{shuts}
 use Rattle.mux_turns.proofs.Ready.{start_from}

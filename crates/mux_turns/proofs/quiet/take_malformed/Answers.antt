@@ -9,7 +9,6 @@ use Rattle.rpc_message.specs.declared.sort.Malformed.TheVariants.{Memory}
 use Rattle.rpc_message.specs.Message.{message_of}
 use Rattle.event_model.proofs.Frames.{never}
 use Rattle.mux_tables.specs.Documents.{AllStand, nothing_owed}
-use Rattle.mux_tables.specs.Stands.{Stands}
 use Rattle.mux_tables.proofs.DocumentOwed.{all_does}
 use Rattle.mux_turns.proofs.Asides.{aside, desk_now, malformed_aside, malformed_keeps, malformed_stays, refused}
 use Rattle.mux_turns.proofs.Matched.{whole_entry}

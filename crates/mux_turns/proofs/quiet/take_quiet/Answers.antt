@@ -1,7 +1,6 @@
 -- A message that gives nothing.
 use Rattle.std.proofs.Common.{[], refl, sym}
 use Rattle.event_model.specs.Event.{with_cause}
-use Rattle.event_model.specs.Phases.{desk_of}
 use Rattle.event_model.specs.Row.{nothing}
 use Rattle.event_model.proofs.Turns.{does_nothing}
 use Rattle.mux_history.specs.declared.cause.Cause.TheVariants.{FromEditor}
