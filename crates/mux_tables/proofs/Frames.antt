@@ -22,6 +22,7 @@ use Rattle.id_rewrite.specs.Tables.{Table}
 use Rattle.mux_tables.specs.declared.tables.Start.{Start}
 use Rattle.group_rows.specs.Forwarded.{Forwarding, forwarding_behind, forwarding_of, forwards, moves_ids, numbered}
 use Rattle.mux_tables.specs.Stands.{EditorsStand, GroupsStand, OriginsStand, IdsAt, IdsStand, Part, of_life, of_ids, PartStands, LastStands}
+use Rattle.mux_tables.proofs.Named.{goes_so, named_by}
 
 pub itself : (n : ℕ) → nat_eq n n ≡ true
 itself n = grind (arith, nat_tests)
@@ -121,6 +122,7 @@ editors_stand settings t events ev h s = record {
   count = one_more editors_behind _ _ events ev s.count ∙ editors_alone _ ev h;
   phase = λ e. ap (λ (d : Desk). d.phase) (one_more (desk_behind e) _ _ events ev refl ∙ desk_alone e _ ev h) ∙ s.phase e;
   home = λ e. home_stays settings e events ev (homeless e ev h) ∙ s.home e;
+  names = λ e. named_by (goes_so (one_more (desk_behind e) _ _ events ev refl ∙ desk_alone e _ ev h)) (home_stays settings e events ev (homeless e ev h)) refl (s.names e);
 }
 
 pub groups_stand : (settings : Settings) (t : group_tables.Table) (events : List Event) (ev : Event) → touches_groups ev ≡ false → GroupsStand settings t events → GroupsStand settings t (events ++ ev ∷ [])

@@ -27,9 +27,10 @@ use Rattle.id_rewrite.specs.Tables.{Table, IsInOrder}
 use Rattle.restart_replay.specs.Standings.{Standing, moved}
 use Rattle.mux_tables.specs.declared.tables.Start.{Start}
 use Rattle.mux_tables.specs.declared.tables.Tables.{Tables}
+use Rattle.mux_tables.specs.Names.{NamesStand}
 use Rattle.group_rows.specs.Forwarded.{Forwarded, Forwarding, forwarding_of, names}
 
--- the editors: how many joined, and of each its phase and its group
+-- the editors: how many joined, and of each its phase, its group, and the id of its `initialize`
 abbrev pub phase_in : Option Session → Phase
 phase_in None = Absent
 phase_in (Some s) = s.phase
@@ -42,6 +43,7 @@ pub record EditorsStand (settings : Settings) (sessions : List Session) (events 
   pub count : editors_of events ≡ length sessions
   pub phase : (e : ℕ) → (desk_of e events).phase ≡ phase_in (slice_get sessions e)
   pub home : (e : ℕ) → home_of settings e events ≡ group_in (slice_get sessions e)
+  pub names : NamesStand settings sessions events
 
 -- the groups: the list itself, and its limits
 pub record GroupsStand (settings : Settings) (table : group_tables.Table) (events : List Event) : Type 0 where

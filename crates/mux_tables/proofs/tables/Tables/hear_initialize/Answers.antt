@@ -8,9 +8,9 @@ use Rattle.rpc_message.specs.Message.{message_of}
 use Rattle.mux_tables.proofs.tables.Tables.hear_initialize.Goals as goal
 
 pub returns-clause-moves : goal.returns-clause-moves
-returns-clause-moves c = λ settings before x body st at new first k d.
+returns-clause-moves c = λ settings before x body st at new first own k d.
     let given = declared_for settings before c.args.e body in
-    initialized_moves settings before c.args.e body c.args.self.now _ c.place.new.self x c.in_ok-placed.placed c.args.key given first at new k refl (c.in_ok-placed.ensures.placed given d) (c.in_ok-placed.ensures.ok given d) c.join.ensures (c.seat.ensures x at) refl refl refl refl st
+    initialized_moves settings before c.args.e body c.args.self.now _ c.place.new.self x c.in_ok-placed.placed c.args.key given c.args.id first at new own k refl (c.in_ok-placed.ensures.placed given d) (c.in_ok-placed.ensures.ok given d) c.join.ensures (c.seat.ensures x at) refl refl refl refl st
 
 pub returns-clause-inside : goal.returns-clause-inside
 returns-clause-inside c = joined_inside c.in_ok-placed.placed c.place.new.self c.join.new.groups c.join.ensures c.in_ok-placed.ensures.inside
