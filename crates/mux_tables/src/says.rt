@@ -263,6 +263,7 @@ impl Tables {
             life,
             started: false,
             ids,
+            shown: None,
         })?;
         outs.push(Out::Spawn(s, g))?;
         Ok(())
@@ -287,6 +288,7 @@ impl Tables {
             life,
             started: false,
             ids,
+            shown: None,
         };
         outs.push(Out::Spawn(s, g as u64))?;
         Ok(())

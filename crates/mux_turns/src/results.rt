@@ -106,7 +106,8 @@ pub fn take_result(
 {
     let n = answered_number(message);
     let told = shown_of(alloc, message.result_bytes())?;
-    let owed = tables.hear_result(alloc, g, n, encoding(message))?;
+    let kept = told.copy(alloc)?;
+    let owed = tables.hear_result(alloc, g, n, encoding(message), kept)?;
     let text = initialized(alloc)?;
     tables.notify(outs, g, text)?;
     tables.pay(outs, owed)?;
