@@ -76,7 +76,8 @@ impl Tables {
         ensures versions { self.new.versions ≡ self.old.versions }
         ensures moves { (settings : Settings) (before : List Event) (x : Session) (body : List ℕ) → Stands settings self.old before
             → slice_get self.old.editors e ≡ Some x → x.phase ≡ New → requests (codes "initialize") (message_of body) ≡ true
-            → id ≡ id_bytes body → key ≡ key_for settings before e body → declared_text capabilities.now (option_copied ceiling.entry) ≡ Some (declared_for settings before e body)
+            → id ≡ id_bytes body → key ≡ key_for settings before e body
+            → declared_text capabilities.now (option_copied ceiling.entry) ≡ Some (declared_for settings before e body)
             → IfOk result (λ p. (p ≡ placed_for settings before e body (groups_of settings before)) × Stands settings self.new (before ++ heard (FromEditor e body) ∷ [])) }
         ensures documents { (settings : Settings) (owed : Owed) (before : List Event) (x : Session) (body : List ℕ) → Stands settings self.old before
             → slice_get self.old.editors e ≡ Some x → x.phase ≡ New → DocumentsStand settings owed self.old before

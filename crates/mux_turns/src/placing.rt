@@ -54,7 +54,8 @@ pub fn welcome(
     requires group { g < length tables.old.lasts.items }
     ensures { (settings : Settings) (before : List Event) (body method : List ℕ) (id : Id) (params : Option Json) (s : ℕ)
         → IsRead message.now body → message_of body ≡ request id method params → places (desk_of e before).phase (message_of body) ≡ true
-        → start_of g before ≡ Some s → is_ready (life_of s before).stage ≡ true → ((given : List ℕ) → result_of s before ≡ Some given → IsShown given) → outs.old ≡ []
+        → start_of g before ≡ Some s → is_ready (life_of s before).stage ≡ true
+        → ((given : List ℕ) → result_of s before ≡ Some given → IsShown given) → outs.old ≡ []
         → OnOk result (Does (λ k events. AllStand settings k events) (placed_row e body before (Joins g)) (with_cause before (FromEditor e body)) (tables.old, nothing_owed) outs.old (tables.new, nothing_owed) outs.new) }
 {
     match tables.shown(g) {
