@@ -1,10 +1,10 @@
 //! The values of a text that may be there: what they are, their members and their items.
-ghost use Rattle.std.specs.Prelude.{◌≡◌, ◌<◌, ℕ, List, ◌∷◌, length, bytes_eq, true, MatchOption, Option, Some};
+ghost use Rattle.std.specs.Prelude.{◌≡◌, ◌<◌, ℕ, List, ◌∷◌, length, bytes_eq, true, MatchOption, Option, Some, option_map};
 ghost use Rattle.json_text.specs.declared.span.Span.{Span};
 ghost use Rattle.json_text.specs.Json.{Json, span_of, string, value};
 ghost use Rattle.json_nodes.specs.At.{Found};
 ghost use Rattle.rpc_message.specs.Message.{is_integer_value, is_string_value};
-ghost use Rattle.event_model.specs.Members.{listed, named_of};
+ghost use Rattle.event_model.specs.Members.{bytes_if, listed, named_of};
 ghost use Rattle.mux_members.specs.Finds.{Rest, is_array_value, is_ascii, is_object_value, values_of};
 
 use json_span::Tape;
@@ -36,6 +36,16 @@ pub fn bytes<'a>(tape: &'a Tape, node: Option<u32>) -> &'a [u8]
         Some(node) => tape.values().bytes(node),
         None => &[],
     }
+}
+
+/// The bytes of a member's value, where it is there.
+pub fn member_bytes<'a>(tape: &'a Tape, node: Option<u32>, name: &str) -> Option<&'a [u8]>
+    ensures { is_ascii name.now ≡ true → (o : Option Json) → Found tape.now o node
+        → option_map (λ b. b.now) result ≡ bytes_if name.now o tape.now.bytes }
+{
+    let node = tape.within(member(tape, node, name))?;
+    let span = tape.span(node);
+    Some(&tape.bytes()[span.from..span.to])
 }
 
 /// Whether a value is there and an integer.

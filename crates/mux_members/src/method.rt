@@ -33,6 +33,16 @@ pub fn is_initialized(m: &Message) -> bool
     }
 }
 
+/// Whether it is the notification `exit` (LSP 3.17, Exit Notification).
+pub fn is_exit(m: &Message) -> bool
+    ensures { (bytes : List ℕ) → IsRead m.now bytes → result ≡ notifies (codes "exit") (message_of bytes) }
+{
+    match notification_method(m) {
+        Some(method) => spells(m.tape(), Some(method), "exit"),
+        None => false,
+    }
+}
+
 /// Whether it is the request `initialize` (LSP 3.17, Initialize Request).
 pub fn is_initialize(m: &Message) -> bool
     ensures { (bytes : List ℕ) → IsRead m.now bytes → result ≡ requests (codes "initialize") (message_of bytes) }

@@ -34,8 +34,13 @@ pub enum Notice {
     Nothing,
 }
 
-// The characters of a member, where it is a string, in UTF-8.
-fn string(alloc: Global, tape: &Tape, node: Option<u32>, name: &str) -> Result<Option<Body>, Memory>
+/// The characters of a member, where it is a string, in UTF-8.
+pub fn string(
+    alloc: Global,
+    tape: &Tape,
+    node: Option<u32>,
+    name: &str,
+) -> Result<Option<Body>, Memory>
     ensures said { is_ascii name.now ≡ true → (o : Option Json) → Found tape.now o node → IfOk result (λ text. text ≡ string_at name.now o) }
     ensures utf8 { is_ascii name.now ≡ true → (o : Option Json) → Found tape.now o node → IfOk result (λ text. IsTextIf text) }
 {

@@ -1,15 +1,14 @@
 //! The `initialize` of the multiplexer's own, by that of an editor (LSP 3.17, Initialize Request).
 ghost use Rattle.std.specs.Prelude.{◌≡◌, ℕ, List, codes, true, IfOk, IsUtf8, Option};
-ghost use Rattle.std.specs.Option.{option_map};
 ghost use Rattle.json.specs.Print.{quoted};
 ghost use Rattle.json_text.specs.Json.{Json};
 ghost use Rattle.json_nodes.specs.At.{Found};
 ghost use Rattle.rpc_message.specs.Parsed.{IsRead};
-ghost use Rattle.event_model.specs.Members.{bytes_if, first_uri, listed, named_of, root_uri, string_of, string_or_null};
+ghost use Rattle.event_model.specs.Members.{first_uri, listed, named_of, root_uri, string_of, string_or_null};
 ghost use Rattle.mux_model.specs.Rows.{initialize_for};
 ghost use Rattle.mux_members.specs.Finds.{FoundText, is_ascii};
 
-use crate::look::{first_item, is_text, member, next_value};
+use crate::look::{first_item, is_text, member, member_bytes, next_value};
 use json_span::{Tape, quote};
 use message_body::{Body, Memory};
 use rpc_message::{Message, initialize};
@@ -73,15 +72,6 @@ fn string_or_null(alloc: Global, tape: &Tape, node: Option<u32>) -> Result<Body,
     }
 }
 
-// The bytes of the client's options, where it has some.
-fn options<'a>(tape: &'a Tape, params: Option<u32>) -> Option<&'a [u8]>
-    ensures { (o : Option Json) → Found tape.now o params → option_map (λ b. b.now) result ≡ bytes_if (codes "initializationOptions") o tape.now.bytes }
-{
-    let node = tape.within(member(tape, params, "initializationOptions"))?;
-    let span = tape.span(node);
-    Some(&tape.bytes()[span.from..span.to])
-}
-
 /// The request `initialize` under the number 1 that goes to a server, by an editor's: with the root that the editor names (the
 /// first folder's, else `rootUri`, else null) and its `initializationOptions` as they came.
 pub fn initialize_request(alloc: Global, m: &Message) -> Result<Body, Memory>
@@ -93,7 +83,7 @@ pub fn initialize_request(alloc: Global, m: &Message) -> Result<Body, Memory>
     initialize(
         alloc,
         root.bytes(),
-        options(tape, params),
+        member_bytes(tape, params, "initializationOptions"),
         "{}".as_bytes(),
         None,
     )

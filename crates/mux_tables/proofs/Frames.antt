@@ -1,6 +1,6 @@
 -- An event leaves alone what it doesn't name: one lemma for each word, by cases of the event, and one for each table.
 use Rattle.std.proofs.Common.{◌≡◌, ℕ, ◌+◌, Bool, true, false, not, List, [], ◌∷◌, ◌++◌, refl, ap, sym, subst, ◌∙◌, nat_eq, arith}
-use Rattle.std.specs.Prelude.{Option, codes, if◌then◌else◌}
+use Rattle.std.specs.Prelude.{Option, Some, None, codes, if◌then◌else◌}
 use Rattle.std.proofs.lemmas.Bool.Decides.{nat_tests}
 use Rattle.mux_history.specs.declared.cause.Cause.TheVariants.{Joined, FromEditor, EditorGone, Started, StartFailed, FromServer, ServerGone, Tick}
 use Rattle.mux_history.specs.declared.out.Out.TheVariants.{ToEditor, ToServer, Spawn, CloseEditor, EndServer}
@@ -17,11 +17,13 @@ use Rattle.event_model.proofs.Frames.{one_more, never}
 use Rattle.editor_session.specs.declared.session.Session.{Session}
 use Rattle.group_table.specs.Tables as group_tables
 use Rattle.group_words.specs.Houses.{time_behind}
+use Rattle.group_words.specs.Rows.{result_behind, result_of}
 use Rattle.group_words.proofs.Frames.{touches_groups, names_home, groups_stay, home_stays}
 use Rattle.id_rewrite.specs.Tables.{Table}
 use Rattle.mux_tables.specs.declared.tables.Start.{Start}
 use Rattle.group_rows.specs.Forwarded.{Forwarding, forwarding_behind, forwarding_of, forwards, moves_ids, numbered}
-use Rattle.mux_tables.specs.Stands.{EditorsStand, GroupsStand, OriginsStand, IdsAt, IdsStand, Part, of_life, of_ids, PartStands, LastStands}
+use Rattle.mux_tables.specs.Stands.{EditorsStand, GroupsStand, OriginsStand, IdsAt, IdsStand, Part, of_life, of_ids, of_shown, PartStands, LastStands, ShownAt}
+use Rattle.mux_tables.proofs.Named.{goes_so, named_by}
 
 pub itself : (n : ℕ) → nat_eq n n ≡ true
 itself n = grind (arith, nat_tests)
@@ -121,6 +123,7 @@ editors_stand settings t events ev h s = record {
   count = one_more editors_behind _ _ events ev s.count ∙ editors_alone _ ev h;
   phase = λ e. ap (λ (d : Desk). d.phase) (one_more (desk_behind e) _ _ events ev refl ∙ desk_alone e _ ev h) ∙ s.phase e;
   home = λ e. home_stays settings e events ev (homeless e ev h) ∙ s.home e;
+  names = λ e. named_by (goes_so (one_more (desk_behind e) _ _ events ev refl ∙ desk_alone e _ ev h)) (home_stays settings e events ev (homeless e ev h)) refl (s.names e);
 }
 
 pub groups_stand : (settings : Settings) (t : group_tables.Table) (events : List Event) (ev : Event) → touches_groups ev ≡ false → GroupsStand settings t events → GroupsStand settings t (events ++ ev ∷ [])
@@ -147,6 +150,8 @@ touches of_ids (took (FromServer n body) m) = true
 touches of_ids (took (ServerGone n) m) = true
 touches of_ids (did (ToServer n body) m) = moves_ids m
 touches of_ids other = false
+touches of_shown (took (FromServer n body) m) = is_first_result m
+touches of_shown other = false
 
 hears_quiet : (g : Stage) (m : Message) → is_first_result m ≡ false → stage_hears g m ≡ g
 hears_quiet Initializing m h = rw h refl
@@ -187,17 +192,37 @@ forwarding_quiet s x (took (ServerGone n) m) h = never h
 forwarding_quiet s x (did (ToServer n body) m) h = forwards_quiet (nat_eq n s) x m h
 forwarding_quiet s x other h = record { next = refl; open_requests = refl }
 
+-- the result of its `initialize`
+result_alone : (s : ℕ) (o : Option (List ℕ)) (ev : Event) → names_start s ev ≡ false → result_behind s o ev ≡ o
+result_alone s None (took (FromServer n body) m) h = rw h refl
+result_alone s None other h = refl
+result_alone s (Some b) ev h = refl
+
+either_way : {A : Type 0} (b : Bool) (x : A) → (if b then x else x) ≡ x
+either_way true x = refl
+either_way false x = refl
+
+pub result_quiet : (s : ℕ) (o : Option (List ℕ)) (ev : Event) → touches of_shown ev ≡ false → result_behind s o ev ≡ o
+result_quiet s None (took (FromServer n body) m) h = rw h (either_way (nat_eq n s) None)
+result_quiet s None other h = refl
+result_quiet s (Some b) ev h = refl
+
 -- an event of another start, and an event of another kind
 ids_by : (limit s : ℕ) (t : Table) (events : List Event) (ev : Event) → SameForwarding (forwarding_behind s (forwarding_of s events) ev) (forwarding_of s events) → IdsStand limit s t events → IdsStand limit s t (events ++ ev ∷ [])
 ids_by limit s t events ev same i = subst (λ x. IdsAt limit x t) (sym (one_more (forwarding_behind s) _ _ events ev refl)) (record { next = same.next ∙ i.next; open_requests = same.open_requests ∙ i.open_requests; ends = i.ends; order = i.order })
 
+shown_by : (limit : ℕ) (x : Start) (events : List Event) (ev : Event) → result_behind x.life.start (result_of x.life.start events) ev ≡ result_of x.life.start events → PartStands of_shown limit x events → PartStands of_shown limit x (events ++ ev ∷ [])
+shown_by limit x events ev same s = subst (λ o. ShownAt x.life.stage x.shown o) (sym (one_more (result_behind x.life.start) _ _ events ev refl ∙ same)) s
+
 pub part_apart : (p : Part) (limit : ℕ) (x : Start) (events : List Event) (ev : Event) → names_start x.life.start ev ≡ false → PartStands p limit x events → PartStands p limit x (events ++ ev ∷ [])
 part_apart of_life limit x events ev h s = one_more (life_behind x.life.start) _ _ events ev s ∙ life_alone x.life.start _ ev h
 part_apart of_ids limit x events ev h s = ids_by limit x.life.start x.ids events ev (forwarding_alone x.life.start (forwarding_of x.life.start events) ev h) s
+part_apart of_shown limit x events ev h s = shown_by limit x events ev (result_alone x.life.start (result_of x.life.start events) ev h) s
 
 pub part_quiet : (p : Part) (limit : ℕ) (x : Start) (events : List Event) (ev : Event) → touches p ev ≡ false → PartStands p limit x events → PartStands p limit x (events ++ ev ∷ [])
 part_quiet of_life limit x events ev h s = one_more (life_behind x.life.start) _ _ events ev s ∙ life_quiet x.life.start _ ev h
 part_quiet of_ids limit x events ev h s = ids_by limit x.life.start x.ids events ev (forwarding_quiet x.life.start (forwarding_of x.life.start events) ev h) s
+part_quiet of_shown limit x events ev h s = shown_by limit x events ev (result_quiet x.life.start (result_of x.life.start events) ev h) s
 
 -- the last start of a group, where the event doesn't name it, and no start is spawned for the group
 pub last_stands : (limit : ℕ) (events : List Event) (ev : Event) (g : ℕ) (x : Start) → names_start x.life.start ev ≡ false → ((o : Option ℕ) → start_behind g o ev ≡ o) → LastStands limit events g x → LastStands limit (events ++ ev ∷ []) g x

@@ -1,12 +1,12 @@
 -- What the tables do when a cause about an editor comes, as the code has it.
 use Rattle.std.proofs.Common.{◌≡◌, ℕ, ◌<◌, Bool, true, false, List, [], ◌∷◌, ◌++◌, length, max, refl, ap, sym, subst, ◌∙◌, ◌&&◌, nat_eq, codes}
-use Rattle.std.specs.Prelude.{Option, Some, slice_get, slice_set}
+use Rattle.std.specs.Prelude.{Option, Some, None, slice_get, slice_set}
 use Rattle.std.proofs.lemmas.Bool.{ne_eqb}
 use Rattle.std.proofs.lemmas.Option.{slice_get-get_or}
 use Rattle.std.proofs.lemmas.List.{length-set, length-append}
 use Rattle.mux_history.specs.declared.cause.Why.{Why}
 use Rattle.mux_history.specs.declared.cause.Cause.TheVariants.{Joined, FromEditor, EditorGone, Tick}
-use Rattle.rpc_message.specs.Message.{message_of, not_message}
+use Rattle.rpc_message.specs.Message.{id_bytes, message_of, not_message}
 use Rattle.event_model.specs.declared.phase.Phase.{Phase}
 use Rattle.event_model.specs.declared.phase.Phase.TheVariants.{Absent, New, Waiting}
 use Rattle.event_model.specs.declared.phase.Phase.TheVariants as phase
@@ -20,17 +20,19 @@ use Rattle.editor_session.specs.Sessions.{absent, joined, session_of, with_sessi
 use Rattle.group_table.specs.Tables.{Table, after_place, place_in, with_groups}
 use Rattle.group_words.specs.Keys.{Common}
 use Rattle.group_words.specs.Placing as placing
-use Rattle.group_words.specs.Placing.{all_from, home_by, is_due, is_live}
+use Rattle.group_words.specs.Placing.{all_from, is_due, is_live}
 use Rattle.group_words.specs.declared.placed.Placed.{Placed}
-use Rattle.group_words.specs.Houses.{declared_for, emptied, groups_of, key_for, placed_for, places, stops, time_behind}
+use Rattle.group_words.specs.Houses.{declared_for, emptied, groups_of, home_of, key_for, placed_for, places, stops, time_behind}
 use Rattle.group_words.proofs.Frames.{groups_more, home_more}
 use Rattle.mux_tables.specs.declared.tables.Tables.{Tables}
+use Rattle.mux_tables.specs.Names.{NameStands, id_in}
 use Rattle.mux_tables.specs.Stands.{EditorsStand, GroupsStand, Stands, ends, phase_in, group_in, stays_in}
 use Rattle.mux_tables.proofs.Ends.{tick_heard}
 use Rattle.mux_tables.proofs.Exits.{stop_groups}
 use Rattle.mux_tables.proofs.Frames.{itself, groups_stand}
 use Rattle.mux_tables.proofs.Leaves.{gone_by}
 use Rattle.mux_tables.proofs.Moves.{house_moves}
+use Rattle.mux_tables.proofs.Named.{Goes, goes_heard, goes_so, goes_then, named_by, named_new}
 use Rattle.mux_tables.proofs.Seated.{Seated, initialize_heard}
 
 and_off : (a : Bool) → (a && false) ≡ false
@@ -44,8 +46,19 @@ joined_editors settings t u events e last is s = record {
   phase = λ j. ap (λ (d : Desk). d.phase) (one_more (desk_behind j) _ _ events (took (Joined e) not_message) refl)
       ∙ (subst (λ n. (desk_behind j (desk_of j events) (took (Joined n) not_message)).phase ≡ phase_in (slice_get (t ++ joined ∷ []) j)) (sym last) (go j (compare (length t) j)) ∙ ap (λ z. phase_in (slice_get z j)) (sym is));
   home = λ j. home_more settings j events (took (Joined e) not_message) ∙ (s.home j ∙ (place j (compare (length t) j) ∙ ap (λ z. group_in (slice_get z j)) (sym is)));
+  names = λ j. subst (λ d. NameStands d (home_of settings j (events ++ took (Joined e) not_message ∷ [])) (id_in (slice_get u j))) (sym (one_more (desk_behind j) _ _ events (took (Joined e) not_message) refl))
+      (subst (λ n. NameStands (desk_behind j (desk_of j events) (took (Joined n) not_message)) (home_of settings j (events ++ took (Joined e) not_message ∷ [])) (id_in (slice_get u j))) (sym last) (named j (compare (length t) j)));
 }
   where
+    named : (j : ℕ) → Same (length t) j → NameStands (desk_behind j (desk_of j events) (took (Joined (length t)) not_message)) (home_of settings j (events ++ took (Joined e) not_message ∷ [])) (id_in (slice_get u j))
+    named _ same = rw (itself (length t)) (named_new (home_more settings (length t) events (took (Joined e) not_message) ∙ (s.home (length t) ∙ past t)))
+      where
+        past : (xs : List Session) → group_in (slice_get xs (length xs)) ≡ None
+        past [] = refl
+        past (x ∷ xs) = past xs
+    named j (other h) = rw (ne_eqb (length t) j (λ q. h (sym q)))
+        (named_by (goes_so refl) (home_more settings j events (took (Joined e) not_message)) (ap (λ z. id_in (slice_get z j)) is ∙ ap id_in (get_push_other t joined j h)) (s.names j))
+
     go : (j : ℕ) → Same (length t) j → (desk_behind j (desk_of j events) (took (Joined (length t)) not_message)).phase ≡ phase_in (slice_get (t ++ joined ∷ []) j)
     go _ same = rw (itself (length t), get_push_same t joined) refl
     go j (other h) = rw (ne_eqb (length t) j (λ q. h (sym q)), get_push_other t joined j h) (s.phase j)
@@ -78,6 +91,7 @@ module _ (settings : Settings) (t u : Tables) (events : List Event) (e : ℕ) (b
     count = one_more editors_behind _ _ events ev s.count ∙ (sym (length-set t.editors e y) ∙ ap length (sym is));
     phase = λ n. phase_at n (compare e n) ∙ ap (λ z. phase_in (slice_get z n)) (sym is);
     home = λ n. home_more settings n events ev ∙ (rw (stays, and_off (nat_eq e n)) (s.home n) ∙ (home_at n (compare e n) ∙ ap (λ z. group_in (slice_get z n)) (sym is)));
+    names = λ n. named_by (goes_then (goes n (compare e n)) (one_more (desk_behind n) _ _ events ev refl)) (home_more settings n events ev ∙ rw (stays, and_off (nat_eq e n)) refl) (ap (λ z. id_in (slice_get z n)) is ∙ id_at n (compare e n)) (s.names n);
   }
     where
       x : Session
@@ -96,6 +110,14 @@ module _ (settings : Settings) (t u : Tables) (events : List Event) (e : ℕ) (b
       home_at : (n : ℕ) → Same e n → group_in (slice_get t.editors n) ≡ group_in (slice_get (slice_set t.editors e y) n)
       home_at _ same = ap group_in (slice_get-get_or t.editors e absent l) ∙ ap group_in (sym here)
       home_at n (other h) = ap group_in (sym (get_set_other t.editors e n y h))
+
+      goes : (n : ℕ) → Same e n → Goes (desk_of n events) (desk_behind n (desk_of n events) ev)
+      goes _ same = rw (itself e) (goes_heard (desk_of e events).phase (desk_of e events).initialize body (message_of body) stays)
+      goes n (other h) = rw (ne_eqb e n (λ q. h (sym q))) (goes_so refl)
+
+      id_at : (n : ℕ) → Same e n → id_in (slice_get (slice_set t.editors e y) n) ≡ id_in (slice_get t.editors n)
+      id_at _ same = ap id_in here ∙ ap id_in (sym (slice_get-get_or t.editors e absent l))
+      id_at n (other h) = ap id_in (get_set_other t.editors e n y h)
 
   all_heard : (GroupsStand settings t.groups events → GroupsStand settings u.groups (events ++ ev ∷ [])) → Stands settings t events → Stands settings u (events ++ ev ∷ [])
   all_heard go = house_moves settings t u events ev (λ n. refl) refl (ap (λ v. v.items) ls) (ap (λ v. v.items) os) r (λ h. record {
@@ -122,12 +144,12 @@ gone_heard settings t u events e why mid p home was l phases homes begun set es 
     (gone_by settings events e why not_message t u mid p home was l phases homes begun set es now gs)
 
 -- E7
-pub initialized_moves : (settings : Settings) (before : List Event) (e : ℕ) (body : List ℕ) (t u : Tables) (mid : Table) (x : Session) (p : Placed) (key : Common) (given : List ℕ) → requests (codes "initialize") (message_of body) ≡ true → slice_get t.editors e ≡ Some x → x.phase ≡ New
+pub initialized_moves : (settings : Settings) (before : List Event) (e : ℕ) (body : List ℕ) (t u : Tables) (mid : Table) (x : Session) (p : Placed) (key : Common) (given id : List ℕ) → requests (codes "initialize") (message_of body) ≡ true → slice_get t.editors e ≡ Some x → x.phase ≡ New → id ≡ id_bytes body
     → key ≡ key_for settings before e body → given ≡ declared_for settings before e body → p ≡ place_in key given t.groups → mid ≡ after_place key given t.groups → u.groups ≡ with_groups (placing.joined p mid.groups) mid
-    → Seated t.editors u.editors e (home_by p x.group) → u.time ≡ t.time → u.lasts ≡ t.lasts → u.origins ≡ t.origins → u.requests ≡ t.requests → Stands settings t before
+    → Seated t.editors u.editors e p x.group id → u.time ≡ t.time → u.lasts ≡ t.lasts → u.origins ≡ t.origins → u.requests ≡ t.requests → Stands settings t before
     → (p ≡ placed_for settings before e body (groups_of settings before)) × Stands settings u (before ++ took (FromEditor e body) (message_of body) ∷ [])
-initialized_moves settings before e body t u mid x p key given first at new k d chosen placed busy sits now ls os r s =
-    let h = initialize_heard settings before e body (message_of body) t u mid x p key given first at new k d chosen placed busy sits now s.house in
+initialized_moves settings before e body t u mid x p key given id first at new own k d chosen placed busy sits now ls os r s =
+    let h = initialize_heard settings before e body (message_of body) t u mid x p key given id first at new own k d chosen placed busy sits now s.house in
     (h.0, house_moves settings t u before (took (FromEditor e body) (message_of body)) (λ n. refl) refl (ap (λ v. v.items) ls) (ap (λ v. v.items) os) r (λ _. h.1) s)
 
 -- X7

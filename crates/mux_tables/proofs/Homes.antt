@@ -5,8 +5,12 @@ use Rattle.std.specs.Option.{option_and_then}
 use Rattle.std.specs.List.{AllByRecursion}
 use Rattle.std.proofs.lemmas.Bool.Decides.{nat_tests}
 use Rattle.std.proofs.lemmas.Option.{slice_get-get_or, slice_get_past}
+use Rattle.rpc_message.specs.Message.{result_bytes}
+use Rattle.event_model.specs.declared.stage.Stage.{Stage}
+use Rattle.event_model.specs.declared.stage.Stage.TheVariants.{Unspawned, Spawning, Initializing, Ready, Stopping, Ending, Ended}
 use Rattle.event_model.specs.Event.{Event}
 use Rattle.event_model.specs.Settings.{Settings}
+use Rattle.event_model.proofs.Frames.{never}
 use Rattle.event_model.proofs.Places.{item_at}
 use Rattle.event_model.specs.Spawns.{group_of, start_of}
 use Rattle.event_model.specs.Stages.{Life, is_ready, life_of}
@@ -15,13 +19,14 @@ use Rattle.group_rows.specs.Forwarded.{forwarding_of, numbers_of}
 use Rattle.group_rows.specs.Leaves.{open_of}
 use Rattle.group_rows.specs.Rows.{can_ask}
 use Rattle.group_words.specs.Houses.{home_of}
+use Rattle.group_words.specs.Rows.{result_of, shown_of}
 use Rattle.id_rewrite.specs.declared.pending.Numbered.{Numbered}
 use Rattle.id_rewrite.specs.Tables as tables
 use Rattle.id_rewrite.specs.Tables.{IsInOrder, RiseWithin}
 use Rattle.mux_tables.specs.Cancels.{is_uncancelled}
 use Rattle.mux_tables.specs.declared.tables.Start.{Start}
 use Rattle.mux_tables.specs.declared.tables.Tables.{Tables}
-use Rattle.mux_tables.specs.Stands.{Stands, forwarded_of, group_in, number_in, of_ids, of_life, start_for}
+use Rattle.mux_tables.specs.Stands.{ShownAt, Stands, forwarded_of, group_in, number_in, of_ids, of_life, of_shown, start_for}
 use Rattle.mux_tables.proofs.Frames.{itself}
 use Rattle.mux_tables.proofs.IdMoves.{filter_mapped, numbers_mapped}
 use Rattle.mux_tables.proofs.Starts.{read_here, start_at_place}
@@ -66,6 +71,16 @@ module _ (settings : Settings) (t : Tables) (events : List Event) (g : ℕ) (st 
       go false true h k = absurd (others (length t.lasts.items) (grind (arith, nat_tests)) (st.lasts.none (length t.lasts.items) (omega arith)))
       go false false h k = grind (arith, nat_tests)
 
+-- one that is ready gave a result
+ready_shown : (g : Stage) (shown given : Option (List ℕ)) → is_ready g ≡ true → ShownAt g shown given → (body : List ℕ) × (given ≡ Some body) × (shown ≡ Some (shown_of (result_bytes body)))
+ready_shown Ready shown given h s = s
+ready_shown Unspawned shown given h s = never (sym h)
+ready_shown Spawning shown given h s = never (sym h)
+ready_shown Initializing shown given h s = never (sym h)
+ready_shown Stopping shown given h s = never (sym h)
+ready_shown Ending shown given h s = never (sym h)
+ready_shown Ended shown given h s = never (sym h)
+
 -- the last start of a group
 module _ (settings : Settings) (t : Tables) (events : List Event) (g s : ℕ) (z : Start) (at : slice_get (map number_in t.lasts.items) g ≡ Some s) (within : g < length t.lasts.items) (read : z ≡ get_or t.lasts.items g z) (st : Stands settings t events) where
   here : slice_get t.lasts.items g ≡ Some z
@@ -84,6 +99,11 @@ module _ (settings : Settings) (t : Tables) (events : List Event) (g s : ℕ) (z
 
   pub open_at : (e : ℕ) (ns : List ℕ) → (IsInOrder z.ids → ns ≡ open_of e (map forwarded_of z.ids.requests)) → ns ≡ open_of e (forwarding_of s events).open_requests
   open_at e ns is = is ((st.lasts.each g z here).parts of_ids).order ∙ ap (open_of e) (sym ((st.lasts.each g z here).parts of_ids).open_requests ∙ ap (λ n. (forwarding_of n events).open_requests) own)
+
+  pub shown_at : is_ready (life_of s events).stage ≡ true → (given : List ℕ) × (result_of s events ≡ Some given) × (z.shown ≡ Some (shown_of (result_bytes given)))
+  shown_at ready =
+      let kept = ready_shown z.life.stage z.shown (result_of z.life.start events) (ap is_ready (sym stage_at) ∙ ready) ((st.lasts.each g z here).parts of_shown) in
+      (kept.0, ap (λ n. result_of n events) (sym own) ∙ kept.1, kept.2)
 
 -- what is kept under a number that rises is its own
 abbrev Own : (ℕ → Bool) → List Numbered → Type 0

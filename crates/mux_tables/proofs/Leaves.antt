@@ -22,27 +22,38 @@ use Rattle.group_words.specs.Houses.{House, groups_of, home_of, house_of, groups
 use Rattle.group_words.proofs.Frames.{itself, groups_more, home_stays, names_home}
 use Rattle.group_table.specs.Tables.{Table, with_groups}
 use Rattle.mux_tables.specs.declared.tables.Tables.{Tables}
+use Rattle.mux_tables.specs.Names.{id_in}
 use Rattle.mux_tables.specs.Stands.{EditorsStand, GroupsStand, HouseStands, phase_in, group_in, stays_in}
 use Rattle.event_model.proofs.Frames.{one_more}
 use Rattle.mux_tables.proofs.Frames.{ticks, time_alone}
 use Rattle.mux_tables.proofs.Lists.{editors_by}
+use Rattle.mux_tables.proofs.Named.{Goes, goes_closed, goes_gone, goes_so, goes_then, named_by}
 use Rattle.mux_tables.proofs.Seated.{index_get}
 
 emptied_alike : (home : Option ℕ) (was : Bool) (f g : ℕ → Bool) (now : ℕ) (xs : List Kept) → ((n : ℕ) → f n ≡ g n) → emptied home was f now xs ≡ emptied home was g now xs
 emptied_alike None was f g now xs h = refl
 emptied_alike (Some n) was f g now xs h = ap (λ b. if was && not b then changed n (idle_if_live now) xs else xs) (h n)
 
-module _ (settings : Settings) (events : List Event) (ev : Event) (e : ℕ) (leaves : (x : House) → groups_next settings events x ev ≡ groups_left events ev e x) (rest : (n : ℕ) (d : Desk) → nat_eq e n ≡ false → desk_behind n d ev ≡ d) (number : (n : ℕ) → editors_behind n ev ≡ n) (homes : (n : ℕ) → names_home n ev ≡ false) (time : ticks ev ≡ false) where
-  left_editors : (t u : List Session) (x y : Session) → slice_get t e ≡ Some x → u ≡ slice_set t e y → y.group ≡ x.group → ((d : Desk) → d.phase ≡ x.phase → (desk_behind e d ev).phase ≡ y.phase)
+module _ (settings : Settings) (events : List Event) (ev : Event) (e : ℕ) (leaves : (x : House) → groups_next settings events x ev ≡ groups_left events ev e x) (rest : (n : ℕ) (d : Desk) → nat_eq e n ≡ false → desk_behind n d ev ≡ d) (number : (n : ℕ) → editors_behind n ev ≡ n) (homes : (n : ℕ) → names_home n ev ≡ false) (time : ticks ev ≡ false) (ends : (d : Desk) → Goes d (desk_behind e d ev)) where
+  left_editors : (t u : List Session) (x y : Session) → slice_get t e ≡ Some x → u ≡ slice_set t e y → y.group ≡ x.group → y.id ≡ x.id → ((d : Desk) → d.phase ≡ x.phase → (desk_behind e d ev).phase ≡ y.phase)
       → EditorsStand settings t events → EditorsStand settings u (events ++ ev ∷ [])
-  left_editors t u x y at is group step s = record {
+  left_editors t u x y at is group id step s = record {
     count = one_more editors_behind _ _ events ev s.count ∙ (number (length t) ∙ (sym (length-set t e y) ∙ ap length (sym is)));
     phase = λ n. ap (λ (d : Desk). d.phase) (one_more (desk_behind n) _ _ events ev refl) ∙ (phase_at n (compare e n) ∙ ap (λ z. phase_in (slice_get z n)) (sym is));
     home = λ n. home_stays settings n events ev (homes n) ∙ (home_at n (compare e n) ∙ ap (λ z. group_in (slice_get z n)) (sym is));
+    names = λ n. named_by (goes_then (goes n (compare e n)) (one_more (desk_behind n) _ _ events ev refl)) (home_stays settings n events ev (homes n)) (ap (λ z. id_in (slice_get z n)) is ∙ id_at n (compare e n)) (s.names n);
   }
     where
       here : slice_get (slice_set t e y) e ≡ Some y
       here = get_set_same t e y (slice_get_within t e x at)
+
+      goes : (n : ℕ) → Same e n → Goes (desk_of n events) (desk_behind n (desk_of n events) ev)
+      goes _ same = ends (desk_of e events)
+      goes n (other h) = goes_so (rest n (desk_of n events) (ne_eqb e n (λ q. h (sym q))))
+
+      id_at : (n : ℕ) → Same e n → id_in (slice_get (slice_set t e y) n) ≡ id_in (slice_get t n)
+      id_at _ same = ap id_in here ∙ (id ∙ ap id_in (sym at))
+      id_at n (other h) = ap id_in (get_set_other t e n y h)
 
       phase_at : (n : ℕ) → Same e n → (desk_behind n (desk_of n events) ev).phase ≡ phase_in (slice_get (slice_set t e y) n)
       phase_at _ same = step (desk_of e events) (s.phase e ∙ ap phase_in at) ∙ ap phase_in (sym here)
@@ -70,35 +81,35 @@ module _ (settings : Settings) (events : List Event) (ev : Event) (e : ℕ) (lea
         idle = s.groups.idle ∙ sym i;
       }
 
-  left_moves : (t u : Tables) (x y : Session) → slice_get t.editors e ≡ Some x → u.editors ≡ slice_set t.editors e y → y.group ≡ x.group → ((d : Desk) → d.phase ≡ x.phase → (desk_behind e d ev).phase ≡ y.phase)
+  left_moves : (t u : Tables) (x y : Session) → slice_get t.editors e ≡ Some x → u.editors ≡ slice_set t.editors e y → y.group ≡ x.group → y.id ≡ x.id → ((d : Desk) → d.phase ≡ x.phase → (desk_behind e d ev).phase ≡ y.phase)
       → u.groups.limit ≡ t.groups.limit → u.groups.idle ≡ t.groups.idle → u.time ≡ t.time → u.groups.groups ≡ emptied x.group (is_begun x.phase) (stays_in u.editors) t.time t.groups.groups
       → HouseStands settings t events → HouseStands settings u (events ++ ev ∷ [])
-  left_moves t u x y at is group step l i k gs s =
-      let after = left_editors t.editors u.editors x y at is group step s.editors in
+  left_moves t u x y at is group id step l i k gs s =
+      let after = left_editors t.editors u.editors x y at is group id step s.editors in
       record {
         editors = after;
         groups = left_groups t u x at after l i gs s;
         now = one_more time_behind _ _ events ev s.now ∙ (time_alone _ ev time ∙ sym k);
       }
 
-pub close_moves : (settings : Settings) (events : List Event) (e : ℕ) (m : Message) (t u : Tables) (x y : Session) → slice_get t.editors e ≡ Some x → u.editors ≡ slice_set t.editors e y → y.group ≡ x.group → y.phase ≡ phase_closed x.phase
+pub close_moves : (settings : Settings) (events : List Event) (e : ℕ) (m : Message) (t u : Tables) (x y : Session) → slice_get t.editors e ≡ Some x → u.editors ≡ slice_set t.editors e y → y.group ≡ x.group → y.id ≡ x.id → y.phase ≡ phase_closed x.phase
     → u.groups.limit ≡ t.groups.limit → u.groups.idle ≡ t.groups.idle → u.time ≡ t.time → u.groups.groups ≡ emptied x.group (is_begun x.phase) (stays_in u.editors) t.time t.groups.groups
     → HouseStands settings t events → HouseStands settings u (events ++ did (CloseEditor e) m ∷ [])
-close_moves settings events e m t u x y at is group closed l i k gs s =
-    left_moves settings events (did (CloseEditor e) m) e (λ h. refl) (λ n d f. rw f refl) (λ n. refl) (λ n. refl) refl t u x y at is group (λ d p. rw (itself e, p) (sym closed)) l i k gs s
+close_moves settings events e m t u x y at is group id closed l i k gs s =
+    left_moves settings events (did (CloseEditor e) m) e (λ h. refl) (λ n d f. rw f refl) (λ n. refl) (λ n. refl) refl (λ d. rw (itself e) (goes_closed d)) t u x y at is group id (λ d p. rw (itself e, p) (sym closed)) l i k gs s
 
-pub gone_moves : (settings : Settings) (events : List Event) (e : ℕ) (why : Why) (m : Message) (t u : Tables) (x y : Session) → slice_get t.editors e ≡ Some x → u.editors ≡ slice_set t.editors e y → y.group ≡ x.group → y.phase ≡ Gone
+pub gone_moves : (settings : Settings) (events : List Event) (e : ℕ) (why : Why) (m : Message) (t u : Tables) (x y : Session) → slice_get t.editors e ≡ Some x → u.editors ≡ slice_set t.editors e y → y.group ≡ x.group → y.id ≡ x.id → y.phase ≡ Gone
     → u.groups.limit ≡ t.groups.limit → u.groups.idle ≡ t.groups.idle → u.time ≡ t.time → u.groups.groups ≡ emptied x.group (is_begun x.phase) (stays_in u.editors) t.time t.groups.groups
     → HouseStands settings t events → HouseStands settings u (events ++ took (EditorGone e why) m ∷ [])
-gone_moves settings events e why m t u x y at is group gone l i k gs s =
-    left_moves settings events (took (EditorGone e why) m) e (λ h. refl) (λ n d f. rw f refl) (λ n. refl) (λ n. refl) refl t u x y at is group (λ d p. rw (itself e) (sym gone)) l i k gs s
+gone_moves settings events e why m t u x y at is group id gone l i k gs s =
+    left_moves settings events (took (EditorGone e why) m) e (λ h. refl) (λ n d f. rw f refl) (λ n. refl) (λ n. refl) refl (λ d. rw (itself e) (goes_gone d)) t u x y at is group id (λ d p. rw (itself e) (sym gone)) l i k gs s
 
 pub closed_said : (settings : Settings) (events : List Event) (e : ℕ) (m : Message) (t u : Tables) (mid : List Session) (x : Session) (p : Phase) → e < length t.editors → slice_get t.editors e ≡ Some x → p ≡ phase_closed x.phase → mid ≡ with_session t.editors e (record (session_of t.editors e) { phase = p }) → u.editors ≡ mid → u.time ≡ t.time
     → u.groups ≡ with_groups (emptied x.group (is_begun x.phase) (stays_in mid) t.time t.groups.groups) t.groups
     → HouseStands settings t events → HouseStands settings u (events ++ did (CloseEditor e) m ∷ [])
 closed_said settings events e m t u mid x p h at closed set es now gs s =
     let y : Session = record (session_of t.editors e) { phase = p } in
-    close_moves settings events e m t u x y at (es ∙ set) (ap (λ (z : Session). z.group) (index_get t.editors e x _ at)) closed (ap (λ (w : Table). w.limit) gs) (ap (λ (w : Table). w.idle) gs) now
+    close_moves settings events e m t u x y at (es ∙ set) (ap (λ (z : Session). z.group) (index_get t.editors e x _ at)) (ap (λ (z : Session). z.id) (index_get t.editors e x _ at)) closed (ap (λ (w : Table). w.limit) gs) (ap (λ (w : Table). w.idle) gs) now
     (ap (λ (w : Table). w.groups) gs ∙ ap (λ ns. emptied x.group (is_begun x.phase) (stays_in ns) t.time t.groups.groups) (sym es)) s
 
 read_at : {X : Type 0} (xs : List X) (i : ℕ) (d : X) → i < length xs → slice_get xs i ≡ Some (slice_index_or xs i d)
@@ -126,6 +137,6 @@ gone_by settings events e why m t u mid phase home was h phases homes begun set 
     let x : Session = session_of t.editors e in
     let y : Session = record x { phase = Gone } in
     let at : slice_get t.editors e ≡ Some x = read_at t.editors e _ h in
-    gone_moves settings events e why m t u x y at (es ∙ set) refl refl (ap (λ (w : Table). w.limit) gs) (ap (λ (w : Table). w.idle) gs) now
+    gone_moves settings events e why m t u x y at (es ∙ set) refl refl refl (ap (λ (w : Table). w.limit) gs) (ap (λ (w : Table). w.idle) gs) now
     (ap (λ (w : Table). w.groups) gs ∙ (ap (λ ns. emptied home was (stays_in ns) t.time t.groups.groups) (sym es)
     ∙ (ap (λ b. emptied home b (stays_in u.editors) t.time t.groups.groups) (begun ∙ ap is_begun phases) ∙ ap (λ o. emptied o (is_begun x.phase) (stays_in u.editors) t.time t.groups.groups) homes))) s

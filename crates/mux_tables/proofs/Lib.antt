@@ -5,6 +5,7 @@ pub mod Lasts
 pub mod Seen
 pub mod Moves
 pub mod Lists
+pub mod Named
 pub mod Placing
 pub mod Seated
 pub mod Said

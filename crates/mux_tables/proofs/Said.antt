@@ -1,5 +1,5 @@
 -- What the tables do when an out about an editor is said, as the code has it.
-use Rattle.std.proofs.Common.{◌≡◌, ℕ, ◌<◌, Bool, false, List, [], ◌∷◌, ◌++◌, length, refl, ap, sym, subst, ◌∙◌, nat_eq}
+use Rattle.std.proofs.Common.{◌≡◌, ℕ, ◌<◌, Bool, true, false, List, [], ◌∷◌, ◌++◌, length, refl, ap, sym, subst, ◌∙◌, nat_eq, if◌then◌else◌}
 use Rattle.std.specs.Prelude.{Option, Some, slice_get, slice_set}
 use Rattle.std.proofs.lemmas.Bool.{ne_eqb}
 use Rattle.std.proofs.lemmas.Option.{slice_get-get_or}
@@ -10,7 +10,7 @@ use Rattle.rpc_message.specs.Message.{message_of, not_message}
 use Rattle.event_model.specs.declared.phase.Phase.{Phase}
 use Rattle.event_model.specs.Does.{Does}
 use Rattle.event_model.specs.Event.{Event, behind, did, said}
-use Rattle.event_model.specs.Phases.{Desk, desk_of, desk_behind, editors_behind, phase_closed, is_begun}
+use Rattle.event_model.specs.Phases.{Desk, desk_of, desk_behind, editors_behind, phase_closed, phase_told, is_begun}
 use Rattle.event_model.specs.Row.{send}
 use Rattle.event_model.specs.Settings.{Settings}
 use Rattle.event_model.proofs.Frames.{one_more}
@@ -26,6 +26,8 @@ use Rattle.mux_tables.specs.Stands.{EditorsStand, GroupsStand, HouseStands, Keep
 use Rattle.mux_tables.proofs.Frames.{groups_stand}
 use Rattle.mux_tables.proofs.Leaves.{closed_by}
 use Rattle.mux_tables.proofs.Moves.{house_moves}
+use Rattle.mux_tables.proofs.Named.{Goes, goes_so, goes_then, goes_told, named_by}
+use Rattle.mux_tables.proofs.Waits.{ids_stay}
 
 -- one out, by what it does to the tables
 pub does_send : (settings : Settings) (out : Out) (base : List Event) (t u : Tables) (xs ys : List Out) → ys ≡ xs ++ out ∷ [] → (Stands settings t (behind base xs) → Stands settings u (behind base xs ++ said out ∷ [])) → Does (λ t events. Stands settings t events) (send out) base t xs u ys
@@ -41,6 +43,13 @@ module _ (settings : Settings) (events : List Event) (e : ℕ) (body : List ℕ)
   untold : (n : ℕ) (d : Desk) → nat_eq e n ≡ false → desk_behind n d ev ≡ d
   untold n d h = rw h refl
 
+  told_goes : (n : ℕ) → Goes (desk_of n events) (desk_of n (events ++ ev ∷ []))
+  told_goes n = goes_then (go (nat_eq e n)) (one_more (desk_behind n) _ _ events ev refl)
+    where
+      go : (b : Bool) → Goes (desk_of n events) (if b then record { phase = phase_told (desk_of n events).phase (desk_of n events).initialize (message_of body); initialize = (desk_of n events).initialize } else desk_of n events)
+      go true = goes_told (desk_of n events) (message_of body)
+      go false = goes_so refl
+
   told_house : (t u : Tables) → EditorsStand settings u.editors (events ++ ev ∷ []) → u.groups ≡ t.groups → u.time ≡ t.time → HouseStands settings t events → HouseStands settings u (events ++ ev ∷ [])
   told_house t u after gs now s = record {
     editors = after;
@@ -53,6 +62,7 @@ module _ (settings : Settings) (events : List Event) (e : ℕ) (body : List ℕ)
     count = one_more editors_behind _ _ events ev s.count;
     phase = λ n. at n (compare e n);
     home = λ n. home_stays settings n events ev refl ∙ s.home n;
+    names = λ n. named_by (told_goes n) (home_stays settings n events ev refl) refl (s.names n);
   }
     where
       at : (n : ℕ) → Same e n → (desk_of n (events ++ ev ∷ [])).phase ≡ phase_in (slice_get t n)
@@ -64,6 +74,7 @@ module _ (settings : Settings) (events : List Event) (e : ℕ) (body : List ℕ)
     count = one_more editors_behind _ _ events ev s.count ∙ sym (length-set t e y);
     phase = λ n. at n (compare e n);
     home = λ n. home_stays settings n events ev refl ∙ (s.home n ∙ home_at n (compare e n));
+    names = λ n. named_by (told_goes n) (home_stays settings n events ev refl) (ids_stay t e p l n) (s.names n);
   }
     where
       y : Session

@@ -1,8 +1,8 @@
 -- An editor is placed, as the code has it.
 use Rattle.std.proofs.Common.{◌≡◌, ℕ, zero, suc, ◌<◌, true, List, [], ◌∷◌, ◌++◌, length, refl, ap, sym, subst, ◌∙◌, arith}
-use Rattle.std.specs.Prelude.{Option, Some, slice_get, slice_set, slice_index_or, codes}
+use Rattle.std.specs.Prelude.{Option, Some, None, slice_get, slice_set, slice_index_or, codes}
 use Rattle.mux_history.specs.declared.cause.Cause.TheVariants.{FromEditor}
-use Rattle.rpc_message.specs.Message.{Message}
+use Rattle.rpc_message.specs.Message.{Message, id_bytes}
 use Rattle.event_model.specs.declared.phase.Phase.TheVariants.{New, Waiting}
 use Rattle.event_model.specs.Event.{Event, took, requests}
 use Rattle.event_model.specs.Settings.{Settings}
@@ -40,29 +40,34 @@ index_get (w ∷ xs) zero x d h = the h
 index_get (w ∷ xs) (suc i) x d h = index_get xs i x d h
 
 -- what is left of an editor that was placed
-abbrev pub Seated : List Session → List Session → ℕ → Option ℕ → Type 0
-Seated t u e group = (y : Session) × (u ≡ slice_set t e y) × (y.phase ≡ Waiting) × (y.group ≡ group)
+abbrev pub Seated : List Session → List Session → ℕ → Placed → Option ℕ → List ℕ → Type 0
+Seated t u e p group id = (y : Session) × (u ≡ slice_set t e y) × (y.phase ≡ Waiting) × (y.group ≡ home_by p group) × ((g : ℕ) → home_by p None ≡ Some g → y.id ≡ Some id)
 
 abbrev pub waiting : List Session → ℕ → Session
 waiting t e = record (session_of t e) { phase = Waiting }
 
-pub seated : (t u v : List Session) (e g : ℕ) (id : List ℕ) → e < length t → u ≡ with_session t e (waiting t e) → v ≡ with_session u e (record (session_of u e) { group = Some g; id = Some id }) → Seated t v e (Some g)
-seated t u v e g id h one two = (
+pub seated : (t u v : List Session) (e g : ℕ) (id : List ℕ) (p : Placed) (group : Option ℕ) → e < length t → u ≡ with_session t e (waiting t e) → v ≡ with_session u e (record (session_of u e) { group = Some g; id = Some id }) → ((o : Option ℕ) → home_by p o ≡ Some g)
+    → Seated t v e p group id
+seated t u v e g id p group h one two home = (
   record (waiting t e) { group = Some g; id = Some id },
   two ∙ (ap (λ w. with_session w e (record (session_of w e) { group = Some g; id = Some id })) one
       ∙ (ap (λ (z : Session). slice_set (slice_set t e (waiting t e)) e (record z { group = Some g; id = Some id })) (index_set t e (waiting t e) _ h) ∙ set_set t e (waiting t e) _)),
   refl,
-  refl,
+  sym (home group),
+  λ n q. refl,
 )
 
-pub unseated : (t u : List Session) (e : ℕ) (x : Session) → slice_get t e ≡ Some x → u ≡ with_session t e (waiting t e) → Seated t u e x.group
-unseated t u e x at one = (waiting t e, one, refl, ap (λ (z : Session). z.group) (index_get t e x _ at))
+pub unseated : (t u : List Session) (e : ℕ) (x : Session) (id : List ℕ) (p : Placed) → slice_get t e ≡ Some x → u ≡ with_session t e (waiting t e) → ((o : Option ℕ) → home_by p o ≡ o) → Seated t u e p x.group id
+unseated t u e x id p at one home = (waiting t e, one, refl, ap (λ (z : Session). z.group) (index_get t e x _ at) ∙ sym (home x.group), λ g q. none g (sym (home None) ∙ q))
+  where
+    none : {A : Type 0} (g : ℕ) → ◌≡◌ {A = Option ℕ} None (Some g) → A
+    none g q = absurd (cc)
 
-pub initialize_heard : (settings : Settings) (before : List Event) (e : ℕ) (body : List ℕ) (m : Message) (t u : Tables) (mid : Table) (x : Session) (p : Placed) (key : Common) (given : List ℕ) → requests (codes "initialize") m ≡ true → slice_get t.editors e ≡ Some x → x.phase ≡ New
+pub initialize_heard : (settings : Settings) (before : List Event) (e : ℕ) (body : List ℕ) (m : Message) (t u : Tables) (mid : Table) (x : Session) (p : Placed) (key : Common) (given id : List ℕ) → requests (codes "initialize") m ≡ true → slice_get t.editors e ≡ Some x → x.phase ≡ New → id ≡ id_bytes body
     → key ≡ key_for settings before e body → given ≡ declared_for settings before e body → p ≡ place_in key given t.groups → mid ≡ after_place key given t.groups → u.groups ≡ with_groups (placing.joined p mid.groups) mid
-    → Seated t.editors u.editors e (home_by p x.group) → u.time ≡ t.time → HouseStands settings t before
+    → Seated t.editors u.editors e p x.group id → u.time ≡ t.time → HouseStands settings t before
     → (p ≡ placed_for settings before e body (groups_of settings before)) × HouseStands settings u (before ++ took (FromEditor e body) m ∷ [])
-initialize_heard settings before e body m t u mid x p key given first at new k d chosen placed busy sits now s =
+initialize_heard settings before e body m t u mid x p key given id first at new own k d chosen placed busy sits now s =
     let K : Common = key_for settings before e body in
     let D : List ℕ = declared_for settings before e body in
     let T : Table = t.groups in
@@ -73,7 +78,7 @@ initialize_heard settings before e body m t u mid x p key given first at new k d
     let limit : u.groups.limit ≡ T.limit = ap (λ (w : Table). w.limit) busy ∙ ap (λ (w : Table). w.limit) placed in
     let idle : u.groups.idle ≡ T.idle = ap (λ (w : Table). w.idle) busy ∙ ap (λ (w : Table). w.idle) placed in (
       p_is ∙ (ap (λ n. placed_in n K D T.groups) (sym s.groups.limit) ∙ ap (λ gs. placed_in settings.limits.groups K D gs) (sym s.groups.groups)),
-      initialize_moves settings before e body m first t u x sits.0 at new sits.1 sits.2 (sits.3 ∙ ap (λ q. home_by q x.group) p_is) groups limit idle now s,
+      initialize_moves settings before e body m first t u x sits.0 at new sits.1 sits.2 (λ g q. sits.4 g (ap (λ w. home_by w None) p_is ∙ q) ∙ ap (λ w. Some w) own) (sits.3 ∙ ap (λ q. home_by q x.group) p_is) groups limit idle now s,
     )
 
 pub joined_inside : (p : Placed) (t u : Table) → u ≡ with_groups (placing.joined p t.groups) t → Inside p (length t.groups) → Inside p (length u.groups)

@@ -23,11 +23,11 @@ use Rattle.restart_replay.specs.Standings.{Standing, moved, stopped}
 use Rattle.mux_tables.specs.declared.tables.Start.{Start}
 use Rattle.mux_tables.specs.declared.tables.Tables.{Tables}
 use Rattle.group_rows.specs.Forwarded.{forwarding_of, is_written, moves_ids}
-use Rattle.mux_tables.specs.Stands.{Part, of_life, of_ids, PartStands, Sends, Stands, forwarded_of, number_in}
+use Rattle.mux_tables.specs.Stands.{Part, of_life, of_ids, of_shown, PartStands, Sends, Stands, forwarded_of, number_in}
 use Rattle.mux_tables.proofs.Frames.{groups_stand, itself, part_quiet}
 use Rattle.mux_tables.proofs.IdMoves.{cancelled_ids, sent_as, sent_ids}
 use Rattle.mux_tables.proofs.Said.{does_send}
-use Rattle.mux_tables.proofs.Starts.{groups_kept, part_ids, part_life, read_here, start_at_place, start_moves, still_ids, still_life}
+use Rattle.mux_tables.proofs.Starts.{groups_kept, is_late, late_shown, part_ids, part_life, read_here, start_at_place, start_moves, still_ids, still_life, still_shown}
 
 same_set : (xs : List Start) (g : ℕ) (z : Start) → slice_get xs g ≡ Some z → slice_set xs g z ≡ xs
 same_set [] g z h = refl
@@ -65,6 +65,7 @@ notify_does settings t xs ys base g s start z text at within read runs counts is
     part : (p : Part) → PartStands p t.requests z (behind base xs) → PartStands p t.requests z (behind base xs ++ said (ToServer z.life.start text) ∷ [])
     part of_life h = part_quiet of_life t.requests z (behind base xs) (said (ToServer z.life.start text)) runs h
     part of_ids h = part_quiet of_ids t.requests z (behind base xs) (said (ToServer z.life.start text)) counts h
+    part of_shown h = part_quiet of_shown t.requests z (behind base xs) (said (ToServer z.life.start text)) refl h
 
 not_shutdown : (method : List ℕ) → is_own method ≡ false → bytes_eq (codes "shutdown") method ≡ false
 not_shutdown method h = go (bytes_eq (codes "shutdown") method) refl
@@ -88,6 +89,7 @@ forward_does settings t u xs ys base g s start e z ids pending text id method na
     part sends of_life h = still_life t.requests (behind base xs) (said (ToServer z.life.start text)) z (record z { ids = ids }) refl refl (ap (requests (codes "shutdown")) says ∙ not_shutdown method own) h
     part sends of_ids h = part_ids t.requests (behind base xs) (said (ToServer z.life.start text)) z (record z { ids = ids }) refl
         (sent_ids t.requests z.life.start z.ids ids (forwarding_of z.life.start (behind base xs)) text method (message_of text) name ps (record { number = z.ids.next; pending = pending }) (record { editor = e; id = id }) says own sends kept put next limit order) h
+    part sends of_shown h = still_shown t.requests (behind base xs) (said (ToServer z.life.start text)) z (record z { ids = ids }) refl refl refl h
 
 -- a cancel
 pub cancel_does : (settings : Settings) (t u : Tables) (xs ys : List Out) (base : List Event) (g s start n : ℕ) (z : Start) (ids : Table) (text method : List ℕ) (ps : Option Json) → slice_get (map number_in t.lasts.items) g ≡ Some s → g < length t.lasts.items → z ≡ get_or t.lasts.items g z
@@ -102,6 +104,7 @@ cancel_does settings t u xs ys base g s start n z ids text method ps at within r
     part st of_life h = still_life t.requests (behind base xs) (said (ToServer z.life.start text)) z (record z { ids = ids }) refl refl (ap (requests (codes "shutdown")) says) h
     part st of_ids h = part_ids t.requests (behind base xs) (said (ToServer z.life.start text)) z (record z { ids = ids }) refl
         (cancelled_ids t.requests z.life.start z.ids ids (forwarding_of z.life.start (behind base xs)) text method (message_of text) ps n st.range says cancels written put next limit order) h
+    part st of_shown h = still_shown t.requests (behind base xs) (said (ToServer z.life.start text)) z (record z { ids = ids }) refl refl refl h
 
 -- the request `shutdown`
 pub shut_does : (settings : Settings) (t u : Tables) (xs ys : List Out) (base : List Event) (g s start n at_time : ℕ) (z : Start) (life : Standing) (text : List ℕ) (name : Id) (ps : Option Json) → slice_get (map number_in t.lasts.items) g ≡ Some s → g < length t.lasts.items → z ≡ get_or t.lasts.items g z → z.life.stage ≡ Ready
@@ -116,6 +119,7 @@ shut_does settings t u xs ys base g s start n at_time z life text name ps at wit
     part own of_life h = part_life t.requests (behind base xs) (said (ToServer z.life.start text)) z (record z { life = life }) own
         (rw (itself z.life.start) (ap (λ k. record { stage = k; started = z.started }) (rw (ready, says) refl ∙ ap (λ (l : Standing). l.stage) (sym stops)))) h
     part own of_ids h = still_ids t.requests (behind base xs) (said (ToServer z.life.start text)) z (record z { life = life }) own refl (ap moves_ids says) h
+    part own of_shown h = late_shown t.requests (behind base xs ++ said (ToServer z.life.start text) ∷ []) (record z { life = life }) (ap (λ (l : Standing). is_late l.stage) stops)
 
 ending : (g : Stage) → (g ≡ Ended → ⊥) → stage_ending g ≡ Ending
 ending Ended h = absurd (h refl)
@@ -133,3 +137,4 @@ end_does settings t u xs ys base g s start z life at within read runs ends set e
     part own of_life h = part_life t.requests (behind base xs) (said (EndServer z.life.start)) z (record z { life = life }) own
         (rw (itself z.life.start) (ap (λ k. record { stage = k; started = z.started }) (ending z.life.stage runs ∙ ap (λ (l : Standing). l.stage) (sym ends)))) h
     part own of_ids h = still_ids t.requests (behind base xs) (said (EndServer z.life.start)) z (record z { life = life }) own refl refl h
+    part own of_shown h = late_shown t.requests (behind base xs ++ said (EndServer z.life.start) ∷ []) (record z { life = life }) (ap (λ (l : Standing). is_late l.stage) ends)

@@ -2,7 +2,7 @@
 use Rattle.std.proofs.Common.{◌≡◌, ℕ, ◌<◌, ◌^◌, Bool, true, false, ◌&&◌, List, [], ◌∷◌, ◌++◌, map, length, get_or, refl, ap, sym, subst, ◌∙◌, nat_eq}
 use Rattle.std.specs.Prelude.{Option, Some, None, MatchOption, slice_get, slice_set, find, option_map}
 use Rattle.mux_history.specs.declared.cause.Cause.TheVariants.{FromServer, ServerGone, StartFailed, Started}
-use Rattle.rpc_message.specs.Message.{Message, request, notification, result, error, not_json, not_message, message_of}
+use Rattle.rpc_message.specs.Message.{Message, request, notification, result, error, not_json, not_message, message_of, result_bytes}
 use Rattle.event_model.specs.declared.stage.Stage.{Stage}
 use Rattle.event_model.specs.declared.stage.Stage.TheVariants.{Unspawned, Spawning, Initializing, Ready, Stopping, Ending, Ended}
 use Rattle.event_model.specs.Event.{Event, took}
@@ -15,6 +15,7 @@ use Rattle.event_model.proofs.Places.{item_at, same_item}
 use Rattle.group_table.specs.Tables.{with_groups}
 use Rattle.group_words.specs.Placing.{changed, ended}
 use Rattle.group_words.specs.Houses.{House, groups_lose, groups_next, is_first_error}
+use Rattle.group_words.specs.Rows.{result_behind, result_of, shown_of}
 use Rattle.id_rewrite.specs.declared.pending.Pending.{Pending}
 use Rattle.id_rewrite.specs.declared.pending.Numbered.{Numbered}
 use Rattle.id_rewrite.specs.Tables.{Table, IsInOrder, pending_of, without}
@@ -22,11 +23,11 @@ use Rattle.restart_replay.specs.Standings.{Standing, moved}
 use Rattle.mux_tables.specs.declared.tables.Start.{Start}
 use Rattle.mux_tables.specs.declared.tables.Tables.{Tables}
 use Rattle.group_rows.specs.Forwarded.{Forwarding, forwarding_behind, forwarding_of, is_under}
-use Rattle.mux_tables.specs.Stands.{Exits, IdsAt, NamesAt, Part, of_life, of_ids, PartStands, Stands, begun_at, forwarded_as, number_in}
+use Rattle.mux_tables.specs.Stands.{Exits, IdsAt, NamesAt, Part, of_life, of_ids, of_shown, PartStands, ShownAt, Stands, begun_at, forwarded_as, is_early, number_in}
 use Rattle.mux_tables.proofs.Exits.{lost_groups, refused_groups}
-use Rattle.mux_tables.proofs.Frames.{itself, groups_stand, names_editor, names_start, spawns, ticks}
+use Rattle.mux_tables.proofs.Frames.{itself, groups_stand, names_editor, names_start, result_quiet, spawns, ticks}
 use Rattle.mux_tables.proofs.IdMoves.{answered_ids, ended_ids, failed_ids, unanswered_ids, found_seen}
-use Rattle.mux_tables.proofs.Starts.{groups_kept, not_refused, part_ids, part_life, read_back, read_here, start_at_place, start_moves, still_ids}
+use Rattle.mux_tables.proofs.Starts.{groups_kept, is_late, late_shown, not_refused, part_ids, part_life, part_shown, read_back, read_here, start_at_place, start_moves, still_ids, still_shown}
 
 -- the program runs
 begun_start : (g : Stage) (l : Standing) → (begun_at g l).start ≡ l.start
@@ -46,6 +47,15 @@ begun_stage Stopping l h = sym h
 begun_stage Ending l h = sym h
 begun_stage Ended l h = sym h
 
+begun_shown : (g : Stage) (l : Standing) (shown given : Option (List ℕ)) → l.stage ≡ g → ShownAt g shown given → ShownAt (begun_at g l).stage shown given
+begun_shown Spawning l shown given h s = s
+begun_shown Unspawned l shown given h s = rw h s
+begun_shown Initializing l shown given h s = rw h s
+begun_shown Ready l shown given h s = rw h s
+begun_shown Stopping l shown given h s = rw h s
+begun_shown Ending l shown given h s = rw h s
+begun_shown Ended l shown given h s = rw h s
+
 pub started_moves : (settings : Settings) (t u : Tables) (events : List Event) (g s : ℕ) (z : Start) (life : Standing) → slice_get (map number_in t.lasts.items) g ≡ Some s → g < length t.lasts.items → z ≡ get_or t.lasts.items g z → life ≡ begun_at z.life.stage z.life
     → u.lasts.items ≡ slice_set t.lasts.items g (record z { life = life; started = true }) → u.editors ≡ t.editors → u.groups ≡ t.groups → u.time ≡ t.time → u.origins ≡ t.origins → u.requests ≡ t.requests
     → Stands settings t events → Stands settings u (events ++ took (Started s) not_message ∷ [])
@@ -59,6 +69,9 @@ started_moves settings t u events g s z life at within read is set es gs now os 
     part own of_life h = part_life t.requests events (took (Started z.life.start) not_message) z (record z { life = life; started = true }) own
         (rw (itself z.life.start) (ap (λ k. record { stage = k; started = true }) (begun_stage z.life.stage z.life refl ∙ ap (λ (l : Standing). l.stage) (sym is)))) h
     part own of_ids h = still_ids t.requests events (took (Started z.life.start) not_message) z (record z { life = life; started = true }) own refl refl h
+    part own of_shown h = part_shown t.requests events (took (Started z.life.start) not_message) z (record z { life = life; started = true }) own
+        (λ s. subst (λ (l : Standing). ShownAt l.stage z.shown (result_behind z.life.start (result_of z.life.start events) (took (Started z.life.start) not_message))) (sym is)
+        (begun_shown z.life.stage z.life z.shown _ refl (subst (λ o. ShownAt z.life.stage z.shown o) (sym (result_quiet z.life.start (result_of z.life.start events) (took (Started z.life.start) not_message) refl)) s))) h
 
 -- the start answers a request, or none
 same_table : (limit : ℕ) (x : Forwarding) (t u : Table) → u.requests ≡ t.requests → u.next ≡ t.next → u.limit ≡ t.limit → (IsInOrder t → IsInOrder u) → IdsAt limit x t → IdsAt limit x u
@@ -80,16 +93,17 @@ hears_answer other m h = refl
 stage_seen : (settings : Settings) (t : Tables) (events : List Event) (g n : ℕ) (z : Start) → Stands settings t events → slice_get t.lasts.items g ≡ Some z → n ≡ z.life.start → (life_of n events).stage ≡ z.life.stage
 stage_seen settings t events g n z st here e = ap (λ k. (life_of k events).stage) e ∙ ap (λ (l : Life). l.stage) ((st.lasts.each g z here).parts of_life)
 
-module _ (settings : Settings) (t u : Tables) (events : List Event) (g s : ℕ) (z : Start) (body : List ℕ) (n : Option ℕ) (life : Standing) (ids : Table) (at : slice_get (map number_in t.lasts.items) g ≡ Some s) (within : g < length t.lasts.items) (read : z ≡ get_or t.lasts.items g z)
+module _ (settings : Settings) (t u : Tables) (events : List Event) (g s : ℕ) (z : Start) (body : List ℕ) (n : Option ℕ) (life : Standing) (ids : Table) (shown : Option (List ℕ)) (at : slice_get (map number_in t.lasts.items) g ≡ Some s) (within : g < length t.lasts.items) (read : z ≡ get_or t.lasts.items g z)
+    (gives : ShownAt z.life.stage z.shown (result_of z.life.start events) → ShownAt life.stage shown (result_behind z.life.start (result_of z.life.start events) (took (FromServer z.life.start body) (message_of body))))
     (own : life.start ≡ z.life.start) (group : life.group ≡ z.life.group) (hears : stage_hears z.life.stage (message_of body) ≡ life.stage) (refuses : (is_first_error (message_of body) && is_initializing z.life.stage) ≡ false) (named : NamesAt (answered_id (message_of body)) n)
     (taken : MatchOption n (ids.requests ≡ z.ids.requests) (λ k. ids.requests ≡ without k z.ids.requests)) (next : ids.next ≡ z.ids.next) (limit : ids.limit ≡ z.ids.limit) (order : IsInOrder z.ids → IsInOrder ids)
-    (set : u.lasts.items ≡ slice_set t.lasts.items g (record z { life = life; ids = ids })) (es : u.editors ≡ t.editors) (gs : u.groups ≡ t.groups) (now : u.time ≡ t.time) (os : u.origins ≡ t.origins) (r : u.requests ≡ t.requests) where
+    (set : u.lasts.items ≡ slice_set t.lasts.items g (record z { life = life; ids = ids; shown = shown })) (es : u.editors ≡ t.editors) (gs : u.groups ≡ t.groups) (now : u.time ≡ t.time) (os : u.origins ≡ t.origins) (r : u.requests ≡ t.requests) where
   pub server_moves : Stands settings t events → Stands settings u (events ++ took (FromServer s body) (message_of body) ∷ [])
   server_moves st = start_moves settings t u events (λ k. took (FromServer k body) (message_of body)) g s z y at within read set own group es now os r (λ k. refl) (λ k. refl) (λ k. refl) (λ k m. refl)
       (λ k e h. groups_kept settings t.groups u.groups events (took (FromServer k body) (message_of body)) gs (not_refused settings t.groups events k body (message_of body) (ap (λ a. is_first_error (message_of body) && is_initializing a) (stage_seen settings t events g k z st here (e ∙ sym (start_at_place t.lasts.items g s z here at))) ∙ refuses)) h) (part st) st
     where
       y : Start
-      y = record z { life = life; ids = ids }
+      y = record z { life = life; ids = ids; shown = shown }
 
       here : slice_get t.lasts.items g ≡ Some z
       here = read_here t.lasts.items g z within read
@@ -98,17 +112,39 @@ module _ (settings : Settings) (t u : Tables) (events : List Event) (g s : ℕ) 
       part st of_life h = part_life t.requests events (took (FromServer z.life.start body) (message_of body)) z y own (rw (itself z.life.start) (ap (λ k. record { stage = k; started = z.started }) hears)) h
       part st of_ids h = part_ids t.requests events (took (FromServer z.life.start body) (message_of body)) z y own
           (answered_any t.requests z.life.start z.ids ids (forwarding_of z.life.start events) body (message_of body) n st.range named taken next limit order) h
+      part st of_shown h = part_shown t.requests events (took (FromServer z.life.start body) (message_of body)) z y own gives h
+
+-- what was given stays; one that is late keeps nothing
+later_given : (n : ℕ) (o : Option (List ℕ)) (body : List ℕ) (m : Message) → is_first_result m ≡ false → result_behind n o (took (FromServer n body) m) ≡ o
+later_given n o body m h = result_quiet n o (took (FromServer n body) m) h
+
+no_first : (a : Bool) → (a && true) ≡ false → a ≡ false
+no_first true h = h
+no_first false h = refl
+
+later_shown : (n : ℕ) (g : Stage) (shown given : Option (List ℕ)) (body : List ℕ) (m : Message) → (is_first_result m && is_early g) ≡ false → ShownAt g shown given → ShownAt g shown (result_behind n given (took (FromServer n body) m))
+later_shown n Unspawned shown given body m h s = (s.0, later_given n given body m (no_first (is_first_result m) h) ∙ s.1)
+later_shown n Spawning shown given body m h s = (s.0, later_given n given body m (no_first (is_first_result m) h) ∙ s.1)
+later_shown n Initializing shown given body m h s = (s.0, later_given n given body m (no_first (is_first_result m) h) ∙ s.1)
+later_shown n Ready shown given body m h s = (s.0, ap (λ o. result_behind n o (took (FromServer n body) m)) s.1 ∙ refl, s.2)
+later_shown n other shown given body m h s = tt
+
+later_begun : (a : Bool) (g : Stage) → (a && is_early g) ≡ false → (a && is_initializing g) ≡ false
+later_begun false g h = refl
+later_begun true Initializing h = h
+later_begun true other h = refl
 
 -- S5, and all else that isn't the answer to `initialize`
 pub answer_moves : (settings : Settings) (t u : Tables) (events : List Event) (g s : ℕ) (x z : Start) (body : List ℕ) (n : Option ℕ) (ids : Table) → slice_get t.lasts.items g ≡ Some x → slice_get (map number_in t.lasts.items) g ≡ Some s → g < length t.lasts.items → z ≡ get_or t.lasts.items g z
-    → (is_first_result (message_of body) && is_initializing x.life.stage) ≡ false → (is_first_error (message_of body) && is_initializing x.life.stage) ≡ false → NamesAt (answered_id (message_of body)) n
+    → (is_first_result (message_of body) && is_early x.life.stage) ≡ false → (is_first_error (message_of body) && is_initializing x.life.stage) ≡ false → NamesAt (answered_id (message_of body)) n
     → MatchOption n (ids.requests ≡ z.ids.requests) (λ k. ids.requests ≡ without k z.ids.requests) → ids.next ≡ z.ids.next → ids.limit ≡ z.ids.limit → (IsInOrder z.ids → IsInOrder ids)
     → u.lasts.items ≡ slice_set t.lasts.items g (record z { ids = ids }) → u.editors ≡ t.editors → u.groups ≡ t.groups → u.time ≡ t.time → u.origins ≡ t.origins → u.requests ≡ t.requests
     → Stands settings t events → Stands settings u (events ++ took (FromServer s body) (message_of body) ∷ [])
 answer_moves settings t u events g s x z body n ids is at within read no_result no_failure named taken next limit order set es gs now os r =
     let same : x ≡ z = same_item (sym is ∙ read_here t.lasts.items g z within read) in
-    server_moves settings t u events g s z body n z.life ids at within read refl refl
-    (hears_answer z.life.stage (message_of body) (ap (λ (w : Start). is_first_result (message_of body) && is_initializing w.life.stage) (sym same) ∙ no_result))
+    let later : (is_first_result (message_of body) && is_early z.life.stage) ≡ false = ap (λ (w : Start). is_first_result (message_of body) && is_early w.life.stage) (sym same) ∙ no_result in
+    server_moves settings t u events g s z body n z.life ids z.shown at within read (later_shown z.life.start z.life.stage z.shown (result_of z.life.start events) body (message_of body) later) refl refl
+    (hears_answer z.life.stage (message_of body) (later_begun (is_first_result (message_of body)) z.life.stage later))
     (ap (λ (w : Start). is_first_error (message_of body) && is_initializing w.life.stage) (sym same) ∙ no_failure) named taken next limit order set es gs now os r
 
 no_error : (m : Message) → is_first_result m ≡ true → (b : Bool) → (is_first_error m && b) ≡ false
@@ -122,14 +158,25 @@ no_error m h b = ap (λ a. a && b) (only m h)
     only not_json h = refl
     only not_message h = refl
 
+first_given : (n : ℕ) (body : List ℕ) (m : Message) → is_first_result m ≡ true → result_behind n None (took (FromServer n body) m) ≡ Some body
+first_given n body m h = rw (itself n, h) refl
+
+first_shown : (n : ℕ) (g : Stage) (shown given : Option (List ℕ)) (body text : List ℕ) (m : Message) (life z : Standing) → life ≡ moved Ready z → g ≡ Initializing → is_first_result m ≡ true → text ≡ shown_of (result_bytes body)
+    → ShownAt g shown given → ShownAt life.stage (Some text) (result_behind n given (took (FromServer n body) m))
+first_shown n g shown given body text m life z is stage first shows s =
+    let none : given ≡ None = (subst (λ k. ShownAt k shown given) stage s).1 in
+    subst (λ (l : Standing). ShownAt l.stage (Some text) (result_behind n given (took (FromServer n body) m))) (sym is)
+    (body, ap (λ o. result_behind n o (took (FromServer n body) m)) none ∙ first_given n body m first, ap (λ w. Some w) shows)
+
 -- S2
-pub result_moves : (settings : Settings) (t u : Tables) (events : List Event) (g s : ℕ) (z : Start) (body : List ℕ) (n : Option ℕ) (life : Standing) (ids : Table) → slice_get (map number_in t.lasts.items) g ≡ Some s → g < length t.lasts.items → z ≡ get_or t.lasts.items g z
-    → z.life.stage ≡ Initializing → is_first_result (message_of body) ≡ true → NamesAt (answered_id (message_of body)) n → life ≡ moved Ready z.life
+pub result_moves : (settings : Settings) (t u : Tables) (events : List Event) (g s : ℕ) (z : Start) (body : List ℕ) (n : Option ℕ) (life : Standing) (ids : Table) (shown : List ℕ) → slice_get (map number_in t.lasts.items) g ≡ Some s → g < length t.lasts.items → z ≡ get_or t.lasts.items g z
+    → z.life.stage ≡ Initializing → is_first_result (message_of body) ≡ true → NamesAt (answered_id (message_of body)) n → shown ≡ shown_of (result_bytes body) → life ≡ moved Ready z.life
     → MatchOption n (ids.requests ≡ z.ids.requests) (λ k. ids.requests ≡ without k z.ids.requests) → ids.next ≡ z.ids.next → ids.limit ≡ z.ids.limit → (IsInOrder z.ids → IsInOrder ids)
-    → u.lasts.items ≡ slice_set t.lasts.items g (record z { life = life; ids = ids }) → u.editors ≡ t.editors → u.groups ≡ t.groups → u.time ≡ t.time → u.origins ≡ t.origins → u.requests ≡ t.requests
+    → u.lasts.items ≡ slice_set t.lasts.items g (record z { life = life; ids = ids; shown = Some shown }) → u.editors ≡ t.editors → u.groups ≡ t.groups → u.time ≡ t.time → u.origins ≡ t.origins → u.requests ≡ t.requests
     → Stands settings t events → Stands settings u (events ++ took (FromServer s body) (message_of body) ∷ [])
-result_moves settings t u events g s z body n life ids at within read stage first named is taken next limit order set es gs now os r =
-    server_moves settings t u events g s z body n life ids at within read (ap (λ (l : Standing). l.start) is) (ap (λ (l : Standing). l.group) is)
+result_moves settings t u events g s z body n life ids shown at within read stage first named shows is taken next limit order set es gs now os r =
+    server_moves settings t u events g s z body n life ids (Some shown) at within read (first_shown z.life.start z.life.stage z.shown (result_of z.life.start events) body shown (message_of body) life z.life is stage first shows)
+    (ap (λ (l : Standing). l.start) is) (ap (λ (l : Standing). l.group) is)
     (rw (stage, first) refl ∙ ap (λ (l : Standing). l.stage) (sym is)) (no_error (message_of body) first (is_initializing z.life.stage)) named taken next limit order set es gs now os r
 
 pub answer_found : (settings : Settings) (t : Tables) (events : List Event) (g s k : ℕ) (z : Start) (o : Option Pending) → slice_get (map number_in t.lasts.items) g ≡ Some s → g < length t.lasts.items → z ≡ get_or t.lasts.items g z → o ≡ pending_of k z.ids.requests
@@ -173,6 +220,7 @@ refusal_moves settings t u events g s z body n ids at within read stage refuses 
     part of_life h = part_life t.requests events (took (FromServer z.life.start body) (message_of body)) z y refl (rw (itself z.life.start) (ap (λ k. record { stage = k; started = z.started }) (hears_answer z.life.stage (message_of body) (no_result (message_of body) refuses (is_initializing z.life.stage))))) h
     part of_ids h = part_ids t.requests events (took (FromServer z.life.start body) (message_of body)) z y refl
         (answered_any t.requests z.life.start z.ids ids (forwarding_of z.life.start events) body (message_of body) n st.range named taken next limit order) h
+    part of_shown h = still_shown t.requests events (took (FromServer z.life.start body) (message_of body)) z y refl refl (no_first (is_first_result (message_of body)) (no_result (message_of body) refuses true)) h
 
 -- X1 to X3
 module _ (settings : Settings) (t u : Tables) (events : List Event) (g s : ℕ) (z : Start) (ev : ℕ → Event) (at : slice_get (map number_in t.lasts.items) g ≡ Some s) (within : g < length t.lasts.items) (here : slice_get t.lasts.items g ≡ Some z) (x : Exits settings.limits.restarts t g z u)
@@ -190,6 +238,7 @@ module _ (settings : Settings) (t u : Tables) (events : List Event) (g s : ℕ) 
       part own of_life h = part_life t.requests events (ev z.life.start) z x.start own (over z.life.start (record { stage = z.life.stage; started = z.started })
           ∙ (ap (λ k. record { stage = k; started = z.started }) (ap (λ (l : Standing). l.stage) (sym x.life)) ∙ ap (λ b. record { stage = x.start.life.stage; started = b }) (sym x.started))) h
       part own of_ids h = part_ids t.requests events (ev z.life.start) z x.start own (λ _. clears z.life.start (forwarding_of z.life.start events)) h
+      part own of_shown h = late_shown t.requests (events ++ ev z.life.start ∷ []) x.start (ap (λ (l : Standing). is_late l.stage) x.life)
 
 gone_clears : (limit n : ℕ) (f : Forwarding) (ids : Table) → ids.requests ≡ [] → ids.next ≡ 2 → ids.limit ≡ limit → IsInOrder ids → IdsAt limit (forwarding_behind n f (took (ServerGone n) not_message)) ids
 gone_clears limit n f ids r k l o = ended_ids limit n ids f not_message (r, k, l, o)

@@ -18,13 +18,13 @@ use Rattle.event_model.specs.Stages.{Life, life_behind, life_of}
 use Rattle.event_model.proofs.Frames.{one_more}
 use Rattle.event_model.proofs.Places.{Same, same, other, compare, get_push_same, get_push_other, each_set, each_push}
 use Rattle.event_model.proofs.Turns.{does_look}
-use Rattle.group_words.specs.Rows.{spawn}
+use Rattle.group_words.specs.Rows.{result_behind, result_of, spawn}
 use Rattle.id_rewrite.specs.Tables.{IsInOrder}
-use Rattle.restart_replay.specs.Standings.{spawned}
+use Rattle.restart_replay.specs.Standings.{Standing, spawned}
 use Rattle.mux_tables.specs.declared.tables.Start.{Start}
 use Rattle.mux_tables.specs.declared.tables.Tables.{Tables}
 use Rattle.group_rows.specs.Forwarded.{forwarding_behind}
-use Rattle.mux_tables.specs.Stands.{OriginsStand, IdsAt, IdsStand, Part, of_life, of_ids, PartStands, blank, LastStands, LastsStand, Stands}
+use Rattle.mux_tables.specs.Stands.{OriginsStand, IdsAt, IdsStand, Part, of_life, of_ids, of_shown, PartStands, ShownAt, blank, LastStands, LastsStand, Stands}
 use Rattle.mux_tables.proofs.Frames.{groups_stand, itself, last_stands, life_alone, part_apart}
 use Rattle.mux_tables.proofs.Lasts.{Last, known, same_place}
 use Rattle.mux_tables.proofs.Moves.{house_stands}
@@ -44,7 +44,7 @@ spawned_origins origins after events n g last is s = record {
 
 -- the tables of a start that was just spawned
 abbrev pub IsFresh : ℕ → ℕ → ℕ → Start → Type 0
-IsFresh limit n g y = (y.life ≡ spawned n g) × (y.started ≡ false) × (y.ids.requests ≡ []) × (y.ids.next ≡ 2) × (y.ids.limit ≡ limit) × IsInOrder y.ids
+IsFresh limit n g y = (y.life ≡ spawned n g) × (y.started ≡ false) × (y.ids.requests ≡ []) × (y.ids.next ≡ 2) × (y.ids.limit ≡ limit) × IsInOrder y.ids × (y.shown ≡ None)
 
 spawned_last : (limit : ℕ) (events : List Event) (n g : ℕ) (y : Start) → ((p : Part) → PartStands p limit (blank limit n) events) → IsFresh limit n g y → LastStands limit (events ++ did (Spawn n g) not_message ∷ []) g y
 spawned_last limit events n g y f new =
@@ -57,6 +57,9 @@ spawned_last limit events n g y f new =
       parts = λ p. part p;
     }
   where
+    shown_from : result_of n (events ++ did (Spawn n g) not_message ∷ []) ≡ None → PartStands of_shown limit y (events ++ did (Spawn n g) not_message ∷ [])
+    shown_from none = subst (λ (l : Standing). ShownAt l.stage y.shown (result_of l.start (events ++ did (Spawn n g) not_message ∷ []))) (sym new.0) (new.6, none)
+
     part : (p : Part) → PartStands p limit y (events ++ did (Spawn n g) not_message ∷ [])
     part of_life = subst (λ m. life_of m (events ++ did (Spawn n g) not_message ∷ []) ≡ record { stage = y.life.stage; started = y.started }) (sym (ap (λ l. l.start) new.0))
         (one_more (life_behind n) _ _ events (did (Spawn n g) not_message) refl ∙ rw (itself n) (rw (new.1) (ap (λ l. record { stage = l.stage; started = false }) (sym new.0))))
@@ -66,6 +69,7 @@ spawned_last limit events n g y f new =
       ends = new.4;
       order = new.5;
     }))
+    part of_shown = shown_from (one_more (result_behind n) _ _ events (did (Spawn n g) not_message) (f of_shown).1)
 
 -- the other groups
 untouched : (limit : ℕ) (origins : List ℕ) (events : List Event) (n g j : ℕ) (z : Start) → n ≡ length origins → OriginsStand origins events → (j ≡ g → ⊥) → LastStands limit events j z → LastStands limit (events ++ did (Spawn n g) not_message ∷ []) j z
@@ -149,11 +153,11 @@ spawn_does settings t u xs ys base n g last is go =
     does_look {Stands = λ t events. Stands settings t events} {f = λ events. send (Spawn (starts_of events) g)} (λ s. ap (λ k. send (Spawn k g)) (s.origins.count ∙ sym last)) (does_send settings (Spawn n g) base t u xs ys is go)
 
 pub found_gives : (settings : Settings) (t u : Tables) (xs ys : List Out) (base : List Event) (n g : ℕ) (y : Start) → n ≡ length t.origins.items → g ≡ length t.lasts.items → u.editors ≡ t.editors → u.groups ≡ t.groups → u.time ≡ t.time → u.origins.items ≡ t.origins.items ++ g ∷ [] → u.lasts.items ≡ t.lasts.items ++ y ∷ [] → u.requests ≡ t.requests
-    → y.life ≡ spawned n g → y.started ≡ false → y.ids.requests ≡ [] → y.ids.next ≡ 2 → y.ids.limit ≡ t.requests → IsInOrder y.ids → ys ≡ xs ++ Spawn n g ∷ [] → Does (λ t events. Stands settings t events) (spawn (length t.lasts.items)) base t xs u ys
-found_gives settings t u xs ys base n g y last place es gs now os ls r life started requests next ends order is = subst (λ h. Does (λ t events. Stands settings t events) (spawn h) base t xs u ys) place
-    (spawn_does settings t u xs ys base n g last is (found_moves settings t u (behind base xs) n g y last es gs now os r (life, started, requests, next, ends, order) place ls))
+    → y.life ≡ spawned n g → y.started ≡ false → y.ids.requests ≡ [] → y.ids.next ≡ 2 → y.ids.limit ≡ t.requests → IsInOrder y.ids → y.shown ≡ None → ys ≡ xs ++ Spawn n g ∷ [] → Does (λ t events. Stands settings t events) (spawn (length t.lasts.items)) base t xs u ys
+found_gives settings t u xs ys base n g y last place es gs now os ls r life started requests next ends order blank_shown is = subst (λ h. Does (λ t events. Stands settings t events) (spawn h) base t xs u ys) place
+    (spawn_does settings t u xs ys base n g last is (found_moves settings t u (behind base xs) n g y last es gs now os r (life, started, requests, next, ends, order, blank_shown) place ls))
 
 pub respawn_gives : (settings : Settings) (t u : Tables) (xs ys : List Out) (base : List Event) (n g : ℕ) (x y : Start) → n ≡ length t.origins.items → slice_get t.lasts.items g ≡ Some x → x.life.stage ≡ Ended → u.editors ≡ t.editors → u.groups ≡ t.groups → u.time ≡ t.time → u.origins.items ≡ t.origins.items ++ g ∷ [] → u.lasts.items ≡ slice_set t.lasts.items g y → u.requests ≡ t.requests
-    → y.life ≡ spawned n g → y.started ≡ false → y.ids.requests ≡ [] → y.ids.next ≡ 2 → y.ids.limit ≡ t.requests → IsInOrder y.ids → ys ≡ xs ++ Spawn n g ∷ [] → Does (λ t events. Stands settings t events) (spawn g) base t xs u ys
-respawn_gives settings t u xs ys base n g x y last at ended es gs now os ls r life started requests next ends order is =
-    spawn_does settings t u xs ys base n g last is (respawn_moves settings t u (behind base xs) n g y last es gs now os r (life, started, requests, next, ends, order) x at ended ls)
+    → y.life ≡ spawned n g → y.started ≡ false → y.ids.requests ≡ [] → y.ids.next ≡ 2 → y.ids.limit ≡ t.requests → IsInOrder y.ids → y.shown ≡ None → ys ≡ xs ++ Spawn n g ∷ [] → Does (λ t events. Stands settings t events) (spawn g) base t xs u ys
+respawn_gives settings t u xs ys base n g x y last at ended es gs now os ls r life started requests next ends order blank_shown is =
+    spawn_does settings t u xs ys base n g last is (respawn_moves settings t u (behind base xs) n g y last es gs now os r (life, started, requests, next, ends, order, blank_shown) x at ended ls)

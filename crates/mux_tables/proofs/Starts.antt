@@ -1,22 +1,25 @@
 -- The last start of one group moves, as the code has it.
-use Rattle.std.proofs.Common.{◌≡◌, ℕ, zero, suc, ◌<◌, false, List, [], ◌∷◌, ◌++◌, map, length, get_or, refl, ap, sym, subst, ◌∙◌, arith, nat_eq, ◌&&◌}
+use Rattle.std.proofs.Common.{◌≡◌, ℕ, zero, suc, ◌<◌, Bool, true, false, List, [], ◌∷◌, ◌++◌, map, length, get_or, refl, ap, sym, subst, ◌∙◌, arith, nat_eq, ◌&&◌}
 use Rattle.std.specs.Prelude.{Option, Some, None, slice_get, slice_set}
 use Rattle.std.proofs.lemmas.Option.{slice_get_read}
 use Rattle.mux_history.specs.declared.cause.Cause.TheVariants.{FromServer}
 use Rattle.rpc_message.specs.Message.{Message}
+use Rattle.event_model.specs.declared.stage.Stage.{Stage}
+use Rattle.event_model.specs.declared.stage.Stage.TheVariants.{Unspawned, Spawning, Initializing, Ready, Stopping, Ending, Ended}
 use Rattle.event_model.specs.Event.{Event, took}
 use Rattle.event_model.specs.Settings.{Settings}
 use Rattle.event_model.specs.Stages.{life_behind, life_of, is_initializing}
-use Rattle.event_model.proofs.Frames.{one_more}
+use Rattle.event_model.proofs.Frames.{never, one_more}
 use Rattle.event_model.proofs.Places.{same_item}
 use Rattle.group_words.specs.Houses.{is_first_error}
+use Rattle.group_words.specs.Rows.{result_behind, result_of}
 use Rattle.group_words.proofs.Frames.{groups_more}
 use Rattle.group_table.specs.Tables as group_tables
 use Rattle.restart_replay.specs.Standings.{Standing}
 use Rattle.mux_tables.specs.declared.tables.Start.{Start}
 use Rattle.mux_tables.specs.declared.tables.Tables.{Tables}
 use Rattle.group_rows.specs.Forwarded.{forwarding_behind, forwarding_of}
-use Rattle.mux_tables.specs.Stands.{GroupsStand, IdsAt, IdsStand, Part, of_life, of_ids, PartStands, Stands, number_in}
+use Rattle.mux_tables.specs.Stands.{GroupsStand, IdsAt, IdsStand, Part, of_life, of_ids, of_shown, PartStands, ShownAt, Stands, number_in}
 use Rattle.mux_tables.proofs.Frames.{names_start, names_editor, spawns, ticks, touches, part_quiet}
 use Rattle.mux_tables.proofs.IdMoves.{ids_more}
 use Rattle.mux_tables.proofs.Moves.{parts_move}
@@ -60,6 +63,12 @@ pub part_ids : (limit : ℕ) (events : List Event) (ev : Event) (x y : Start) �
     → PartStands of_ids limit x events → PartStands of_ids limit y (events ++ ev ∷ [])
 part_ids limit events ev x y own go s = subst (λ n. IdsStand limit n y.ids (events ++ ev ∷ [])) (sym own) (ids_more limit x.life.start x.ids y.ids events ev go s)
 
+-- what editors are shown goes on
+pub part_shown : (limit : ℕ) (events : List Event) (ev : Event) (x y : Start) → y.life.start ≡ x.life.start → (ShownAt x.life.stage x.shown (result_of x.life.start events) → ShownAt y.life.stage y.shown (result_behind x.life.start (result_of x.life.start events) ev))
+    → PartStands of_shown limit x events → PartStands of_shown limit y (events ++ ev ∷ [])
+part_shown limit events ev x y own go s = subst (λ n. ShownAt y.life.stage y.shown (result_of n (events ++ ev ∷ []))) (sym own)
+    (subst (λ o. ShownAt y.life.stage y.shown o) (sym (one_more (result_behind x.life.start) _ _ events ev refl)) (go s))
+
 -- a part that the event doesn't touch, where the table keeps it
 pub still_life : (limit : ℕ) (events : List Event) (ev : Event) (x y : Start) → y.life ≡ x.life → y.started ≡ x.started → touches of_life ev ≡ false → PartStands of_life limit x events → PartStands of_life limit y (events ++ ev ∷ [])
 still_life limit events ev x y l b q s =
@@ -69,6 +78,30 @@ still_life limit events ev x y l b q s =
 pub still_ids : (limit : ℕ) (events : List Event) (ev : Event) (x y : Start) → y.life.start ≡ x.life.start → y.ids ≡ x.ids → touches of_ids ev ≡ false → PartStands of_ids limit x events → PartStands of_ids limit y (events ++ ev ∷ [])
 still_ids limit events ev x y own i q s =
     subst (λ n. IdsStand limit n y.ids (events ++ ev ∷ [])) (sym own) (subst (λ ids. IdsStand limit x.life.start ids (events ++ ev ∷ [])) (sym i) (part_quiet of_ids limit x events ev q s))
+
+pub still_shown : (limit : ℕ) (events : List Event) (ev : Event) (x y : Start) → y.life ≡ x.life → y.shown ≡ x.shown → touches of_shown ev ≡ false → PartStands of_shown limit x events → PartStands of_shown limit y (events ++ ev ∷ [])
+still_shown limit events ev x y l b q s =
+    subst (λ c. ShownAt y.life.stage c (result_of y.life.start (events ++ ev ∷ []))) (sym b)
+    (subst (λ (z : Standing). ShownAt z.stage x.shown (result_of z.start (events ++ ev ∷ []))) (sym l) (part_quiet of_shown limit x events ev q s))
+
+-- nothing is kept of one that is over, or is to be
+abbrev pub is_late : Stage → Bool
+is_late Stopping = true
+is_late Ending = true
+is_late Ended = true
+is_late _ = false
+
+shown_late : (stage : Stage) (shown given : Option (List ℕ)) → is_late stage ≡ true → ShownAt stage shown given
+shown_late Stopping shown given h = tt
+shown_late Ending shown given h = tt
+shown_late Ended shown given h = tt
+shown_late Unspawned shown given h = never (sym h)
+shown_late Spawning shown given h = never (sym h)
+shown_late Initializing shown given h = never (sym h)
+shown_late Ready shown given h = never (sym h)
+
+pub late_shown : (limit : ℕ) (events : List Event) (y : Start) → is_late y.life.stage ≡ true → PartStands of_shown limit y events
+late_shown limit events y h = shown_late y.life.stage y.shown (result_of y.life.start events) h
 
 -- the event `ev n` names start n alone, and start s is the last one of group g, which goes from z to y
 module _ (settings : Settings) (t u : Tables) (events : List Event) (ev : ℕ → Event) (g s : ℕ) (z y : Start) (at : slice_get (map number_in t.lasts.items) g ≡ Some s) (within : g < length t.lasts.items) (read : z ≡ get_or t.lasts.items g z)

@@ -3,11 +3,11 @@ use Rattle.std.specs.Prelude.{◌≡◌, ℕ, ◌<◌, ◌≤◌, ◌^◌, nat_e
 use Rattle.std.specs.List.{filter, range_with_len}
 use Rattle.std.specs.Option.{option_and_then}
 use Rattle.std.specs.Prelude.{Option, Some, None, slice_get, slice_set}
-use Rattle.rpc_message.specs.Message.{Id}
+use Rattle.rpc_message.specs.Message.{Id, result_bytes}
 use Rattle.event_model.specs.declared.phase.Phase.{Phase}
 use Rattle.event_model.specs.declared.phase.Phase.TheVariants.{Absent, Answered}
 use Rattle.event_model.specs.declared.stage.Stage.{Stage}
-use Rattle.event_model.specs.declared.stage.Stage.TheVariants.{Unspawned, Spawning, Initializing, Ended}
+use Rattle.event_model.specs.declared.stage.Stage.TheVariants.{Unspawned, Spawning, Initializing, Ready, Ended}
 use Rattle.event_model.specs.Each.{Each}
 use Rattle.event_model.specs.Event.{Event, said}
 use Rattle.mux_history.specs.declared.out.Out.TheVariants.{ToEditor}
@@ -21,15 +21,17 @@ use Rattle.group_table.specs.Tables as group_tables
 use Rattle.group_words.specs.declared.kept.Kept.{Kept}
 use Rattle.group_words.specs.Placing.{changed, ended}
 use Rattle.group_words.specs.Houses.{exit_of, is_home, groups_of, home_of, time_of}
+use Rattle.group_words.specs.Rows.{result_of, shown_of}
 use Rattle.id_rewrite.specs.declared.pending.Numbered.{Numbered}
 use Rattle.id_rewrite.specs.declared.pending.Pending.{Pending}
 use Rattle.id_rewrite.specs.Tables.{Table, IsInOrder}
 use Rattle.restart_replay.specs.Standings.{Standing, moved}
 use Rattle.mux_tables.specs.declared.tables.Start.{Start}
 use Rattle.mux_tables.specs.declared.tables.Tables.{Tables}
+use Rattle.mux_tables.specs.Names.{NamesStand}
 use Rattle.group_rows.specs.Forwarded.{Forwarded, Forwarding, forwarding_of, names}
 
--- the editors: how many joined, and of each its phase and its group
+-- the editors: how many joined, and of each its phase, its group, and the id of its `initialize`
 abbrev pub phase_in : Option Session → Phase
 phase_in None = Absent
 phase_in (Some s) = s.phase
@@ -42,6 +44,7 @@ pub record EditorsStand (settings : Settings) (sessions : List Session) (events 
   pub count : editors_of events ≡ length sessions
   pub phase : (e : ℕ) → (desk_of e events).phase ≡ phase_in (slice_get sessions e)
   pub home : (e : ℕ) → home_of settings e events ≡ group_in (slice_get sessions e)
+  pub names : NamesStand settings sessions events
 
 -- the groups: the list itself, and its limits
 pub record GroupsStand (settings : Settings) (table : group_tables.Table) (events : List Event) : Type 0 where
@@ -71,13 +74,29 @@ pub record IdsAt (limit : ℕ) (x : Forwarding) (ids : Table) : Type 0 where
 abbrev pub IdsStand : ℕ → ℕ → Table → List Event → Type 0
 IdsStand limit s ids events = IdsAt limit (forwarding_of s events) ids
 
+-- it gave no result of its `initialize` yet
+abbrev pub is_early : Stage → Bool
+is_early Unspawned = true
+is_early Spawning = true
+is_early Initializing = true
+is_early _ = false
+
+-- what editors are shown of the body that gave it, by where the start stands: one that is ready gave one
+abbrev pub ShownAt : Stage → Option (List ℕ) → Option (List ℕ) → Type 0
+ShownAt Unspawned shown given = (shown ≡ None) × (given ≡ None)
+ShownAt Spawning shown given = (shown ≡ None) × (given ≡ None)
+ShownAt Initializing shown given = (shown ≡ None) × (given ≡ None)
+ShownAt Ready shown given = (body : List ℕ) × (given ≡ Some body) × (shown ≡ Some (shown_of (result_bytes body)))
+ShownAt other shown given = Unit {0}
+
 -- the tables of one start; a further one is a name here, and a clause
 pub data Part : Type 0 where
-  of_life of_ids : Part
+  of_life of_ids of_shown : Part
 
 abbrev pub PartStands : Part → ℕ → Start → List Event → Type 0
 PartStands of_life limit x events = life_of x.life.start events ≡ record { stage = x.life.stage; started = x.started }
 PartStands of_ids limit x events = IdsStand limit x.life.start x.ids events
+PartStands of_shown limit x events = ShownAt x.life.stage x.shown (result_of x.life.start events)
 
 -- what is kept of one group's last start stands for what the events say of it
 pub record LastStands (limit : ℕ) (events : List Event) (g : ℕ) (x : Start) : Type 0 where
@@ -88,7 +107,7 @@ pub record LastStands (limit : ℕ) (events : List Event) (g : ℕ) (x : Start) 
 
 -- the tables of a start that wasn't spawned
 abbrev pub blank : ℕ → ℕ → Start
-blank limit s = record { life = record { start = s; group = 0; stage = Unspawned; stopping = None }; started = false; ids = record { requests = []; next = 2; limit = limit; spare = 0 } }
+blank limit s = record { life = record { start = s; group = 0; stage = Unspawned; stopping = None }; started = false; ids = record { requests = []; next = 2; limit = limit; spare = 0 }; shown = None }
 
 -- its number
 abbrev pub number_in : Start → ℕ

@@ -12,7 +12,7 @@ ghost use Rattle.mux_history.specs.declared.cause.Why.{Why};
 ghost use Rattle.document_model.specs.Sayings.{saying_by};
 ghost use Rattle.event_model.specs.Spawns.{start_of};
 ghost use Rattle.json_text.specs.Json.{Json};
-ghost use Rattle.rpc_message.specs.Message.{message_of, notification};
+ghost use Rattle.rpc_message.specs.Message.{id_bytes, message_of, notification};
 ghost use Rattle.rpc_message.specs.Parsed.{IsRead};
 ghost use Rattle.mux_tables.specs.Documents.{DocumentsStand, Leaves, Owed, changes_documents, nothing_owed, noticing, owes, to};
 ghost use Rattle.mux_tables.specs.Stands.{Stands, start_for, stays_in};
@@ -57,7 +57,7 @@ impl Tables {
         self.editors.set(e, phase);
     }
 
-    /// E7: an editor's `initialize` places it. Where the answer is an error, the groups and the editors may be ahead of the
+    /// E7: an editor's `initialize`, which has this id, places it. Where the answer is an error, the groups and the editors may be ahead of the
     /// history, and the tables stand for nothing any more.
     pub fn hear_initialize(
         &mut self,
@@ -71,9 +71,13 @@ impl Tables {
         requires capabilities { length capabilities.now ≤ 268435456 }
         requires ceiling { MatchOption ceiling (Unit {0}) (λ c. length c.now ≤ 268435456) }
         ensures inside { IfOk result (λ p. Inside p (length self.new.groups.groups)) }
+        ensures count { length self.new.editors ≡ length self.old.editors }
+        ensures requests { self.new.requests ≡ self.old.requests }
+        ensures versions { self.new.versions ≡ self.old.versions }
         ensures moves { (settings : Settings) (before : List Event) (x : Session) (body : List ℕ) → Stands settings self.old before
             → slice_get self.old.editors e ≡ Some x → x.phase ≡ New → requests (codes "initialize") (message_of body) ≡ true
-            → key ≡ key_for settings before e body → declared_text capabilities.now (option_copied ceiling.entry) ≡ Some (declared_for settings before e body)
+            → id ≡ id_bytes body → key ≡ key_for settings before e body
+            → declared_text capabilities.now (option_copied ceiling.entry) ≡ Some (declared_for settings before e body)
             → IfOk result (λ p. (p ≡ placed_for settings before e body (groups_of settings before)) × Stands settings self.new (before ++ heard (FromEditor e body) ∷ [])) }
         ensures documents { (settings : Settings) (owed : Owed) (before : List Event) (x : Session) (body : List ℕ) → Stands settings self.old before
             → slice_get self.old.editors e ≡ Some x → x.phase ≡ New → DocumentsStand settings owed self.old before

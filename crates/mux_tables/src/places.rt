@@ -1,5 +1,5 @@
 // What rows ask of an editor's group, and of the last start there.
-ghost use Rattle.std.specs.Prelude.{◌≡◌, ◌<◌, ◌&&◌, ℕ, List, map, None, Some, length, nat_lt, IfNone, IfOk, IfSome, option_copied, slice_get};
+ghost use Rattle.std.specs.Prelude.{◌≡◌, ◌<◌, ◌&&◌, ℕ, List, map, None, Some, true, length, nat_lt, IfNone, IfOk, IfSome, option_copied, slice_get};
 ghost use Rattle.event_model.specs.Event.{Event};
 ghost use Rattle.event_model.specs.Settings.{Settings};
 ghost use Rattle.event_model.specs.Spawns.{start_of};
@@ -8,7 +8,9 @@ ghost use Rattle.group_rows.specs.Forwarded.{forwarding_of};
 ghost use Rattle.group_rows.specs.Leaves.{open_of};
 ghost use Rattle.group_rows.specs.Rows.{can_ask};
 ghost use Rattle.group_words.specs.Houses.{groups_of, home_of};
+ghost use Rattle.group_words.specs.Rows.{result_of, shown_of};
 ghost use Rattle.id_rewrite.specs.Tables.{IsInOrder, pending_of};
+ghost use Rattle.rpc_message.specs.Message.{result_bytes};
 ghost use Rattle.mux_tables.specs.declared.tables.Start.{Start};
 ghost use Rattle.mux_tables.specs.Cancels.{is_uncancelled};
 ghost use Rattle.mux_tables.specs.Stands.{Stands, forwarded_of, number_in, start_for};
@@ -17,7 +19,7 @@ use crate::tables::Tables;
 use event_model::Stage;
 use group_words::Kept;
 use id_rewrite::IdTable;
-use message_body::Memory;
+use message_body::{Body, Memory};
 
 // The request of this number is open and wasn't cancelled.
 fn is_uncancelled(ids: &IdTable, n: u32) -> bool
@@ -98,6 +100,16 @@ impl Tables {
             unreachable!()
         };
         n
+    }
+
+    /// What editors are shown of the result that the group's last start gave; there is such a result where it is ready.
+    pub fn shown(&self, g: usize) -> Option<&Body>
+        requires { g < length self.now.lasts.items }
+        ensures { (settings : Settings) (events : List Event) (s : ℕ) → slice_get (map number_in self.now.lasts.items) g ≡ Some s
+            → Stands settings self.now events → is_ready (life_of s events).stage ≡ true
+            → (given : List ℕ) × (result_of s events ≡ Some given) × (option_copied result ≡ Some (shown_of (result_bytes given))) }
+    {
+        self.lasts[g].shown.as_ref()
     }
 
     /// The numbers, rising, of an editor's open requests at the group's last start that it didn't cancel.

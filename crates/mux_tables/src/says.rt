@@ -209,6 +209,8 @@ impl Tables {
         requires group { g < length self.old.lasts.items }
         requires ready { (x : Start) → slice_get self.old.lasts.items g ≡ Some x → x.life.stage ≡ Ready }
         ensures starts { OnOk result (map number_in self.new.lasts.items ≡ map number_in self.old.lasts.items) }
+        ensures requests { self.new.requests ≡ self.old.requests }
+        ensures versions { self.new.versions ≡ self.old.versions }
         ensures does { (settings : Settings) (base : List Event) (s : ℕ) (name : Id) (ps : Option Json)
             → slice_get (map number_in self.old.lasts.items) g ≡ Some s → message_of text ≡ message.request name (codes "shutdown") ps
             → OnOk result (Does (λ t events. Stands settings t events) (send (ToServer s text)) base self.old outs.old self.new outs.new) }
@@ -229,6 +231,8 @@ impl Tables {
         requires group { g < length self.old.lasts.items }
         requires runs { (x : Start) → slice_get self.old.lasts.items g ≡ Some x → x.life.stage ≢ Ended }
         ensures starts { OnOk result (map number_in self.new.lasts.items ≡ map number_in self.old.lasts.items) }
+        ensures requests { self.new.requests ≡ self.old.requests }
+        ensures versions { self.new.versions ≡ self.old.versions }
         ensures does { (settings : Settings) (base : List Event) (s : ℕ) → slice_get (map number_in self.old.lasts.items) g ≡ Some s
             → OnOk result (Does (λ t events. Stands settings t events) (send (EndServer s)) base self.old outs.old self.new outs.new) }
         ensures documents { (settings : Settings) (owed : Owed) (base : List Event) → DocumentsStand settings owed self.old (behind base outs.old)
@@ -263,6 +267,7 @@ impl Tables {
             life,
             started: false,
             ids,
+            shown: None,
         })?;
         outs.push(Out::Spawn(s, g))?;
         Ok(())
@@ -287,6 +292,7 @@ impl Tables {
             life,
             started: false,
             ids,
+            shown: None,
         };
         outs.push(Out::Spawn(s, g as u64))?;
         Ok(())

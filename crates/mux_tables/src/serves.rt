@@ -10,13 +10,14 @@ ghost use Rattle.focus_switch.specs.Documents.{Documents};
 ghost use Rattle.focus_switch.specs.Rows.{unready_row};
 ghost use Rattle.event_model.specs.Stages.{is_first_result, is_initializing};
 ghost use Rattle.group_words.specs.Houses.{is_first_error};
+ghost use Rattle.group_words.specs.Rows.{shown_of};
 ghost use Rattle.mux_history.specs.declared.cause.Cause.TheVariants.{FromServer, ServerGone, StartFailed, Started};
-ghost use Rattle.rpc_message.specs.Message.{message_of};
+ghost use Rattle.rpc_message.specs.Message.{message_of, result_bytes};
 ghost use Rattle.mux_tables.specs.declared.tables.Start.{Start};
 ghost use Rattle.mux_model.specs.Documents.{encoding_by};
 ghost use Rattle.mux_tables.specs.Documents.{DocumentsStand, Owed, nothing_owed, owes, replaying, to};
 ghost use Rattle.group_rows.specs.Forwarded.{forwarding_of, is_under};
-ghost use Rattle.mux_tables.specs.Stands.{Exits, NamesAt, Stands, any_in, begun_at, forwarded_as, number_in};
+ghost use Rattle.mux_tables.specs.Stands.{Exits, NamesAt, Stands, any_in, begun_at, forwarded_as, is_early, number_in};
 
 use crate::documents::{ready, unready};
 use crate::requests::{answer, forget};
@@ -24,7 +25,7 @@ use crate::seats::{end_at, lose};
 use crate::tables::Tables;
 use event_model::Stage;
 use id_rewrite::{IdTable, Pending};
-use message_body::Memory;
+use message_body::{Body, Memory};
 use mux_history::Outs;
 use position_codec::Encoding;
 use restart_replay::Life;
@@ -61,14 +62,15 @@ impl Tables {
     }
 
     /// S2: the group's last start gave the result of its `initialize`, and counts positions in this encoding; `n` is the number that
-    /// its id writes. The bodies that it is owed for the documents that are open. Where the answer is an error the tables stand for
-    /// nothing any more.
+    /// its id writes, and `shown` what editors are shown of it. The bodies that it is owed for the documents that are open. Where the
+    /// answer is an error the tables stand for nothing any more.
     pub fn hear_result(
         &mut self,
         alloc: Global,
         g: usize,
         n: Option<u32>,
         encoding: Encoding,
+        shown: Body,
     ) -> Result<Outs, Memory>
         requires group { g < length self.old.lasts.items }
         requires stage { (x : Start) → slice_get self.old.lasts.items g ≡ Some x → x.life.stage ≡ Initializing }
@@ -77,7 +79,7 @@ impl Tables {
         ensures ready { OnOk result ((x : Start) → slice_get self.new.lasts.items g ≡ Some x → x.life.stage ≡ Ready) }
         ensures stands { (settings : Settings) (events : List Event) (s : ℕ) (body : List ℕ)
             → slice_get (map number_in self.old.lasts.items) g ≡ Some s → is_first_result (message_of body) ≡ true
-            → NamesAt (answered_id (message_of body)) n
+            → NamesAt (answered_id (message_of body)) n → shown ≡ shown_of (result_bytes body)
             → Stands settings self.old events → OnOk result (Stands settings self.new (events ++ heard (FromServer s body) ∷ [])) }
         ensures documents { (settings : Settings) (events : List Event) (s : ℕ) (body : List ℕ)
             → slice_get (map number_in self.old.lasts.items) g ≡ Some s → encoding_by (message_of body) ≡ Some encoding
@@ -86,6 +88,7 @@ impl Tables {
     {
         let last = &mut self.lasts[g];
         last.life.result();
+        last.shown = Some(shown);
         forget(&mut last.ids, n);
         let start = last.life.start();
         let owed = ready(alloc, &mut self.documents, g, start, encoding)?;
@@ -177,7 +180,8 @@ impl Tables {
         requires { g < length self.old.lasts.items }
         ensures moves { (settings : Settings) (events : List Event) (s : ℕ) (body : List ℕ) (x : Start) → slice_get self.old.lasts.items g ≡ Some x
             → slice_get (map number_in self.old.lasts.items) g ≡ Some s
-            → (is_first_result (message_of body) && is_initializing x.life.stage) ≡ false → (is_first_error (message_of body) && is_initializing x.life.stage) ≡ false → NamesAt (answered_id (message_of body)) n
+            → (is_first_result (message_of body) && is_early x.life.stage) ≡ false
+            → (is_first_error (message_of body) && is_initializing x.life.stage) ≡ false → NamesAt (answered_id (message_of body)) n
             → Stands settings self.old events → Stands settings self.new (events ++ heard (FromServer s body) ∷ []) }
         ensures documents { (settings : Settings) (owed : Owed) (events : List Event) (s : ℕ) (body : List ℕ) (x : Start)
             → slice_get self.old.lasts.items g ≡ Some x → slice_get (map number_in self.old.lasts.items) g ≡ Some s

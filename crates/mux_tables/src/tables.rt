@@ -8,17 +8,19 @@ use editor_session::Editors;
 use focus_switch::Shared;
 use group_table::Groups;
 use id_rewrite::IdTable;
+use message_body::Body;
 use restart_replay::Life;
 use std::alloc::Global;
 use text_pieces::PieceText;
 
-/// What is kept of the last start of one group: where it stands, whether its program ever ran, and the requests that it has to
-/// answer.
+/// What is kept of the last start of one group: where it stands, whether its program ever ran, the requests that it has to
+/// answer, and what editors are shown of the result of its `initialize`, where it gave one.
 #[derive(Drop)]
 pub struct Start {
     pub life: Life,
     pub started: bool,
     pub ids: IdTable,
+    pub shown: Option<Body>,
 }
 
 /// The tables.

@@ -25,7 +25,8 @@ use Rattle.mux_tables.specs.declared.tables.Tables.{Tables}
 use Rattle.mux_tables.specs.Stands.{Stands, is_over}
 use Rattle.mux_tables.proofs.Homes.{next_here}
 use Rattle.mux_turns.specs.Founding.{IsNext}
-use Rattle.mux_turns.specs.Openings.{AreUtf8, IsOpening, is_spawning}
+use Rattle.group_facts.specs.Settled.{AreUtf8}
+use Rattle.mux_turns.specs.Openings.{IsOpening, is_spawning}
 use Rattle.mux_turns.proofs.Rows.{is_second}
 
 -- a start whose program isn't awaited gives nothing

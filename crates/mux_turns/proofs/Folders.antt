@@ -16,7 +16,7 @@ use Rattle.capability_meet.specs.Answers.{IsRead}
 use Rattle.capability_meet.specs.Parts.{bracketed, comma, listed}
 use Rattle.event_model.specs.Members.{named_of}
 use Rattle.group_words.specs.Rows.{folder_text, folders_text, is_true, wants_folders}
-use Rattle.mux_turns.specs.Openings.{AreUtf8}
+use Rattle.group_facts.specs.Settled.{AreUtf8}
 
 -- the folders
 pub drop_one : {A : Type 0} (d : A) (xs : List A) (i : ℕ) → i < length xs → drop i xs ≡ get_or xs i d ∷ drop (i + 1) xs

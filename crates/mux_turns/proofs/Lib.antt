@@ -1,9 +1,12 @@
 pub mod Answering
+pub mod Asides
 pub mod Asking
 pub mod Beginning
 pub mod Cancels
 pub mod Classes
+pub mod Evictions
 pub mod Folders
+pub mod Initializing
 pub mod Joining
 pub mod Keeping
 pub mod Matched

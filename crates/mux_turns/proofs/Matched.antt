@@ -17,7 +17,7 @@ use Rattle.id_rewrite.specs.declared.pending.Numbered.{Numbered}
 use Rattle.id_rewrite.specs.declared.pending.Pending.{Pending}
 use Rattle.id_rewrite.specs.Tables.{RiseWithin}
 use Rattle.mux_tables.specs.declared.tables.Tables.{Tables}
-use Rattle.mux_tables.specs.Stands.{NamesAt, Stands, forwarded_as, forwarded_of, number_in, of_ids}
+use Rattle.mux_tables.specs.Stands.{NamesAt, Stands, forwarded_as, forwarded_of, number_in, of_ids, is_early}
 use Rattle.mux_tables.proofs.Starts.{start_at_place}
 
 rises : (from to : ℕ) (rs : List Numbered) → RiseWithin from to rs → from ≤ to
@@ -67,6 +67,13 @@ module _ (settings : Settings) (t : Tables) (before : List Event) (g s : ℕ) (i
 -- a start that is ready isn't awaited
 pub not_first : (b : Bool) (stage : Stage) → stage ≡ Ready → (b && is_initializing stage) ≡ false
 not_first b stage e = ap (λ k. b && is_initializing k) e ∙ go b
+  where
+    go : (b : Bool) → (b && false) ≡ false
+    go true = refl
+    go false = refl
+
+pub not_early : (b : Bool) (stage : Stage) → stage ≡ Ready → (b && is_early stage) ≡ false
+not_early b stage e = ap (λ k. b && is_early k) e ∙ go b
   where
     go : (b : Bool) → (b && false) ≡ false
     go true = refl

@@ -6,7 +6,7 @@ use Rattle.json_text.specs.Json.{Json, object, no_members}
 use Rattle.mux_history.specs.declared.cause.Cause.TheVariants.{FromServer}
 use Rattle.mux_history.specs.declared.out.Out.{Out}
 use Rattle.mux_history.specs.declared.out.Out.TheVariants.{ToServer}
-use Rattle.rpc_message.specs.Message.{Message, Id, id_bytes, message_of, notification, result}
+use Rattle.rpc_message.specs.Message.{Message, Id, message_of, notification, result}
 use Rattle.rpc_message.specs.Message as messages
 use Rattle.rpc_message.specs.Texts.{initialized_text}
 use Rattle.rpc_message.proofs.Fixed.{initialized_law}
@@ -21,18 +21,14 @@ use Rattle.event_model.specs.Phases.{Desk, desk_behind, desk_of}
 use Rattle.event_model.specs.Settings.{Settings}
 use Rattle.event_model.specs.Stages.{is_first_result}
 use Rattle.event_model.proofs.Frames.{one_more}
-use Rattle.group_words.specs.Houses.{home_of}
-use Rattle.group_words.proofs.Frames.{home_stays}
 use Rattle.group_rows.specs.Forwarded.{moves_ids}
 use Rattle.group_rows.specs.Rows.{first_result, result_in, waiting_in, welcome}
 use Rattle.group_rows.specs.Texts.{is_synced}
 use Rattle.mux_model.specs.Documents.{encoding_by, encoding_in}
-use Rattle.editor_session.specs.declared.session.Session.{Session}
 use Rattle.event_model.proofs.Turns.{alike, behind_more, does_alike, does_then}
 use Rattle.mux_model.specs.Rows.{to_start}
 use Rattle.mux_tables.specs.declared.tables.Tables.{Tables}
 use Rattle.mux_tables.specs.Documents.{AllStand, nothing_owed, owes, replaying, to}
-use Rattle.mux_tables.specs.Names.{NamesStand}
 use Rattle.mux_turns.proofs.Matched.{whole_entry}
 use Rattle.mux_turns.specs.Welcomes.{AllAsking}
 
@@ -63,32 +59,17 @@ desk_told e s [] events = ap (desk_of e) (append-nil events)
 desk_told e s (b ∷ bodies) events = ap (desk_of e) (behind_more events (ToServer s b ∷ []) (to s bodies))
     ∙ (desk_told e s bodies (events ++ said (ToServer s b) ∷ []) ∙ one_more (desk_behind e) _ _ events (said (ToServer s b)) refl)
 
-home_told : (settings : Settings) (e s : ℕ) (bodies : List (List ℕ)) (events : List Event) → home_of settings e (behind events (to s bodies)) ≡ home_of settings e events
-home_told settings e s [] events = ap (home_of settings e) (append-nil events)
-home_told settings e s (b ∷ bodies) events = ap (home_of settings e) (behind_more events (ToServer s b ∷ []) (to s bodies))
-    ∙ (home_told settings e s bodies (events ++ said (ToServer s b) ∷ []) ∙ home_stays settings e events (said (ToServer s b)) refl)
-
-module _ (settings : Settings) (before : List Event) (s : ℕ) (body : List ℕ) (bodies : List (List ℕ)) (ys : List Out) (are : ys ≡ to s bodies) where
+module _ (before : List Event) (s : ℕ) (body : List ℕ) (bodies : List (List ℕ)) (ys : List Out) (are : ys ≡ to s bodies) where
   abbrev base : List Event
   base = with_cause before (FromServer s body)
 
   same_desk : (e : ℕ) → desk_of e (behind base ys) ≡ desk_of e before
   same_desk e = ap (λ zs. desk_of e (behind base zs)) are ∙ (desk_told e s bodies base ∙ one_more (desk_behind e) _ _ before (heard (FromServer s body)) refl)
 
-  same_home : (e : ℕ) → home_of settings e (behind base ys) ≡ home_of settings e before
-  same_home e = ap (λ zs. home_of settings e (behind base zs)) are ∙ (home_told settings e s bodies base ∙ home_stays settings e before (heard (FromServer s body)) refl)
-
   pub still_asking : AllAsking before → AllAsking (behind base ys)
   still_asking asking e waits =
       let a = asking e (ap (λ (d : Desk). d.phase) (sym (same_desk e)) ∙ waits) in
       record { name = a.name; method = a.method; params = a.params; says = ap (λ (d : Desk). message_of d.initialize) (same_desk e) ∙ a.says }
-
-  pub still_named : (sessions : List Session) → NamesStand settings sessions before → NamesStand settings sessions (behind base ys)
-  still_named sessions named e g waits home =
-      named e g (ap (λ (d : Desk). d.phase) (sym (same_desk e)) ∙ waits) (sym (same_home e) ∙ home) ∙ ap (λ (d : Desk). Some (id_of d)) (sym (same_desk e))
-    where
-      id_of : Desk → List ℕ
-      id_of d = id_bytes d.initialize
 
 -- the parts of the entry, one after the other
 pub begun_entry : (settings : Settings) (before : List Event) (s g : ℕ) (body : List ℕ) (t u : Tables) (xs ys zs ws : List Out) → group_of s before ≡ Some g → xs ≡ [] → AllStand settings (t, owes g (replaying settings before g)) (with_cause before (FromServer s body))

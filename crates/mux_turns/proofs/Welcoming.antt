@@ -161,7 +161,7 @@ all_greeted settings sessions events g numbers are asking named i l =
     let passes : All (λ n. test n ≡ true) numbers = subst (λ ns. All (λ n. test n ≡ true) ns) (sym are) (filter_passes test (range_with_len 0 (editors_of events))) in
     let two = both_true (is_waiting (desk_of e events).phase) (is_home g (home_of settings e events)) (All-get_or (λ n. test n ≡ true) numbers i 0 l passes) in
     let waits = that_waits (desk_of e events).phase two.0 in
-    (record { phase = ap is_greeted waits; asks = asking e waits }, named e g waits (home_there g (home_of settings e events) two.1))
+    (record { phase = ap is_greeted waits; asks = asking e waits }, (named e).own g waits (home_there g (home_of settings e events) two.1))
 
 -- what was said behind what was
 pub tells_none : (xs : List Out) → Tells xs xs

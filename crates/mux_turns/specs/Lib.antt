@@ -1,4 +1,5 @@
 pub mod Answers
+pub mod Ceilings
 pub mod Founding
 pub mod Leavings
 pub mod Openings

@@ -1,11 +1,11 @@
 -- What a history says of the texts of a group, as its `initialize` needs it.
-use Rattle.std.specs.Prelude.{◌≡◌, ℕ, Bool, true, false, List, IsUtf8, codes}
+use Rattle.std.specs.Prelude.{◌≡◌, Bool, true, false, codes}
 use Rattle.std.specs.Prelude.{Option}
-use Rattle.std.specs.List.{AllByRecursion}
 use Rattle.json_text.specs.Json.{Json}
 use Rattle.event_model.specs.declared.stage.Stage.{Stage}
 use Rattle.event_model.specs.declared.stage.Stage.TheVariants.{Spawning}
 use Rattle.rpc_message.specs.Message.{integer, message_of, request}
+use Rattle.group_facts.specs.Settled.{AreUtf8}
 use Rattle.group_words.specs.declared.kept.Kept.{Kept}
 use Rattle.group_words.specs.Rows.{initialize_of}
 
@@ -13,10 +13,6 @@ use Rattle.group_words.specs.Rows.{initialize_of}
 abbrev pub is_spawning : Stage → Bool
 is_spawning Spawning = true
 is_spawning _ = false
-
--- the uris and names of folders
-abbrev pub AreUtf8 : List (List ℕ × List ℕ) → Type 0
-AreUtf8 folders = AllByRecursion (λ (f : List ℕ × List ℕ). IsUtf8 f.0 × IsUtf8 f.1) folders
 
 -- its `initialize` can be written, and is one
 pub record IsOpening (x : Kept) : Type 0 where

@@ -5,7 +5,7 @@ ghost use Rattle.group_words.specs.Rows.{folder_text, folders_text, initialize_o
 ghost use Rattle.json.specs.Print.{quoted};
 ghost use Rattle.json_nodes.specs.Nodes.{kind_of};
 ghost use Rattle.json_text.specs.Json.{Json};
-ghost use Rattle.mux_turns.specs.Openings.{AreUtf8};
+ghost use Rattle.group_facts.specs.Settled.{AreUtf8};
 
 use group_words::Kept;
 use json_span::{JsonFault, Tape, quote};
@@ -103,8 +103,8 @@ fn wants_folders(alloc: Global, declared: &[u8]) -> Result<bool, Memory>
     Ok(is_true(tape.maybe_kind(folders)))
 }
 
-// The bytes of a body that may be there.
-fn bytes_of(body: &Option<Body>) -> Option<&[u8]>
+/// The bytes of a body that may be there.
+pub fn bytes_of(body: &Option<Body>) -> Option<&[u8]>
     ensures { option_map (λ b. b.now) result ≡ body.now }
 {
     match body {

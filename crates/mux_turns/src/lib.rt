@@ -2,20 +2,26 @@
 #![tactic(auto)]
 
 mod answers;
+mod evicting;
 mod greeting;
+mod initializes;
 mod leaves;
 mod notices;
 mod placing;
+mod quiet;
 mod refusals;
 mod requests;
 mod results;
 mod starts;
 
 pub use answers::{answered_number, pass_on, take_answer};
+pub use evicting::{evict, replace};
 pub use greeting::opening;
+pub use initializes::take_initialize;
 pub use leaves::{Departure, leave, leaving};
 pub use notices::take_notice;
 pub use placing::{found, turn_away, waits, welcome};
+pub use quiet::{take_early, take_malformed, take_quiet};
 pub use refusals::{asked_at, refuse, refuse_early, refuse_request, reject};
 pub use requests::take_request;
 pub use results::take_result;

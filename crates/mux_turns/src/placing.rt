@@ -2,21 +2,21 @@
 ghost use Rattle.std.specs.Prelude.{◌≡◌, ◌<◌, ◌≤◌, ℕ, List, [], Option, Some, length, OnOk, false, true};
 ghost use Rattle.event_model.specs.Does.{Alike, Does};
 ghost use Rattle.event_model.specs.Event.{Event, behind, with_cause};
-ghost use Rattle.event_model.specs.Phases.{desk_of};
+ghost use Rattle.event_model.specs.Phases.{desk_of, is_served};
 ghost use Rattle.event_model.specs.Row.{nothing};
 ghost use Rattle.event_model.specs.Settings.{Settings};
 ghost use Rattle.event_model.specs.Spawns.{start_of};
 ghost use Rattle.event_model.specs.Stages.{is_ready, life_of};
 ghost use Rattle.group_words.specs.declared.placed.Placed.TheVariants.{Joins, New, TooMany};
 ghost use Rattle.group_words.specs.Houses.{places};
-ghost use Rattle.group_words.specs.Rows.{placed_row, result_of, shown_of};
+ghost use Rattle.group_words.specs.Rows.{placed_row, result_of};
 ghost use Rattle.json_text.specs.Json.{Json};
 ghost use Rattle.mux_history.specs.declared.cause.Cause.TheVariants.{FromEditor};
 ghost use Rattle.mux_tables.specs.Documents.{AllStand, DocumentsStand, Owed, nothing_owed};
 ghost use Rattle.mux_tables.specs.Stands.{Stands};
 ghost use Rattle.mux_turns.specs.Founding.{IsNext};
 ghost use Rattle.mux_turns.specs.Welcomes.{IsShown};
-ghost use Rattle.rpc_message.specs.Message.{Id, message_of, request, result_bytes};
+ghost use Rattle.rpc_message.specs.Message.{Id, message_of, request};
 ghost use Rattle.rpc_message.specs.Parsed.{IsRead};
 
 use crate::refusals::refuse;
@@ -41,24 +41,31 @@ pub fn waits(tables: &Tables, g: u64) -> bool
 }
 
 /// E7: the editor joins a group whose last start is ready: its `initialize` is answered at once, with what editors are shown of the
-/// result that the start gave.
+/// result that the start gave; the text of that is one of a value.
 pub fn welcome(
     tables: &mut Tables,
     alloc: Global,
     outs: &mut Outs,
     e: u64,
     message: &Message,
-    shown: &[u8],
+    g: usize,
 ) -> Result<(), Memory>
-    requires { e < length tables.old.editors }
-    ensures { (settings : Settings) (before : List Event) (body method given : List ℕ) (id : Id) (params : Option Json) (g s : ℕ)
+    requires editor { e < length tables.old.editors }
+    requires group { g < length tables.old.lasts.items }
+    ensures { (settings : Settings) (before : List Event) (body method : List ℕ) (id : Id) (params : Option Json) (s : ℕ)
         → IsRead message.now body → message_of body ≡ request id method params → places (desk_of e before).phase (message_of body) ≡ true
-        → start_of g before ≡ Some s → is_ready (life_of s before).stage ≡ true → result_of s before ≡ Some given → shown.now ≡ shown_of (result_bytes given) → IsShown given → outs.old ≡ []
+        → start_of g before ≡ Some s → is_ready (life_of s before).stage ≡ true
+        → ((given : List ℕ) → result_of s before ≡ Some given → IsShown given) → outs.old ≡ []
         → OnOk result (Does (λ k events. AllStand settings k events) (placed_row e body before (Joins g)) (with_cause before (FromEditor e body)) (tables.old, nothing_owed) outs.old (tables.new, nothing_owed) outs.new) }
 {
-    let text = ok_reply(alloc, message.id_bytes(), shown)?;
-    tables.welcome(outs, e, text)?;
-    Ok(())
+    match tables.shown(g) {
+        None => Ok(()),
+        Some(shown) => {
+            let text = ok_reply(alloc, message.id_bytes(), shown.bytes())?;
+            tables.welcome(outs, e, text)?;
+            Ok(())
+        }
+    }
 }
 
 /// E7: a start is spawned for the new group, which has the next number.
@@ -86,11 +93,11 @@ pub fn turn_away(
 ) -> Result<(), Memory>
     requires { e < length tables.old.editors }
     ensures { (settings : Settings) (before base : List Event) (body method : List ℕ) (id : Id) (params : Option Json) → IsRead message.now body
-        → message_of body ≡ request id method params
-        → OnOk result (Does (λ t events. Stands settings t events) (placed_row e body before TooMany) base tables.old outs.old tables.new outs.new) }
+        → message_of body ≡ request id method params → is_served (desk_of e (behind base outs.old)).phase ≡ false
+        → OnOk result (Does (λ k events. AllStand settings k events) (placed_row e body before TooMany) base (tables.old, nothing_owed) outs.old (tables.new, nothing_owed) outs.new) }
 {
     refuse(tables, alloc, outs, e, message, ErrorCode::RequestFailed)?;
-    // It was placed in no group, so no start is owed a word of its documents.
+    // It isn't served, so no start is owed a word of its documents.
     tables.close(alloc, outs, e)?;
     Ok(())
 }

@@ -13,7 +13,7 @@ ghost use Rattle.json_text.specs.Json.{Json};
 ghost use Rattle.mux_history.specs.declared.cause.Cause.TheVariants.{FromServer};
 ghost use Rattle.mux_tables.specs.declared.tables.Start.{Start};
 ghost use Rattle.mux_tables.specs.Documents.{AllStand, DocumentsStand, nothing_owed};
-ghost use Rattle.mux_tables.specs.Names.{NamesStand, id_in};
+ghost use Rattle.mux_tables.specs.Names.{id_in};
 ghost use Rattle.mux_tables.specs.Stands.{Stands, number_in};
 ghost use Rattle.mux_turns.specs.Welcomes.{AllAsking, IsGreeted, IsShown, Tells};
 ghost use Rattle.rpc_message.specs.Message.{Id, id_bytes, message_of, result as outcome, result_bytes};
@@ -77,7 +77,7 @@ fn greet_all(
     shown: &[u8],
 ) -> Result<(), Memory>
     ensures { (settings : Settings) (base : List Event) (body : List ℕ) → shown.now ≡ shown_of (result_bytes body) → IsShown body
-        → AllAsking (behind base outs.old) → NamesStand settings tables.old.editors (behind base outs.old)
+        → AllAsking (behind base outs.old)
         → OnOk result (Does (λ k events. AllStand settings k events) (look (λ events. each (welcome body) (waiting_in settings g events))) base (tables.old, nothing_owed) outs.old (tables.new, nothing_owed) outs.new) }
 {
     let numbers = tables.waiting(g)?;
@@ -101,12 +101,13 @@ pub fn take_result(
     ensures { (settings : Settings) (before : List Event) (body : List ℕ) (id : Option Id) (value : Json) (s : ℕ) → IsRead message.now body
         → message_of body ≡ outcome id value → is_first_result (message_of body) ≡ true → slice_get (map number_in tables.old.lasts.items) g ≡ Some s
         → outs.old ≡ []
-        → IsShown body → AllAsking before → NamesStand settings tables.old.editors before → Stands settings tables.old before → DocumentsStand settings nothing_owed tables.old before
+        → IsShown body → AllAsking before → Stands settings tables.old before → DocumentsStand settings nothing_owed tables.old before
         → OnOk result (Done (λ k events. AllStand settings k events) (first_result settings before s body) (with_cause before (FromServer s body)) [] (tables.new, nothing_owed) outs.new) }
 {
     let n = answered_number(message);
     let told = shown_of(alloc, message.result_bytes())?;
-    let owed = tables.hear_result(alloc, g, n, encoding(message))?;
+    let kept = told.copy(alloc)?;
+    let owed = tables.hear_result(alloc, g, n, encoding(message), kept)?;
     let text = initialized(alloc)?;
     tables.notify(outs, g, text)?;
     tables.pay(outs, owed)?;

@@ -1,5 +1,5 @@
 -- What is written, and what is left to write.
-use Rattle.mux_turns.specs.Openings.{AreUtf8}
+use Rattle.group_facts.specs.Settled.{AreUtf8}
 use Rattle.mux_turns.proofs.Folders.{Left}
 use Rattle.mux_turns.proofs.greeting.folders_text.Given as goal
 

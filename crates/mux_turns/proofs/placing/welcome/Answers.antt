@@ -1,14 +1,28 @@
 -- An editor joins a group whose start is ready.
 use Rattle.std.proofs.Common.{ap, ◌∙◌}
-use Rattle.event_model.specs.Event.{with_cause}
+use Rattle.event_model.specs.Event.{behind, with_cause}
+use Rattle.event_model.proofs.Places.{same_item}
+use Rattle.event_model.proofs.Turns.{does_knowing}
 use Rattle.mux_history.specs.declared.cause.Cause.TheVariants.{FromEditor}
 use Rattle.rpc_message.specs.Texts.{ok_text}
 use Rattle.mux_tables.specs.Documents.{nothing_owed}
-use Rattle.mux_turns.proofs.Joining.{joins_ready}
+use Rattle.mux_turns.proofs.Joining.{joins_ready, was_shown}
+use Rattle.mux_turns.proofs.Welcoming.{kept_none}
 use Rattle.mux_turns.proofs.placing.welcome.Goals as goal
 
-pub returns : goal.returns
-returns c = λ settings before body method given id params g s read says new starts ready gave are shown first.
+pub returns-in-None : goal.returns-in-None
+returns-in-None c = λ settings before body method id params s read says new starts ready whole first.
     let base = with_cause before (FromEditor c.args.e body) in
-    joins_ready settings c.args.tables.now c.welcome.new.self before c.args.e g s body method given c.in_ok-text.text c.args.shown.now id params c.args.outs.now c.welcome.new.outs first says new starts ready gave shown
-    (c.in_ok-text.ensures ∙ ap (λ w. ok_text w c.args.shown.now) (c.id_bytes.ensures body read)) are (λ w. c.in_ok-welcome.ensures.does settings base w) (λ ds. c.in_ok-welcome.ensures.documents settings nothing_owed base ds)
+    does_knowing (λ k. kept_none (was_shown settings c.args.tables.now c.args.tables.now before c.args.e c.args.g s body method id params c.args.outs.now c.args.outs.now first says new starts ready _ c.requires.group
+    (λ n at r. c.in-None.ensures settings (behind base c.args.outs.now) n at k.0 r) k.0).2)
+
+pub returns-in_ok-welcome-in-Some : goal.returns-in_ok-welcome-in-Some
+returns-in_ok-welcome-in-Some c = λ settings before body method id params s read says new starts ready whole first.
+    let base = with_cause before (FromEditor c.args.e body) in
+    let text = c.in_ok-text-in-Some.text in
+    does_knowing (λ k.
+    let was = was_shown settings c.args.tables.now c.welcome.new.self before c.args.e c.args.g s body method id params c.args.outs.now c.welcome.new.outs first says new starts ready _ c.requires.group
+    (λ n at r. c.in-Some.ensures settings (behind base c.args.outs.now) n at k.0 r) k.0 in
+    joins_ready settings c.args.tables.now c.welcome.new.self before c.args.e c.args.g s body method id params c.args.outs.now c.welcome.new.outs first says new starts ready was.0 text c.bytes.result.now was.1 (whole was.0 was.1)
+    (c.in_ok-text-in-Some.ensures ∙ ap (λ w. ok_text w c.bytes.result.now) (c.id_bytes.ensures body read)) (c.bytes.ensures ∙ same_item was.2)
+    (λ w. c.in_ok-welcome-in-Some.ensures.does settings base w) (λ ds. c.in_ok-welcome-in-Some.ensures.documents settings nothing_owed base ds))

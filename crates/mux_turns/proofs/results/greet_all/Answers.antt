@@ -25,10 +25,10 @@ loop-e-preserved c = record {
 }
 
 pub returns : goal.returns
-returns c = λ settings base body are shown asking named.
+returns c = λ settings base body are shown asking.
     let items = c.deref-e-items.result.now in
     let now = behind base c.args.outs.now in
     does_knowing (λ k.
     let is : items ≡ waiting_in settings c.args.g now = c.deref-e-items.ensures.value ∙ c.in_ok-numbers.ensures.those settings now k.0 in
     does_look (λ _. ap (each (welcome body)) (sym is)) (does_whole (welcome body) items c.loop-e.e-index c.loop-e-test.false
-    (c.loop-e.invariant.does settings base body are shown (all_greeted settings c.args.tables.now.editors now c.args.g items is asking named))))
+    (c.loop-e.invariant.does settings base body are shown (all_greeted settings c.args.tables.now.editors now c.args.g items is asking k.0.house.editors.names))))

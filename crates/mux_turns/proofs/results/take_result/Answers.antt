@@ -5,26 +5,26 @@ use Rattle.mux_history.specs.declared.cause.Cause.TheVariants.{FromServer}
 use Rattle.mux_history.specs.declared.out.Out.TheVariants.{ToServer}
 use Rattle.rpc_message.specs.Message.{message_of}
 use Rattle.event_model.specs.Does.{Does}
-use Rattle.event_model.specs.Event.{behind, with_cause}
+use Rattle.event_model.specs.Event.{with_cause}
 use Rattle.event_model.specs.Row.{send}
 use Rattle.group_words.specs.Rows.{shown_of}
 use Rattle.mux_model.specs.Rows.{to_start}
 use Rattle.mux_tables.specs.Documents.{AllStand, nothing_owed, owes, replaying, to}
-use Rattle.mux_tables.specs.Names.{NamesStand}
 use Rattle.mux_tables.proofs.DocumentOwed.{all_does}
 use Rattle.mux_tables.proofs.Homes.{group_seen}
 use Rattle.mux_tables.proofs.Starts.{start_at_place}
 use Rattle.mux_turns.proofs.Ready.{start_from}
-use Rattle.mux_turns.proofs.Replies.{begun_entry, first_encoding, initialized_quiet, sent_so, still_asking, still_named}
+use Rattle.mux_turns.proofs.Replies.{begun_entry, first_encoding, initialized_quiet, sent_so, still_asking}
 use Rattle.mux_turns.proofs.results.take_result.Goals as goal
 
 pub returns : goal.returns
-returns c = λ settings before body id value s read says first at none shown asking named st ds.
+returns c = λ settings before body id value s read says first at none shown asking st ds.
     let g = c.args.g in
     let base = with_cause before (FromServer s body) in
     let bodies = replaying settings before g in
     let u = c.hear_result.new.self in
-    let heard = c.in_ok-owed.ensures.stands settings before s body at first (c.answered_number-n.ensures body read) st in
+    let shows = c.in_ok-told.ensures ∙ ap shown_of (c.result_bytes.ensures body read) in
+    let heard = c.in_ok-owed.ensures.stands settings before s body at first (c.answered_number-n.ensures body read) (c.in_ok-kept.ensures ∙ shows) st in
     let owed = c.in_ok-owed.ensures.documents settings before s body at (first_encoding (message_of body) id value c.encoding.result says first (c.encoding.ensures body id value read says)) st ds in
     let there = ap (λ ns. slice_get ns g) c.in_ok-owed.ensures.starts ∙ at in
     let q = initialized_quiet c.in_ok-text.text c.in_ok-text.ensures in
@@ -34,8 +34,7 @@ returns c = λ settings before body id value s read says first at none shown ask
     let pays = subst (λ n. Does (λ k events. AllStand settings k events) (to_start n bodies) base (u, owes g bodies) c.notify.new.outs (u, nothing_owed) c.pay.new.outs) own
     (c.in_ok-pay.ensures.does settings base g x.0 bodies x.1 (c.in_ok-owed.ensures.ready x.0 x.1) (owed.0 ∙ ap (λ n. to n bodies) (sym own))) in
     let sent = sent_so s c.in_ok-text.text bodies c.args.outs.now c.notify.new.outs c.pay.new.outs c.in_ok-owed.owed none (c.in_ok-notify.ensures.outs s there) owed.0 c.in_ok-pay.ensures.outs in
-    let greets = c.in_ok-greet_all.ensures settings base body (c.bytes.ensures ∙ (c.in_ok-told.ensures ∙ ap shown_of (c.result_bytes.ensures body read))) shown
-    (still_asking settings before s body (c.in_ok-text.text ∷ bodies) c.pay.new.outs sent asking)
-    (subst (λ es. NamesStand settings es (behind base c.pay.new.outs)) (sym c.in_ok-owed.ensures.editors) (still_named settings before s body (c.in_ok-text.text ∷ bodies) c.pay.new.outs sent c.args.tables.now.editors named)) in
+    let greets = c.in_ok-greet_all.ensures settings base body (c.bytes.ensures ∙ shows) shown
+    (still_asking before s body (c.in_ok-text.text ∷ bodies) c.pay.new.outs sent asking) in
     begun_entry settings before s g body u c.greet_all.new.tables c.args.outs.now c.notify.new.outs c.pay.new.outs c.greet_all.new.outs (group_seen settings c.args.tables.now before g st s c.requires.group at) none (heard, owed.1)
     (subst (λ w. Does (λ k events. AllStand settings k events) (send (ToServer s w)) base (u, owes g bodies) c.args.outs.now (u, owes g bodies) c.notify.new.outs) c.in_ok-text.ensures begins) pays greets

@@ -1,0 +1,4 @@
+pub mod Gathering
+pub mod Keyed
+pub mod Offers
+pub mod Slashes

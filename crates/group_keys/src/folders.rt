@@ -1,0 +1,110 @@
+//! The folders that an `initialize` names (LSP 3.17, InitializeParams and WorkspaceFolder).
+ghost use Rattle.std.specs.Prelude.{◌≡◌, ◌++◌, ℕ, List, Option, codes, encode_utf8_all, map, IfOk, OnOk, option_map};
+ghost use Rattle.event_model.specs.Members.{listed, named_of, string_of};
+ghost use Rattle.group_words.specs.Houses.{folder_of, folders_in, folders_of, given_or, normal_of, without_slash};
+ghost use Rattle.json_nodes.specs.At.{Found};
+ghost use Rattle.json_text.specs.Json.{Json};
+
+use json_span::Tape;
+use message_body::{Body, Memory};
+use mux_members::{first_item, member, next_value, string};
+use std::alloc::Global;
+
+// A folder's name: its uri, where it has none.
+fn named(alloc: Global, uri: &Body, name: Option<Body>) -> Result<Body, Memory>
+    ensures { IfOk result (λ body. body ≡ given_or name uri.now) }
+{
+    match name {
+        Some(name) => Ok(name),
+        None => Ok(Body::new(Vec::from_slice(alloc, uri.bytes())?)),
+    }
+}
+
+// One folder more, where it has a uri.
+fn add(
+    alloc: Global,
+    folders: &mut Vec<(Body, Body)>,
+    uri: Option<Body>,
+    name: Option<Body>,
+) -> Result<(), Memory>
+    ensures { (u n : Option (List ℕ)) → uri ≡ option_map encode_utf8_all u → name ≡ option_map encode_utf8_all n
+        → OnOk result (folders.new.items ≡ folders.old.items ++ folder_of u n) }
+{
+    match uri {
+        None => Ok(()),
+        Some(uri) => {
+            let name = named(alloc, &uri, name)?;
+            folders.push((uri, name))?;
+            Ok(())
+        }
+    }
+}
+
+// The folder that a value says, where it says one.
+fn add_folder(
+    alloc: Global,
+    tape: &Tape,
+    folders: &mut Vec<(Body, Body)>,
+    node: Option<u32>,
+) -> Result<(), Memory>
+    ensures { (o : Option Json) → Found tape.now o node
+        → OnOk result (folders.new.items ≡ folders.old.items ++ folder_of (string_of (named_of (codes "uri") o)) (string_of (named_of (codes "name") o))) }
+{
+    let uri = string(alloc, tape, node, "uri")?;
+    let name = string(alloc, tape, node, "name")?;
+    add(alloc, folders, uri, name)?;
+    Ok(())
+}
+
+// The folders of a list.
+fn folders_in(alloc: Global, tape: &Tape, list: Option<u32>) -> Result<Vec<(Body, Body)>, Memory>
+    ensures { (o : Option Json) → Found tape.now o list → IfOk result (λ folders. folders.items ≡ folders_in (listed o)) }
+{
+    let mut folders = Vec::new(alloc);
+    let mut next = first_item(tape, list);
+    while let Some(folder) = next {
+        add_folder(alloc, tape, &mut folders, Some(folder))?;
+        next = next_value(tape, folder);
+    }
+    Ok(folders)
+}
+
+/// The folders that params name, each with its uri and its name: those of `workspaceFolders`, else `rootUri`.
+pub fn folders_of(
+    alloc: Global,
+    tape: &Tape,
+    params: Option<u32>,
+) -> Result<Vec<(Body, Body)>, Memory>
+    ensures { (o : Option Json) → Found tape.now o params → IfOk result (λ folders. folders.items ≡ folders_of o) }
+{
+    let mut folders = folders_in(alloc, tape, member(tape, params, "workspaceFolders"))?;
+    if folders.is_empty() {
+        let root = string(alloc, tape, params, "rootUri")?;
+        add(alloc, &mut folders, root, None)?;
+    }
+    Ok(folders)
+}
+
+// A uri without its trailing slash.
+fn without_slash(uri: &[u8]) -> &[u8]
+    ensures { result.now ≡ without_slash uri.now }
+{
+    let count = uri.len();
+    if count > 0 && uri[count - 1] == b'/' {
+        &uri[..count - 1]
+    } else {
+        uri
+    }
+}
+
+/// The normal forms of folders.
+pub fn normal_forms(alloc: Global, folders: &[(Body, Body)]) -> Result<Vec<Body>, Memory>
+    ensures { IfOk result (λ forms. forms.items ≡ map normal_of folders.now) }
+{
+    let mut forms = Vec::new(alloc);
+    for folder in folders {
+        let form = Vec::from_slice(alloc, without_slash(folder.0.bytes()))?;
+        forms.push(Body::new(form))?;
+    }
+    Ok(forms)
+}

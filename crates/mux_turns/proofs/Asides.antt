@@ -1,0 +1,112 @@
+-- Messages of an editor that place it nowhere, and change no document.
+use Rattle.std.proofs.Common.{◌≡◌, ℕ, Bool, true, false, ◌&&◌, ◌||◌, List, refl, ap, ◌∙◌, codes}
+use Rattle.std.specs.Prelude.{Some}
+use Rattle.document_model.specs.Sayings.{saying_of, speaks}
+use Rattle.mux_history.specs.declared.cause.Cause.TheVariants.{FromEditor}
+use Rattle.rpc_message.specs.declared.sort.Malformed.{Malformed}
+use Rattle.rpc_message.specs.declared.sort.Malformed.TheVariants as fault
+use Rattle.rpc_message.specs.declared.sort.Sort.TheVariants as sort
+use Rattle.rpc_message.specs.Message.{Message, message_of, request, notification, result, error, not_json, not_message}
+use Rattle.rpc_message.specs.Sorts.{Refuses, sort_of}
+use Rattle.event_model.specs.declared.phase.Phase.{Phase}
+use Rattle.event_model.specs.declared.phase.Phase.TheVariants.{Absent, New, Waiting, Answered, Running, Down, Closed, Gone}
+use Rattle.event_model.specs.Event.{Event, heard, requests, with_cause}
+use Rattle.event_model.specs.Phases.{Desk, desk_behind, desk_hears, desk_of, is_malformed, is_new, is_served}
+use Rattle.event_model.proofs.Frames.{one_more}
+use Rattle.group_facts.specs.Facts.{is_early}
+use Rattle.group_words.specs.Houses.{places, stops}
+use Rattle.mux_tables.specs.Documents.{changes_documents}
+use Rattle.mux_tables.proofs.Frames.{itself}
+
+and_off : (a : Bool) → (a && false) ≡ false
+and_off true = refl
+and_off false = refl
+
+-- where it stands behind the message
+module _ (before : List Event) (e : ℕ) (body : List ℕ) where
+  pub desk_now : (p : Phase) → (desk_hears (desk_of e before).phase (desk_of e before).initialize body (message_of body)).phase ≡ p → (desk_of e (with_cause before (FromEditor e body))).phase ≡ p
+  desk_now p h = ap (λ (d : Desk). d.phase) (one_more (desk_behind e) _ _ before (heard (FromEditor e body)) refl) ∙ rw (itself e) h
+
+-- a body that is no message
+pub refused : (f : Malformed) (m : Message) → (f ≡ fault.Memory → ⊥) → Refuses f m → is_malformed m ≡ true
+refused fault.NotJson m none h = ap is_malformed h
+refused fault.NotMessage m none h = ap is_malformed h
+refused fault.Memory m none h = absurd (none refl)
+
+pub malformed_stays : (p : Phase) (i body : List ℕ) (m : Message) → is_malformed m ≡ true → (desk_hears p i body m).phase ≡ p
+malformed_stays New i body not_json h = refl
+malformed_stays New i body not_message h = refl
+malformed_stays Answered i body not_json h = refl
+malformed_stays Answered i body not_message h = refl
+malformed_stays Running i body not_json h = refl
+malformed_stays Running i body not_message h = refl
+malformed_stays Absent i body m h = refl
+malformed_stays Waiting i body m h = refl
+malformed_stays Down i body m h = refl
+malformed_stays Closed i body m h = refl
+malformed_stays Gone i body m h = refl
+malformed_stays New i body (request id method ps) h = absurd (cc)
+malformed_stays New i body (notification method ps) h = absurd (cc)
+malformed_stays New i body (result id r) h = absurd (cc)
+malformed_stays New i body (error id r) h = absurd (cc)
+malformed_stays Answered i body (request id method ps) h = absurd (cc)
+malformed_stays Answered i body (notification method ps) h = absurd (cc)
+malformed_stays Answered i body (result id r) h = absurd (cc)
+malformed_stays Answered i body (error id r) h = absurd (cc)
+malformed_stays Running i body (request id method ps) h = absurd (cc)
+malformed_stays Running i body (notification method ps) h = absurd (cc)
+malformed_stays Running i body (result id r) h = absurd (cc)
+malformed_stays Running i body (error id r) h = absurd (cc)
+
+-- what is no request
+pub record Aside (before : List Event) (e : ℕ) (m : Message) : Type 0 where
+  pub placed : places (desk_of e before).phase m ≡ false
+  pub stopped : stops before e m ≡ false
+
+pub aside : (before : List Event) (e : ℕ) (m : Message) → (sort_of m ≡ Some sort.Request → ⊥) → Aside before e m
+aside before e (request id method ps) h = absurd (h refl)
+aside before e (notification method ps) h = record { placed = and_off (is_new (desk_of e before).phase); stopped = refl }
+aside before e (result id r) h = record { placed = and_off (is_new (desk_of e before).phase); stopped = refl }
+aside before e (error id r) h = record { placed = and_off (is_new (desk_of e before).phase); stopped = refl }
+aside before e not_json h = record { placed = and_off (is_new (desk_of e before).phase); stopped = refl }
+aside before e not_message h = record { placed = and_off (is_new (desk_of e before).phase); stopped = refl }
+
+pub malformed_aside : (m : Message) → is_malformed m ≡ true → sort_of m ≡ Some sort.Request → ⊥
+malformed_aside not_json h k = cc
+malformed_aside not_message h k = cc
+malformed_aside (request id method ps) h k = absurd (cc)
+malformed_aside (notification method ps) h k = absurd (cc)
+malformed_aside (result id r) h k = absurd (cc)
+malformed_aside (error id r) h k = absurd (cc)
+
+pub malformed_keeps : (before : List Event) (e : ℕ) (m : Message) → is_malformed m ≡ true → changes_documents before e m ≡ false
+malformed_keeps before e not_json h = and_off (is_served (desk_of e before).phase)
+malformed_keeps before e not_message h = and_off (is_served (desk_of e before).phase)
+malformed_keeps before e (request id method ps) h = absurd (cc)
+malformed_keeps before e (notification method ps) h = absurd (cc)
+malformed_keeps before e (result id r) h = absurd (cc)
+malformed_keeps before e (error id r) h = absurd (cc)
+
+-- before the answer to its `initialize`
+pub early_stays : (p : Phase) (i body : List ℕ) (m : Message) → is_early p ≡ true → places p m ≡ false → (desk_hears p i body m).phase ≡ p
+early_stays New i body m h k = rw (k) refl
+early_stays Absent i body m h k = refl
+early_stays Waiting i body m h k = refl
+early_stays Answered i body m h k = absurd (cc)
+early_stays Running i body m h k = absurd (cc)
+early_stays Down i body m h k = absurd (cc)
+early_stays Closed i body m h k = absurd (cc)
+early_stays Gone i body m h k = absurd (cc)
+
+early_unserved : (p : Phase) → is_early p ≡ true → is_served p ≡ false
+early_unserved Answered h = absurd (cc)
+early_unserved Running h = absurd (cc)
+early_unserved New h = refl
+early_unserved Absent h = refl
+early_unserved Waiting h = refl
+early_unserved Down h = absurd (cc)
+early_unserved Closed h = absurd (cc)
+early_unserved Gone h = absurd (cc)
+
+pub early_keeps : (before : List Event) (e : ℕ) (m : Message) → is_early (desk_of e before).phase ≡ true → changes_documents before e m ≡ false
+early_keeps before e m h = ap (λ b. b && (requests (codes "shutdown") m || speaks (saying_of m))) (early_unserved (desk_of e before).phase h)

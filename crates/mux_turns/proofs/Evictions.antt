@@ -1,0 +1,152 @@
+-- E7: a group ends, and another one is founded in its place.
+use Rattle.std.specs.Str.{chars}
+use Rattle.std.proofs.Common.{◌≡◌, ℕ, ◌<◌, ◌≤◌, ◌^◌, Bool, true, false, ◌&&◌, List, ◌++◌, codes, decimal, refl, ap, sym, subst, ◌∙◌, append-nil, arith, nat_lt}
+use Rattle.std.specs.Prelude.{Option, Some, None, slice_get, map}
+use Rattle.std.proofs.lemmas.Bool.Decides.{nat_tests}
+use Rattle.json_text.specs.Json.{Json}
+use Rattle.mux_history.specs.declared.cause.Cause.TheVariants.{FromEditor}
+use Rattle.mux_history.specs.declared.out.Out.{Out}
+use Rattle.mux_history.specs.declared.out.Out.TheVariants.{ToServer, EndServer}
+use Rattle.rpc_message.specs.Message.{Id, integer, message_of, request}
+use Rattle.rpc_message.specs.Texts.{request_text}
+use Rattle.rpc_message.proofs.Replies.{request_law}
+use Rattle.event_model.specs.declared.stage.Stage.{Stage}
+use Rattle.event_model.specs.declared.stage.Stage.TheVariants.{Unspawned, Spawning, Initializing, Ready, Stopping, Ending, Ended}
+use Rattle.event_model.specs.Does.{Does}
+use Rattle.event_model.specs.Event.{Event, behind, heard, said, with_cause}
+use Rattle.event_model.specs.Requests.{Asking, asking_behind, asking_of}
+use Rattle.event_model.specs.Row.{nothing, look, on, outs, send}
+use Rattle.event_model.specs.Settings.{Settings}
+use Rattle.event_model.specs.Spawns.{start_behind, start_of}
+use Rattle.event_model.specs.Stages.{Life, is_ready, life_behind, life_of}
+use Rattle.event_model.proofs.Frames.{one_more}
+use Rattle.event_model.proofs.Turns.{behind_more, does_knowing, does_look, does_nothing, does_then}
+use Rattle.group_facts.specs.Facts.{Numbered}
+use Rattle.group_facts.specs.Why.{is_starting}
+use Rattle.group_rows.specs.Forwarded.{Forwarding, forwarding_behind, forwarding_of}
+use Rattle.group_words.specs.declared.placed.Placed.TheVariants.{Evicts}
+use Rattle.group_words.specs.Rows.{end_group, end_start, placed_row, spawn}
+use Rattle.id_rewrite.specs.Tables.{IsInOrder}
+use Rattle.mux_tables.specs.declared.tables.Start.{Start}
+use Rattle.mux_tables.specs.declared.tables.Tables.{Tables}
+use Rattle.mux_tables.specs.Documents.{AllStand, DocumentsStand, nothing_owed}
+use Rattle.mux_tables.specs.Stands.{Stands, number_in, of_ids, of_life}
+use Rattle.mux_tables.proofs.DocumentOwed.{all_does}
+use Rattle.mux_tables.proofs.Starts.{start_at_place}
+use Rattle.mux_turns.specs.Founding.{IsNext}
+
+-- the number that is left
+pub last_number : (stage : Stage) (next limit requests : ℕ) (asks : Bool) → stage ≡ Ready → asks ≡ (is_ready stage && nat_lt next limit) → asks ≡ false → next ≤ limit → limit ≡ requests → requests ≡ next
+last_number stage next limit requests asks ready is off low e =
+    let test : nat_lt next limit ≡ false = sym (is ∙ ap (λ s. is_ready s && nat_lt next limit) ready) ∙ off in
+    grind (arith, nat_tests)
+
+pub starting_runs : (stage : Stage) → is_starting stage ≡ true → stage ≡ Ended → ⊥
+starting_runs Ended h e = absurd (cc)
+starting_runs Unspawned h e = absurd (cc)
+starting_runs Spawning h e = cc
+starting_runs Initializing h e = cc
+starting_runs Ready h e = absurd (cc)
+starting_runs Stopping h e = absurd (cc)
+starting_runs Ending h e = absurd (cc)
+
+ends_starting : (s : ℕ) (stage : Stage) → is_starting stage ≡ true → end_start s stage ≡ send (EndServer s)
+ends_starting s Spawning h = refl
+ends_starting s Initializing h = refl
+ends_starting s Unspawned h = absurd (cc)
+ends_starting s Ready h = absurd (cc)
+ends_starting s Stopping h = absurd (cc)
+ends_starting s Ending h = absurd (cc)
+ends_starting s Ended h = absurd (cc)
+
+ends_other : (s : ℕ) (stage : Stage) → is_ready stage ≡ false → is_starting stage ≡ false → end_start s stage ≡ nothing
+ends_other s Ready h k = absurd (cc)
+ends_other s Spawning h k = absurd (cc)
+ends_other s Initializing h k = absurd (cc)
+ends_other s Unspawned h k = refl
+ends_other s Stopping h k = refl
+ends_other s Ending h k = refl
+ends_other s Ended h k = refl
+
+-- the daemon's own `shutdown`
+shutdown_says : (n : ℕ) → n < 2 ^ 128 → message_of (request_text n (codes "shutdown") None) ≡ request (integer (decimal n)) (codes "shutdown") None
+unfolding chars lib.Utf8.encode
+shutdown_says n h = request_law n (codes "shutdown") None None h (codes "shutdown", (refl, refl)) tt refl (omega arith)
+
+module _ (settings : Settings) (t u : Tables) (base : List Event) (xs ys : List Out) (g s : ℕ) (x : Start) (at : slice_get t.lasts.items g ≡ Some x) (number : slice_get (map number_in t.lasts.items) g ≡ Some s) where
+  own : x.life.start ≡ s
+  own = start_at_place t.lasts.items g s x at number
+
+  pub stage_here : Stands settings t (behind base xs) → (life_of s (behind base xs)).stage ≡ x.life.stage
+  stage_here st = subst (λ n. (life_of n (behind base xs)).stage ≡ x.life.stage) own (ap (λ (l : Life). l.stage) ((st.lasts.each g x at).parts of_life))
+
+  -- it is sent `shutdown`
+  pub shuts : (n : ℕ) (text : List ℕ) → x.life.stage ≡ Ready → (IsInOrder x.ids → x.ids.limit ≡ t.requests → n ≡ x.ids.next) → text ≡ request_text n (codes "shutdown") None → (asking_of s (behind base xs)).next ≡ (forwarding_of s (behind base xs)).next
+      → ((name : Id) (ps : Option Json) → message_of text ≡ request name (codes "shutdown") ps → Does (λ t events. Stands settings t events) (send (ToServer s text)) base t xs u ys)
+      → ((name : Id) (ps : Option Json) → message_of text ≡ request name (codes "shutdown") ps → DocumentsStand settings nothing_owed t (behind base xs) → DocumentsStand settings nothing_owed u (behind base ys))
+      → Does (λ k events. AllStand settings k events) (end_start s Ready) base (t, nothing_owed) xs (u, nothing_owed) ys
+  shuts n text ready same is asked d docs = does_knowing (λ k.
+      let ids = (k.0.lasts.each g x at).parts of_ids in
+      let next : n ≡ x.ids.next = same ids.order ids.ends in
+      let asks : (asking_of s (behind base xs)).next ≡ n = asked ∙ (ap (λ m. (forwarding_of m (behind base xs)).next) (sym own) ∙ (ids.next ∙ sym next)) in
+      let within = ids.order.within in
+      let ends = ids.ends in
+      let range = k.0.range in
+      let says = ap message_of is ∙ shutdown_says n (omega (arith, next, within, ends, range)) in
+      does_look (λ _. ap (λ w. send (ToServer s w)) (ap (λ m. request_text m (codes "shutdown") None) asks ∙ sym is))
+      (all_does settings t u nothing_owed nothing_owed base xs ys (d (integer (decimal n)) None says) (λ _ ds. docs (integer (decimal n)) None says ds)))
+
+  abbrev Ends : Type 0
+  Ends = Does (λ k events. AllStand settings k events) (look (λ events. end_start s (life_of s events).stage)) base (t, nothing_owed) xs (u, nothing_owed) ys
+
+  pub ends_ready : x.life.stage ≡ Ready → Does (λ k events. AllStand settings k events) (end_start s Ready) base (t, nothing_owed) xs (u, nothing_owed) ys → Ends
+  ends_ready ready d = does_look (λ k. ap (end_start s) (stage_here k.0 ∙ ready)) d
+
+  pub ends_now : is_starting x.life.stage ≡ true → Does (λ t events. Stands settings t events) (send (EndServer s)) base t xs u ys → (DocumentsStand settings nothing_owed t (behind base xs) → DocumentsStand settings nothing_owed u (behind base ys)) → Ends
+  ends_now starting d docs = does_look (λ k. ap (end_start s) (stage_here k.0) ∙ ends_starting s x.life.stage starting) (all_does settings t u nothing_owed nothing_owed base xs ys d (λ _ ds. docs ds))
+
+pub ends_never : (settings : Settings) (t : Tables) (base : List Event) (xs : List Out) (g s : ℕ) (x : Start) → slice_get t.lasts.items g ≡ Some x → slice_get (map number_in t.lasts.items) g ≡ Some s → is_ready x.life.stage ≡ false → is_starting x.life.stage ≡ false
+    → Does (λ k events. AllStand settings k events) (look (λ events. end_start s (life_of s events).stage)) base (t, nothing_owed) xs (t, nothing_owed) xs
+ends_never settings t base xs g s x at number ready starting = does_look (λ k. ap (end_start s) (stage_here settings t t base xs xs g s x at number k.0) ∙ ends_other s x.life.stage ready starting) does_nothing
+
+-- the group's last start, where it has one
+module _ (settings : Settings) (t u : Tables) (base : List Event) (xs ys : List Out) (g : ℕ) where
+  pub evicts_none : (Stands settings t (behind base xs) → start_of g (behind base xs) ≡ None) → Does (λ k events. AllStand settings k events) (end_group g) base (t, nothing_owed) xs (t, nothing_owed) xs
+  evicts_none none = does_look (λ k. ap (λ o. on o nothing (λ s. end_start s (life_of s (behind base xs)).stage)) (none k.0)) does_nothing
+
+  pub evicts_some : (s : ℕ) → (Stands settings t (behind base xs) → start_of g (behind base xs) ≡ Some s) → Does (λ k events. AllStand settings k events) (look (λ events. end_start s (life_of s events).stage)) base (t, nothing_owed) xs (u, nothing_owed) ys
+      → Does (λ k events. AllStand settings k events) (end_group g) base (t, nothing_owed) xs (u, nothing_owed) ys
+  evicts_some s some d = record {
+    done = λ k.
+        let one = d.done k in
+        record { outs = one.outs ∙ ap (λ o. xs ++ outs (on o nothing (λ s. end_start s (life_of s (behind base xs)).stage)) (behind base xs)) (sym (some k.0)); stands = one.stands };
+  }
+
+-- what it is sent spawns none
+end_spawns : (h s : ℕ) (stage : Stage) (events : List Event) → start_of h (behind events (outs (end_start s stage) events)) ≡ start_of h events
+end_spawns h s Ready events = one_more (start_behind h) _ _ events (said (ToServer s (request_text (asking_of s events).next (codes "shutdown") None))) refl
+end_spawns h s Spawning events = one_more (start_behind h) _ _ events (said (EndServer s)) refl
+end_spawns h s Initializing events = one_more (start_behind h) _ _ events (said (EndServer s)) refl
+end_spawns h s other events = ap (start_of h) (append-nil events)
+
+evict_spawns : (h : ℕ) (o : Option ℕ) (events : List Event) → start_of h (behind events (outs (on o nothing (λ s. end_start s (life_of s events).stage)) events)) ≡ start_of h events
+evict_spawns h None events = ap (start_of h) (append-nil events)
+evict_spawns h (Some s) events = end_spawns h s (life_of s events).stage events
+
+pub next_by : (n : ℕ) (events later : List Event) → ((h : ℕ) → start_of h later ≡ start_of h events) → IsNext n events → IsNext n later
+next_by n events later same k = record { none = same n ∙ k.none; others = λ h l none. k.others h l (sym (same h) ∙ none) }
+
+pub replaces : (settings : Settings) (t u v : Tables) (before base : List Event) (e g n : ℕ) (body : List ℕ) (xs ys zs : List Out) → IsNext n (behind base xs) → Does (λ k events. AllStand settings k events) (end_group g) base (t, nothing_owed) xs (u, nothing_owed) ys
+    → (IsNext n (behind base ys) → Does (λ t events. Stands settings t events) (spawn n) base u ys v zs) → (Stands settings u (behind base ys) → DocumentsStand settings nothing_owed u (behind base ys) → DocumentsStand settings nothing_owed v (behind base zs))
+    → Does (λ k events. AllStand settings k events) (placed_row e body before (Evicts g n)) base (t, nothing_owed) xs (v, nothing_owed) zs
+replaces settings t u v before base e g n body xs ys zs next d spawns docs = does_knowing (λ k.
+    let later : behind base ys ≡ behind (behind base xs) (outs (end_group g) (behind base xs)) = ap (behind base) (d.done k).outs ∙ behind_more base xs (outs (end_group g) (behind base xs)) in
+    let still = next_by n (behind base xs) (behind base ys) (λ h. ap (start_of h) later ∙ evict_spawns h (start_of g (behind base xs)) (behind base xs)) next in
+    does_then d (all_does settings u v nothing_owed nothing_owed base ys zs (spawns still) docs))
+
+-- an editor's message leaves the numbers alone
+pub numbered_heard : (before : List Event) (e : ℕ) (body : List ℕ) → Numbered before → Numbered (with_cause before (FromEditor e body))
+numbered_heard before e body k s ready =
+    let cause = heard (FromEditor e body) in
+    let stood : (life_of s before).stage ≡ Ready = sym (ap (λ (l : Life). l.stage) (one_more (life_behind s) _ _ before cause refl)) ∙ ready in
+    ap (λ (a : Asking). a.next) (one_more (asking_behind s) _ _ before cause refl) ∙ (k s stood ∙ sym (ap (λ (f : Forwarding). f.next) (one_more (forwarding_behind s) _ _ before cause refl)))
