@@ -74,7 +74,8 @@ fn run_editors<
 ) -> Editors<P>
     ensures ports { AllPortsRan P.sessions P.links P.faults limit ports.items result.ports.items }
     ensures through { result.closed ≡ true → AllThrough result.ports.items }
-    ensures own { (e : Ends) → result.closed ≡ true → own.ends ≡ Some e → PortRan port.ghosts.sessions port.ghosts.links port.ghosts.faults limit own result.own e }
+    ensures own { (e : Ends) → result.closed ≡ true → own.ends ≡ Some e
+        → PortRan port.ghosts.sessions port.ghosts.links port.ghosts.faults limit own result.own e }
     ensures kept { result.closed ≡ false → result.own ≡ own }
 {
     let mut own = own;
@@ -236,13 +237,15 @@ pub fn run_lanes<
             requires { IsSync R.row }
             ensures ports { AllPortsRan P.sessions P.links P.faults limit ports.items result.ports.items }
             ensures through { result.closed ≡ true → AllThrough result.ports.items }
-            ensures own { (e : Ends) → result.closed ≡ true → own.ends ≡ Some e → PortRan port.ghosts.sessions port.ghosts.links port.ghosts.faults limit own result.own e }
+            ensures own { (e : Ends) → result.closed ≡ true → own.ends ≡ Some e
+                → PortRan port.ghosts.sessions port.ghosts.links port.ghosts.faults limit own result.own e }
             ensures kept { result.closed ≡ false → result.own ≡ own }
         { run_editors(rt, alloc, board, limit, ports, own) },
         move || -> Others<B, C>
             ensures berths { AllBerthsRan B.runs B.left B.faults limit berths.items result.berths.items }
             ensures queue { result.ticks.queue ≡ ticks.queue }
-            ensures ticked { TickedAs (C.given clock) (C.given result.clock) (C.left clock) (C.left result.clock) ticks.pushed result.ticks.pushed result.ticker }
+            ensures ticked { TickedAs (C.given clock) (C.given result.clock) (C.left clock) (C.left result.clock)
+                ticks.pushed result.ticks.pushed result.ticker }
         { run_others(rt, alloc, board, limit, commands, berths, clock, ticks) },
     );
     Ran { editors, others }
