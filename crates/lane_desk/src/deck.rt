@@ -4,6 +4,7 @@ ghost use Rattle.mux_history.specs.declared.entry.Entry.{Entry};
 ghost use Rattle.mux_history.specs.Cores.{spawns};
 ghost use Rattle.lane_lists.specs.Seats as lists;
 ghost use Rattle.lane_desk.specs.Desks.{AllUnused, Faulted, Kept, ids};
+ghost use Rattle.lane_desk.specs.Stops.{Tells, WasDone, is_done};
 
 use crate::desk::{Counts, take_turn};
 use crate::seats::Seats;
@@ -46,6 +47,8 @@ impl Naming for Brand {
 pub enum Took {
     Item,
     Nothing,
+    /// Nothing, and a stop is done: it was answered, no lane of a server has a start, and none waits for one.
+    Done,
     /// The core goes on no more.
     Over,
 }
@@ -63,7 +66,7 @@ pub struct Desk<K: Steps + Drop, N: Naming> {
 }
 
 impl<K: Steps + Drop, N: Naming> Model for Desk<K, N> {
-    ghost use Rattle.std.specs.Prelude.{◌≡◌, ◌<◌, ◌+◌, ◌^◌, length, map, not};
+    ghost use Rattle.std.specs.Prelude.{◌≡◌, ◌<◌, ◌+◌, ◌^◌, false, length, map, not};
     ghost use Rattle.lane_desk.specs.Desks.{DeskView, Faulted, Kept, ids};
 
     ghost Value = { DeskView K };
@@ -71,7 +74,8 @@ impl<K: Steps + Drop, N: Naming> Model for Desk<K, N> {
     ghost view = { λ d. record { core = d.core; spent = d.spent; why = d.why; ends = d.ends.items; seats = d.seats } };
 
     ghost invariant = { λ d. Kept K.stands N.editors N.servers (not d.spent) d.core d.ends.items d.seats × (map ids d.ends.items ≡ N.queues) × Faulted N.before (K.faults d.core) d.why
-        × (d.counts.editors ≡ N.editors) × (d.counts.servers ≡ N.servers) × (N.editors + N.servers < 2 ^ 63) × (length d.ends.items ≡ N.editors + N.servers + 1) };
+        × (d.counts.editors ≡ N.editors) × (d.counts.servers ≡ N.servers) × (N.editors + N.servers < 2 ^ 63) × (length d.ends.items ≡ N.editors + N.servers + 1)
+        × (d.spent ≡ false → K.spent d.core ≡ false) };
 }
 
 impl<K: Steps + Drop, N: Naming> Desk<K, N> {
@@ -79,6 +83,9 @@ impl<K: Steps + Drop, N: Naming> Desk<K, N> {
     pub fn take<R: Wait>(&mut self, rt: &R, lane: LaneName) -> Took
         ensures over { self.old.spent ≡ true → (result ≡ Took.Over) × (self.new ≡ self.old) }
         ensures spent { (result ≡ Took.Over) ↔ (self.new.spent ≡ true) }
+        ensures done { (history : List Entry) → K.stands self.new.core history → result ≡ Took.Done → is_done K.stops history self.new.seats ≡ true }
+        ensures was { result ≡ Took.Done → WasDone K.stands K.stops N.editors N.servers }
+        ensures not_done { (history : List Entry) → K.stands self.new.core history → result ≡ Took.Nothing → is_done K.stops history self.new.seats ≡ false }
     {
         if self.spent {
             return Took::Over;
@@ -97,9 +104,18 @@ impl<K: Steps + Drop, N: Naming> Desk<K, N> {
             Took::Item
         } else if turned.spent {
             Took::Over
+        } else if self.is_done() {
+            Took::Done
         } else {
             Took::Nothing
         }
+    }
+
+    // Whether a stop is done.
+    fn is_done(&self) -> bool
+        ensures { (history : List Entry) → K.stands self.now.core history → K.spent self.now.core ≡ false → result ≡ is_done K.stops history self.now.seats }
+    {
+        self.core.stopped() && self.seats.is_idle()
     }
 
     /// The place of the server whose command a start runs; None just of a start that wasn't spawned.
@@ -133,6 +149,10 @@ pub struct Closed<K: Steps + Drop> {
     pub spent: bool,
     /// The fault of its last step, where it had one.
     pub why: Option<StepFault>,
+    /// It went on to a stop that is done.
+    pub done: bool,
+    /// No lane of an editor has a session. This is said of a core that went on.
+    pub no_editor: bool,
 }
 
 impl<K: Steps + Drop, N: Naming> Deck<K, N> {
@@ -152,6 +172,7 @@ impl<K: Steps + Drop, N: Naming> Deck<K, N> {
         requires editors { editors ≡ N.editors }
         requires servers { servers ≡ N.servers }
         requires before { K.faults core ≡ N.before }
+        requires ready { K.spent core ≡ false }
         ensures { IfErr result (λ back. (back.0 ≡ core) × (back.1 ≡ ends)) }
     {
         let Ok(seats) = Seats::new(alloc, editors, servers) else {
@@ -175,11 +196,13 @@ impl<K: Steps + Drop, N: Naming> Deck<K, N> {
     }
 
     /// Takes one item of a lane, and does what it means.
-    pub fn turn<R: Wait>(&self, rt: &R, lane: LaneName) -> Took {
+    pub fn turn<R: Wait>(&self, rt: &R, lane: LaneName) -> Took
+        ensures done { result ≡ Took.Done → WasDone K.stands K.stops N.editors N.servers }
+    {
         self.desk.lock(rt).take(rt, lane)
     }
 
-    /// Takes what it finds in a lane's queues. False says that the core goes on no more.
+    /// Takes what it finds in a lane's queues. False says that the core goes on no more, or that a stop is done.
     pub fn pump<R: Wait>(&self, rt: &R, lane: LaneName) -> bool {
         let mut goes_on = false;
         for _ in rt.forever() {
@@ -189,7 +212,7 @@ impl<K: Steps + Drop, N: Naming> Deck<K, N> {
                     goes_on = true;
                     break;
                 }
-                Took::Over => break,
+                Took::Done | Took::Over => break,
             }
         }
         goes_on
@@ -207,7 +230,10 @@ impl<K: Steps + Drop, N: Naming> Deck<K, N> {
 
     /// The core and the ends. It waits for nobody.
     pub fn close(self) -> Closed<K>
-        ensures kept { (seats : lists.Seats) × Kept K.stands N.editors N.servers (not result.spent) result.core result.ends.items seats }
+        ensures kept { (seats : lists.Seats) × Kept K.stands N.editors N.servers (not result.spent) result.core result.ends.items seats
+            × Tells K.stands K.stops result.core seats result.done result.no_editor }
+        ensures goes { result.done ≡ true → result.spent ≡ false }
+        ensures ready { result.spent ≡ false → K.spent result.core ≡ false }
         ensures queues { map ids result.ends.items ≡ N.queues }
         ensures faults { Faulted N.before (K.faults result.core) result.why }
     {
@@ -216,16 +242,20 @@ impl<K: Steps + Drop, N: Naming> Deck<K, N> {
             counts: _,
             core,
             ends,
-            seats: _,
+            seats,
             spent,
             why,
             of: _,
         } = desk.into_inner();
+        let done = !spent && core.stopped() && seats.is_idle();
+        let no_editor = seats.has_no_editor();
         Closed {
             core,
             ends,
             spent,
             why,
+            done,
+            no_editor,
         }
     }
 }

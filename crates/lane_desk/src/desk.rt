@@ -196,6 +196,7 @@ fn act<K: Steps, R: Wait>(
     ensures goes { result.took ≡ not result.spent }
     ensures later { K.faults core.old ≤ K.faults core.new }
     ensures journal { result.why ≡ Some StepFault.Journal → Rose (K.faults core.old) (K.faults core.new) }
+    ensures ready { result.spent ≡ false → K.spent core.old ≡ false → K.spent core.new ≡ false }
 {
     if !core.fits(&cause) {
         return Turned::over(None);
@@ -232,6 +233,7 @@ pub fn take_turn<K: Steps, R: Wait>(
     ensures ids { map ids ends.new.items ≡ map ids ends.old.items }
     ensures later { K.faults core.old ≤ K.faults core.new }
     ensures journal { result.why ≡ Some StepFault.Journal → Rose (K.faults core.old) (K.faults core.new) }
+    ensures ready { result.spent ≡ false → K.spent core.old ≡ false → K.spent core.new ≡ false }
 {
     let Some(place) = place_of(counts, lane) else {
         return Turned::over(None);

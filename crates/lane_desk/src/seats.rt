@@ -6,6 +6,7 @@ ghost use Rattle.lane_lists.specs.Seats.{begin_seat, close_seat, free_place, fre
 ghost use Rattle.lane_desk.specs.Kinds.{joined_by, marked, moved, owing};
 ghost use Rattle.lane_desk.specs.Places.{IsLane};
 ghost use Rattle.lane_desk.specs.Smalls.{IsSmall};
+ghost use Rattle.lane_desk.specs.Stops.{has_no_editor, is_idle, taken_place};
 
 use crate::kinds::{Kind, Mark};
 use crate::meaning::ticked;
@@ -63,6 +64,13 @@ pub fn place_of(seats: &[Seat], session: u64) -> Option<usize>
     ensures inside { IfSome result (λ i. i < length seats.now) }
 {
     seats.iter().position(|seat| seat.is_now(session))
+}
+
+// The place of the first lane with a session.
+fn taken_place(seats: &[Seat]) -> Option<usize>
+    ensures { result ≡ taken_place seats.now }
+{
+    seats.iter().position(|seat| !seat.is_free())
 }
 
 /// The place of the first lane without a session.
@@ -201,6 +209,20 @@ impl Seats {
             LaneName::Server(i) => hear_at(&mut self.servers, i, is_side, kind),
             LaneName::Ticker => {}
         }
+    }
+
+    /// Whether no lane of a server has a start, and none waits for one.
+    pub fn is_idle(&self) -> bool
+        ensures { result ≡ is_idle self.now }
+    {
+        taken_place(self.servers.as_slice()).is_none() && self.waiting.len() == 0
+    }
+
+    /// Whether no lane of an editor has a session.
+    pub fn has_no_editor(&self) -> bool
+        ensures { result ≡ has_no_editor self.now }
+    {
+        taken_place(self.editors.as_slice()).is_none()
     }
 
     /// One editor more joined, where this kind says so.

@@ -1,5 +1,5 @@
 // A core that answers each body of an editor with that body.
-ghost use Rattle.std.specs.Prelude.{◌≡◌, ◌+◌, [], ℕ, IfOk, IfSome};
+ghost use Rattle.std.specs.Prelude.{◌≡◌, ◌+◌, [], ℕ, IfOk, IfSome, false};
 ghost use Rattle.mux_history.specs.Cores.{joins, spawns_of_outs};
 
 use message_body::Memory;
@@ -19,6 +19,7 @@ impl Echo {
     pub fn new(alloc: Global) -> Echo
         ensures stands { ⟦<Echo as Steps>⟧.stands result [] }
         ensures faults { ⟦<Echo as Steps>⟧.faults result ≡ 0 }
+        ensures ready { ⟦<Echo as Steps>⟧.spent result ≡ false }
     {
         Echo {
             alloc,

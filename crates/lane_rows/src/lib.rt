@@ -2,6 +2,8 @@
 //! lanes, of the queues of a lane and of a session's reading and writing.
 #![tactic(auto)]
 
+#[cfg(test)]
+mod beside;
 mod echo;
 #[cfg(test)]
 mod io;
@@ -9,6 +11,7 @@ mod lanes;
 #[cfg(test)]
 mod queue;
 mod session;
+mod side;
 mod starts;
 #[cfg(test)]
 mod tests;
@@ -16,4 +19,5 @@ mod tests;
 pub use echo::Echo;
 pub use lanes::{Lanes, run_lanes};
 pub use session::{Begin, Ran, run};
+pub use side::{Sides, run_side};
 pub use starts::{Started, run_starts};

@@ -1,5 +1,5 @@
 -- What the session of a link adds.
-use Rattle.std.proofs.Common.{◌≤◌, ◌≡◌, ℕ, List, [], ◌∷◌, ◌++◌, Bool, true, false, length, replicate, refl, sym, ap, ◌∙◌, append_assoc, append-nil}
+use Rattle.std.proofs.Common.{◌≤◌, ◌≡◌, ◌↔◌, ℕ, List, [], ◌∷◌, ◌++◌, Bool, true, false, length, replicate, refl, sym, ap, ◌∙◌, append_assoc, append-nil}
 use Rattle.outside_io.specs.Sessions.{Session}
 use Rattle.outside_io.specs.Told.{append_to, prepend_to}
 use Rattle.lane_lists.specs.declared.item.Order.{Order}
@@ -48,7 +48,7 @@ module _ (first : Posted) (limit : ℕ) (began ended : Session) (posts posts' : 
   }
 
   pub link_ran : (before after : Standing) (is_whole : Bool) → posts ≡ before.posts ++ first ∷ [] → after.posts ≡ posts' → before.orders ≡ orders → after.orders ≡ orders' → before.sides ≡ sides → after.sides ≡ sides'
-      → after.back ≡ append_to before.back (ended ∷ []) → after.left ≡ before.left → before.faults ≤ after.faults → (is_whole ≡ true → IsWhole stop wrote) → Takes (WholeLink first limit) (CutLink first limit) (record before { left = prepend_to (began ∷ []) before.left }) after is_whole
+      → after.back ≡ append_to before.back (ended ∷ []) → after.left ≡ before.left → before.faults ≤ after.faults → (is_whole ≡ true) ↔ IsWhole stop wrote → Takes (WholeLink first limit) (CutLink first limit) (record before { left = prepend_to (began ∷ []) before.left }) after is_whole
   link_ran before after is_whole linked_before p o o' s s' back left later whole = record {
     turn = linked first run_of;
     adds = record {
@@ -59,8 +59,8 @@ module _ (first : Posted) (limit : ℕ) (began ended : Session) (posts posts' : 
       posts = p ∙ read.posted ∙ ap (λ l. l ++ run_of.posts) linked_before ∙ append_assoc before.posts (first ∷ []) run_of.posts;
       orders = o' ∙ written.took ∙ ap (λ l. l ++ run_of.orders) (sym o);
     };
-    whole = λ e. (record { run = run_of; is_run = is_run; is_whole = whole e; is = refl }, s' ∙ written.items (whole e).written ∙ ap (λ l. l ++ run_of.sides) (sym s));
-    cut = λ _. ran run_of is_run refl;
+    whole = λ e. (record { run = run_of; is_run = is_run; is_whole = whole.0 e; is = refl }, s' ∙ written.items (whole.0 e).written ∙ ap (λ l. l ++ run_of.sides) (sym s));
+    cut = λ e. ran run_of is_run (λ w. (let t = whole.1 w in absurd cc)) refl;
   }
 
 pub link_refused : (first : Posted) (limit : ℕ) (came : Session) (before after : Standing) → after.posts ≡ before.posts → after.orders ≡ before.orders → after.back ≡ append_to before.back (came ∷ []) → after.left ≡ before.left → before.faults ≤ after.faults

@@ -11,7 +11,7 @@ use Rattle.mux_lanes.specs.Starts.{Begun, CutBegun, CutStart, RefusedAs, WholeSt
 use Rattle.mux_lanes.proofs.Told.{appended_none, prepended_none}
 
 pub refused_none : (posts posts' : List Posted) (orders : List Order) → posts' ≡ posts → RefusedAs posts posts' orders orders false
-refused_none posts posts' orders e = record { more = []; taken = []; posts_are = e ∙ sym (append-nil posts); orders_are = sym (append-nil orders); whole = λ h. absurd cc; cut = inl (refl, refl) }
+refused_none posts posts' orders e = record { more = []; taken = []; posts_are = e ∙ sym (append-nil posts); orders_are = sym (append-nil orders); whole = λ h. absurd cc; unended = λ e end t. absurd cc; cut = inl (refl, refl) }
 
 -- behind the start of a program
 pub took_up : (limit : ℕ) (b b' c : Standing) (w : Bool) → b'.back ≡ b.back → b.left ≡ b'.left → b.faults ≤ b'.faults → b'.posts ≡ b.posts → b'.orders ≡ b.orders → b'.sides ≡ b.sides
@@ -36,7 +36,7 @@ took_failed limit b c w back left later rose sides f = record {
   turn = idle true f.more f.taken;
   adds = record { left = sym left ∙ prepended_none c.left; back = back ∙ appended_none b.back; later = later; rise = λ _. rose; posts = f.posts_are; orders = f.orders_are };
   whole = λ e. (let x = f.whole e in (failed x.0 (ap₂ (idle true) x.1 x.2), sides ∙ sym (append-nil b.sides)));
-  cut = λ e. elim f.cut [ inl none ↦ wanted true (ap₂ (idle true) none.0 none.1) | inr some ↦ cut_failed f.taken some.1 (ap (λ l. idle true l f.taken) some.0) ];
+  cut = λ e. elim f.cut [ inl none ↦ wanted true (ap₂ (idle true) none.0 none.1) | inr some ↦ cut_failed f.taken some.1 (f.unended e) (ap (λ l. idle true l f.taken) some.0) ];
 }
 
 pub took_none : (limit : ℕ) (b c : Standing) → c.back ≡ b.back → c.left ≡ b.left → b.faults ≤ c.faults → c.posts ≡ b.posts → c.orders ≡ b.orders → Takes (WholeStart limit) (CutStart limit) b c false

@@ -1,10 +1,11 @@
 -- One moment more.
-use Rattle.std.proofs.Common.{◌≡◌, ℕ, List, [], ◌∷◌, ◌++◌, map, refl, sym, ap, ◌∙◌, arith, append_assoc, append-nil}
+use Rattle.std.proofs.Common.{◌≡◌, ℕ, List, [], ◌∷◌, ◌++◌, map, refl, sym, ap, ◌∙◌, ◌⊎◌, ⊎_elim, arith, append_assoc, append-nil}
 use Rattle.std.specs.Prelude.{Option, IfSome}
 use Rattle.std.proofs.lemmas.List.{map-append}
 use Rattle.outside_io.specs.Told.{append_to, prepend_to}
 use Rattle.lane_lists.specs.declared.item.Posted.{Posted}
 use Rattle.lane_lists.specs.declared.item.Posted.TheVariants as posted
+use Rattle.mux_lanes.specs.declared.lane_end.LaneEnd.{LaneEnd}
 use Rattle.mux_lanes.specs.declared.lane_end.LaneEnd.TheVariants as lane_end
 use Rattle.mux_lanes.specs.Ticks.{TickedAs, TickedSoFar}
 use Rattle.mux_lanes.proofs.Told.{appended_none, prepended_none, appended_more, prepended_more}
@@ -36,8 +37,8 @@ module _ (given given' given'' left left' left'' : Option (List ℕ)) (posts pos
   }
 
 module _ (given given' left left' : Option (List ℕ)) (posts posts' : List Posted) where
-  pub ticks_over : TickedSoFar given given' left left' posts posts' → TickedAs given given' left left' posts posts' lane_end.Over
-  ticks_over f = record {
+  pub ticks_over : (end : LaneEnd) → (end ≡ lane_end.Stopped) ⊎ (end ≡ lane_end.Over) → TickedSoFar given given' left left' posts posts' → TickedAs given given' left left' posts posts' end
+  ticks_over end how f = record {
     ticks = f.ticks;
     refused = [];
     given_are = f.given_are ∙ ap (append_to given) (sym (append-nil f.ticks));
@@ -45,7 +46,7 @@ module _ (given given' left left' : Option (List ℕ)) (posts posts' : List Post
     posted = f.posted;
     one = omega arith;
     whole = λ x. refl;
-    through = λ x. absurd cc;
+    through = λ x. ⊎_elim (λ s. absurd cc) (λ o. absurd cc) how;
   }
 
   pub ticks_through : TickedSoFar given given' left left' posts posts' → IfSome left' (λ moments. moments ≡ []) → TickedAs given given' left left' posts posts' lane_end.Through

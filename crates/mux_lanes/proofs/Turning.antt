@@ -84,10 +84,11 @@ module _ (Whole Cut : Turn → Type 0) (a b c : Standing) where
     adds = adds_more f.turns g.turn a b c f.adds g.adds;
     sides = λ none. absurd cc;
     whole = λ h. absurd (h refl);
+    torn = λ _. refl;
   }
 
-pub ran_ends : (Whole Cut : Turn → Type 0) (a b : Standing) (end : LaneEnd) → RanSoFar Whole a b → RanAs Whole Cut a b end
-ran_ends Whole Cut a b end f = record {
+pub ran_ends : (Whole Cut : Turn → Type 0) (a b : Standing) (end : LaneEnd) → (end ≡ lane_end.Cut → ⊥) → RanSoFar Whole a b → RanAs Whole Cut a b end
+ran_ends Whole Cut a b end on f = record {
   turns = f.turns;
   last = [];
   each = f.each;
@@ -96,6 +97,7 @@ ran_ends Whole Cut a b end f = record {
   adds = rw (sym (append-nil f.turns)) at f.adds;
   sides = λ _. f.sides;
   whole = λ _. refl;
+  torn = λ e. absurd (on e);
 }
 
 abbrev pub stand : Option (List Session) → Option (List Session) → ℕ → List Posted → List Order → List Side → Standing

@@ -87,6 +87,7 @@ pub record RanAs (Whole Cut : Turn → Type 0) (before after : Standing) (end : 
   pub adds : Adds (all_turns (turns ++ last)) before after
   pub sides : last ≡ [] → AddsSides (all_turns turns) before after
   pub whole : (end ≡ lane_end.Cut → ⊥) → last ≡ []
+  pub torn : end ≡ lane_end.Cut → length last ≡ 1
 
 -- a session, behind the item that says that it begins
 abbrev pub linked : Posted → Run → Turn
@@ -103,5 +104,5 @@ pub record WholeLink (first : Posted) (limit : ℕ) (turn : Turn) : Type 0 where
   pub is : turn ≡ linked first run
 
 pub data CutLink (first : Posted) (limit : ℕ) (turn : Turn) : Type 0 where
-  ran : (run : Run) → IsRun limit run → turn ≡ linked first run → CutLink first limit turn
+  ran : (run : Run) → IsRun limit run → (IsWholeRun run → ⊥) → turn ≡ linked first run → CutLink first limit turn
   refused : (session : Session) → turn ≡ unlinked session → CutLink first limit turn

@@ -20,7 +20,7 @@ pub data WholeStart (limit : ℕ) (turn : Turn) : Type 0 where
 -- the same, cut off: in the session, behind NoStart, or before anything was posted
 pub data CutStart (limit : ℕ) (turn : Turn) : Type 0 where
   cut_up : CutLink posted.Up limit turn → CutStart limit turn
-  cut_failed : (orders : List Order) → length orders ≤ 1 → turn ≡ idle true (posted.NoStart ∷ []) orders → CutStart limit turn
+  cut_failed : (orders : List Order) → length orders ≤ 1 → ((end : End) → orders ≡ order_of end ∷ [] → ⊥) → turn ≡ idle true (posted.NoStart ∷ []) orders → CutStart limit turn
   wanted : (rises : Bool) → turn ≡ idle rises [] [] → CutStart limit turn
 
 -- a turn behind the order to begin a start
@@ -42,4 +42,5 @@ pub record RefusedAs (posts posts' : List Posted) (orders orders' : List Order) 
   pub posts_are : posts' ≡ posts ++ more
   pub orders_are : orders' ≡ orders ++ taken
   pub whole : is_whole ≡ true → (end : End) × (more ≡ posted.NoStart ∷ []) × (taken ≡ order_of end ∷ [])
+  pub unended : is_whole ≡ false → (end : End) → taken ≡ order_of end ∷ [] → ⊥
   pub cut : (more ≡ []) × (taken ≡ []) ⊎ (more ≡ posted.NoStart ∷ []) × (length taken ≤ 1)

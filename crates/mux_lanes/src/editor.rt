@@ -3,6 +3,7 @@ ghost use Rattle.std.specs.Prelude.{◌≡◌, ◌+◌, ◌<◌, ◌≤◌, ◌�
 ghost use Rattle.outside_io.specs.Faults.{Rose};
 ghost use Rattle.outside_io.specs.Sessions.{session_of};
 ghost use Rattle.outside_io.specs.Told.{append_to, prepend_to};
+ghost use Rattle.lane_desk.specs.Stops.{WasDone};
 ghost use Rattle.mux_lanes.specs.Lanes.{CutLink, IsSameLane, RanAs, Takes, WholeLink, standing};
 
 use crate::lane_end::{Lane, LaneEnd, Served};
@@ -113,15 +114,13 @@ pub fn editor_lane<
     ensures ran { RanAs (WholeLink Posted.Link limit) (CutLink Posted.Link limit) (standing P.sessions P.links P.faults port.old ends)
         (standing P.sessions P.links P.faults port.new result.ends) result.end }
     ensures closed { result.end ≡ LaneEnd.Through → IfSome (P.links port.new) (λ left. left ≡ []) ⊎ Rose (P.faults port.old) (P.faults port.new) }
+    ensures stopped { result.end ≡ LaneEnd.Stopped → WasDone K.stands K.stops N.editors N.servers }
 {
     let name = LaneName::Editor(lane);
     let mut ends = ends;
     for _ in rt.forever() {
-        if !board.pump(rt, name) {
-            return Lane {
-                ends,
-                end: LaneEnd::Over,
-            };
+        if let Some(end) = board.look(rt, name) {
+            return Lane { ends, end };
         }
         match next_link(port) {
             Ok(link) => {

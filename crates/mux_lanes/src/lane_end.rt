@@ -6,6 +6,8 @@ use crate::session::Ends;
 pub enum LaneEnd {
     /// What it serves has no more.
     Through,
+    /// A stop is done, and so its work too.
+    Stopped,
     /// The core goes on no more.
     Over,
     /// What it did last was cut off: memory ran out, or the core goes on no more.

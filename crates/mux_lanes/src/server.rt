@@ -1,8 +1,9 @@
 // The lane of a berth's programs.
-ghost use Rattle.std.specs.Prelude.{◌≡◌, ◌≢◌, ◌+◌, ◌<◌, ◌≤◌, [], ◌∷◌, ◌++◌, IfOk, OnOk, OnErr, IsErrOf, MatchOption};
+ghost use Rattle.std.specs.Prelude.{◌≡◌, ◌≢◌, ◌+◌, ◌<◌, ◌≤◌, [], ◌∷◌, ◌++◌, ◌⊎◌, Err, IfErr, IfOk, OnOk, OnErr, IsErrOf};
 ghost use Rattle.outside_io.specs.Faults.{Rose};
 ghost use Rattle.outside_io.specs.Sessions.{session_of};
 ghost use Rattle.outside_io.specs.Told.{append_to, prepend_to};
+ghost use Rattle.lane_desk.specs.Stops.{WasDone};
 ghost use Rattle.mux_lanes.specs.Lanes.{CutLink, IsSameLane, RanAs, Takes, WholeLink, standing};
 ghost use Rattle.mux_lanes.specs.Starts.{Begun, CutBegun, CutStart, RefusedAs, WholeStart};
 
@@ -60,23 +61,30 @@ fn words_of(commands: &[Vec<String>], server: Option<u32>) -> &[String] {
     }
 }
 
-// Takes the next order, and sleeps until there is one. None says that the core goes on no more.
+// Takes the next order, and sleeps until there is one. An error says how a lane ends that waits for a start. Where a stop is
+// done no more orders come, so what was ordered before is there.
 fn next_order<K: Steps + Drop, N: Naming, R: Wait>(
     rt: &R,
     board: &Switchboard<K, N>,
     lane: LaneName,
     out: &mut LaneOut,
-) -> Option<Order>
+) -> Result<Order, LaneEnd>
     ensures queue { out.new.orders.queue ≡ out.old.orders.queue }
     ensures sides { out.new.sides ≡ out.old.sides }
-    ensures order { MatchOption result (out.new.orders.taken ≡ out.old.orders.taken) (λ x. out.new.orders.taken ≡ out.old.orders.taken ++ x ∷ []) }
+    ensures order { IfOk result (λ x. out.new.orders.taken ≡ out.old.orders.taken ++ x ∷ []) }
+    ensures none { OnErr result (out.new.orders.taken ≡ out.old.orders.taken) }
+    ensures ends { IfErr result (λ end. (end ≡ LaneEnd.Stopped) ⊎ (end ≡ LaneEnd.Over)) }
+    ensures stopped { result ≡ Err LaneEnd.Stopped → WasDone K.stands K.stops N.editors N.servers }
 {
     for _ in rt.forever() {
-        let order = out.take(rt);
-        if order.is_some() || !board.pump(rt, lane) {
-            return order;
+        if let Some(order) = out.take(rt) {
+            return Ok(order);
         }
-        board.wait(rt, lane);
+        match board.look(rt, lane) {
+            None => board.wait(rt, lane),
+            Some(LaneEnd::Stopped) => return out.take(rt).ok_or(LaneEnd::Stopped),
+            Some(end) => return Err(end),
+        }
     }
     unreachable!()
 }
@@ -96,8 +104,8 @@ fn refuse_start<K: Steps + Drop, N: Naming, R: Wait>(
         return false;
     }
     match next_order(rt, board, lane, &mut ends.out) {
-        Some(Order::Close) => true,
-        Some(Order::Done) => true,
+        Ok(Order::Close) => true,
+        Ok(Order::Done) => true,
         _ => {
             board.fail(rt);
             false
@@ -200,18 +208,14 @@ pub fn server_lane<
     ensures ran { RanAs (Begun (WholeStart limit)) (CutBegun limit) (standing B.runs B.left B.faults berth.old ends)
         (standing B.runs B.left B.faults berth.new result.ends) result.end }
     ensures goes_on { result.end ≢ LaneEnd.Through }
+    ensures stopped { result.end ≡ LaneEnd.Stopped → WasDone K.stands K.stops N.editors N.servers }
 {
     let name = LaneName::Server(lane);
     let mut ends = ends;
     for _ in rt.forever() {
         match next_order(rt, board, name, &mut ends.out) {
-            None => {
-                return Lane {
-                    ends,
-                    end: LaneEnd::Over,
-                };
-            }
-            Some(Order::Begin(start)) => {
+            Err(end) => return Lane { ends, end },
+            Ok(Order::Begin(start)) => {
                 let words = words_of(commands, board.server_of(rt, start));
                 let served = serve_start(rt, alloc, board, name, limit, words, berth, ends);
                 ends = served.ends;
@@ -223,7 +227,7 @@ pub fn server_lane<
                     };
                 }
             }
-            Some(_) => {
+            Ok(_) => {
                 board.fail(rt);
                 return Lane {
                     ends,

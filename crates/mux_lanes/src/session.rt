@@ -1,5 +1,6 @@
 // One session of a link or of a program, whose reading part and writing part go side by side.
-ghost use Rattle.std.specs.Prelude.{◌≡◌, ◌≤◌, IfSome, Some, true};
+ghost use Rattle.std.specs.Prelude.{◌≡◌, ◌↔◌, ◌≤◌, MatchOption, Some, true};
+ghost use Rattle.session_io.specs.declared.part.End.{End};
 ghost use Rattle.std.specs.Thread.{IsSync};
 ghost use Rattle.session_io.specs.Reads.{ReadAs};
 ghost use Rattle.session_io.specs.Writes.{WroteAs};
@@ -42,7 +43,7 @@ impl<'a, K: Steps + Drop, N: Naming> Core for SessionDesk<'a, K, N> {
 
 // How the writing part was ordered to end; none where it was cut off.
 fn end_of(wrote: &Wrote) -> Option<End>
-    ensures { IfSome result (λ end. wrote.now.end ≡ Some (order_of end)) }
+    ensures { MatchOption result ((end : End) → wrote.now.end ≡ Some (order_of end) → ⊥) (λ end. wrote.now.end ≡ Some (order_of end)) }
 {
     match &wrote.end {
         Some(Order::Close) => Some(End::Closed),
@@ -53,7 +54,7 @@ fn end_of(wrote: &Wrote) -> Option<End>
 
 /// Whether neither part was cut off, and both agree on how the session ended.
 pub fn is_whole(stop: Stop, wrote: &Wrote) -> bool
-    ensures { result ≡ true → IsWhole stop wrote.now }
+    ensures { (result ≡ true) ↔ IsWhole stop wrote.now }
 {
     let Some(end) = end_of(wrote) else {
         return false;

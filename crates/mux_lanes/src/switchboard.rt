@@ -1,7 +1,9 @@
 // A deck, and what wakes its lanes.
-ghost use Rattle.std.specs.Prelude.{◌≡◌, IfErr};
+ghost use Rattle.std.specs.Prelude.{◌≡◌, ◌⊎◌, IfErr, IfSome, Some};
+ghost use Rattle.lane_desk.specs.Stops.{WasDone};
 
 use crate::bell::{Bell, bells};
+use crate::lane_end::LaneEnd;
 use lane_desk::{Deck, Naming, Took};
 use lane_lists::LaneName;
 use mux_history::Steps;
@@ -56,25 +58,42 @@ impl<K: Steps + Drop, N: Naming> Switchboard<K, N> {
         }
     }
 
-    /// Has the core take what it finds in a lane's queues, and wakes the lanes where it took something. False says that it
-    /// goes on no more.
-    pub fn pump<R: Wait>(&self, rt: &R, lane: LaneName) -> bool {
+    /// Has the core take what it finds in a lane's queues, and wakes the lanes where it took something. It says how the lane
+    /// ends that has no session then: where a stop is done, and where the core goes on no more.
+    pub fn look<R: Wait>(&self, rt: &R, lane: LaneName) -> Option<LaneEnd>
+        ensures stopped { result ≡ Some LaneEnd.Stopped → WasDone K.stands K.stops N.editors N.servers }
+        ensures ends { IfSome result (λ end. (end ≡ LaneEnd.Stopped) ⊎ (end ≡ LaneEnd.Over)) }
+    {
         let mut has_taken = false;
-        let mut goes_on = true;
         for _ in rt.forever() {
             match self.deck.turn(rt, lane) {
                 Took::Item => has_taken = true,
-                Took::Nothing => break,
+                Took::Nothing => {
+                    self.ring_if(rt, has_taken);
+                    return None;
+                }
+                Took::Done => {
+                    self.ring_if(rt, has_taken);
+                    return Some(LaneEnd::Stopped);
+                }
                 Took::Over => {
-                    goes_on = false;
-                    break;
+                    self.ring(rt);
+                    return Some(LaneEnd::Over);
                 }
             }
         }
-        if has_taken || !goes_on {
+        unreachable!()
+    }
+
+    fn ring_if<R: Wait>(&self, rt: &R, has_taken: bool) {
+        if has_taken {
             self.ring(rt);
         }
-        goes_on
+    }
+
+    /// The same, in a session: false says that the core goes on no more.
+    pub fn pump<R: Wait>(&self, rt: &R, lane: LaneName) -> bool {
+        self.look(rt, lane) != Some(LaneEnd::Over)
     }
 
     /// Sleeps until the lane's bell is rung, and silences it. It returns at once for the ticker, which has none.

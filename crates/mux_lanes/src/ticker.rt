@@ -1,5 +1,6 @@
 // The lane of the clock.
 ghost use Rattle.std.specs.Prelude.{◌≡◌};
+ghost use Rattle.lane_desk.specs.Stops.{WasDone};
 ghost use Rattle.mux_lanes.specs.Ticks.{TickedAs};
 
 use crate::lane_end::LaneEnd;
@@ -12,7 +13,8 @@ use mux_history::Steps;
 use outside_io::Clock;
 use std::sync::Wait;
 
-/// Posts a tick for each moment of a clock, until no moment follows.
+/// Posts a tick for each moment of a clock, until no moment follows, a stop is done, or the core goes on no
+/// more.
 pub fn ticker_lane<K: Steps + Drop, N: Naming, C: Clock, R: Wait>(
     rt: &R,
     board: &Switchboard<K, N>,
@@ -21,6 +23,7 @@ pub fn ticker_lane<K: Steps + Drop, N: Naming, C: Clock, R: Wait>(
 ) -> LaneEnd
     ensures queue { inn.new.queue ≡ inn.old.queue }
     ensures ticked { TickedAs (C.given clock.old) (C.given clock.new) (C.left clock.old) (C.left clock.new) inn.old.pushed inn.new.pushed result }
+    ensures stopped { result ≡ LaneEnd.Stopped → WasDone K.stands K.stops N.editors N.servers }
 {
     for _ in rt.forever() {
         let Some(moment) = clock.next() else {
@@ -29,8 +32,8 @@ pub fn ticker_lane<K: Steps + Drop, N: Naming, C: Clock, R: Wait>(
         if !post(rt, board, inn, Posted::Tick(moment)) {
             return LaneEnd::Cut;
         }
-        if !board.pump(rt, LaneName::Ticker) {
-            return LaneEnd::Over;
+        if let Some(end) = board.look(rt, LaneName::Ticker) {
+            return end;
         }
     }
     unreachable!()

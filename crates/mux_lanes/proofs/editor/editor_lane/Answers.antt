@@ -1,4 +1,4 @@
-use Rattle.std.proofs.Common.{[], ◌∷◌, refl, sym, ◌∙◌}
+use Rattle.std.proofs.Common.{[], ◌∷◌, refl, sym, ◌∙◌, ⊎_elim}
 use Rattle.outside_io.specs.Sessions.{session_of}
 use Rattle.outside_io.specs.Told.{prepend_to}
 use Rattle.lane_lists.specs.declared.item.Posted.TheVariants as posted
@@ -13,9 +13,9 @@ loop-init g c = record {
   ran = ran_none (WholeLink posted.Link c.args.limit) (standing g.P.Port.sessions g.P.Port.links g.P.Port.faults c.args.port.now c.args.ends);
 }
 
-pub returns-then-not-pump-clause-ran : goal.returns-then-not-pump-clause-ran
-returns-then-not-pump-clause-ran g c =
-    ran_ends (WholeLink posted.Link c.args.limit) (CutLink posted.Link c.args.limit) (standing g.P.Port.sessions g.P.Port.links g.P.Port.faults c.args.port.now c.args.ends) (standing g.P.Port.sessions g.P.Port.links g.P.Port.faults c.loop.port c.loop.ends) lane_end.Over c.loop.invariant.ran
+pub returns-in-Some-look-clause-ran : goal.returns-in-Some-look-clause-ran
+returns-in-Some-look-clause-ran g c =
+    ran_ends (WholeLink posted.Link c.args.limit) (CutLink posted.Link c.args.limit) (standing g.P.Port.sessions g.P.Port.links g.P.Port.faults c.args.port.now c.args.ends) (standing g.P.Port.sessions g.P.Port.links g.P.Port.faults c.loop.port c.loop.ends) c.in-Some-look.end (λ e. ⊎_elim (λ s. absurd cc) (λ o. absurd cc) c.in-Some-look.ensures.ends) c.loop.invariant.ran
 
 pub returns-then-not-served-clause-ran : goal.returns-then-not-served-clause-ran
 returns-then-not-served-clause-ran g c =
@@ -45,6 +45,6 @@ loop-preserved-else-not-served g c =
 
 pub returns-in-Err-Closed-clause-ran : goal.returns-in-Err-Closed-clause-ran
 returns-in-Err-Closed-clause-ran g c =
-    ran_ends (WholeLink posted.Link c.args.limit) (CutLink posted.Link c.args.limit) (standing g.P.Port.sessions g.P.Port.links g.P.Port.faults c.args.port.now c.args.ends) (standing g.P.Port.sessions g.P.Port.links g.P.Port.faults c.next_link.new.port c.loop.ends) lane_end.Through
+    ran_ends (WholeLink posted.Link c.args.limit) (CutLink posted.Link c.args.limit) (standing g.P.Port.sessions g.P.Port.links g.P.Port.faults c.args.port.now c.args.ends) (standing g.P.Port.sessions g.P.Port.links g.P.Port.faults c.next_link.new.port c.loop.ends) lane_end.Through (λ e. absurd cc)
     (stays (WholeLink posted.Link c.args.limit) (standing g.P.Port.sessions g.P.Port.links g.P.Port.faults c.args.port.now c.args.ends) (g.P.Port.sessions c.loop.port) (g.P.Port.sessions c.next_link.new.port) (g.P.Port.links c.loop.port) (g.P.Port.links c.next_link.new.port) (g.P.Port.faults c.loop.port) (g.P.Port.faults c.next_link.new.port)
     c.loop.ends.inn.pushed c.loop.ends.out.orders.taken c.loop.ends.out.sides.pushed c.next_link.ensures.sessions (sym c.in-Err-Closed.ensures.none) c.next_link.ensures.later c.loop.invariant.ran)

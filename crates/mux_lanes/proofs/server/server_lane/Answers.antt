@@ -1,4 +1,4 @@
-use Rattle.std.proofs.Common.{◌≡◌, false, ◌++◌, [], ◌∷◌, refl, ap, ◌∙◌, arith}
+use Rattle.std.proofs.Common.{◌≡◌, false, ◌++◌, [], ◌∷◌, refl, ap, ◌∙◌, ⊎_elim, arith}
 use Rattle.lane_lists.specs.declared.item.Order.TheVariants as order
 use Rattle.mux_lanes.specs.declared.lane_end.LaneEnd.TheVariants as lane_end
 use Rattle.mux_lanes.specs.Lanes.{standing}
@@ -13,12 +13,12 @@ loop-init g c = record {
   ran = ran_none (Begun (WholeStart c.args.limit)) (standing g.B.Berth.runs g.B.Berth.left g.B.Berth.faults c.args.berth.now c.args.ends);
 }
 
-pub returns-in-None-next_order-clause-ran : goal.returns-in-None-next_order-clause-ran
-returns-in-None-next_order-clause-ran g c =
+pub returns-in-Err-clause-ran : goal.returns-in-Err-clause-ran
+returns-in-Err-clause-ran g c =
     let after = standing g.B.Berth.runs g.B.Berth.left g.B.Berth.faults c.loop.berth (record { inn = c.loop.ends.inn; out = c.next_order.new.out }) in
-    ran_ends (Begun (WholeStart c.args.limit)) (CutBegun c.args.limit) (standing g.B.Berth.runs g.B.Berth.left g.B.Berth.faults c.args.berth.now c.args.ends) after lane_end.Over
+    ran_ends (Begun (WholeStart c.args.limit)) (CutBegun c.args.limit) (standing g.B.Berth.runs g.B.Berth.left g.B.Berth.faults c.args.berth.now c.args.ends) after c.in-Err.end (λ e. ⊎_elim (λ s. absurd cc) (λ o. absurd cc) c.in-Err.ensures.ends)
     (still (Begun (WholeStart c.args.limit)) (standing g.B.Berth.runs g.B.Berth.left g.B.Berth.faults c.args.berth.now c.args.ends) (standing g.B.Berth.runs g.B.Berth.left g.B.Berth.faults c.loop.berth c.loop.ends) after
-    refl refl (omega arith) refl c.in-None-next_order.ensures.order (ap (λ s. s.pushed) c.next_order.ensures.sides) c.loop.invariant.ran)
+    refl refl (omega arith) refl c.in-Err.ensures.none (ap (λ s. s.pushed) c.next_order.ensures.sides) c.loop.invariant.ran)
 
 pub returns-then-not-served-clause-ran : goal.returns-then-not-served-clause-ran
 returns-then-not-served-clause-ran g c =
@@ -26,20 +26,21 @@ returns-then-not-served-clause-ran g c =
     let before = standing g.B.Berth.runs g.B.Berth.left g.B.Berth.faults c.loop.berth c.loop.ends in
     let taken = standing g.B.Berth.runs g.B.Berth.left g.B.Berth.faults c.loop.berth (record { inn = c.loop.ends.inn; out = c.next_order.new.out }) in
     let after = standing g.B.Berth.runs g.B.Berth.left g.B.Berth.faults c.serve_start-served.new.berth c.serve_start-served.result.ends in
-    let ordered : taken.orders ≡ before.orders ++ order.Begin c.in-Some-Begin.start ∷ [] = rw c.in-Some-Begin.field-0-is at c.in-Some-Begin.ensures.order in
+    let ordered : taken.orders ≡ before.orders ++ order.Begin c.in-Ok-Begin.start ∷ [] = rw c.in-Ok-Begin.field-0-is at c.in-Ok-Begin.ensures.order in
     ran_cut (Begun (WholeStart c.args.limit)) (CutBegun c.args.limit) first before after c.serve_start-served.result.is_whole c.if-not-served.true c.loop.invariant.ran
-    (took_begun c.args.limit c.in-Some-Begin.start before taken after c.serve_start-served.result.is_whole refl refl (omega arith) refl ordered (ap (λ s. s.pushed) c.next_order.ensures.sides) c.serve_start-served.ensures.turn)
+    (took_begun c.args.limit c.in-Ok-Begin.start before taken after c.serve_start-served.result.is_whole refl refl (omega arith) refl ordered (ap (λ s. s.pushed) c.next_order.ensures.sides) c.serve_start-served.ensures.turn)
 
-pub returns-in-Some-next_order : goal.returns-in-Some-next_order
-returns-in-Some-next_order g c =
+pub returns-in-Ok : goal.returns-in-Ok
+returns-in-Ok g c =
     let first = standing g.B.Berth.runs g.B.Berth.left g.B.Berth.faults c.args.berth.now c.args.ends in
     let before = standing g.B.Berth.runs g.B.Berth.left g.B.Berth.faults c.loop.berth c.loop.ends in
     let after = standing g.B.Berth.runs g.B.Berth.left g.B.Berth.faults c.loop.berth (record { inn = c.loop.ends.inn; out = c.next_order.new.out }) in
     let a = c.loop.invariant.lane in record {
       lane = record { posted = a.posted; orders = c.next_order.ensures.queue ∙ a.orders; sides = ap (λ s. s.queue) c.next_order.ensures.sides ∙ a.sides };
       ran = ran_cut (Begun (WholeStart c.args.limit)) (CutBegun c.args.limit) first before after false refl c.loop.invariant.ran
-          (took_misled c.args.limit c.in-Some-next_order.field-0 before after refl refl (omega arith) refl c.in-Some-next_order.ensures.order);
+          (took_misled c.args.limit c.in-Ok.field-0 before after refl refl (omega arith) refl c.in-Ok.ensures.order);
       goes_on = λ e. absurd cc;
+      stopped = λ e. absurd cc;
     }
 
 pub loop-preserved-else-not-served-2 : goal.loop-preserved-else-not-served-2
@@ -48,7 +49,7 @@ loop-preserved-else-not-served-2 g c =
     let before = standing g.B.Berth.runs g.B.Berth.left g.B.Berth.faults c.loop.berth c.loop.ends in
     let taken = standing g.B.Berth.runs g.B.Berth.left g.B.Berth.faults c.loop.berth (record { inn = c.loop.ends.inn; out = c.next_order.new.out }) in
     let after = standing g.B.Berth.runs g.B.Berth.left g.B.Berth.faults c.serve_start-served.new.berth c.serve_start-served.result.ends in
-    let ordered : taken.orders ≡ before.orders ++ order.Begin c.in-Some-Begin.start ∷ [] = rw c.in-Some-Begin.field-0-is at c.in-Some-Begin.ensures.order in
+    let ordered : taken.orders ≡ before.orders ++ order.Begin c.in-Ok-Begin.start ∷ [] = rw c.in-Ok-Begin.field-0-is at c.in-Ok-Begin.ensures.order in
     let a = c.loop.invariant.lane in
     let b = c.serve_start-served.ensures.lane in record {
       lane = record {
@@ -57,5 +58,5 @@ loop-preserved-else-not-served-2 g c =
         sides = b.sides ∙ (ap (λ s. s.queue) c.next_order.ensures.sides ∙ a.sides);
       };
       ran = ran_more (Begun (WholeStart c.args.limit)) (CutBegun c.args.limit) first before after c.serve_start-served.result.is_whole c.if-not-served.false c.loop.invariant.ran
-          (took_begun c.args.limit c.in-Some-Begin.start before taken after c.serve_start-served.result.is_whole refl refl (omega arith) refl ordered (ap (λ s. s.pushed) c.next_order.ensures.sides) c.serve_start-served.ensures.turn);
+          (took_begun c.args.limit c.in-Ok-Begin.start before taken after c.serve_start-served.result.is_whole refl refl (omega arith) refl ordered (ap (λ s. s.pushed) c.next_order.ensures.sides) c.serve_start-served.ensures.turn);
     }

@@ -10,9 +10,9 @@ returns-then-not-post-clause-ticked g c =
     tick_refused (g.C.Clock.given c.args.clock.now) (g.C.Clock.given c.loop.clock) (g.C.Clock.given c.next-in-loop.new.self) (g.C.Clock.left c.args.clock.now) (g.C.Clock.left c.loop.clock) (g.C.Clock.left c.next-in-loop.new.self)
     c.args.inn.now.pushed c.loop.inn.pushed c.post.new.inn.pushed c.in-Some-next.moment c.loop.invariant.ticked c.in-Some-next.ensures.given c.in-Some-next.ensures.left c.if-not-post.ensures.posts
 
-pub returns-then-not-pump-clause-ticked : goal.returns-then-not-pump-clause-ticked
-returns-then-not-pump-clause-ticked g c =
-    ticks_over (g.C.Clock.given c.args.clock.now) (g.C.Clock.given c.next-in-loop.new.self) (g.C.Clock.left c.args.clock.now) (g.C.Clock.left c.next-in-loop.new.self) c.args.inn.now.pushed c.post.new.inn.pushed
+pub returns-in-Some-look-clause-ticked : goal.returns-in-Some-look-clause-ticked
+returns-in-Some-look-clause-ticked g c =
+    ticks_over (g.C.Clock.given c.args.clock.now) (g.C.Clock.given c.next-in-loop.new.self) (g.C.Clock.left c.args.clock.now) (g.C.Clock.left c.next-in-loop.new.self) c.args.inn.now.pushed c.post.new.inn.pushed c.in-Some-look.end c.in-Some-look.ensures.ends
     (tick_more (g.C.Clock.given c.args.clock.now) (g.C.Clock.given c.loop.clock) (g.C.Clock.given c.next-in-loop.new.self) (g.C.Clock.left c.args.clock.now) (g.C.Clock.left c.loop.clock) (g.C.Clock.left c.next-in-loop.new.self)
     c.args.inn.now.pushed c.loop.inn.pushed c.post.new.inn.pushed c.in-Some-next.moment c.loop.invariant.ticked c.in-Some-next.ensures.given c.in-Some-next.ensures.left c.if-not-post.ensures.posts)
 

@@ -14,4 +14,5 @@ invariant_of-desk g c =
       c.requires.servers,
       few,
       count,
+      (λ e. c.requires.ready),
     )
