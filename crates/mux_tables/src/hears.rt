@@ -78,7 +78,8 @@ impl Tables {
             → slice_get self.old.editors e ≡ Some x → x.phase ≡ New → requests (codes "initialize") (message_of body) ≡ true
             → id ≡ id_bytes body → key ≡ key_for settings before e body
             → declared_text capabilities.now (option_copied ceiling.entry) ≡ Some (declared_for settings before e body)
-            → IfOk result (λ p. (p ≡ placed_for settings before e body (groups_of settings before)) × Stands settings self.new (before ++ heard (FromEditor e body) ∷ [])) }
+            → IfOk result (λ p. (p ≡ placed_for settings before e body (groups_of settings before))
+            × Stands settings self.new (before ++ heard (FromEditor e body) ∷ [])) }
         ensures documents { (settings : Settings) (owed : Owed) (before : List Event) (x : Session) (body : List ℕ) → Stands settings self.old before
             → slice_get self.old.editors e ≡ Some x → x.phase ≡ New → DocumentsStand settings owed self.old before
             → IfOk result (λ p. DocumentsStand settings owed self.new (before ++ heard (FromEditor e body) ∷ [])) }
@@ -138,7 +139,8 @@ impl Tables {
             → OnOk result (Stands settings self.new (events ++ heard (EditorGone e why) ∷ [])) }
         ensures documents { (settings : Settings) (events : List Event) (why : Why) → Stands settings self.old events
             → DocumentsStand settings nothing_owed self.old events
-            → IfOk result (λ owed. Leaves settings events e (home_of settings e events) (start_for settings e events) owed self.new (events ++ heard (EditorGone e why) ∷ [])) }
+            → IfOk result (λ owed. Leaves settings events e (home_of settings e events)
+            (start_for settings e events) owed self.new (events ++ heard (EditorGone e why) ∷ [])) }
     {
         let phase = self.editors.phase(e);
         let home = self.editors.group(e);
@@ -158,7 +160,8 @@ impl Tables {
         ensures documents { (settings : Settings) (events : List Event) (body : List ℕ) → is_served (desk_of e events).phase ≡ true
             → requests (codes "shutdown") (message_of body) ≡ true → Stands settings self.old events
             → DocumentsStand settings nothing_owed self.old events
-            → IfOk result (λ owed. Leaves settings events e (home_of settings e events) (start_for settings e events) owed self.new (events ++ heard (FromEditor e body) ∷ [])) }
+            → IfOk result (λ owed. Leaves settings events e (home_of settings e events)
+            (start_for settings e events) owed self.new (events ++ heard (FromEditor e body) ∷ [])) }
     {
         let home = self.editors.group(e);
         self.editors.set(e, Phase::Down);
@@ -181,12 +184,14 @@ impl Tables {
         ensures lasts { self.new.lasts ≡ self.old.lasts }
         ensures stands { (settings : Settings) (events : List Event) (body : List ℕ) → Stands settings self.old events
             → places (desk_of e events).phase (message_of body) ≡ false → stops events e (message_of body) ≡ false
-            → (desk_of e (events ++ heard (FromEditor e body) ∷ [])).phase ≡ phase → OnOk result (Stands settings self.new (events ++ heard (FromEditor e body) ∷ [])) }
+            → (desk_of e (events ++ heard (FromEditor e body) ∷ [])).phase ≡ phase
+            → OnOk result (Stands settings self.new (events ++ heard (FromEditor e body) ∷ [])) }
         ensures documents { (settings : Settings) (events : List Event) (body method : List ℕ) (params : Option Json) (g s : ℕ)
             → IsRead message.now body → message_of body ≡ notification method params → is_served (desk_of e events).phase ≡ true
             → home_of settings e events ≡ Some g → start_of g events ≡ Some s
             → Stands settings self.old events → DocumentsStand settings nothing_owed self.old events
-            → IfOk result (λ owed. (owed ≡ to s (noticing settings events g s e body (saying_by method params))) × DocumentsStand settings (owes g (noticing settings events g s e body (saying_by method params))) self.new (events ++ heard (FromEditor e body) ∷ [])) }
+            → IfOk result (λ owed. (owed ≡ to s (noticing settings events g s e body (saying_by method params)))
+            × DocumentsStand settings (owes g (noticing settings events g s e body (saying_by method params))) self.new (events ++ heard (FromEditor e body) ∷ [])) }
     {
         let home = self.editors.group(e);
         self.editors.set(e, phase);
@@ -200,7 +205,8 @@ impl Tables {
         requires joined { phase ≢ Absent }
         ensures stands { (settings : Settings) (events : List Event) (body : List ℕ) → Stands settings self.old events
             → places (desk_of e events).phase (message_of body) ≡ false → stops events e (message_of body) ≡ true
-            → (desk_of e (events ++ heard (FromEditor e body) ∷ [])).phase ≡ phase → OnOk result (Stands settings self.new (events ++ heard (FromEditor e body) ∷ [])) }
+            → (desk_of e (events ++ heard (FromEditor e body) ∷ [])).phase ≡ phase
+            → OnOk result (Stands settings self.new (events ++ heard (FromEditor e body) ∷ [])) }
         ensures documents { (settings : Settings) (owed : Owed) (events : List Event) (body : List ℕ) → stops events e (message_of body) ≡ true
             → DocumentsStand settings owed self.old events
             → OnOk result (DocumentsStand settings owed self.new (events ++ heard (FromEditor e body) ∷ [])) }

@@ -82,7 +82,8 @@ impl Tables {
             → OnOk result (Does (λ t events. Stands settings t events) (send (CloseEditor e)) base self.old outs.old self.new outs.new) }
         ensures documents { (settings : Settings) (base : List Event) → Stands settings self.old (behind base outs.old)
             → DocumentsStand settings nothing_owed self.old (behind base outs.old)
-            → IfOk result (λ owed. Leaves settings (behind base outs.old) e (home_of settings e (behind base outs.old)) (start_for settings e (behind base outs.old)) owed self.new (behind base outs.new)) }
+            → IfOk result (λ owed. Leaves settings (behind base outs.old) e (home_of settings e (behind base outs.old))
+            (start_for settings e (behind base outs.old)) owed self.new (behind base outs.new)) }
     {
         let phase = self.editors.phase(e);
         let home = self.editors.group(e);
@@ -98,7 +99,8 @@ impl Tables {
         ensures outs { OnOk result (outs.new ≡ outs.old ++ owed) }
         ensures does { (settings : Settings) (base : List Event) (g : ℕ) (x : Start) (bodies : List (List ℕ))
             → slice_get self.now.lasts.items g ≡ Some x → x.life.stage ≡ Ready → owed ≡ to x.life.start bodies
-            → OnOk result (Does (λ k events. AllStand settings k events) (to_start x.life.start bodies) base (self.now, owes g bodies) outs.old (self.now, nothing_owed) outs.new) }
+            → OnOk result (Does (λ k events. AllStand settings k events)
+            (to_start x.life.start bodies) base (self.now, owes g bodies) outs.old (self.now, nothing_owed) outs.new) }
     {
         outs.append(owed)?;
         Ok(())
@@ -169,7 +171,8 @@ impl Tables {
         ensures does { (settings : Settings) (base : List Event) (s : ℕ) (name : Id) (method : List ℕ) (ps : Option Json)
             → slice_get (map number_in self.old.lasts.items) g ≡ Some s → message_of text ≡ message.request name method ps → is_own method ≡ false
             → Sends s e id (behind base outs.old) → worker_of (behind base outs.old) ≡ Some e
-            → OnOk result (Does (λ k events. AllStand settings k events) (look (λ now. to_start s (syncing settings now g s e) ⨾ send (ToServer s text))) base (self.old, nothing_owed) outs.old (self.new, nothing_owed) outs.new) }
+            → OnOk result (Does (λ k events. AllStand settings k events)
+            (look (λ now. to_start s (syncing settings now g s e) ⨾ send (ToServer s text))) base (self.old, nothing_owed) outs.old (self.new, nothing_owed) outs.new) }
     {
         let told = sync(alloc, &mut self.documents, g, e)?;
         outs.append(told)?;
@@ -193,7 +196,8 @@ impl Tables {
         ensures does { (settings : Settings) (base : List Event) (s : ℕ) (method : List ℕ) (ps : Option Json)
             → slice_get (map number_in self.old.lasts.items) g ≡ Some s → message_of text ≡ message.notification method ps
             → bytes_eq method (codes "$/cancelRequest") ≡ true
-            → ((k : ℕ) → k < 2 ^ 32 → is_written (named_of (codes "id") ps) k ≡ nat_eq k n) → OnOk result (Does (λ t events. Stands settings t events) (send (ToServer s text)) base self.old outs.old self.new outs.new) }
+            → ((k : ℕ) → k < 2 ^ 32 → is_written (named_of (codes "id") ps) k ≡ nat_eq k n)
+            → OnOk result (Does (λ t events. Stands settings t events) (send (ToServer s text)) base self.old outs.old self.new outs.new) }
         ensures documents { (settings : Settings) (owed : Owed) (base : List Event) (method : List ℕ) (ps : Option Json)
             → message_of text ≡ message.notification method ps → bytes_eq method (codes "$/cancelRequest") ≡ true
             → DocumentsStand settings owed self.old (behind base outs.old) → OnOk result (DocumentsStand settings owed self.new (behind base outs.new)) }

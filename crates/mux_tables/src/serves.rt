@@ -84,7 +84,8 @@ impl Tables {
         ensures documents { (settings : Settings) (events : List Event) (s : ℕ) (body : List ℕ)
             → slice_get (map number_in self.old.lasts.items) g ≡ Some s → encoding_by (message_of body) ≡ Some encoding
             → Stands settings self.old events → DocumentsStand settings nothing_owed self.old events
-            → IfOk result (λ owed. (owed ≡ to s (replaying settings events g)) × DocumentsStand settings (owes g (replaying settings events g)) self.new (events ++ heard (FromServer s body) ∷ [])) }
+            → IfOk result (λ owed. (owed ≡ to s (replaying settings events g))
+            × DocumentsStand settings (owes g (replaying settings events g)) self.new (events ++ heard (FromServer s body) ∷ [])) }
     {
         let last = &mut self.lasts[g];
         last.life.result();
@@ -105,7 +106,8 @@ impl Tables {
             → Stands settings self.old events → Stands settings self.new (events ++ heard (FromServer s body) ∷ []) }
         ensures documents { (settings : Settings) (owed : Owed) (events : List Event) (s : ℕ) (body : List ℕ)
             → slice_get (map number_in self.old.lasts.items) g ≡ Some s → is_first_error (message_of body) ≡ true
-            → Stands settings self.old events → DocumentsStand settings owed self.old events → DocumentsStand settings owed self.new (events ++ heard (FromServer s body) ∷ []) }
+            → Stands settings self.old events → DocumentsStand settings owed self.old events
+            → DocumentsStand settings owed self.new (events ++ heard (FromServer s body) ∷ []) }
     {
         end_at(&mut self.groups, g as u64);
         let last = &mut self.lasts[g];
@@ -185,7 +187,8 @@ impl Tables {
             → Stands settings self.old events → Stands settings self.new (events ++ heard (FromServer s body) ∷ []) }
         ensures documents { (settings : Settings) (owed : Owed) (events : List Event) (s : ℕ) (body : List ℕ) (x : Start)
             → slice_get self.old.lasts.items g ≡ Some x → slice_get (map number_in self.old.lasts.items) g ≡ Some s
-            → (is_first_result (message_of body) && is_initializing x.life.stage) ≡ false → x.life.stage ≢ Spawning → Stands settings self.old events → DocumentsStand settings owed self.old events → DocumentsStand settings owed self.new (events ++ heard (FromServer s body) ∷ []) }
+            → (is_first_result (message_of body) && is_initializing x.life.stage) ≡ false → x.life.stage ≢ Spawning → Stands settings self.old events
+            → DocumentsStand settings owed self.old events → DocumentsStand settings owed self.new (events ++ heard (FromServer s body) ∷ []) }
         ensures found { (settings : Settings) (events : List Event) (s k : ℕ) → slice_get (map number_in self.old.lasts.items) g ≡ Some s → n ≡ Some k
             → Stands settings self.old events → find (is_under k) (forwarding_of s events).open_requests ≡ option_map (forwarded_as k) result }
         ensures editors { self.new.editors ≡ self.old.editors }

@@ -89,8 +89,10 @@ fn answer(
     message: &Message,
 ) -> Result<(), Memory>
     ensures does { (settings : Settings) (before : List Event) (body : List ℕ) (s n : ℕ) → IsRead message.now body → outs.old ≡ []
-        → find (answered_by (answered_id (message_of body))) (forwarding_of s before).open_requests ≡ Some (forwarded_as n pending.now) → IsAsked before (forwarded_as n pending.now)
-        → OnOk result (Does (λ t events. Stands settings t events) (response_row s before body (message_of body)) (with_cause before (FromServer s body)) tables.now outs.old tables.now outs.new) }
+        → find (answered_by (answered_id (message_of body))) (forwarding_of s before).open_requests ≡ Some (forwarded_as n pending.now)
+        → IsAsked before (forwarded_as n pending.now)
+        → OnOk result (Does (λ t events. Stands settings t events) (response_row s before body (message_of body))
+        (with_cause before (FromServer s body)) tables.now outs.old tables.now outs.new) }
     ensures documents { (settings : Settings) (owed : Owed) (base : List Event) → DocumentsStand settings owed tables.now (behind base outs.old)
         → OnOk result (DocumentsStand settings owed tables.now (behind base outs.new)) }
 {
@@ -112,8 +114,10 @@ pub fn pass_on(
     message: &Message,
 ) -> Result<(), Memory>
     ensures does { (settings : Settings) (before : List Event) (body : List ℕ) (s n : ℕ) → IsRead message.now body → outs.old ≡ []
-        → find (answered_by (answered_id (message_of body))) (forwarding_of s before).open_requests ≡ option_map (forwarded_as n) asked → ((f : Forwarded) → option_map (forwarded_as n) asked ≡ Some f → IsAsked before f)
-        → OnOk result (Does (λ t events. Stands settings t events) (response_row s before body (message_of body)) (with_cause before (FromServer s body)) tables.now outs.old tables.now outs.new) }
+        → find (answered_by (answered_id (message_of body))) (forwarding_of s before).open_requests ≡ option_map (forwarded_as n) asked → ((f : Forwarded)
+        → option_map (forwarded_as n) asked ≡ Some f → IsAsked before f)
+        → OnOk result (Does (λ t events. Stands settings t events) (response_row s before body (message_of body))
+        (with_cause before (FromServer s body)) tables.now outs.old tables.now outs.new) }
     ensures documents { (settings : Settings) (owed : Owed) (base : List Event) → DocumentsStand settings owed tables.now (behind base outs.old)
         → OnOk result (DocumentsStand settings owed tables.now (behind base outs.new)) }
 {
@@ -145,12 +149,15 @@ pub fn take_answer(
     requires { g < length tables.old.lasts.items }
     ensures does { (settings : Settings) (before : List Event) (body : List ℕ) (s : ℕ) (x : Start) → IsRead message.now body → outs.old ≡ []
         → slice_get tables.old.lasts.items g ≡ Some x → x.life.stage ≡ Ready → slice_get (map number_in tables.old.lasts.items) g ≡ Some s
-        → ((f : Forwarded) → find (answered_by (answered_id (message_of body))) (forwarding_of s before).open_requests ≡ Some f → IsAsked before f) → Stands settings tables.old before
-        → OnOk result (Done (λ t events. Stands settings t events) (response_row s before body (message_of body)) (with_cause before (FromServer s body)) [] tables.new outs.new) }
+        → ((f : Forwarded) → find (answered_by (answered_id (message_of body))) (forwarding_of s before).open_requests ≡ Some f → IsAsked before f)
+        → Stands settings tables.old before
+        → OnOk result (Done (λ t events. Stands settings t events) (response_row s before body (message_of body))
+        (with_cause before (FromServer s body)) [] tables.new outs.new) }
     ensures documents { (settings : Settings) (owed : Owed) (before : List Event) (body : List ℕ) (s : ℕ) (x : Start) → IsRead message.now body
         → outs.old ≡ [] → slice_get tables.old.lasts.items g ≡ Some x → x.life.stage ≡ Ready
         → slice_get (map number_in tables.old.lasts.items) g ≡ Some s
-        → Stands settings tables.old before → DocumentsStand settings owed tables.old before → OnOk result (DocumentsStand settings owed tables.new (behind (with_cause before (FromServer s body)) outs.new)) }
+        → Stands settings tables.old before → DocumentsStand settings owed tables.old before
+        → OnOk result (DocumentsStand settings owed tables.new (behind (with_cause before (FromServer s body)) outs.new)) }
 {
     let n = answered_number(message);
     let asked = tables.hear_answer(g, n);

@@ -62,7 +62,8 @@ fn shut_down(tables: &mut Tables, alloc: Global, outs: &mut Outs, g: usize) -> R
     ensures versions { tables.new.versions ≡ tables.old.versions }
     ensures does { (settings : Settings) (base : List Event) (s : ℕ) → slice_get (map number_in tables.old.lasts.items) g ≡ Some s
         → (asking_of s (behind base outs.old)).next ≡ (forwarding_of s (behind base outs.old)).next
-        → OnOk result (Does (λ k events. AllStand settings k events) (end_start s Ready) base (tables.old, nothing_owed) outs.old (tables.new, nothing_owed) outs.new) }
+        → OnOk result (Does (λ k events. AllStand settings k events)
+        (end_start s Ready) base (tables.old, nothing_owed) outs.old (tables.new, nothing_owed) outs.new) }
 {
     let n = number_at(tables, g);
     let text = request(alloc, n as u128, "shutdown", None)?;
@@ -77,7 +78,8 @@ fn end_start(tables: &mut Tables, alloc: Global, outs: &mut Outs, g: usize) -> R
     ensures versions { tables.new.versions ≡ tables.old.versions }
     ensures does { (settings : Settings) (base : List Event) (s : ℕ) → slice_get (map number_in tables.old.lasts.items) g ≡ Some s
         → Numbered (behind base outs.old)
-        → OnOk result (Does (λ k events. AllStand settings k events) (look (λ events. end_start s (life_of s events).stage)) base (tables.old, nothing_owed) outs.old (tables.new, nothing_owed) outs.new) }
+        → OnOk result (Does (λ k events. AllStand settings k events)
+        (look (λ events. end_start s (life_of s events).stage)) base (tables.old, nothing_owed) outs.old (tables.new, nothing_owed) outs.new) }
 {
     let stage = stage_at(tables, g);
     if stage.is_ready() {
@@ -96,7 +98,8 @@ pub fn evict(tables: &mut Tables, alloc: Global, outs: &mut Outs, g: u64) -> Res
     ensures requests { tables.new.requests ≡ tables.old.requests }
     ensures versions { tables.new.versions ≡ tables.old.versions }
     ensures does { (settings : Settings) (base : List Event) → Numbered (behind base outs.old)
-        → OnOk result (Does (λ k events. AllStand settings k events) (end_group g) base (tables.old, nothing_owed) outs.old (tables.new, nothing_owed) outs.new) }
+        → OnOk result (Does (λ k events. AllStand settings k events)
+        (end_group g) base (tables.old, nothing_owed) outs.old (tables.new, nothing_owed) outs.new) }
 {
     match tables.place_of(g) {
         None => Ok(()),
@@ -113,7 +116,8 @@ pub fn replace(tables: &mut Tables, alloc: Global, outs: &mut Outs, g: u64) -> R
     requires versions { 1 ≤ tables.old.versions }
     ensures { (settings : Settings) (before base : List Event) (e n : ℕ) (body : List ℕ) → IsNext n (behind base outs.old)
         → Numbered (behind base outs.old)
-        → OnOk result (Does (λ k events. AllStand settings k events) (placed_row e body before (Evicts g n)) base (tables.old, nothing_owed) outs.old (tables.new, nothing_owed) outs.new) }
+        → OnOk result (Does (λ k events. AllStand settings k events)
+        (placed_row e body before (Evicts g n)) base (tables.old, nothing_owed) outs.old (tables.new, nothing_owed) outs.new) }
 {
     evict(tables, alloc, outs, g)?;
     found(tables, alloc, outs)?;

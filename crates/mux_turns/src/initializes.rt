@@ -59,7 +59,8 @@ fn seat(
     ensures moves { (settings : Settings) (before : List Event) (body method : List ℕ) (id : Id) (params : Option Json) → IsRead message.now body
         → message_of body ≡ request id method params → places (desk_of e before).phase (message_of body) ≡ true → settings.servers ≡ servers.now
         → server_for settings e before ≡ default → Stands settings tables.old before → DocumentsStand settings nothing_owed tables.old before
-        → IfOk result (λ p. (p ≡ placed_for settings before e body (groups_of settings before)) × AllStand settings (tables.new, nothing_owed) (with_cause before (FromEditor e body))) }
+        → IfOk result (λ p. (p ≡ placed_for settings before e body (groups_of settings before))
+        × AllStand settings (tables.new, nothing_owed) (with_cause before (FromEditor e body))) }
 {
     let id = Body::new(Vec::from_slice(alloc, message.id_bytes())?);
     let key = key_of(alloc, message, default)?;
@@ -86,7 +87,8 @@ fn join(
     ensures { (settings : Settings) (before : List Event) (body method : List ℕ) (id : Id) (params : Option Json) → IsRead message.now body
         → message_of body ≡ request id method params → places (desk_of e before).phase (message_of body) ≡ true → Plain before → outs.old ≡ []
         → AllStand settings (tables.old, nothing_owed) (with_cause before (FromEditor e body))
-        → OnOk result (Does (λ k events. AllStand settings k events) (placed_row e body before (Joins g)) (with_cause before (FromEditor e body)) (tables.old, nothing_owed) outs.old (tables.new, nothing_owed) outs.new) }
+        → OnOk result (Does (λ k events. AllStand settings k events) (placed_row e body before (Joins g)) (with_cause before (FromEditor e body))
+        (tables.old, nothing_owed) outs.old (tables.new, nothing_owed) outs.new) }
 {
     match tables.place_of(g) {
         None => Ok(()),
@@ -119,7 +121,8 @@ pub fn take_initialize(
         → message_of body ≡ request id method params → places (desk_of e before).phase (message_of body) ≡ true → settings.servers ≡ servers.now
         → settings.default ≡ default → outs.old ≡ [] → Known settings before → Settled settings before
         → Stands settings tables.old before → DocumentsStand settings nothing_owed tables.old before
-        → OnOk result (Done (λ k events. AllStand settings k events) (initialize_row settings before e body) (with_cause before (FromEditor e body)) [] (tables.new, nothing_owed) outs.new) }
+        → OnOk result (Done (λ k events. AllStand settings k events) (initialize_row settings before e body)
+        (with_cause before (FromEditor e body)) [] (tables.new, nothing_owed) outs.new) }
 {
     let placed = seat(tables, alloc, servers, default, e, message)?;
     match placed {

@@ -34,8 +34,10 @@ pub fn take_notice(
     requires { e < length tables.old.editors }
     ensures { (settings : Settings) (before : List Event) (body method : List ℕ) (params : Option Json) (g s : ℕ) → IsRead message.now body
         → message_of body ≡ notification method params → bytes_eq (codes "exit") method ≡ false → is_served (desk_of e before).phase ≡ true
-        → home_of settings e before ≡ Some g → start_of g before ≡ Some s → outs.old ≡ [] → Stands settings tables.old before → DocumentsStand settings nothing_owed tables.old before
-        → OnOk result (Done (λ k events. AllStand settings k events) (document_row settings before e body (saying_by method params)) (with_cause before (FromEditor e body)) [] (tables.new, nothing_owed) outs.new) }
+        → home_of settings e before ≡ Some g → start_of g before ≡ Some s → outs.old ≡ [] → Stands settings tables.old before
+        → DocumentsStand settings nothing_owed tables.old before
+        → OnOk result (Done (λ k events. AllStand settings k events) (document_row settings before e body (saying_by method params))
+        (with_cause before (FromEditor e body)) [] (tables.new, nothing_owed) outs.new) }
 {
     let owed = tables.hear_notice(alloc, e, Phase::Running, message)?;
     tables.pay(outs, owed)?;

@@ -56,7 +56,8 @@ pub fn welcome(
         → IsRead message.now body → message_of body ≡ request id method params → places (desk_of e before).phase (message_of body) ≡ true
         → start_of g before ≡ Some s → is_ready (life_of s before).stage ≡ true
         → ((given : List ℕ) → result_of s before ≡ Some given → IsShown given) → outs.old ≡ []
-        → OnOk result (Does (λ k events. AllStand settings k events) (placed_row e body before (Joins g)) (with_cause before (FromEditor e body)) (tables.old, nothing_owed) outs.old (tables.new, nothing_owed) outs.new) }
+        → OnOk result (Does (λ k events. AllStand settings k events) (placed_row e body before (Joins g)) (with_cause before (FromEditor e body))
+        (tables.old, nothing_owed) outs.old (tables.new, nothing_owed) outs.new) }
 {
     match tables.shown(g) {
         None => Ok(()),
@@ -94,7 +95,8 @@ pub fn turn_away(
     requires { e < length tables.old.editors }
     ensures { (settings : Settings) (before base : List Event) (body method : List ℕ) (id : Id) (params : Option Json) → IsRead message.now body
         → message_of body ≡ request id method params → is_served (desk_of e (behind base outs.old)).phase ≡ false
-        → OnOk result (Does (λ k events. AllStand settings k events) (placed_row e body before TooMany) base (tables.old, nothing_owed) outs.old (tables.new, nothing_owed) outs.new) }
+        → OnOk result (Does (λ k events. AllStand settings k events)
+        (placed_row e body before TooMany) base (tables.old, nothing_owed) outs.old (tables.new, nothing_owed) outs.new) }
 {
     refuse(tables, alloc, outs, e, message, ErrorCode::RequestFailed)?;
     // It isn't served, so no start is owed a word of its documents.

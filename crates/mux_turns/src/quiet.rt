@@ -48,7 +48,8 @@ pub fn take_malformed(
     requires { e < length tables.old.editors }
     ensures { (settings : Settings) (before : List Event) (body : List ℕ) → Refuses fault (message_of body) → outs.old ≡ []
         → Stands settings tables.old before → DocumentsStand settings nothing_owed tables.old before
-        → OnOk result (Done (λ k events. AllStand settings k events) (malformed_row e (message_of body) (desk_of e before).phase) (with_cause before (FromEditor e body)) [] (tables.new, nothing_owed) outs.new) }
+        → OnOk result (Done (λ k events. AllStand settings k events) (malformed_row e (message_of body) (desk_of e before).phase)
+        (with_cause before (FromEditor e body)) [] (tables.new, nothing_owed) outs.new) }
 {
     if matches!(fault, Malformed::Memory) {
         return Err(Memory);
@@ -72,7 +73,8 @@ pub fn take_early(
     ensures { (settings : Settings) (before : List Event) (body : List ℕ) → IsRead message.now body → is_early (desk_of e before).phase ≡ true
         → places (desk_of e before).phase (message_of body) ≡ false → stops before e (message_of body) ≡ false → outs.old ≡ []
         → Stands settings tables.old before → DocumentsStand settings nothing_owed tables.old before
-        → OnOk result (Done (λ k events. AllStand settings k events) (early_row e body (message_of body)) (with_cause before (FromEditor e body)) [] (tables.new, nothing_owed) outs.new) }
+        → OnOk result (Done (λ k events. AllStand settings k events) (early_row e body (message_of body))
+        (with_cause before (FromEditor e body)) [] (tables.new, nothing_owed) outs.new) }
 {
     let phase = phase_of(tables, e);
     tables.hear_editor(e, phase);

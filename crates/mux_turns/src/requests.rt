@@ -50,7 +50,8 @@ fn send_on(
     ensures { (settings : Settings) (before : List Event) (body method : List ℕ) (id : Id) (params : Option Json) (s : ℕ) → IsRead message.now body
         → message_of body ≡ request id method params → is_other (class_of method Editor false) ≡ true → outs.old ≡ []
         → slice_get (map number_in tables.old.lasts.items) g ≡ Some s
-        → OnOk result (Does (λ k events. AllStand settings k events) (sync_row settings before g s e ⨾ forward s body) (with_cause before (FromEditor e body)) (tables.old, nothing_owed) outs.old (tables.new, nothing_owed) outs.new) }
+        → OnOk result (Does (λ k events. AllStand settings k events) (sync_row settings before g s e ⨾ forward s body) (with_cause before (FromEditor e body))
+        (tables.old, nothing_owed) outs.old (tables.new, nothing_owed) outs.new) }
 {
     let n = tables.next_number(g);
     let text = numbered(alloc, message, n)?;
@@ -73,7 +74,8 @@ pub fn take_request(
         → message_of body ≡ request id method params → is_other (class_of method Editor false) ≡ true → is_served (desk_of e before).phase ≡ true
         → outs.old ≡ []
         → Stands settings tables.old before → DocumentsStand settings nothing_owed tables.old before
-        → OnOk result (Done (λ k events. AllStand settings k events) (request_row settings before e body) (with_cause before (FromEditor e body)) [] (tables.new, nothing_owed) outs.new) }
+        → OnOk result (Done (λ k events. AllStand settings k events) (request_row settings before e body)
+        (with_cause before (FromEditor e body)) [] (tables.new, nothing_owed) outs.new) }
 {
     let place = asked_at(tables, e);
     tables.hear_editor(e, Phase::Running);

@@ -56,7 +56,8 @@ fn greet(
     ensures told { OnOk result (Tells outs.old outs.new) }
     ensures does { (settings : Settings) (base : List Event) (body : List ℕ) → shown.now ≡ shown_of (result_bytes body) → IsShown body
         → IsGreeted (behind base outs.old) e → id_in (slice_get tables.old.editors e) ≡ Some (id_bytes (desk_of e (behind base outs.old)).initialize)
-        → OnOk result (Does (λ k events. AllStand settings k events) (welcome body e) base (tables.old, nothing_owed) outs.old (tables.new, nothing_owed) outs.new) }
+        → OnOk result (Does (λ k events. AllStand settings k events)
+        (welcome body e) base (tables.old, nothing_owed) outs.old (tables.new, nothing_owed) outs.new) }
 {
     match tables.initialize_id(e) {
         None => Ok(()),
@@ -78,7 +79,8 @@ fn greet_all(
 ) -> Result<(), Memory>
     ensures { (settings : Settings) (base : List Event) (body : List ℕ) → shown.now ≡ shown_of (result_bytes body) → IsShown body
         → AllAsking (behind base outs.old)
-        → OnOk result (Does (λ k events. AllStand settings k events) (look (λ events. each (welcome body) (waiting_in settings g events))) base (tables.old, nothing_owed) outs.old (tables.new, nothing_owed) outs.new) }
+        → OnOk result (Does (λ k events. AllStand settings k events) (look (λ events. each (welcome body)
+        (waiting_in settings g events))) base (tables.old, nothing_owed) outs.old (tables.new, nothing_owed) outs.new) }
 {
     let numbers = tables.waiting(g)?;
     for e in &numbers {
@@ -102,7 +104,8 @@ pub fn take_result(
         → message_of body ≡ outcome id value → is_first_result (message_of body) ≡ true → slice_get (map number_in tables.old.lasts.items) g ≡ Some s
         → outs.old ≡ []
         → IsShown body → AllAsking before → Stands settings tables.old before → DocumentsStand settings nothing_owed tables.old before
-        → OnOk result (Done (λ k events. AllStand settings k events) (first_result settings before s body) (with_cause before (FromServer s body)) [] (tables.new, nothing_owed) outs.new) }
+        → OnOk result (Done (λ k events. AllStand settings k events) (first_result settings before s body)
+        (with_cause before (FromServer s body)) [] (tables.new, nothing_owed) outs.new) }
 {
     let n = answered_number(message);
     let told = shown_of(alloc, message.result_bytes())?;

@@ -49,7 +49,8 @@ pub fn begin(tables: &Tables, alloc: Global, outs: &mut Outs, g: usize) -> Resul
     requires { g < length tables.now.lasts.items }
     ensures { (settings : Settings) (before : List Event) (s : ℕ) → slice_get (map number_in tables.now.lasts.items) g ≡ Some s → outs.old ≡ []
         → ((x : Kept) → slice_get (groups_of settings before) g ≡ Some x → IsOpening x)
-        → OnOk result (Does (λ t events. Stands settings t events) (begin_in settings before s g) (with_cause before (Started s)) tables.now outs.old tables.now outs.new) }
+        → OnOk result (Does (λ t events. Stands settings t events) (begin_in settings before s g)
+        (with_cause before (Started s)) tables.now outs.old tables.now outs.new) }
 {
     match tables.kept(g as u64) {
         None => Ok(()),
