@@ -1,5 +1,5 @@
 -- What asks the core of the tests to stop.
-use Rattle.std.specs.Prelude.{List, [], ◌∷◌, Bool, true, false, ◌||◌, length, ◌==◌}
+use Rattle.std.specs.Prelude.{List, [], ◌∷◌, Bool, false, ◌||◌, length, ◌==◌}
 use Rattle.mux_history.specs.declared.entry.Entry.{Entry}
 use Rattle.mux_history.specs.declared.cause.Cause.{Cause}
 use Rattle.mux_history.specs.declared.cause.Cause.TheVariants.{FromEditor}
