@@ -1,5 +1,5 @@
 -- Ends that nothing went through, and one lane's more.
-use Rattle.std.proofs.Common.{◌≡◌, ℕ, zero, suc, List, [], ◌∷◌, ◌++◌, slice_get, subst, Some}
+use Rattle.std.proofs.Common.{◌≡◌, zero, suc, List, [], ◌∷◌, ◌++◌, subst}
 use Rattle.lane_queue.specs.Ends.{HubSide}
 use Rattle.lane_desk.specs.Desks.{AllUnused, IsUnused}
 

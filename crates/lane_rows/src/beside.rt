@@ -1,7 +1,7 @@
 // Lanes beside each other.
 use crate::side::{Sides, run_side};
 use mux_lanes::LaneEnd;
-use outside_io::{Gate, MemPort, MemSink, MemSource, Meter, SetClock};
+use outside_io::{Gate, MemBerth, MemPort, MemSink, MemSource, Meter, SetClock};
 use std::alloc::Global;
 use std::test::Fail;
 
@@ -62,7 +62,7 @@ fn each_of_two_waits_for_the_other(rt: HostRuntime) -> Result<(), Fail> {
     )?;
     let ports = vec![in alloc; waits, goes_on]?;
     let clock = SetClock::new(vec![in alloc; 3u64]?);
-    let Some(ran) = run_side(&rt, alloc, ports, plain(alloc)?, clock) else {
+    let Some(ran) = run_side(&rt, alloc, ports, plain(alloc)?, Vec::new(alloc), clock) else {
         return Ok(());
     };
     assert!(rt; !ran.spent);
@@ -80,7 +80,7 @@ fn a_failed_write_ends_its_session_alone(rt: HostRuntime) -> Result<(), Fail> {
     let fails = port(alloc, None, vec![in alloc; 0u64]?, None)?;
     let ports = vec![in alloc; fails, plain(alloc)?]?;
     let clock = SetClock::new(Vec::new(alloc));
-    let Some(ran) = run_side(&rt, alloc, ports, plain(alloc)?, clock) else {
+    let Some(ran) = run_side(&rt, alloc, ports, plain(alloc)?, Vec::new(alloc), clock) else {
         return Ok(());
     };
     assert!(rt; !ran.spent);
@@ -94,7 +94,14 @@ fn a_failed_write_ends_its_session_alone(rt: HostRuntime) -> Result<(), Fail> {
 fn without_ports_there_is_the_own_link_alone(rt: HostRuntime) -> Result<(), Fail> {
     let alloc = rt.alloc();
     let clock = SetClock::new(vec![in alloc; 3u64]?);
-    let Some(ran) = run_side(&rt, alloc, Vec::new(alloc), plain(alloc)?, clock) else {
+    let Some(ran) = run_side(
+        &rt,
+        alloc,
+        Vec::new(alloc),
+        plain(alloc)?,
+        Vec::new(alloc),
+        clock,
+    ) else {
         return Ok(());
     };
     assert!(rt; !ran.spent);
@@ -116,13 +123,36 @@ fn many_editors_at_once(rt: HostRuntime) -> Result<(), Fail> {
         ports.push(plain(alloc)?)?;
     }
     let clock = SetClock::new(Vec::new(alloc));
-    let Some(ran) = run_side(&rt, alloc, ports, plain(alloc)?, clock) else {
+    let Some(ran) = run_side(&rt, alloc, ports, plain(alloc)?, Vec::new(alloc), clock) else {
         return Ok(());
     };
     assert!(rt; !ran.spent);
     assert_eq!(rt; ran.echo.joined(), 33);
     for port in 0..32 {
         assert_eq!(rt; written(&ran, port), Some(HOVER.len()));
+    }
+    Ok(())
+}
+
+#[test]
+fn a_stop_ends_the_lanes_of_servers(rt: HostRuntime) -> Result<(), Fail> {
+    let alloc = rt.alloc();
+    let stop = b"Content-Length: 0\r\n\r\n";
+    let source = MemSource::new(stop.to_vec(alloc)?, Vec::new(alloc), None);
+    let sink = MemSink::new(alloc, Vec::new(alloc), None);
+    let asks = MemPort::new(alloc, vec![in alloc; (source, sink)]?);
+    let ports = vec![in alloc; plain(alloc)?, asks]?;
+    let idle = MemBerth::new(alloc, Vec::new(alloc), Vec::new(alloc));
+    let other = MemBerth::new(alloc, Vec::new(alloc), Vec::new(alloc));
+    let berths = vec![in alloc; idle, other]?;
+    let clock = SetClock::new(Vec::new(alloc));
+    let Some(ran) = run_side(&rt, alloc, ports, plain(alloc)?, berths, clock) else {
+        return Ok(());
+    };
+    assert!(rt; ran.done);
+    assert!(rt; !ran.spent);
+    for berth in &ran.berths {
+        assert_eq!(rt; berth.end, LaneEnd::Stopped);
     }
     Ok(())
 }

@@ -1,16 +1,18 @@
-// A core that answers each body of an editor with that body.
+// A core that answers each body of an editor with that body, and an empty one with its end.
 ghost use Rattle.std.specs.Prelude.{◌≡◌, ◌+◌, [], ℕ, IfOk, IfSome, false};
 ghost use Rattle.mux_history.specs.Cores.{joins, spawns_of_outs};
+ghost use Rattle.lane_rows.specs.Stops.{is_stop};
 
 use message_body::Memory;
 use mux_history::{Cause, Out, Outs, StepFault, Steps};
 use std::alloc::Global;
 
-/// The core. It stops at no request, and knows of no servers.
+/// The core. An empty body asks it to stop. It knows of no servers.
 #[derive(Drop)]
 pub struct Echo {
     alloc: Global,
     joined: u64,
+    stopped: bool,
     spent: bool,
 }
 
@@ -24,6 +26,7 @@ impl Echo {
         Echo {
             alloc,
             joined: 0,
+            stopped: false,
             spent: false,
         }
     }
@@ -42,9 +45,24 @@ fn answer(alloc: Global, cause: Cause) -> Result<Outs, Memory>
 {
     let mut outs = Outs::new(alloc);
     if let Cause::FromEditor(editor, body) = cause {
-        outs.push(Out::ToEditor(editor, body))?;
+        let out = if body.bytes().is_empty() {
+            Out::CloseEditor(editor)
+        } else {
+            Out::ToEditor(editor, body)
+        };
+        outs.push(out)?;
     }
     Ok(outs)
+}
+
+// Whether this cause asks it to stop.
+fn is_stop(cause: &Cause) -> bool
+    ensures { result ≡ is_stop cause.now }
+{
+    match cause {
+        Cause::FromEditor(_, body) => body.bytes().len() == 0,
+        _ => false,
+    }
 }
 
 // How many editors joined behind this cause.
@@ -60,8 +78,9 @@ fn joined_behind(joined: u64, cause: &Cause) -> Option<u64>
 impl Steps for Echo {
     ghost use Rattle.std.specs.Prelude.{◌≡◌, ℕ, true, false};
     ghost use Rattle.mux_history.specs.Cores.{joined, spawns};
+    ghost use Rattle.lane_rows.specs.Stops.{has_stop, is_stop};
 
-    ghost stands = { λ e history. (e.joined ≡ joined history) × ((s : ℕ) → spawns s history ≡ 0) };
+    ghost stands = { λ e history. (e.joined ≡ joined history) × (e.stopped ≡ has_stop history) × ((s : ℕ) → spawns s history ≡ 0) };
 
     ghost faults = { λ e. 0 };
 
@@ -69,9 +88,9 @@ impl Steps for Echo {
 
     ghost allows = { λ history cause. true };
 
-    ghost asks_stop = { λ history cause. false };
+    ghost asks_stop = { λ history cause. is_stop cause };
 
-    ghost stops = { λ history. false };
+    ghost stops = { has_stop };
 
     fn fits(&self, cause: &Cause) -> bool {
         let _ = cause;
@@ -83,7 +102,7 @@ impl Steps for Echo {
     }
 
     fn stopped(&self) -> bool {
-        false
+        self.stopped
     }
 
     fn server_of(&self, start: u64) -> Option<u32> {
@@ -91,12 +110,13 @@ impl Steps for Echo {
         None
     }
 
-    #[tactic(auto, using(crate::proofs::Histories::joined_more, crate::proofs::Histories::spawns_more))]
+    #[tactic(auto, using(crate::proofs::Histories::joined_more, crate::proofs::Histories::spawns_more, crate::proofs::Histories::stop_more, crate::proofs::Histories::stop_asked, crate::proofs::Histories::stop_stays))]
     fn step(&mut self, cause: Cause) -> Result<Outs, StepFault> {
         if self.spent {
             return Err(StepFault::Spent);
         }
         self.spent = true;
+        let stopped = self.stopped || is_stop(&cause);
         let Some(joined) = joined_behind(self.joined, &cause) else {
             return Err(StepFault::Numbers);
         };
@@ -104,6 +124,7 @@ impl Steps for Echo {
             return Err(StepFault::Memory);
         };
         self.joined = joined;
+        self.stopped = stopped;
         self.spent = false;
         Ok(outs)
     }

@@ -1,4 +1,4 @@
-// The lanes of several ports and of a clock side by side, over an echo.
+// The lanes of several ports and berths and of a clock side by side, over an echo.
 ghost use Rattle.std.specs.Prelude.{◌≡◌, ◌+◌, [], IfOk, IfSome, OnOk, length, map};
 ghost use Rattle.lane_desk.specs.Desks.{AllUnused, ids};
 
@@ -22,7 +22,10 @@ pub struct Sides {
     /// Each port was closed, and the own lane was run then.
     pub closed: bool,
     pub own: LaneJob<MemPort>,
+    pub berths: Vec<LaneJob<MemBerth>>,
     pub ticker: LaneEnd,
+    /// It went on to a stop that is done.
+    pub done: bool,
     /// The core goes on no more.
     pub spent: bool,
 }
@@ -39,16 +42,8 @@ fn add_lane(alloc: Global, hubs: &mut Vec<HubEnds>) -> Result<Ends, Memory>
     Ok(Ends { inn, out })
 }
 
-// The lanes of ports, and how many they are.
-#[derive(Drop)]
-struct Opened {
-    jobs: Vec<LaneJob<MemPort>>,
-    hubs: Vec<HubEnds>,
-    count: u32,
-}
-
 // A lane that wasn't run yet.
-fn job(outside: MemPort, number: u32, ends: Ends) -> LaneJob<MemPort> {
+fn job<P: Drop>(outside: P, number: u32, ends: Ends) -> LaneJob<P> {
     LaneJob {
         outside,
         number,
@@ -57,16 +52,20 @@ fn job(outside: MemPort, number: u32, ends: Ends) -> LaneJob<MemPort> {
     }
 }
 
-// A lane for each of these ports.
-fn open(alloc: Global, ports: Vec<MemPort>) -> Option<Opened>
-    ensures unused { IfSome result (λ o. AllUnused o.hubs.items) }
-    ensures count { IfSome result (λ o. length o.hubs.items ≡ o.count) }
+// A lane for each of these ports or berths, and how many they are.
+fn open<P: Drop>(
+    alloc: Global,
+    outsides: Vec<P>,
+    hubs: &mut Vec<HubEnds>,
+) -> Option<(Vec<LaneJob<P>>, u32)>
+    requires { AllUnused hubs.old.items }
+    ensures unused { IfSome result (λ o. AllUnused hubs.new.items) }
+    ensures count { IfSome result (λ o. length hubs.new.items ≡ length hubs.old.items + o.1) }
 {
     let mut jobs = Vec::new(alloc);
-    let mut hubs = Vec::new(alloc);
     let mut count: u32 = 0;
-    for outside in ports {
-        let Ok(ends) = add_lane(alloc, &mut hubs) else {
+    for outside in outsides {
+        let Ok(ends) = add_lane(alloc, hubs) else {
             return None;
         };
         jobs.push(job(outside, count, ends)).ok()?;
@@ -75,20 +74,33 @@ fn open(alloc: Global, ports: Vec<MemPort>) -> Option<Opened>
         };
         count = next;
     }
-    Some(Opened { jobs, hubs, count })
+    Some((jobs, count))
 }
 
-// Runs the lanes, none of them of a berth.
+// The lanes of a deck.
+#[derive(Drop)]
+struct Jobs {
+    ports: Vec<LaneJob<MemPort>>,
+    own: LaneJob<MemPort>,
+    berths: Vec<LaneJob<MemBerth>>,
+    clock: SetClock,
+    ticks: LaneIn,
+}
+
+// Runs the lanes.
 fn run_at<N: Naming + Send + Sync, R: Threads + Wait + Sync>(
     rt: &R,
     alloc: Global,
     board: &Switchboard<Echo, N>,
-    ports: Vec<LaneJob<MemPort>>,
-    own: LaneJob<MemPort>,
-    clock: SetClock,
-    ticks: LaneIn,
+    jobs: Jobs,
 ) -> Ran<MemPort, MemBerth, SetClock> {
-    let berths = Vec::new(alloc);
+    let Jobs {
+        ports,
+        own,
+        berths,
+        clock,
+        ticks,
+    } = jobs;
     run_lanes(
         rt,
         alloc,
@@ -103,17 +115,15 @@ fn run_at<N: Naming + Send + Sync, R: Threads + Wait + Sync>(
     )
 }
 
-// Runs the lanes at this deck, and closes it.
+// Runs the lanes, and closes the deck.
 fn run_all<N: Naming + Send + Sync, R: Threads + Wait + Sync>(
     rt: &R,
     alloc: Global,
     board: Switchboard<Echo, N>,
-    ports: Vec<LaneJob<MemPort>>,
-    own: LaneJob<MemPort>,
-    clock: SetClock,
-    ticks: LaneIn,
+    jobs: Jobs,
 ) -> Sides {
-    let Ran { editors, others } = run_at(rt, alloc, &board, ports, own, clock, ticks);
+    let ran = run_at(rt, alloc, &board, jobs);
+    let Ran { editors, others } = ran;
     let Editors { ports, own, closed } = editors;
     let left = board.close().close();
     Sides {
@@ -121,7 +131,9 @@ fn run_all<N: Naming + Send + Sync, R: Threads + Wait + Sync>(
         ports,
         closed,
         own,
+        berths: others.berths,
         ticker: others.ticker,
+        done: left.done,
         spent: left.spent,
     }
 }
@@ -130,20 +142,18 @@ fn named<N: Naming + Send + Sync, R: Threads + Wait + Sync>(
     rt: &R,
     alloc: Global,
     editors: u32,
+    servers: u32,
     hubs: Vec<HubEnds>,
-    ports: Vec<LaneJob<MemPort>>,
-    own: LaneJob<MemPort>,
-    clock: SetClock,
-    ticks: LaneIn,
+    jobs: Jobs,
 ) -> Option<Sides>
     requires unused { AllUnused hubs.items }
-    requires count { length hubs.items ≡ editors + 1 }
+    requires count { length hubs.items ≡ editors + servers + 1 }
     requires queues { map ids hubs.items ≡ N.queues }
-    requires counts { (editors ≡ N.editors) × (0 ≡ N.servers) × (0 ≡ N.before) }
+    requires counts { (editors ≡ N.editors) × (servers ≡ N.servers) × (0 ≡ N.before) }
 {
-    let deck: Deck<Echo, N> = Deck::new(alloc, Echo::new(alloc), editors, 0, hubs).ok()?;
-    match Switchboard::new(alloc, deck, editors, 0) {
-        Ok(board) => Some(run_all(rt, alloc, board, ports, own, clock, ticks)),
+    let deck: Deck<Echo, N> = Deck::new(alloc, Echo::new(alloc), editors, servers, hubs).ok()?;
+    match Switchboard::new(alloc, deck, editors, servers) {
+        Ok(board) => Some(run_all(rt, alloc, board, jobs)),
         Err(deck) => {
             deck.close();
             None
@@ -151,28 +161,39 @@ fn named<N: Naming + Send + Sync, R: Threads + Wait + Sync>(
     }
 }
 
-/// The lanes of these ports side by side, of a clock, and of an own port behind them, over an echo; none where memory runs out.
+/// The lanes of these ports and berths side by side, of a clock, and of an own port behind the others, over an echo; none
+/// where memory runs out.
 pub fn run_side<R: Threads + Wait + Sync>(
     rt: &R,
     alloc: Global,
     ports: Vec<MemPort>,
     own: MemPort,
+    berths: Vec<MemBerth>,
     clock: SetClock,
 ) -> Option<Sides> {
-    let Opened {
-        jobs,
-        mut hubs,
-        count,
-    } = open(alloc, ports)?;
+    let mut hubs = Vec::new(alloc);
+    let Some((ports, count)) = open(alloc, ports, &mut hubs) else {
+        return None;
+    };
     let Ok(ends) = add_lane(alloc, &mut hubs) else {
         return None;
     };
     let own = job(own, count, ends);
-    let Ok(ticks) = add_lane(alloc, &mut hubs) else {
-        return None;
-    };
     let Some(editors) = count.checked_add(1) else {
         return None;
     };
-    named::<Brand, R>(rt, alloc, editors, hubs, jobs, own, clock, ticks.inn)
+    let Some((berths, servers)) = open(alloc, berths, &mut hubs) else {
+        return None;
+    };
+    let Ok(ends) = add_lane(alloc, &mut hubs) else {
+        return None;
+    };
+    let jobs = Jobs {
+        ports,
+        own,
+        berths,
+        clock,
+        ticks: ends.inn,
+    };
+    named::<Brand, R>(rt, alloc, editors, servers, hubs, jobs)
 }

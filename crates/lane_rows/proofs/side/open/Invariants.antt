@@ -1,9 +1,9 @@
-use Rattle.std.proofs.Common.{◌≡◌, length}
+use Rattle.std.proofs.Common.{◌≡◌, ◌+◌, length}
 use Rattle.lane_desk.specs.Desks.{AllUnused}
 use Rattle.lane_rows.proofs.side.open.Given as goal
 
 abbrev pub invariant-loop-outside : goal.invariant-loop-outside
-invariant-loop-outside l = record {
+invariant-loop-outside g l = record {
   unused : AllUnused l.hubs.items;
-  count : length l.hubs.items ≡ l.count;
+  count : length l.hubs.items ≡ length l.fn.hubs.items + l.count;
 }

@@ -1,6 +1,5 @@
 use Rattle.std.proofs.Common.{◌≡◌, false, ◌++◌, [], ◌∷◌, refl, ap, ◌∙◌, ⊎_elim, arith}
 use Rattle.lane_lists.specs.declared.item.Order.TheVariants as order
-use Rattle.mux_lanes.specs.declared.lane_end.LaneEnd.TheVariants as lane_end
 use Rattle.mux_lanes.specs.Lanes.{standing}
 use Rattle.mux_lanes.specs.Starts.{Begun, WholeStart, CutBegun}
 use Rattle.mux_lanes.proofs.Turning.{ran_none, ran_more, ran_cut, ran_ends, still}
