@@ -1,0 +1,43 @@
+// From a cause to its row.
+ghost use Rattle.std.specs.Prelude.{◌≡◌, ◌≤◌, true, List, IfOk};
+ghost use Rattle.event_model.specs.Event.{Event, behind, with_cause};
+ghost use Rattle.event_model.specs.Settings.{Settings};
+ghost use Rattle.group_facts.specs.Built.{built_behind};
+ghost use Rattle.group_facts.specs.Facts.{Known};
+ghost use Rattle.group_facts.specs.Settled.{Settled};
+ghost use Rattle.group_rows.specs.Rows.{outs_of};
+ghost use Rattle.mux_history.specs.Cores.{body_length};
+ghost use Rattle.mux_model.specs.Fits.{fits_behind};
+ghost use Rattle.mux_tables.specs.Documents.{AllStand, DocumentsStand, nothing_owed};
+ghost use Rattle.mux_tables.specs.Stands.{Stands};
+ghost use Rattle.mux_turns.specs.Ceilings.{HaveCeilings};
+
+use event_model::Server;
+use message_body::Memory;
+use mux_history::{Cause, Outs};
+use mux_tables::Tables;
+use std::alloc::Global;
+
+/// Takes a cause that can come, and that meets rows which are built: its outs are the routing table's. Where the answer is an error
+/// the tables stand for nothing any more.
+pub fn take(
+    tables: &mut Tables,
+    alloc: Global,
+    servers: &[Server],
+    default: u32,
+    cause: &Cause,
+) -> Result<Outs, Memory>
+    requires small { body_length cause.now ≤ 268435456 }
+    requires limit { 2 ≤ tables.old.requests }
+    requires versions { 1 ≤ tables.old.versions }
+    requires ceilings { HaveCeilings servers.now }
+    ensures same_limit { tables.new.requests ≡ tables.old.requests }
+    ensures same_versions { tables.new.versions ≡ tables.old.versions }
+    ensures takes { (settings : Settings) (before : List Event) → settings.servers ≡ servers.now → settings.default ≡ default
+        → Known settings before → Settled settings before → fits_behind before cause.now ≡ true → built_behind settings before cause.now ≡ true
+        → Stands settings tables.old before → DocumentsStand settings nothing_owed tables.old before
+        → IfOk result (λ outs. (outs ≡ outs_of settings before cause.now)
+        × AllStand settings (tables.new, nothing_owed) (behind (with_cause before cause.now) outs)) }
+{
+    Err(Memory)
+}

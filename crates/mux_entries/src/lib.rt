@@ -1,0 +1,6 @@
+//! One entry of the multiplexer over its tables: a cause comes, and the row of the routing table that it meets gives the outs.
+#![tactic(auto)]
+
+mod entry;
+
+pub use entry::take;
