@@ -8,18 +8,12 @@ use Rattle.event_model.specs.Event.{Event, took, did, said, heard, with_cause}
 use Rattle.event_model.specs.Phases.{is_malformed}
 use Rattle.event_model.specs.Requests.{answered_id, open_of, open_behind, is_open, asks, without}
 use Rattle.event_model.specs.Always.{Always}
-use Rattle.session_laws.specs.ClientRules.{IsAnswer, null_errors_of, null_errors_behind, malformed_of, malformed_behind, ClientRule2, KeepsClient2}
+use Rattle.session_laws.specs.ClientRules.{IsAnswer, null_errors_of, null_errors_behind, malformed_of, malformed_behind, ClientRule2}
 use Rattle.event_model.specs.Parts.{editor_part, is_of_editor}
 use Rattle.mux_facts.proofs.Bodies.{IsResponseTo, is_result, is_error}
 use Rattle.mux_facts.proofs.Rules.{rule_more, word_more, word_of_part}
 use Rattle.mux_facts.proofs.Words.{number_same}
 use Rattle.mux_history.specs.declared.cause.Cause.{Cause}
-use Rattle.mux_history.specs.declared.entry.Entry.{Entry}
-use Rattle.mux_model.specs.Legal.{Legal}
-use Rattle.event_model.specs.Settings.{Settings}
-use Rattle.event_model.specs.Spawns.{starts_of}
-use Rattle.mux_facts.proofs.FactLaws.{fact_laws, no_facts}
-use Rattle.mux_facts.proofs.Known.{Law, Told, nulls, begun, responds, law_holds}
 
 -- the rule holds, and no more errors under a null id went to e than malformed bodies came from it
 pub record Here (e : ℕ) (events : List Event) : Type 0 where
@@ -30,7 +24,6 @@ abbrev pub Everywhere : List Event → Type 0
 Everywhere events = (e : ℕ) → Here e events
 
 -- what is open by the part is open
-
 others_still : (e : ℕ) (ids : List Id) (event : Event) → is_of_editor e event ≡ false → open_behind e ids event ≡ ids
 others_still e ids (took (FromEditor n body) m) h = ap (λ b. if b then asks m ids else ids) h
 others_still e ids (took (Joined n) m) h = refl
@@ -185,23 +178,5 @@ pub took_it : (before : List Event) (cause : Cause) → Everywhere before → Ev
 took_it before (Joined e) h = more before (heard (Joined e)) refl h
 took_it before cause h = more before (heard cause) refl h
 
-module _ (before : List Event) (cause : Cause) (events : List Event) (e : ℕ) (body : List ℕ) where
-  told_it : Told before cause events e body → Everywhere before → Everywhere events → Everywhere (events ++ said (ToEditor e body) ∷ [])
-  told_it (nulls asked x there from place malformed says) h i = subst (λ z. Everywhere (z ++ said (ToEditor e body) ∷ [])) (sym (place ∙ ap (with_cause before) from)) (refused before e asked body x malformed says h)
-  told_it (begun id params r at asked_so waiting says) h i = to_editor events e body id (is_result r says) waiting i
-  told_it (responds id there response waiting late) h i = to_editor events e body id response waiting i
-
 pub none_yet : Everywhere []
 none_yet e = record { always = tt; counted = omega arith }
-
-law : (settings : Settings) → Law settings Everywhere
-law settings = record {
-  took = λ before cause fits built known h. took_it before cause h;
-  to_editor = λ before cause events e body told known here h i. told_it before cause events e body told h i;
-  to_server = λ before cause events s body why known here h i. more events (said (ToServer s body)) refl i;
-  close = λ before cause events e there known here h i. more events (said (CloseEditor e)) refl i;
-  spawn = λ events g here i. more events (said (Spawn (starts_of events) g)) refl i;
-}
-
-pub client_2_law : (settings : Settings) (history : List Entry) → Legal settings history → KeepsClient2 history
-client_2_law settings history legal e = (law_holds settings (fact_laws settings) Everywhere (law settings) none_yet no_facts history legal e).always

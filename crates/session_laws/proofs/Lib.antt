@@ -5,5 +5,4 @@ pub mod Server1Law
 pub mod Server2Law
 pub mod Server3Law
 pub mod Server4Law
-pub mod Sessions
 pub mod SpawnedLaw

@@ -7,17 +7,12 @@ use Rattle.event_model.specs.declared.stage.Stage.{Stage}
 use Rattle.event_model.specs.declared.stage.Stage.TheVariants.{Unspawned, Spawning, Initializing, Ready, Stopping, Ending, Ended}
 use Rattle.event_model.specs.Event.{Event, took, did, requests, heard, said, with_cause}
 use Rattle.event_model.specs.Stages.{stage_started, stage_hears, stage_told, is_first_result, Life, life_of, life_behind}
-use Rattle.session_laws.specs.ServerRules.{Program, program_behind, ServerRule1, program_of, KeepsServer1}
-use Rattle.mux_facts.proofs.Why.{WhyToServer, begins, greets, forwarded, tells}
-use Rattle.session_laws.proofs.PartLaws.{is_to_server, ServerRule, server_history}
+use Rattle.session_laws.specs.ServerRules.{Program, program_behind, ServerRule1, program_of}
+use Rattle.session_laws.proofs.PartLaws.{is_to_server}
 use Rattle.mux_history.specs.declared.cause.Cause.{Cause}
-use Rattle.mux_history.specs.declared.entry.Entry.{Entry}
-use Rattle.mux_model.specs.Legal.{Legal}
-use Rattle.event_model.specs.Settings.{Settings}
 use Rattle.event_model.specs.Spawns.{starts_of}
 use Rattle.event_model.specs.Parts.{server_part, is_of_server}
 use Rattle.mux_facts.proofs.Folds.{life_more}
-use Rattle.mux_facts.proofs.Known.{Law}
 use Rattle.mux_facts.proofs.Rules.{word_more}
 use Rattle.mux_facts.proofs.Starts.{Starts}
 use Rattle.mux_facts.proofs.Words.{pick, pick_life, same_number, number_same}
@@ -104,15 +99,6 @@ pub running_spawned : (events : List Event) (g : ℕ) → Starts events → Runn
 running_spawned events g none h = more events (said (Spawn (starts_of events) g)) (λ s. pick_life Link (nat_eq (starts_of events) s) (record { stage = Spawning; started = false }) (life_of s events) (program_of (server_part s events))
     (λ same. subst (λ z. Link z (program_of (server_part s events))) (ap (λ (l : Life). l.stage) (none s (omega (arith, number_same (starts_of events) s same)))) (h s)) (h s))
 
-law : (settings : Settings) → Law settings Running
-law settings = record {
-  took = λ before cause fits built known h. running_took before cause h;
-  to_editor = λ before cause events e body told known here h i. more events (said (ToEditor e body)) i;
-  to_server = λ before cause events n body why known here h i. running_sent events n body i;
-  close = λ before cause events e there known here h i. more events (said (CloseEditor e)) i;
-  spawn = λ events g here i. running_spawned events g here.starts i;
-}
-
 -- a body finds the program running
 
 pub begun_up : (before : List Event) (cause : Cause) (events : List Event) (s : ℕ) → (life_of s before).stage ≡ Spawning → cause ≡ Started s → events ≡ with_cause before cause → Running events → IsUp (program_of (server_part s events))
@@ -122,20 +108,3 @@ begun_up before cause events s at from place h = subst (λ z. Link z (program_of
 
 pub ready_up : (events : List Event) (s : ℕ) → (life_of s events).stage ≡ Ready → Running events → IsUp (program_of (server_part s events))
 ready_up events s ready h = subst (λ z. Link z (program_of (server_part s events))) ready (h s)
-
-module _ (settings : Settings) (before : List Event) (cause : Cause) (events : List Event) (s : ℕ) (body : List ℕ) where
-  up : WhyToServer settings before cause events s body → Running events → IsUp (program_of (server_part s events))
-  up (begins params at from place says) i = begun_up before cause events s at from place i
-  up (greets params answer at now from first part says) i = ready_up events s now i
-  up (forwarded a still k) i = ready_up events s k.ready i
-  up (tells still k) i = ready_up events s k.ready i
-
-rule : (settings : Settings) → ServerRule settings Running ServerRule1
-rule settings = record {
-  law = law settings;
-  free = free;
-  sent = λ before cause events s body why known here h i. is_up (program_of (server_part s events)) (up settings before cause events s body why i);
-}
-
-pub server_1_law : (settings : Settings) (history : List Entry) → Legal settings history → KeepsServer1 history
-server_1_law settings history legal = server_history settings Running ServerRule1 (rule settings) (λ s. refl) history legal

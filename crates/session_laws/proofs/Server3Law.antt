@@ -1,37 +1,20 @@
 -- The requests to a start are numbered from 1.
-use Rattle.std.proofs.Common.{◌≡◌, ℕ, ◌+◌, Bool, true, false, cond, List, [], ◌∷◌, filter, fold, nat_eq, codes, decimal, if◌then◌else◌, Option, refl, sym, ◌∙◌, ap, ◌<◌, ◌^◌, subst, arith, ltb-true}
+use Rattle.std.proofs.Common.{◌≡◌, ℕ, ◌+◌, Bool, true, false, cond, List, [], ◌∷◌, filter, fold, nat_eq, codes, decimal, if◌then◌else◌, Option, refl, sym, ◌∙◌, ap, subst}
 use Rattle.std.specs.Fmt.{digits}
 use Rattle.mux_history.specs.declared.cause.Cause.TheVariants.{Joined, FromEditor, EditorGone, Started, StartFailed, FromServer, ServerGone, Drained, Tick}
 use Rattle.mux_history.specs.declared.out.Out.TheVariants.{ToEditor, ToServer, Spawn, CloseEditor, EndServer}
-use Rattle.rpc_message.specs.Message.{Message, request, notification, result, error, not_json, not_message, integer, message_of}
-use Rattle.event_model.specs.declared.stage.Stage.{Stage}
-use Rattle.event_model.specs.declared.stage.Stage.TheVariants.{Unspawned, Spawning}
+use Rattle.rpc_message.specs.Message.{Message, request, notification, result, error, not_json, not_message, integer}
 use Rattle.event_model.specs.Event.{Event, took, did, heard, with_cause}
-use Rattle.event_model.specs.Requests.{Asking, asking_behind, asking_sends, asking_of, no_asking}
+use Rattle.event_model.specs.Requests.{Asking, asking_behind, asking_sends, asking_of}
 use Rattle.event_model.specs.Parts.{is_of_server}
-use Rattle.session_laws.specs.ServerRules.{requests_behind, HasNumber, ServerRule3, KeepsServer3}
+use Rattle.session_laws.specs.ServerRules.{requests_behind, HasNumber, ServerRule3}
 use Rattle.mux_facts.proofs.Rules.{word_first}
-use Rattle.session_laws.proofs.PartLaws.{is_to_server, No, no_law, ServerRule, server_history}
+use Rattle.session_laws.proofs.PartLaws.{is_to_server}
 use Rattle.mux_history.specs.declared.cause.Cause.{Cause}
-use Rattle.mux_history.specs.declared.entry.Entry.{Entry}
 use Rattle.document_model.proofs.Written.{Spoken, spoken}
 use Rattle.document_model.specs.Sayings.{saying_of, speaks}
 use Rattle.json_text.specs.Json.{Json}
-use Rattle.mux_model.specs.Legal.{Legal}
-use Rattle.event_model.specs.Settings.{Settings}
-use Rattle.mux_facts.specs.Ranges.{InRange}
 use Rattle.mux_facts.proofs.Folds.{asking_more}
-use Rattle.mux_facts.proofs.Known.{Facts, is_unbegun}
-use Rattle.mux_facts.proofs.Why.{WhyToServer, begins, greets, forwarded, tells}
-
--- before its program runs it was sent no request
-abbrev Link : Stage → ℕ → Type 0
-Link Unspawned n = n ≡ 0
-Link Spawning n = n ≡ 0
-Link other n = Unit {0}
-
-abbrev Allows : ℕ → Message → Type 0
-Allows n m = HasNumber (n + 1) m
 
 pub free : (part : List Event) (event : Event) → is_to_server event ≡ false → ServerRule3 part event
 free part (took cause m) h = tt
@@ -91,23 +74,3 @@ begun_numbered before cause events s params m none from place says =
 -- what tells of a document is no request
 pub told_numbered : (n : ℕ) (m : Message) → speaks (saying_of m) ≡ true → HasNumber n m
 told_numbered n m says = let s : Spoken m = spoken m says in subst (HasNumber n) (sym s.is) tt
-
-module _ (settings : Settings) (range : InRange settings) (before : List Event) (cause : Cause) (events : List Event) (s : ℕ) (body : List ℕ) where
-  -- a request has the next number
-  numbered : WhyToServer settings before cause events s body → Facts before → HasNumber (asking_of s events).next (message_of body)
-  numbered (begins params at from place says) h = begun_numbered before cause events s params (message_of body) (h.unbegun s (ap is_unbegun at)) from place says
-  numbered (greets params answer at now from first part says) h = subst (λ m. HasNumber (asking_of s events).next m) (sym says) tt
-  numbered (forwarded a still k) h = let below : (asking_of s events).next < settings.limits.requests = ltb-true (asking_of s events).next settings.limits.requests k.room in
-      let wide : settings.limits.requests < 2 ^ 32 = range.requests in
-      subst (λ m. HasNumber (asking_of s events).next m) (sym (k.says (omega (arith, below, wide)))) refl
-  numbered (tells still k) h = told_numbered (asking_of s events).next (message_of body) (k.spoken range)
-
-rule : (settings : Settings) → InRange settings → ServerRule settings No ServerRule3
-rule settings range = record {
-  law = no_law settings;
-  free = free;
-  sent = λ before cause events s body why h here own i. subst (λ n. HasNumber n (message_of body)) (known s no_asking 0 events refl) (numbered settings range before cause events s body why h);
-}
-
-pub server_3_law : (settings : Settings) → InRange settings → (history : List Entry) → Legal settings history → KeepsServer3 history
-server_3_law settings range history legal = server_history settings No ServerRule3 (rule settings range) tt history legal

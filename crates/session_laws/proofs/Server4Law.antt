@@ -1,5 +1,5 @@
 -- A start is told of documents as it may be.
-use Rattle.std.proofs.Common.{◌≡◌, ℕ, Bool, true, false, cond, List, [], ◌∷◌, filter, fold, nat_eq, bytes_eq, is_some, if◌then◌else◌, Option, Some, None, refl, sym, ◌∙◌, ap, subst, ◌<◌, ◌^◌, arith, ltb-true}
+use Rattle.std.proofs.Common.{◌≡◌, ℕ, Bool, true, false, cond, List, [], ◌∷◌, filter, fold, nat_eq, bytes_eq, is_some, if◌then◌else◌, Option, Some, None, refl, sym, ◌∙◌, ap, subst}
 use Rattle.std.specs.Option.{option_map}
 use Rattle.json_text.specs.Json.{Json}
 use Rattle.position_codec.specs.declared.Encoding.{Encoding}
@@ -11,18 +11,10 @@ use Rattle.mux_model.specs.Documents.{Sent, held_behind, sent_behind}
 use Rattle.event_model.specs.Event.{Event, took, did}
 use Rattle.event_model.specs.Parts.{server_part, is_of_server}
 use Rattle.mux_facts.specs.Allowed.{AllowsSaying, IsNext}
-use Rattle.session_laws.specs.ServerRules.{version_told, version_behind, version_of, ServerRule4, KeepsServer4}
+use Rattle.session_laws.specs.ServerRules.{version_told, version_behind, version_of, ServerRule4}
 use Rattle.mux_facts.proofs.Rules.{word_first}
-use Rattle.session_laws.proofs.PartLaws.{is_to_server, No, no_law, ServerRule, server_history}
+use Rattle.session_laws.proofs.PartLaws.{is_to_server}
 use Rattle.mux_facts.proofs.Tellings.{versions_at}
-use Rattle.mux_history.specs.declared.cause.Cause.{Cause}
-use Rattle.mux_history.specs.declared.entry.Entry.{Entry}
-use Rattle.rpc_message.specs.Message.{message_of}
-use Rattle.mux_model.specs.Legal.{Legal}
-use Rattle.event_model.specs.Requests.{asking_of}
-use Rattle.event_model.specs.Settings.{Settings}
-use Rattle.mux_facts.specs.Ranges.{InRange}
-use Rattle.mux_facts.proofs.Why.{WhyToServer, begins, greets, forwarded, tells}
 
 -- the version of each document
 abbrev pub Versions : Type 0
@@ -117,26 +109,7 @@ free part (did (Spawn s g) m) h = tt
 free part (did (CloseEditor e) m) h = tt
 free part (did (EndServer s) m) h = tt
 
-module _ (settings : Settings) (range : InRange settings) (before : List Event) (cause : Cause) (events : List Event) (s : ℕ) (body : List ℕ) where
-  allowed : WhyToServer settings before cause events s body → AllowsSaying (versions_at s events) (saying_of (message_of body))
-  allowed (begins params at from place says) = subst (λ m. AllowsSaying (versions_at s events) (saying_of m)) (sym says) tt
-  allowed (greets params answer at now from first part says) = subst (λ m. AllowsSaying (versions_at s events) (saying_of m)) (sym says) tt
-  allowed (forwarded a still k) = let below : (asking_of s events).next < settings.limits.requests = ltb-true (asking_of s events).next settings.limits.requests k.room in
-      let wide : settings.limits.requests < 2 ^ 32 = range.requests in
-      subst (λ m. AllowsSaying (versions_at s events) (saying_of m)) (sym (k.says (omega (arith, below, wide)))) tt
-  allowed (tells still k) = k.allowed range
-
 -- what it may be told by the versions that it has, it may be told by its part
 pub by_part : (s : ℕ) (events : List Event) (x : Saying) → AllowsSaying (versions_at s events) x → AllowsSaying (λ u. version_of u (server_part s events)) x
 by_part s events x h = allows_same (fold step none_held (server_part s events)) (λ u. version_of u (server_part s events)) (λ u. word_at none_held (server_part s events) u) x
     (allows_same (versions_at s events) (fold step none_held (server_part s events)) (held_by_part s events) x h)
-
-rule : (settings : Settings) → InRange settings → ServerRule settings No ServerRule4
-rule settings range = record {
-  law = no_law settings;
-  free = free;
-  sent = λ before cause events s body why h here own i. by_part s events (saying_of (message_of body)) (allowed settings range before cause events s body why);
-}
-
-pub server_4_law : (settings : Settings) → InRange settings → (history : List Entry) → Legal settings history → KeepsServer4 history
-server_4_law settings range history legal = server_history settings No ServerRule4 (rule settings range) tt history legal

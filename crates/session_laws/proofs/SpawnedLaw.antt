@@ -9,12 +9,8 @@ use Rattle.mux_history.specs.declared.entry.Entry.{Entry}
 use Rattle.mux_history.specs.declared.out.Out.{Out}
 use Rattle.mux_history.specs.declared.out.Out.TheVariants.{ToEditor, ToServer, Spawn, CloseEditor, EndServer}
 use Rattle.event_model.specs.Event.{Event, did, heard, said, with_cause, with_entry, events_of}
-use Rattle.event_model.specs.Settings.{Settings}
 use Rattle.event_model.specs.Spawns.{starts_of, starts_behind}
-use Rattle.mux_model.specs.Legal.{Legal}
-use Rattle.mux_facts.proofs.FactLaws.{fact_laws, no_facts}
 use Rattle.mux_facts.proofs.Folds.{starts_more}
-use Rattle.mux_facts.proofs.Known.{Law, law_holds}
 use Rattle.mux_facts.proofs.Words.{number_same, other_number}
 
 -- how often a start was spawned
@@ -106,25 +102,3 @@ once_counts history s h = go (nat_lt s (starts_of (events_of history))) refl
     go : (b : Bool) → nat_lt s (starts_of (events_of history)) ≡ b → spawns s history ≤ 1
     go true e = let below : s < starts_of (events_of history) = grind (arith, nat_tests) in let one = counts_below history s h below in omega (arith, one)
     go false e = let above : starts_of (events_of history) ≤ s = grind (arith, nat_tests) in let none = counts_above history s h above in omega (arith, none)
-
-law : (settings : Settings) → Law settings Once
-law settings = record {
-  took = λ before cause fits built known h. still before (heard cause) (λ s n. heard_still s n cause) (λ n. heard_starts n cause) h;
-  to_editor = λ before cause events e body told known here h i. still events (said (ToEditor e body)) (λ s n. refl) (λ n. refl) i;
-  to_server = λ before cause events s body why known here h i. still events (said (ToServer s body)) (λ k n. refl) (λ n. refl) i;
-  close = λ before cause events e there known here h i. still events (said (CloseEditor e)) (λ s n. refl) (λ n. refl) i;
-  spawn = λ events g here i. one_more events g i;
-}
-
--- of every legal history
-numbered : (settings : Settings) (history : List Entry) → Legal settings history → Once (events_of history)
-numbered settings history legal = law_holds settings (fact_laws settings) Once (law settings) none_spawned no_facts history legal
-
-pub spawned_below : (settings : Settings) (history : List Entry) → Legal settings history → (s : ℕ) → s < starts_of (events_of history) → spawns s history ≡ 1
-spawned_below settings history legal s l = counts_below history s (numbered settings history legal) l
-
-pub spawned_above : (settings : Settings) (history : List Entry) → Legal settings history → (s : ℕ) → starts_of (events_of history) ≤ s → spawns s history ≡ 0
-spawned_above settings history legal s l = counts_above history s (numbered settings history legal) l
-
-pub spawned_once : (settings : Settings) (history : List Entry) → Legal settings history → (s : ℕ) → spawns s history ≤ 1
-spawned_once settings history legal s = once_counts history s (numbered settings history legal)

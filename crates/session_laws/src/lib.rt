@@ -1,8 +1,2 @@
-//! The rules of a conforming session, each a law of every legal history.
+//! The rules of a conforming session, as definitions, and what is proved of them whatever the routing table is.
 #![tactic(auto)]
-
-mod laws;
-
-pub use laws::{
-    client_2, client_3, server_1, server_2, server_3, server_4, spawned_in_order, spawned_once,
-};
