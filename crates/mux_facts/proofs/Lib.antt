@@ -4,14 +4,11 @@ pub mod DocumentRow
 pub mod Editors
 pub mod FactLaws
 pub mod Folds
-pub mod Holds
 pub mod Keeps
 pub mod Known
 pub mod Late
 pub mod Lists
-pub mod Opened
 pub mod Reasons
-pub mod RestLaws
 pub mod Rising
 pub mod Rules
 pub mod Starts

@@ -3,19 +3,17 @@ use Rattle.std.proofs.Common.{◌≡◌, ℕ, Bool, true, false, List, [], ◌�
 use Rattle.std.proofs.lemmas.Slice.Eq.{bytes_eq-Decides}
 use Rattle.json_text.specs.Json.{Json}
 use Rattle.mux_history.specs.declared.cause.Cause.TheVariants.{FromEditor}
-use Rattle.mux_history.specs.declared.out.Out.TheVariants.{ToEditor, ToServer}
 use Rattle.rpc_message.specs.Message.{Message, request, notification, result, error, not_json, not_message, Id, message_of}
 use Rattle.event_model.specs.declared.phase.Phase.{Phase}
 use Rattle.event_model.specs.declared.phase.Phase.TheVariants.{Absent, New, Waiting, Answered, Running, Down, Closed, Gone}
-use Rattle.event_model.specs.Event.{Event, took, did, said, requests, same_id}
+use Rattle.event_model.specs.Event.{Event, took, requests, same_id}
 use Rattle.event_model.specs.Phases.{Desk, desk_of, desk_behind, desk_hears, has_id, phase_told, makes_running}
-use Rattle.event_model.specs.Requests.{Asked, asking_of, has_number, answered_id, open_of, open_behind, is_open, asks, without}
-use Rattle.mux_facts.proofs.Asked.{IsAsked, AllAsked, hears_open}
-use Rattle.mux_facts.proofs.Why.{is_early, IsPassedOn}
+use Rattle.event_model.specs.Requests.{answered_id, open_of, open_behind, is_open, asks, without}
+use Rattle.mux_facts.proofs.Asked.{hears_open}
+use Rattle.mux_facts.proofs.Why.{is_early}
 use Rattle.mux_facts.proofs.Folds.{desk_more, opens_more}
 use Rattle.mux_facts.proofs.Late.{error_told}
-use Rattle.mux_facts.proofs.Lists.{found_is}
-use Rattle.mux_facts.proofs.Words.{number_same, open_last, still_open}
+use Rattle.mux_facts.proofs.Words.{open_last, still_open}
 
 -- a body that is an open request `initialize`
 pub record Waits (initialize : List ℕ) (ids : List Id) : Type 0 where
@@ -37,10 +35,6 @@ AllWaiting events = (e : ℕ) → WaitsAt (desk_of e events) (open_of e events)
 -- what waits in this phase
 pub waits_at : (events : List Event) (e : ℕ) → (desk_of e events).phase ≡ Waiting → AllWaiting events → Waits (desk_of e events).initialize (open_of e events)
 waits_at events e at h = subst (λ z. WaitsIf z (desk_of e events).initialize (open_of e events)) at (h e)
-
--- the editor of an open request doesn't wait
-pub asked_is : (events : List Event) (s : ℕ) (asked : Asked) (body : List ℕ) → IsPassedOn events s asked body → AllAsked events → IsAsked events asked
-asked_is events s asked body k h = found_is (IsAsked events) (has_number (answered_id (message_of body))) asked (asking_of s events).open_requests (h s) k.found
 
 pub more : (events : List Event) (event : Event) → ((e : ℕ) → WaitsAt (desk_behind e (desk_of e events) event) (open_behind e (open_of e events) event)) → AllWaiting (events ++ event ∷ [])
 more events event f e = subst₂ WaitsAt (sym (desk_more e events event)) (sym (opens_more e events event)) (f e)
@@ -120,30 +114,16 @@ told_waits Down m initialize ids f w = tt
 told_waits Closed m initialize ids f w = tt
 told_waits Gone m initialize ids f w = tt
 
-pub to_editor : (events : List Event) (n : ℕ) (body : List ℕ) → AllWaiting events → ((desk_of n events).phase ≡ Waiting → is_a_result (message_of body) ≡ true) → AllWaiting (events ++ said (ToEditor n body) ∷ [])
-to_editor events n body h f = more events (said (ToEditor n body)) (λ e. pick (nat_eq n e)
-    (record { phase = phase_told (desk_of e events).phase (desk_of e events).initialize (message_of body); initialize = (desk_of e events).initialize }) (desk_of e events) (without (answered_id (message_of body)) (open_of e events)) (open_of e events)
-    (λ same. told_waits (desk_of e events).phase (message_of body) (desk_of e events).initialize (open_of e events)
-    (λ at. f (ap (λ k. (desk_of k events).phase) (number_same n e same) ∙ at)) (h e)) (h e))
-
 -- an error under a null id answers none of them
 pub null_waits : (b : Bool) (desk : Desk) (ids : List Id) (x : Json) → WaitsAt desk ids
     → WaitsAt (if b then record { phase = phase_told desk.phase desk.initialize (error None x); initialize = desk.initialize } else desk) (if b then without None ids else ids)
 null_waits true desk ids x h = subst (λ p. WaitsIf p desk.initialize ids) (sym (error_told desk.phase desk.initialize None x)) h
 null_waits false desk ids x h = h
 
-pub null_to_editor : (events : List Event) (n : ℕ) (body : List ℕ) (x : Json) → message_of body ≡ error None x → AllWaiting events → AllWaiting (events ++ said (ToEditor n body) ∷ [])
-null_to_editor events n body x says h = more events (said (ToEditor n body)) (λ e.
-    subst (λ m. WaitsAt (desk_behind e (desk_of e events) (did (ToEditor n body) m)) (open_behind e (open_of e events) (did (ToEditor n body) m))) (sym says)
-    (null_waits (nat_eq n e) (desk_of e events) (open_of e events) x (h e)))
-
 pub from_editor : (events : List Event) (n : ℕ) (body : List ℕ) → AllWaiting events → AllWaiting (events ++ took (FromEditor n body) (message_of body) ∷ [])
 from_editor events n body h = more events (took (FromEditor n body) (message_of body)) (λ e. pick (nat_eq n e)
     (desk_hears (desk_of e events).phase (desk_of e events).initialize body (message_of body)) (desk_of e events) (asks (message_of body) (open_of e events)) (open_of e events)
     (λ same. hears_waits (desk_of e events).phase (desk_of e events).initialize body (open_of e events) (message_of body) refl (h e)) (h e))
-
-pub to_server : (events : List Event) (n : ℕ) (body : List ℕ) → AllWaiting events → AllWaiting (events ++ said (ToServer n body) ∷ [])
-to_server events n body h = more events (said (ToServer n body)) h
 
 pub late_not : (phase : Phase) → is_early phase ≡ false → phase ≡ Waiting → ⊥
 late_not phase h at = let e : is_early phase ≡ true = ap is_early at in cc

@@ -1,2 +1,2 @@
-//! What holds of every legal history and is no rule of a session, and why each out of the routing table is sent.
+//! What events and outs change of the words over a history, whatever the routing table: lemmas that the laws of legal histories are proved from.
 #![tactic(auto)]
