@@ -1,8 +1,7 @@
 use lsp_method::Class;
 use mux_members::{
-    Notice, class_in, encoding, has_bare_capabilities, has_token, initialize_request,
-    is_first_result, is_initialize, is_initialized, is_number, is_plain_result, notice_in,
-    reads_versions, speaks,
+    Notice, class_in, encoding, has_token, is_first_result, is_initialize, is_initialized,
+    notice_in, reads_versions, speaks,
 };
 use position_codec::Encoding;
 use rpc_message::Message;
@@ -10,7 +9,7 @@ use rpc_message::Message;
 #[test]
 fn reads_an_editors_requests(rt: HostRuntime) {
     let opening: &[u8] =
-        b"{\"jsonrpc\":\"2.0\",\"id\":\"a\",\"method\":\"initial\\u0069ze\",\"params\":{\"capabilities\":{},\"rootUri\":\"file:///r\",\"initializationOptions\":{\"n\": 1},\"workspaceFolders\":[{\"uri\":1},{\"uri\":\"file:///\\u0061 b\"},{\"uri\":\"file:///c\"}]}}";
+        b"{\"jsonrpc\":\"2.0\",\"id\":\"a\",\"method\":\"initial\\u0069ze\",\"params\":{\"capabilities\":{}}}";
     let hover: &[u8] =
         b"{\"jsonrpc\":\"2.0\",\"id\":7,\"method\":\"textDocument/hover\",\"params\":{\"workDoneToken\":1.5,\"partialResultToken\":\"t\"}}";
     let (Ok(opening), Ok(hover)) = (
@@ -19,39 +18,31 @@ fn reads_an_editors_requests(rt: HostRuntime) {
     ) else {
         panic!(rt; "no text");
     };
-    assert!(rt; is_initialize(&opening) && has_bare_capabilities(&opening) && !has_token(&opening));
+    assert!(rt; is_initialize(&opening) && !has_token(&opening));
     assert!(rt; !is_initialize(&hover) && has_token(&hover) && !is_initialized(&hover));
     assert!(rt; matches!(class_in(&opening), Class::Initialize));
     assert!(rt; matches!(class_in(&hover), Class::Other));
-    let sent = initialize_request(rt.alloc(), &opening).expect(&rt, "memory");
-    assert_eq!(rt;
-        sent.bytes(),
-        b"{\"jsonrpc\":\"2.0\",\"id\":1,\"method\":\"initialize\",\"params\":{\"processId\":null,\"clientInfo\":{\"name\":\"lspmux\"},\"rootUri\":\"file:///a b\",\"initializationOptions\":{\"n\": 1},\"capabilities\":{},\"trace\":\"off\"}}".as_slice()
-    );
 }
 
 #[test]
 fn reads_a_servers_results(rt: HostRuntime) {
-    // a body; whether it is the first result, and whether it is plain
-    let bodies: [(&[u8], bool, bool); 2] = [
+    // a body; whether it is the first result
+    let bodies: [(&[u8], bool); 2] = [
         (
             b"{\"jsonrpc\":\"2.0\",\"id\":1,\"result\":{\"capabilities\":{\"hoverProvider\":true}}}",
-            true,
             true,
         ),
         (
             b"{\"jsonrpc\":\"2.0\",\"id\":\"1\",\"result\":{\"capabilities\":{\"workspace\":null}}}",
             false,
-            false,
         ),
     ];
-    for (body, first, plain) in bodies {
+    for (body, first) in bodies {
         assert!(rt; body.len() < 200);
         let Ok(m) = Message::read(rt.alloc(), body) else {
             panic!(rt; "no text");
         };
         assert_eq!(rt; is_first_result(&m), first, "at {body:?}");
-        assert_eq!(rt; is_plain_result(&m), plain, "at {body:?}");
     }
 }
 
@@ -79,11 +70,6 @@ fn finds_versions(rt: HostRuntime) {
         };
         assert_eq!(rt; reads_versions(&m), versions, "at {body:?}");
     }
-}
-
-#[test]
-fn compares_identifiers(rt: HostRuntime) {
-    assert!(rt; is_number(b"12", 12) && !is_number(b"123", 12) && !is_number(b"\"12\"", 12));
 }
 
 #[test]

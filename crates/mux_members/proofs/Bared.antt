@@ -2,11 +2,11 @@
 use Rattle.std.proofs.Common.{◌≡◌, ℕ, Bool, true, false, ◌||◌, List, codes, refl, ◌∙◌, ap, ap₂}
 use Rattle.std.specs.Prelude.{Option, Some, None, option_map}
 use Rattle.json_text.specs.Bare.{bare}
-use Rattle.json_text.specs.Json.{Json, word, number, string, array, object, no_members, member}
+use Rattle.json_text.specs.Json.{Json, word, number, string, array, object}
 use Rattle.json_text.specs.Named.{named_in}
 use Rattle.json_text.proofs.Put.{named_bare}
 use Rattle.rpc_message.specs.Message.{is_integer_value, is_string_value}
-use Rattle.event_model.specs.Members.{named_of, is_bare_capabilities, is_token, has_token}
+use Rattle.event_model.specs.Members.{named_of, is_token, has_token}
 
 pub in_bare : (cs : List ℕ) (j : Json) → named_in cs (bare j) ≡ option_map bare (named_in cs j)
 in_bare cs (object s ms) = named_bare cs ms
@@ -34,18 +34,6 @@ string_bare (Some (word s w)) = refl
 string_bare (Some (number s ds)) = refl
 string_bare (Some (array s js)) = refl
 string_bare (Some (object s ms)) = refl
-
-capabilities_bare : (o : Option Json) → is_bare_capabilities (option_map bare o) ≡ is_bare_capabilities o
-capabilities_bare None = refl
-capabilities_bare (Some (string s cs)) = refl
-capabilities_bare (Some (word s w)) = refl
-capabilities_bare (Some (number s ds)) = refl
-capabilities_bare (Some (array s js)) = refl
-capabilities_bare (Some (object s no_members)) = refl
-capabilities_bare (Some (object s (member n cs j ms))) = refl
-
-pub params_capabilities : (o : Option Json) → is_bare_capabilities (named_of (codes "capabilities") (option_map bare o)) ≡ is_bare_capabilities (named_of (codes "capabilities") o)
-params_capabilities o = ap is_bare_capabilities (of_bare (codes "capabilities") o) ∙ capabilities_bare (named_of (codes "capabilities") o)
 
 token_bare : (o : Option Json) → is_token (option_map bare o) ≡ is_token o
 token_bare o = ap₂ (λ a b. a || b) (integer_bare o) (string_bare o)

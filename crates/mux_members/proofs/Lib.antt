@@ -1,7 +1,6 @@
 pub mod Bared
 pub mod Encoded
 pub mod Encodings
-pub mod Ids
 pub mod Looks
 pub mod Notices
 pub mod Results

@@ -1,6 +1,6 @@
 -- What is read in a response with a result.
-use Rattle.std.proofs.Common.{◌≡◌, ℕ, Bool, true, false, not, ◌&&◌, ◌||◌, List, ◌∷◌, codes, refl, sym, ◌∙◌, ap, ap₂, subst, Some, None, Option}
-use Rattle.std.specs.Prelude.{bytes_eq, is_some, if◌then◌else◌}
+use Rattle.std.proofs.Common.{◌≡◌, ℕ, Bool, true, false, ◌&&◌, ◌||◌, List, ◌∷◌, codes, refl, sym, ◌∙◌, ap, ap₂, subst, Some, None, Option}
+use Rattle.std.specs.Prelude.{bytes_eq, if◌then◌else◌}
 use Rattle.std.specs.List.{list_any}
 use Rattle.std.specs.Option.{option_map}
 use Rattle.json_text.specs.declared.kind.Word.TheVariants.{Null, False, True}
@@ -13,11 +13,10 @@ use Rattle.rpc_message.specs.declared.envelope.Envelope.{Envelope}
 use Rattle.rpc_message.specs.declared.envelope.Envelope.TheVariants.{Request, Notification, Outcome, Failure}
 use Rattle.rpc_message.specs.Envelopes.{Tells}
 use Rattle.rpc_message.specs.Message.{Id, integer, text, Message, request, notification, result, error, result_tree, response_id, is_integer, is_integer_value, is_string_value}
-use Rattle.mux_model.specs.Built.{is_plain_result}
 use Rattle.event_model.specs.Members.{listed, named_of, has_version, has_versions, is_versioned_edit, reads_versions}
 use Rattle.event_model.specs.Stages.{is_first_result}
 use Rattle.mux_members.specs.Envelopes.{outcome_id, outcome_value}
-use Rattle.mux_members.specs.Results.{any_versioned, is_one, is_plain_value, value_reads_versions}
+use Rattle.mux_members.specs.Results.{any_versioned, is_one, value_reads_versions}
 use Rattle.mux_members.proofs.Bared.{in_bare, integer_bare, of_bare, string_bare}
 use Rattle.rpc_message.proofs.SameIds.{quoted_shape}
 
@@ -56,23 +55,6 @@ told_first doc (Notification n p) m b k t h tell = absurd (cc)
 told_first doc (Failure i f) m b k t h tell = absurd (cc)
 
 -- plain results
-
-some_bare : (o : Option Json) → is_some (option_map bare o) ≡ is_some o
-some_bare None = refl
-some_bare (Some j) = refl
-
-named_twice : (cs ds : List ℕ) (j : Json) → is_some (named_of cs (named_in ds (bare j))) ≡ is_some (named_of cs (named_in ds j))
-named_twice cs ds j = ap (λ o. is_some (named_of cs o)) (in_bare ds j) ∙ ap is_some (of_bare cs (named_in ds j)) ∙ some_bare (named_of cs (named_in ds j))
-
-plain_value : (id : Option Id) (o : Option Json) → is_plain_result (result id (result_tree o)) ≡ is_plain_value o
-plain_value id None = refl
-plain_value id (Some j) = ap₂ (λ a b. not (a || b)) (named_twice (codes "notebookDocumentSync") (codes "capabilities") j) (named_twice (codes "workspace") (codes "capabilities") j)
-
-pub told_plain : (doc : Doc) (e : Envelope) (m : Message) (b : Bool) (n : ℕ) → Tells doc e m → outcome_id e ≡ Some n → ((o : Option Json) → Found doc o (outcome_value e) → b ≡ is_plain_value o) → b ≡ is_plain_result m
-told_plain doc (Outcome i v) m b n t h tell = tell t.value t.value_stands ∙ sym (ap is_plain_result t.is ∙ plain_value t.id t.value)
-told_plain doc (Request i n p) m b k t h tell = absurd (cc)
-told_plain doc (Notification n p) m b k t h tell = absurd (cc)
-told_plain doc (Failure i f) m b k t h tell = absurd (cc)
 
 -- versions
 

@@ -1,18 +1,18 @@
 -- A walk over the values in an array or an object.
-use Rattle.std.proofs.Common.{◌≡◌, ℕ, zero, suc, ◌<◌, Bool, true, false, not, List, [], ◌∷◌, length, drop, refl, sym, ◌∙◌, ap, subst, add-one}
-use Rattle.std.specs.Prelude.{Option, Some, None, MatchOption, is_some}
+use Rattle.std.proofs.Common.{◌≡◌, ℕ, zero, suc, ◌<◌, true, false, List, [], ◌∷◌, length, drop, refl, sym, ◌∙◌, ap, subst, add-one}
+use Rattle.std.specs.Prelude.{Option, Some, None, MatchOption}
 use Rattle.std.specs.List.{slice_get}
 use Rattle.json_text.specs.declared.kind.Word.TheVariants.{Null}
 use Rattle.json_text.specs.Bare.{nowhere}
-use Rattle.json_text.specs.Json.{Json, word, number, string, array, object, no_members, member}
+use Rattle.json_text.specs.Json.{Json, word, number, string, array, object}
 use Rattle.json_text.specs.Named.{children}
 use Rattle.json_nodes.specs.At.{At, Found, ChildAt, FoundChild}
 use Rattle.json_nodes.specs.Doc.{Doc}
 use Rattle.json_nodes.proofs.Bounds.{at_inside}
 use Rattle.json_nodes.proofs.Members.{Inside, Follows, found_child_is, no_child, inside_more}
 use Rattle.json_nodes.proofs.Numbers.{child_at}
-use Rattle.event_model.specs.Members.{listed, is_bare_capabilities}
-use Rattle.mux_members.specs.Finds.{Rest, values_of, is_array_value, is_object_value}
+use Rattle.event_model.specs.Members.{listed}
+use Rattle.mux_members.specs.Finds.{Rest, values_of, is_array_value}
 
 -- lists from one place on
 
@@ -83,29 +83,6 @@ other_listed (Some (object s ms)) e = refl
 other_listed None e = refl
 
 -- an object without members
-
-pub other_bare : (o : Option Json) → is_object_value o ≡ false → true ≡ is_bare_capabilities o
-other_bare (Some (object s ms)) e = absurd (cc)
-other_bare (Some (word s w)) e = refl
-other_bare (Some (number s ds)) e = refl
-other_bare (Some (string s cs)) e = refl
-other_bare (Some (array s js)) e = refl
-other_bare None e = refl
-
-object_bare_so : (doc : Doc) (o : Option Json) (answer : Option ℕ) → is_object_value o ≡ true → Rest doc answer (values_of o) → not (is_some answer) ≡ is_bare_capabilities o
-object_bare_so doc (Some (object s no_members)) None e r = refl
-object_bare_so doc (Some (object s no_members)) (Some m) e r = absurd (let h = rest_first doc m [] r in let i = h.2 in cc)
-object_bare_so doc (Some (object s (member n cs j ms))) None e r = absurd (let h = rest_ends doc (values_of (Some (object s (member n cs j ms)))) r in cc)
-object_bare_so doc (Some (object s (member n cs j ms))) (Some m) e r = refl
-object_bare_so doc (Some (word s w)) answer e r = absurd (cc)
-object_bare_so doc (Some (number s ds)) answer e r = absurd (cc)
-object_bare_so doc (Some (string s cs)) answer e r = absurd (cc)
-object_bare_so doc (Some (array s js)) answer e r = absurd (cc)
-object_bare_so doc None answer e r = absurd (cc)
-
-pub object_bare : (doc : Doc) (o : Option Json) (answer : Option ℕ) (b : Bool) → is_object_value o ≡ true → Rest doc answer (values_of o) → is_some answer ≡ not b → b ≡ is_bare_capabilities o
-object_bare doc o answer true e r h = sym (ap not h) ∙ object_bare_so doc o answer e r
-object_bare doc o answer false e r h = sym (ap not h) ∙ object_bare_so doc o answer e r
 
 -- in the middle of a walk over the items of a list: what f gives for all of them is what it gives for those that are left
 pub record Walking {A : Type 0} (doc : Doc) (list : Option ℕ) (f : List Json → A) (next : Option ℕ) : Type 0 where

@@ -2,21 +2,13 @@
 use Rattle.std.specs.Prelude.{◌≡◌, ℕ, Bool, true, false, List, [], nat_lt, drop}
 use Rattle.std.specs.Prelude.{Option, Some, None}
 use Rattle.std.specs.List.{list_all}
-use Rattle.json_text.specs.declared.span.Span.{Span}
-use Rattle.json_text.specs.Json.{Json, string, array, object}
+use Rattle.json_text.specs.Json.{Json, array, object}
 use Rattle.json_text.specs.Named.{children}
-use Rattle.json_nodes.specs.At.{At, FoundChild}
+use Rattle.json_nodes.specs.At.{FoundChild}
 use Rattle.json_nodes.specs.Doc.{Doc}
 
 abbrev pub is_ascii : List ℕ → Bool
 is_ascii bytes = list_all (λ b. nat_lt b 128) bytes
-
--- the answer is the number of a string of these characters, or there is neither
-abbrev pub FoundText : Doc → Option (List ℕ) → Option ℕ → Type 0
-FoundText doc (Some cs) (Some k) = (s : Span) × At doc k (string s cs)
-FoundText doc None None = Unit {0}
-FoundText doc (Some cs) None = ⊥
-FoundText doc None (Some k) = ⊥
 
 abbrev pub is_array_value : Option Json → Bool
 is_array_value (Some (array s js)) = true

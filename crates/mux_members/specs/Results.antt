@@ -1,5 +1,5 @@
 -- What is read in a result that may be there or not.
-use Rattle.std.specs.Prelude.{Bool, false, not, ◌||◌, List, codes, bytes_eq, is_some}
+use Rattle.std.specs.Prelude.{Bool, false, List, codes, bytes_eq}
 use Rattle.std.specs.Prelude.{Option, Some, None}
 use Rattle.std.specs.List.{list_any}
 use Rattle.json_text.specs.Json.{Json}
@@ -8,17 +8,13 @@ use Rattle.rpc_message.specs.Message.{Id, integer, text}
 use Rattle.position_codec.specs.declared.Encoding.{Encoding}
 use Rattle.position_codec.specs.declared.Encoding.TheVariants.{Utf16}
 use Rattle.mux_model.specs.Documents.{encoding_in}
-use Rattle.event_model.specs.Members.{named_of, has_versions, is_versioned_edit, reads_versions}
+use Rattle.event_model.specs.Members.{has_versions, is_versioned_edit, reads_versions}
 
 -- the integer 1
 abbrev pub is_one : Option Id → Bool
 is_one (Some (integer n)) = bytes_eq n (codes "1")
 is_one (Some (text cs)) = false
 is_one None = false
-
--- an initialize result whose capabilities name neither notebooks nor the workspace
-abbrev pub is_plain_value : Option Json → Bool
-is_plain_value o = not (is_some (named_of (codes "notebookDocumentSync") (named_of (codes "capabilities") o)) || is_some (named_of (codes "workspace") (named_of (codes "capabilities") o)))
 
 abbrev pub any_versioned : List Json → Bool
 any_versioned js = list_any is_versioned_edit js

@@ -2,18 +2,14 @@
 #![tactic(auto)]
 
 mod envelope;
-mod id;
 mod look;
 mod method;
 mod notice;
-mod opening;
 mod outcome;
 mod params;
 
-pub use id::is_number;
 pub use look::{first_item, is_object, member, member_bytes, next_value};
 pub use method::{class_in, is_exit, is_initialize, is_initialized};
 pub use notice::{Notice, notice_in, speaks, string};
-pub use opening::initialize_request;
-pub use outcome::{encoding, is_first_result, is_plain_result, reads_versions};
-pub use params::{has_bare_capabilities, has_token};
+pub use outcome::{encoding, is_first_result, reads_versions};
+pub use params::has_token;

@@ -5,11 +5,10 @@ ghost use Rattle.json_nodes.specs.At.{Found};
 ghost use Rattle.rpc_message.specs.Message.{Id, message_of, response_id};
 ghost use Rattle.rpc_message.specs.Message.{result as outcome_of};
 ghost use Rattle.rpc_message.specs.Parsed.{IsRead};
-ghost use Rattle.mux_model.specs.Built.{is_plain_result};
 ghost use Rattle.mux_model.specs.Documents.{encoding_in};
 ghost use Rattle.event_model.specs.Members.{has_version, has_versions, listed, reads_versions};
 ghost use Rattle.event_model.specs.Stages.{is_first_result};
-ghost use Rattle.mux_members.specs.Results.{any_edit_versioned, any_versioned, is_one, is_plain_value, value_encoding, value_reads_versions};
+ghost use Rattle.mux_members.specs.Results.{any_edit_versioned, any_versioned, is_one, value_encoding, value_reads_versions};
 
 use crate::envelope::{outcome_id, outcome_value};
 use crate::look::{bytes, first_item, is_array, is_integer, is_text, member, next_value, spells};
@@ -30,25 +29,6 @@ pub fn is_first_result(m: &Message) -> bool
 {
     match outcome_id(m) {
         Some(id) => is_one(m.tape(), Some(id)),
-        None => false,
-    }
-}
-
-// Whether a result's capabilities name neither notebooks nor the workspace.
-fn is_plain(tape: &Tape, node: Option<u32>) -> bool
-    ensures { (o : Option Json) → Found tape.now o node → result ≡ is_plain_value o }
-{
-    let capabilities = member(tape, node, "capabilities");
-    member(tape, capabilities, "notebookDocumentSync").is_none()
-        && member(tape, capabilities, "workspace").is_none()
-}
-
-/// Whether it is a result whose capabilities name neither notebooks nor the workspace (LSP 3.17, ServerCapabilities).
-pub fn is_plain_result(m: &Message) -> bool
-    ensures { (bytes : List ℕ) → IsRead m.now bytes → result ≡ is_plain_result (message_of bytes) }
-{
-    match outcome_id(m) {
-        Some(_) => is_plain(m.tape(), outcome_value(m)),
         None => false,
     }
 }
