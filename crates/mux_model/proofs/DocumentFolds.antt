@@ -1,20 +1,10 @@
 -- The words on documents over longer lists of events.
-use Rattle.std.proofs.Common.{◌≡◌, ℕ, List, [], ◌∷◌, ◌++◌, map, fold, None, refl, sym, ap, ◌∙◌, append_assoc, append-nil}
+use Rattle.std.proofs.Common.{◌≡◌, ℕ, List, [], ◌∷◌, map, fold, None, refl, ap}
 use Rattle.mux_history.specs.declared.out.Out.TheVariants.{ToServer}
-use Rattle.document_model.specs.Texts.{Texts, no_texts}
-use Rattle.mux_model.specs.Documents.{encoding_behind, encoding_of, texts_next, texts_from, texts_of, Sent, sent_behind, sent_of}
+use Rattle.mux_model.specs.Documents.{encoding_behind, encoding_of, Sent, sent_behind, sent_of}
 use Rattle.event_model.specs.Event.{Event, behind}
 use Rattle.event_model.specs.Row.{outs}
 use Rattle.mux_model.specs.Rows.{to_start}
-
-texts_both : (before : List Event) (x : Texts) (events evs : List Event) → texts_from before x (events ++ evs) ≡ texts_from (before ++ events) (texts_from before x events) evs
-texts_both before x [] evs = ap (λ b. texts_from b x evs) (sym (append-nil before))
-texts_both before x (event ∷ events) evs = texts_both (before ++ event ∷ []) (texts_next before x event) events evs
-    ∙ ap (λ b. texts_from b (texts_from (before ++ event ∷ []) (texts_next before x event) events) evs) (append_assoc before (event ∷ []) events)
-
--- what is open behind more events
-pub texts_more : (events evs : List Event) → texts_of (events ++ evs) ≡ texts_from events (texts_of events) evs
-texts_more events evs = texts_both [] no_texts events evs
 
 sent_given : (s : ℕ) (u : List ℕ) (x : Sent) (events : List Event) → (fold (sent_behind s u) x events).encoding ≡ fold (encoding_behind s) x.encoding events
 sent_given s u x [] = refl

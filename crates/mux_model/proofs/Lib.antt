@@ -1,3 +1,1 @@
 pub mod DocumentFolds
-pub mod Openings
-mod Worked

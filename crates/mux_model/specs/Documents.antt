@@ -1,22 +1,19 @@
--- What is open at the editors, and what a start has of a document, by the history (LSP 3.17, Text Document Synchronization).
-use Rattle.std.specs.Prelude.{ℕ, not, List, [], ◌∷◌, ◌++◌, filter, fold, codes, nat_eq, bytes_eq, if◌then◌else◌}
+-- How a start counts positions, and what it has of a document, by the history (LSP 3.17, Text Document Synchronization).
+use Rattle.std.specs.Prelude.{ℕ, not, List, filter, fold, codes, nat_eq, bytes_eq, if◌then◌else◌}
 use Rattle.std.specs.Prelude.{Option, Some, None}
-use Rattle.std.specs.Option.{option_and_then}
 use Rattle.json_text.specs.Json.{Json}
 use Rattle.json_text.specs.Named.{named_in}
-use Rattle.mux_history.specs.declared.cause.Cause.TheVariants.{FromEditor, EditorGone, FromServer}
-use Rattle.mux_history.specs.declared.out.Out.TheVariants.{ToServer, CloseEditor}
+use Rattle.mux_history.specs.declared.cause.Cause.TheVariants.{FromServer}
+use Rattle.mux_history.specs.declared.out.Out.TheVariants.{ToServer}
 use Rattle.rpc_message.specs.Message.{Message, result, integer}
 use Rattle.position_codec.specs.declared.Encoding.{Encoding}
 use Rattle.position_codec.specs.declared.Encoding.TheVariants.{Utf8, Utf16, Utf32}
 use Rattle.document_model.specs.Opens.{Open}
 use Rattle.document_model.specs.Helds.{HeldText, told}
 use Rattle.document_model.specs.Sayings.{saying_of}
-use Rattle.document_model.specs.Texts.{Texts, no_texts, texts_behind}
-use Rattle.event_model.specs.Event.{Event, took, did, requests}
+use Rattle.document_model.specs.Texts.{Texts}
+use Rattle.event_model.specs.Event.{Event, took, did}
 use Rattle.event_model.specs.Members.{named_of, string_of}
-use Rattle.event_model.specs.Phases.{desk_of, is_served}
-use Rattle.event_model.specs.Spawns.{start_of, home_of}
 
 -- How positions count (LSP 3.17, PositionEncodingKind): as the result of `initialize` says, and else by units of UTF-16.
 abbrev pub encoding_named : Option (List ℕ) → Encoding
@@ -39,33 +36,9 @@ encoding_behind s given other = given
 abbrev pub encoding_of : ℕ → List Event → Option Encoding
 encoding_of s events = fold (encoding_behind s) None events
 
--- the start of the group of e, and its encoding
-abbrev pub start_for : ℕ → List Event → Option ℕ
-start_for e events = option_and_then (λ g. start_of g events) (home_of e events).group
-
-abbrev pub encoding_for : ℕ → List Event → Option Encoding
-encoding_for e events = option_and_then (λ s. encoding_of s events) (start_for e events)
-
 -- the documents of e end
 abbrev pub without_editor : ℕ → Texts → Texts
 without_editor e x = record { turn = x.turn; opens = filter (λ (o : Open). not (nat_eq o.editor e)) x.opens }
-
-abbrev pub texts_heard : List Event → ℕ → Message → Texts → Texts
-texts_heard before e m x = if requests (codes "shutdown") m then without_editor e x else texts_behind (encoding_for e before) e (saying_of m) x
-
-abbrev pub texts_next : List Event → Texts → Event → Texts
-texts_next before x (took (FromEditor e body) m) = if is_served (desk_of e before).phase then texts_heard before e m x else x
-texts_next before x (took (EditorGone e why) m) = without_editor e x
-texts_next before x (did (CloseEditor e) m) = without_editor e x
-texts_next before x other = x
-
--- the texts behind these events, which come behind those before
-abbrev pub texts_from : List Event → Texts → List Event → Texts
-texts_from before x [] = x
-texts_from before x (event ∷ events) = texts_from (before ++ event ∷ []) (texts_next before x event) events
-
-abbrev pub texts_of : List Event → Texts
-texts_of events = texts_from [] no_texts events
 
 -- what start s has of the document u, with the encoding that it gave
 pub record Sent : Type 0 where
