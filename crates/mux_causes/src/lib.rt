@@ -6,5 +6,5 @@ mod coming;
 mod rows;
 
 pub use backlogs::Backlogs;
-pub use rows::built;
 pub use coming::fits;
+pub use rows::built;
