@@ -8,7 +8,7 @@ use Rattle.event_model.specs.declared.stage.Stage.{Stage}
 use Rattle.event_model.specs.declared.stage.Stage.TheVariants.{Unspawned, Spawning, Initializing, Ready, Stopping, Ending, Ended}
 use Rattle.event_model.specs.Event.{Event, took, did}
 use Rattle.event_model.specs.Settings.{Settings}
-use Rattle.event_model.specs.Spawns.{group_behind, group_of}
+use Rattle.event_model.specs.Spawns.{group_behind}
 use Rattle.event_model.specs.Stages.{Life, life_behind, life_of, may_start, no_life, runs, stage_started, stage_hears, stage_told, stage_ending}
 use Rattle.mux_tables.specs.declared.tables.Start.{Start}
 use Rattle.mux_tables.specs.declared.tables.Tables.{Tables}
