@@ -1,8 +1,7 @@
 // What was sent to each editor and not drained yet.
-ghost use Rattle.std.specs.Prelude.{◌≡◌, ◌-◌, ◌<◌, ◌++◌, ◌∷◌, ℕ, [], List, OnOk, Some, length, slice_get, slice_set};
+ghost use Rattle.std.specs.Prelude.{◌≡◌, ◌<◌, ◌++◌, ◌∷◌, [], List, OnOk, length, slice_get, slice_set};
 ghost use Rattle.event_model.specs.Event.{Event, behind, said, with_cause};
 ghost use Rattle.mux_causes.specs.Backlogs.{BacklogsStand};
-ghost use Rattle.mux_history.specs.declared.cause.Cause.{Cause};
 ghost use Rattle.mux_history.specs.declared.cause.Cause.TheVariants.{Drained, Joined};
 ghost use Rattle.mux_history.specs.declared.out.Out.TheVariants.{ToEditor};
 
@@ -35,7 +34,7 @@ impl Backlogs {
         }
     }
 
-    // The bytes on their way to an editor, where it joined.
+    /// The bytes on their way to an editor; none where it never joined.
     pub fn count(&self, e: u64) -> Option<u64>
         ensures { result ≡ slice_get self.now e }
     {

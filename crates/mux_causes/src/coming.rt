@@ -1,9 +1,9 @@
 // Which causes can come.
-ghost use Rattle.std.specs.Prelude.{◌≡◌, ℕ, ◌&&◌, List, nat_le};
+ghost use Rattle.std.specs.Prelude.{◌≡◌, List, nat_le};
 ghost use Rattle.event_model.specs.Event.{Event};
 ghost use Rattle.event_model.specs.Phases.{backlog_of, desk_of, is_linked};
 ghost use Rattle.event_model.specs.Settings.{Settings};
-ghost use Rattle.event_model.specs.Stages.{Life, life_of, may_start, runs};
+ghost use Rattle.event_model.specs.Stages.{life_of, may_start, runs};
 ghost use Rattle.mux_causes.specs.Backlogs.{BacklogsStand};
 ghost use Rattle.mux_model.specs.Fits.{fits_behind};
 ghost use Rattle.mux_tables.specs.Stands.{Stands};
