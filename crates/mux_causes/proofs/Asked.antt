@@ -1,0 +1,130 @@
+-- Which ids are open at an editor, as the tables have it.
+use Rattle.std.proofs.Common.{◌≡◌, ℕ, zero, suc, ◌≤◌, Bool, true, false, cond, ◌&&◌, ◌||◌, List, [], ◌∷◌, map, length, find, nat_eq, refl, ap, sym, subst, ◌∙◌, arith}
+use Rattle.std.specs.Prelude.{Option, Some, None, is_some, option_map, slice_get}
+use Rattle.std.specs.List.{AllByRecursion}
+use Rattle.std.specs.Option.{option_and_then}
+use Rattle.std.proofs.lemmas.Bool.Decides.{nat_tests}
+use Rattle.json_text.specs.Json.{Json}
+use Rattle.rpc_message.specs.Message.{Message, request, notification, result, error, not_json, not_message, Id, id_bytes, message_of, same_id}
+use Rattle.rpc_message.specs.ValueTexts.{IsIdText}
+use Rattle.rpc_message.proofs.Ids.{request_id_bytes}
+use Rattle.event_model.specs.declared.phase.Phase.TheVariants.{Absent, Waiting}
+use Rattle.event_model.specs.Event.{Event}
+use Rattle.event_model.specs.Phases.{desk_of, has_id, is_served, needs_server}
+use Rattle.event_model.specs.Requests.{is_open, open_of}
+use Rattle.event_model.specs.Settings.{Settings}
+use Rattle.event_model.specs.Spawns.{start_of}
+use Rattle.event_model.proofs.Places.{same_item}
+use Rattle.group_facts.specs.Facts.{AllForwarded, IsForwarded}
+use Rattle.group_facts.specs.Settled.{Settled}
+use Rattle.group_rows.specs.Forwarded.{Forwarded, forwarding_of}
+use Rattle.group_words.specs.Houses.{home_of}
+use Rattle.id_rewrite.specs.declared.pending.Numbered.{Numbered}
+use Rattle.id_rewrite.specs.Forms.{same_form}
+use Rattle.id_rewrite.specs.Tables.{is_under, number_under}
+use Rattle.id_rewrite.proofs.Finding.{texts_same}
+use Rattle.mux_facts.proofs.Words.{id_same, same_id_itself}
+use Rattle.mux_tables.specs.declared.tables.Start.{Start}
+use Rattle.mux_tables.specs.declared.tables.Tables.{Tables}
+use Rattle.mux_tables.specs.Names.{id_in}
+use Rattle.mux_tables.specs.Stands.{Stands, forwarded_of, of_ids, start_for}
+use Rattle.mux_tables.proofs.Frames.{itself}
+use Rattle.mux_tables.proofs.Seen.{phase_past}
+
+or_nothing : (a : Bool) → a ≡ (a || false)
+or_nothing true = refl
+or_nothing false = refl
+
+both : (a b : Bool) → (a && b) ≡ true → (a ≡ true) × (b ≡ true)
+both true b e = (refl, e)
+both false b e = absurd (cc)
+
+agree : (a b : Bool) → (a ≡ true → b ≡ true) → (b ≡ true → a ≡ true) → a ≡ b
+agree true b there back = sym (there refl)
+agree false true there back = back refl
+agree false false there back = refl
+
+nothing_some : {A : Type 0} {x : A} → ◌≡◌ {A = Option A} None (Some x) → ⊥
+nothing_some e = cc
+
+-- a request has its id
+named : (i : Id) (m : Message) → has_id i m ≡ true → (method : List ℕ) × ((params : Option Json) × (m ≡ request i method params))
+named i (request j method params) h = (method, (params, ap (λ k. request k method params) (sym (id_same i j h))))
+named i (notification method params) h = absurd (cc)
+named i (result id r) h = absurd (cc)
+named i (error id e) h = absurd (cc)
+named i not_json h = absurd (cc)
+named i not_message h = absurd (cc)
+
+-- of an editor that waits
+module _ (settings : Settings) (t : Tables) (before : List Event) (e : ℕ) (i : Id) (known : Settled settings before) (st : Stands settings t before) (waits : (desk_of e before).phase ≡ Waiting) where
+  kept_id : id_in (slice_get t.editors e) ≡ Some (id_bytes (desk_of e before).initialize)
+  kept_id = let seat = known.seated e (ap needs_server waits) in (st.house.editors.names e).own seat.group waits seat.home
+
+  pub own_here : (w : List ℕ) (b : Bool) → id_in (slice_get t.editors e) ≡ Some w → ((j : Id) → IsIdText j w → b ≡ same_id i j) → b ≡ is_open i (open_of e before)
+  own_here w b at test =
+      let own = known.waiting e waits in
+      let is = named own.id (message_of (desk_of e before).initialize) own.asked in
+      let same : w ≡ id_bytes (desk_of e before).initialize = same_item (sym at ∙ kept_id) in
+      test own.id (subst (λ v. IsIdText own.id v) (sym same) (request_id_bytes (desk_of e before).initialize own.id is.0 is.1.0 is.1.1)) ∙ (or_nothing (same_id i own.id) ∙ ap (is_open i) (sym own.ids))
+
+  pub own_nowhere : id_in (slice_get t.editors e) ≡ None → false ≡ is_open i (open_of e before)
+  own_nowhere at = absurd (nothing_some (sym at ∙ kept_id))
+
+  pub own_past : length t.editors ≤ e → false ≡ is_open i (open_of e before)
+  own_past past = absurd (clash (phase_past settings t before e st past ∙ waits))
+    where
+      clash : Absent ≡ Waiting → ⊥
+      clash q = cc
+
+-- of one that is served
+module _ (settings : Settings) (t : Tables) (before : List Event) (e : ℕ) (i : Id) (known : Settled settings before) (served : is_served (desk_of e before).phase ≡ true) where
+  pub sent_nowhere : start_for settings e before ≡ None → false ≡ is_open i (open_of e before)
+  sent_nowhere none = go (is_open i (open_of e before)) refl
+    where
+      go : (b : Bool) → is_open i (open_of e before) ≡ b → false ≡ b
+      go false h = refl
+      go true h = let x = known.sent e i served h in absurd (nothing_some (sym none ∙ (ap (option_and_then (λ g. start_of g before)) x.home ∙ x.last)))
+
+  module _ (w : List ℕ) (text : IsIdText i w) where
+    found_open : (rs : List Numbered) → AllByRecursion (IsForwarded before) (map forwarded_of rs) → is_some (number_under e w rs) ≡ true → is_open i (open_of e before) ≡ true
+    found_open [] all h = absurd (cc)
+    found_open (r ∷ rs) all h = go (is_under e w r) refl h (λ k. found_open rs all.1 k)
+      where
+        same_editor : (a b : ℕ) → nat_eq a b ≡ true → a ≡ b
+        same_editor a b h = grind (arith, nat_tests)
+
+        go : (b : Bool) → is_under e w r ≡ b → is_some (option_map (λ (q : Numbered). q.number) (cond b (Some r) (find (is_under e w) rs))) ≡ true → (is_some (number_under e w rs) ≡ true → is_open i (open_of e before) ≡ true) → is_open i (open_of e before) ≡ true
+        go true u h rest =
+            let two = both (nat_eq r.pending.editor e) (same_form w r.pending.id) u in
+            let k = all.0 in
+            let same : i ≡ k.id = id_same i k.id (sym (texts_same i k.id w r.pending.id text k.text) ∙ two.1) in
+            subst (λ n. is_open i (open_of n before) ≡ true) (same_editor r.pending.editor e two.0) (subst (λ j. is_open j (open_of r.pending.editor before) ≡ true) (sym same) k.waits)
+        go false u h rest = rest h
+
+    open_found : (rs : List Numbered) (k : ℕ) (f : Forwarded) → slice_get (map forwarded_of rs) k ≡ Some f → f.editor ≡ e → IsIdText i f.id → is_some (number_under e w rs) ≡ true
+    open_found [] k f at own id = absurd (nothing_some at)
+    open_found (r ∷ rs) zero f at own id = ap (λ b. is_some (option_map (λ (q : Numbered). q.number) (cond b (Some r) (find (is_under e w) rs)))) under
+      where
+        is : forwarded_of r ≡ f
+        is = same_item at
+
+        under : is_under e w r ≡ true
+        under = ap (λ n. nat_eq n e && same_form w r.pending.id) (ap (λ (x : Forwarded). x.editor) is ∙ own) ∙ (ap (λ b. b && same_form w r.pending.id) (itself e) ∙ (texts_same i i w r.pending.id text (subst (λ (x : Forwarded). IsIdText i x.id) (sym is) id) ∙ same_id_itself i))
+    open_found (r ∷ rs) (suc k) f at own id = go (is_under e w r) (open_found rs k f at own id)
+      where
+        go : (b : Bool) → is_some (number_under e w rs) ≡ true → is_some (option_map (λ (q : Numbered). q.number) (cond b (Some r) (find (is_under e w) rs))) ≡ true
+        go true rest = refl
+        go false rest = rest
+
+    pub sent_here : (g : ℕ) (z : Start) (b : Bool) → AllForwarded before → Stands settings t before → home_of settings e before ≡ Some g → slice_get t.lasts.items g ≡ Some z → b ≡ is_some (number_under e w z.ids.requests) → b ≡ is_open i (open_of e before)
+    sent_here g z b asked st home here is =
+        let last = st.lasts.each g z here in
+        let opened = (last.parts of_ids).open_requests in
+        is ∙ agree (is_some (number_under e w z.ids.requests)) (is_open i (open_of e before))
+        (found_open z.ids.requests (subst (AllByRecursion (IsForwarded before)) opened (asked z.life.start)))
+        (λ h.
+        let x = known.sent e i served h in
+        let group : x.group ≡ g = same_item (sym x.home ∙ home) in
+        let start : x.start ≡ z.life.start = same_item (sym x.last ∙ (ap (λ n. start_of n before) group ∙ last.start)) in
+        open_found z.ids.requests x.place x.request (subst (λ fs. slice_get fs x.place ≡ Some x.request) (ap (λ n. (forwarding_of n before).open_requests) start ∙ opened) x.at) x.editor x.text)

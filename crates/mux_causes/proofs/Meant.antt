@@ -1,0 +1,180 @@
+-- What is built of a message, by what it is.
+use Rattle.std.proofs.Common.{◌≡◌, ℕ, ◌<◌, Bool, true, false, cond, not, ◌&&◌, ◌||◌, List, [], ◌∷◌, map, length, find, nat_eq, codes, refl, ap, sym, ◌∙◌}
+use Rattle.std.specs.Prelude.{Option, Some, None, is_some, option_map, slice_get}
+use Rattle.json_text.specs.Json.{Json}
+use Rattle.document_model.specs.Sayings.{saying_of, speaks}
+use Rattle.rpc_message.specs.declared.sort.Sort.{Sort}
+use Rattle.rpc_message.specs.declared.sort.Sort.TheVariants as sort
+use Rattle.rpc_message.specs.Message.{Message, request, notification, result, error, not_json, not_message, Id, message_of}
+use Rattle.rpc_message.specs.declared.envelope.Envelope.{Envelope}
+use Rattle.rpc_message.specs.declared.envelope.Envelope.TheVariants.{Request, Notification, Outcome, Failure}
+use Rattle.rpc_message.specs.Envelopes.{Tells}
+use Rattle.rpc_message.specs.Parsed.{IsRead, Parsed}
+use Rattle.rpc_message.specs.Sorts.{sort_of}
+use Rattle.event_model.specs.declared.phase.Phase.{Phase}
+use Rattle.event_model.specs.declared.phase.Phase.TheVariants.{Absent, New, Waiting, Answered, Running, Down, Closed, Gone}
+use Rattle.event_model.specs.declared.stage.Stage.{Stage}
+use Rattle.event_model.specs.declared.stage.Stage.TheVariants.{Unspawned, Spawning, Initializing, Ready, Stopping, Ending, Ended}
+use Rattle.event_model.specs.Event.{Event, notifies}
+use Rattle.event_model.specs.Members.{reads_versions}
+use Rattle.event_model.specs.Phases.{is_malformed}
+use Rattle.event_model.specs.Settings.{Settings}
+use Rattle.event_model.specs.Stages.{is_first_result}
+use Rattle.group_facts.specs.Built.{built_answer, built_as, built_from_editor, built_from_server, built_response, is_passed_plainly, is_shown_whole}
+use Rattle.group_rows.specs.Forwarded.{Forwarded, answered_by, forwarding_of, is_under}
+use Rattle.id_rewrite.specs.declared.pending.Numbered.{Numbered}
+use Rattle.id_rewrite.specs.Tables.{has_number, pending_of}
+use Rattle.mux_tables.specs.declared.tables.Start.{Start}
+use Rattle.mux_tables.specs.declared.tables.Tables.{Tables}
+use Rattle.mux_tables.specs.Stands.{NamesAt, Stands, forwarded_of, is_over, number_in, of_ids}
+use Rattle.mux_tables.proofs.Starts.{start_at_place}
+use Rattle.mux_turns.proofs.Matched.{found_none, found_some}
+
+-- what a message of each sort is
+
+pub is_request : (m : Message) → sort_of m ≡ Some sort.Request → (id : Id) × ((method : List ℕ) × ((params : Option Json) × (m ≡ request id method params)))
+is_request (request id method params) h = (id, (method, (params, refl)))
+is_request (notification method params) h = absurd (cc)
+is_request (result id r) h = absurd (cc)
+is_request (error id e) h = absurd (cc)
+is_request not_json h = absurd (cc)
+is_request not_message h = absurd (cc)
+
+pub is_result : (m : Message) → sort_of m ≡ Some sort.Result → (id : Option Id) × ((r : Json) × (m ≡ result id r))
+is_result (result id r) h = (id, (r, refl))
+is_result (request id method params) h = absurd (cc)
+is_result (notification method params) h = absurd (cc)
+is_result (error id e) h = absurd (cc)
+is_result not_json h = absurd (cc)
+is_result not_message h = absurd (cc)
+
+-- of an editor
+
+pub notice_built : (phase : Phase) (ids : List Id) (m : Message) (a b : Bool) → sort_of m ≡ Some sort.Notification → a ≡ notifies (codes "initialized") m → b ≡ speaks (saying_of m) → (a || b) ≡ built_from_editor phase ids m
+notice_built phase ids (notification method params) a b h i s = rw (i, s) refl
+notice_built phase ids (request id method params) a b h i s = absurd (cc)
+notice_built phase ids (result id r) a b h i s = absurd (cc)
+notice_built phase ids (error id e) a b h i s = absurd (cc)
+notice_built phase ids not_json a b h i s = absurd (cc)
+notice_built phase ids not_message a b h i s = absurd (cc)
+
+pub no_response_built : (phase : Phase) (ids : List Id) (m : Message) (x : Sort) → sort_of m ≡ Some x → (x ≡ sort.Request → ⊥) → (x ≡ sort.Notification → ⊥) → false ≡ built_from_editor phase ids m
+no_response_built phase ids (request id method params) x h r n = absurd (r (cc))
+no_response_built phase ids (notification method params) x h r n = absurd (n (cc))
+no_response_built phase ids (result id v) x h r n = refl
+no_response_built phase ids (error id e) x h r n = refl
+no_response_built phase ids not_json x h r n = absurd (cc)
+no_response_built phase ids not_message x h r n = absurd (cc)
+
+-- of a start
+
+some_mapped : (k : ℕ) (rs : List Numbered) → is_some (pending_of k rs) ≡ is_some (find (is_under k) (map forwarded_of rs))
+some_mapped k [] = refl
+some_mapped k (r ∷ rs) = go (nat_eq r.number k) (some_mapped k rs)
+  where
+    go : (b : Bool) → is_some (pending_of k rs) ≡ is_some (find (is_under k) (map forwarded_of rs)) → is_some (option_map (λ (q : Numbered). q.pending) (cond b (Some r) (find (has_number k) rs))) ≡ is_some (cond b (Some (forwarded_of r)) (find (is_under k) (map forwarded_of rs)))
+    go true h = refl
+    go false h = h
+
+module _ (settings : Settings) (t : Tables) (before : List Event) (g s : ℕ) (id : Option Id) (st : Stands settings t before) (within : g < length t.lasts.items) (at : slice_get (map number_in t.lasts.items) g ≡ Some s) where
+  pub asked_here : (z : Start) (k : ℕ) (b : Bool) → slice_get t.lasts.items g ≡ Some z → NamesAt id (Some k) → b ≡ is_some (pending_of k z.ids.requests) → b ≡ is_some (find (answered_by id) (forwarding_of s before).open_requests)
+  asked_here z k b here names is =
+      let own = start_at_place t.lasts.items g s z here at in
+      let opened = ap (λ n. (forwarding_of n before).open_requests) (sym own) ∙ ((st.lasts.each g z here).parts of_ids).open_requests in
+      is ∙ (some_mapped k z.ids.requests ∙ (ap (λ fs. is_some (find (is_under k) fs)) (sym opened) ∙ ap is_some (sym (found_some settings t before g s id st within at k names))))
+
+  pub asked_nowhere : NamesAt id None → false ≡ is_some (find (answered_by id) (forwarding_of s before).open_requests)
+  asked_nowhere names = ap is_some (sym (found_none settings t before g s id st within at names))
+
+pub plainly : (o : Option Forwarded) (r : Json) (a v : Bool) → a ≡ is_some o → v ≡ reads_versions r → (not a || not v) ≡ is_passed_plainly o r
+plainly None r a v is reads = rw is refl
+plainly (Some f) r a v is reads = rw (is, reads) refl
+
+pub failure_built : (fs : List Forwarded) (m : Message) → sort_of m ≡ Some sort.Error → true ≡ built_response fs m
+failure_built fs (error id e) h = refl
+failure_built fs (request id method params) h = absurd (cc)
+failure_built fs (notification method params) h = absurd (cc)
+failure_built fs (result id r) h = absurd (cc)
+failure_built fs not_json h = absurd (cc)
+failure_built fs not_message h = absurd (cc)
+
+pub no_call_built : (fs : List Forwarded) (m : Message) (x : Sort) → sort_of m ≡ Some x → (x ≡ sort.Result → ⊥) → (x ≡ sort.Error → ⊥) → false ≡ built_response fs m
+no_call_built fs (request id method params) x h r e = refl
+no_call_built fs (notification method params) x h r e = refl
+no_call_built fs (result id v) x h r e = absurd (r (cc))
+no_call_built fs (error id v) x h r e = absurd (e (cc))
+no_call_built fs not_json x h r e = refl
+no_call_built fs not_message x h r e = refl
+
+-- a start that is over
+pub over_built : (stage : Stage) (fs : List Forwarded) (m : Message) (b : Bool) → is_over stage ≡ true → false ≡ (built_answer stage fs m && b)
+over_built Unspawned fs m b h = refl
+over_built Spawning fs m b h = refl
+over_built Initializing fs m b h = absurd (cc)
+over_built Ready fs m b h = absurd (cc)
+over_built Stopping fs m b h = refl
+over_built Ending fs m b h = refl
+over_built Ended fs m b h = refl
+
+-- a message that was read isn't malformed
+pub read_well : (p : Parsed) (body : List ℕ) → IsRead p body → is_malformed (message_of body) ≡ false
+read_well p body r = go p.envelope r.tells
+  where
+    go : (v : Envelope) → Tells p.doc v (message_of body) → is_malformed (message_of body) ≡ false
+    go (Request id method params) t = ap is_malformed t.is
+    go (Notification method params) t = ap is_malformed t.is
+    go (Outcome id value) t = ap is_malformed t.is
+    go (Failure id failure) t = ap is_malformed t.is
+
+pub server_read : (stage : Stage) (fs : List Forwarded) (body : List ℕ) (m : Message) → is_malformed m ≡ false → (built_answer stage fs m && (not (is_first_result m) || is_shown_whole body)) ≡ built_from_server stage fs body m
+server_read stage fs body m h = ap (λ b. b || (built_answer stage fs m && (not (is_first_result m) || is_shown_whole body))) (sym h)
+
+pub and_on : (a b : Bool) → b ≡ true → a ≡ (a && b)
+and_on true true h = refl
+and_on false true h = refl
+and_on a false h = absurd (cc)
+
+pub and_off : (a b : Bool) → b ≡ false → false ≡ (a && b)
+and_off true false h = refl
+and_off false false h = refl
+and_off a true h = absurd (cc)
+
+pub not_answered : {a : Bool} (b : Bool) → a ≡ false → false ≡ (a && b)
+not_answered b h = ap (λ x. x && b) (sym h)
+
+-- by where the start stands
+pub first_answer : (x y : Stage) (fs : List Forwarded) (m : Message) (b : Bool) → y ≡ Initializing → y ≡ x → b ≡ is_first_result m → b ≡ built_answer x fs m
+first_answer x y fs m b e same is = is ∙ ap (λ z. built_answer z fs m) (sym e ∙ same)
+
+pub ready_answer : (x y : Stage) (fs : List Forwarded) (m : Message) (b : Bool) → y ≡ Ready → y ≡ x → b ≡ built_response fs m → b ≡ built_answer x fs m
+ready_answer x y fs m b e same is = is ∙ ap (λ z. built_answer z fs m) (sym e ∙ same)
+
+pub other_answer : (x y : Stage) (fs : List Forwarded) (m : Message) → (y ≡ Initializing → ⊥) → (y ≡ Ready → ⊥) → y ≡ x → false ≡ built_answer x fs m
+other_answer Unspawned y fs m i r same = refl
+other_answer Spawning y fs m i r same = refl
+other_answer Initializing y fs m i r same = absurd (i same)
+other_answer Ready y fs m i r same = absurd (r same)
+other_answer Stopping y fs m i r same = refl
+other_answer Ending y fs m i r same = refl
+other_answer Ended y fs m i r same = refl
+
+-- where requests are built
+pub only_new : (p : Phase) (method : List ℕ) (params : Option Json) → built_as p method params ≡ true → (p ≡ Waiting → ⊥) → (p ≡ Answered → ⊥) → (p ≡ Running → ⊥) → p ≡ New
+only_new New method params h w a r = refl
+only_new Waiting method params h w a r = absurd (w refl)
+only_new Answered method params h w a r = absurd (a refl)
+only_new Running method params h w a r = absurd (r refl)
+only_new Absent method params h w a r = absurd (cc)
+only_new Down method params h w a r = absurd (cc)
+only_new Closed method params h w a r = absurd (cc)
+only_new Gone method params h w a r = absurd (cc)
+
+pub and_first : (a b : Bool) → a ≡ true → b ≡ (a && b)
+and_first a b h = ap (λ x. x && b) (sym h)
+
+pub or_first : (a b : Bool) → a ≡ true → a ≡ (a || b)
+or_first true b h = refl
+or_first false b h = absurd (cc)
+
+pub or_second : (a b : Bool) → a ≡ false → b ≡ (a || b)
+or_second a b h = ap (λ x. x || b) (sym h)

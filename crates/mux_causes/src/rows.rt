@@ -1,0 +1,284 @@
+// Which causes meet rows of the routing table that are built.
+ghost use Rattle.std.specs.Prelude.{◌≡◌, ◌≤◌, ◌<◌, ◌&&◌, ◌||◌, ℕ, not, true, length, map, find, is_some, List, Option, Some, IfOk, slice_get};
+ghost use Rattle.event_model.specs.declared.phase.Phase.TheVariants.{Waiting};
+ghost use Rattle.event_model.specs.Event.{Event};
+ghost use Rattle.event_model.specs.Members.{has_token, reads_versions};
+ghost use Rattle.event_model.specs.Phases.{desk_of, is_served};
+ghost use Rattle.event_model.specs.Requests.{answered_id, is_open, open_of};
+ghost use Rattle.event_model.specs.Settings.{Settings};
+ghost use Rattle.event_model.specs.Stages.{is_first_result, life_of};
+ghost use Rattle.group_facts.specs.Built.{built_answer, built_as, built_behind, built_from_editor, built_from_server, built_response, is_passed_plainly, is_plain, is_shown_whole};
+ghost use Rattle.group_facts.specs.Facts.{Known};
+ghost use Rattle.group_facts.specs.Settled.{Settled};
+ghost use Rattle.group_rows.specs.Forwarded.{answered_by, forwarding_of};
+ghost use Rattle.group_words.specs.Rows.{shown_of};
+ghost use Rattle.json_text.specs.Json.{Json};
+ghost use Rattle.mux_history.specs.Cores.{body_length};
+ghost use Rattle.mux_model.specs.Built.{is_other};
+ghost use Rattle.mux_tables.specs.Stands.{Stands, number_in};
+ghost use Rattle.rpc_message.specs.Message.{Id, message_of, request, result as outcome};
+ghost use Rattle.rpc_message.specs.Parsed.{IsRead};
+ghost use Rattle.rpc_message.specs.ValueTexts.{IsIdText};
+
+use capability_meet::{CapFault, shown};
+use event_model::{Phase, Stage};
+use lsp_method::Class;
+use message_body::{Body, Memory};
+use mux_history::Cause;
+use mux_members::{
+    class_in, has_token, is_first_result, is_initialize, is_initialized, reads_versions, speaks,
+};
+use mux_tables::Tables;
+use mux_turns::answered_number;
+use rpc_message::{Malformed, Message, Sort, same_id};
+use std::alloc::Global;
+
+// Whether this is the class of requests that are passed on.
+fn is_other(class: Class) -> bool
+    ensures { result ≡ is_other class }
+{
+    matches!(class, Class::Other)
+}
+
+// E8 and E10: whether a request is of that class.
+fn is_plain(message: &Message) -> bool
+    ensures { (body method : List ℕ) (id : Id) (params : Option Json) → IsRead message.now body → message_of body ≡ request id method params
+        → result ≡ is_plain method }
+{
+    is_other(class_in(message))
+}
+
+// Behind the answer to `initialize`: whether it is, and has no tokens.
+fn is_bare(message: &Message) -> bool
+    ensures { (body method : List ℕ) (id : Id) (params : Option Json) → IsRead message.now body → message_of body ≡ request id method params
+        → result ≡ (is_plain method && not (has_token params)) }
+{
+    is_plain(message) && !has_token(message)
+}
+
+// Whether a request of an editor in this phase is built, whatever its id is.
+fn built_as(phase: Phase, message: &Message) -> bool
+    ensures { (body method : List ℕ) (id : Id) (params : Option Json) → IsRead message.now body → message_of body ≡ request id method params
+        → result ≡ built_as phase method params }
+{
+    match phase {
+        Phase::New => is_initialize(message) || is_plain(message),
+        Phase::Waiting => is_plain(message),
+        Phase::Answered => is_bare(message),
+        Phase::Running => is_bare(message),
+        _ => false,
+    }
+}
+
+// Of an editor that waits: whether this is the id of its `initialize`.
+fn is_own(tables: &Tables, e: u64, id: &[u8]) -> bool
+    ensures { (settings : Settings) (before : List Event) (i : Id) → Settled settings before → Stands settings tables.now before → IsIdText i id.now
+        → (desk_of e before).phase ≡ Waiting → result ≡ is_open i (open_of e before) }
+{
+    if e >= tables.editors.count() {
+        return false;
+    }
+    match tables.initialize_id(e) {
+        Some(own) => same_id(id, own.bytes()),
+        None => false,
+    }
+}
+
+// Of an editor that is served: whether a request of it under this id is open at the last start of its group.
+fn is_sent(tables: &Tables, e: u64, id: &[u8]) -> bool
+    ensures { (settings : Settings) (before : List Event) (i : Id) → Known settings before → Settled settings before
+        → Stands settings tables.now before → IsIdText i id.now → is_served (desk_of e before).phase ≡ true → result ≡ is_open i (open_of e before) }
+{
+    match tables.place(e) {
+        Some(g) => tables.lasts[g].ids.find(e, id).is_some(),
+        None => false,
+    }
+}
+
+// E3: whether a request of an editor under this id is open, if requests are built in its phase.
+fn is_open(tables: &Tables, e: u64, phase: Phase, id: &[u8]) -> bool
+    ensures { (settings : Settings) (before : List Event) (i : Id) (method : List ℕ) (params : Option Json) → Known settings before
+        → Settled settings before → Stands settings tables.now before → IsIdText i id.now → phase ≡ (desk_of e before).phase
+        → built_as phase method params ≡ true → result ≡ is_open i (open_of e before) }
+{
+    match phase {
+        Phase::Waiting => is_own(tables, e, id),
+        Phase::Answered => is_sent(tables, e, id),
+        Phase::Running => is_sent(tables, e, id),
+        _ => false,
+    }
+}
+
+// A request of an editor.
+fn built_request(tables: &Tables, e: u64, phase: Phase, message: &Message) -> bool
+    ensures { (settings : Settings) (before : List Event) (body method : List ℕ) (id : Id) (params : Option Json) → Known settings before
+        → Settled settings before → Stands settings tables.now before → IsRead message.now body → message_of body ≡ request id method params
+        → phase ≡ (desk_of e before).phase → result ≡ (not (is_open id (open_of e before)) && built_as phase method params) }
+{
+    built_as(phase, message) && !is_open(tables, e, phase, message.id_bytes())
+}
+
+// A message of an editor.
+fn built_message(tables: &Tables, e: u64, message: &Message) -> bool
+    ensures { (settings : Settings) (before : List Event) (body : List ℕ) → Known settings before
+        → Settled settings before → Stands settings tables.now before → IsRead message.now body
+        → result ≡ built_from_editor (desk_of e before).phase (open_of e before) (message_of body) }
+{
+    match message.sort() {
+        Sort::Request => built_request(tables, e, tables.phase(e), message),
+        Sort::Notification => is_initialized(message) || speaks(message),
+        _ => false,
+    }
+}
+
+// A body of an editor.
+fn built_from_editor(tables: &Tables, alloc: Global, e: u64, body: &Body) -> Result<bool, Memory>
+    requires { length body.now ≤ 268435456 }
+    ensures { (settings : Settings) (before : List Event) → Known settings before → Settled settings before → Stands settings tables.now before
+        → IfOk result (λ answer. answer ≡ built_from_editor (desk_of e before).phase (open_of e before) (message_of body.now)) }
+{
+    match Message::read(alloc, body.bytes()) {
+        Ok(message) => Ok(built_message(tables, e, &message)),
+        Err(Malformed::Memory) => Err(Memory),
+        Err(Malformed::NotJson) => Ok(true),
+        Err(Malformed::NotMessage) => Ok(true),
+    }
+}
+
+// What editors are shown of a start's result.
+fn shown_of(alloc: Global, answer: &[u8]) -> Result<Body, Memory>
+    ensures { IfOk result (λ body. body ≡ shown_of answer.now) }
+{
+    if answer.len() > 268_435_456 {
+        return Err(Memory);
+    }
+    match shown(alloc, answer) {
+        Ok(body) => Ok(body),
+        Err(CapFault::NotJson) => Ok(Body::new(Vec::new(alloc))),
+        Err(CapFault::Memory) => Err(Memory),
+    }
+}
+
+// S2: whether they are shown all of it.
+fn is_shown_whole(alloc: Global, message: &Message) -> Result<bool, Memory>
+    ensures { (body : List ℕ) → IsRead message.now body → IfOk result (λ answer. answer ≡ is_shown_whole body) }
+{
+    let answer = message.result_bytes();
+    let told = shown_of(alloc, answer)?;
+    Ok(told.bytes() == answer)
+}
+
+// S5: whether a response of a group's last start answers a request that is open there.
+fn is_asked(tables: &Tables, g: usize, message: &Message) -> bool
+    requires { g < length tables.now.lasts.items }
+    ensures { (settings : Settings) (before : List Event) (body : List ℕ) (s : ℕ) → slice_get (map number_in tables.now.lasts.items) g ≡ Some s
+        → Stands settings tables.now before → IsRead message.now body
+        → result ≡ is_some (find (answered_by (answered_id (message_of body))) (forwarding_of s before).open_requests) }
+{
+    match answered_number(message) {
+        Some(n) => tables.lasts[g].ids.get(n).is_some(),
+        None => false,
+    }
+}
+
+// S5: whether a result may be passed on: it answers no request that is open, or has no versions.
+fn passes(tables: &Tables, g: usize, message: &Message) -> bool
+    requires { g < length tables.now.lasts.items }
+    ensures { (settings : Settings) (before : List Event) (body : List ℕ) (s : ℕ) (id : Option Id) (value : Json)
+        → slice_get (map number_in tables.now.lasts.items) g ≡ Some s → Stands settings tables.now before → IsRead message.now body
+        → message_of body ≡ outcome id value → result ≡ is_passed_plainly (find (answered_by id) (forwarding_of s before).open_requests) value }
+{
+    !is_asked(tables, g, message) || !reads_versions(message)
+}
+
+// A message of a start that is ready.
+fn built_response(tables: &Tables, g: usize, message: &Message) -> bool
+    requires { g < length tables.now.lasts.items }
+    ensures { (settings : Settings) (before : List Event) (body : List ℕ) (s : ℕ) → slice_get (map number_in tables.now.lasts.items) g ≡ Some s
+        → Stands settings tables.now before → IsRead message.now body
+        → result ≡ built_response (forwarding_of s before).open_requests (message_of body) }
+{
+    match message.sort() {
+        Sort::Result => passes(tables, g, message),
+        Sort::Error => true,
+        _ => false,
+    }
+}
+
+// A message of a start, by where it stands.
+fn built_answer(tables: &Tables, g: usize, message: &Message) -> bool
+    requires { g < length tables.now.lasts.items }
+    ensures { (settings : Settings) (before : List Event) (body : List ℕ) (s : ℕ) → slice_get (map number_in tables.now.lasts.items) g ≡ Some s
+        → Stands settings tables.now before → IsRead message.now body
+        → result ≡ built_answer (life_of s before).stage (forwarding_of s before).open_requests (message_of body) }
+{
+    match tables.stage(g) {
+        Stage::Initializing => is_first_result(message),
+        Stage::Ready => built_response(tables, g, message),
+        _ => false,
+    }
+}
+
+// S2: whether editors are shown all of a result of `initialize`; of another message nothing is asked.
+fn is_plainly_shown(alloc: Global, message: &Message) -> Result<bool, Memory>
+    ensures { (body : List ℕ) → IsRead message.now body
+        → IfOk result (λ answer. answer ≡ (not (is_first_result (message_of body)) || is_shown_whole body)) }
+{
+    if is_first_result(message) {
+        is_shown_whole(alloc, message)
+    } else {
+        Ok(true)
+    }
+}
+
+// A message of the start of this number.
+fn built_from_start(
+    tables: &Tables,
+    alloc: Global,
+    s: u64,
+    message: &Message,
+) -> Result<bool, Memory>
+    ensures { (settings : Settings) (before : List Event) (body : List ℕ) → Stands settings tables.now before → IsRead message.now body
+        → IfOk result (λ answer. answer ≡ (built_answer (life_of s before).stage (forwarding_of s before).open_requests (message_of body)
+        && (not (is_first_result (message_of body)) || is_shown_whole body))) }
+{
+    match tables.last(s) {
+        None => Ok(false),
+        Some(g) => {
+            if built_answer(tables, g, message) {
+                is_plainly_shown(alloc, message)
+            } else {
+                Ok(false)
+            }
+        }
+    }
+}
+
+// A body of a start.
+fn built_from_server(tables: &Tables, alloc: Global, s: u64, body: &Body) -> Result<bool, Memory>
+    requires { length body.now ≤ 268435456 }
+    ensures { (settings : Settings) (before : List Event) → Stands settings tables.now before
+        → IfOk result (λ answer. answer ≡ built_from_server (life_of s before).stage (forwarding_of s before).open_requests body.now (message_of body.now)) }
+{
+    match Message::read(alloc, body.bytes()) {
+        Ok(message) => built_from_start(tables, alloc, s, &message),
+        Err(Malformed::Memory) => Err(Memory),
+        Err(Malformed::NotJson) => Ok(true),
+        Err(Malformed::NotMessage) => Ok(true),
+    }
+}
+
+/// Whether this cause meets only rows of the routing table that are built.
+pub fn built(tables: &Tables, alloc: Global, cause: &Cause) -> Result<bool, Memory>
+    requires { body_length cause.now ≤ 268435456 }
+    ensures { (settings : Settings) (before : List Event) → Known settings before → Settled settings before → Stands settings tables.now before
+        → IfOk result (λ answer. answer ≡ built_behind settings before cause.now) }
+{
+    match cause {
+        Cause::Joined(_) => Ok(true),
+        Cause::Started(_) => Ok(true),
+        Cause::FromEditor(e, body) => built_from_editor(tables, alloc, *e, body),
+        Cause::FromServer(s, body) => built_from_server(tables, alloc, *s, body),
+        _ => Ok(false),
+    }
+}
