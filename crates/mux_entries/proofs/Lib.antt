@@ -1,0 +1,2 @@
+pub mod EditorBuilt
+pub mod EditorRows
