@@ -1,11 +1,11 @@
--- A start whose program is awaited.
-use Rattle.mux_tables.proofs.Homes.{group_seen}
-use Rattle.mux_turns.proofs.Beginning.{awaited_begins, unawaited_idle}
-use Rattle.mux_turns.proofs.starts.awaited_at.Goals as goal
+-- A start of a group, or one that is over, which can't run.
+use Rattle.std.proofs.Common.{sym, ◌∙◌}
+use Rattle.event_model.proofs.Frames.{never}
+use Rattle.mux_turns.proofs.starts.take_started.Goals as goal
 
-pub returns-then-is_spawning-clause-begins : goal.returns-then-is_spawning-clause-begins
-returns-then-is_spawning-clause-begins c = λ settings before st. awaited_begins settings c.args.s c.in_ok-g.g before c.stage.result c.is_spawning.result (c.stage.ensures settings before c.args.s c.in_ok-g.ensures.found st) c.is_spawning.ensures c.if-is_spawning.true
-    (group_seen settings c.args.tables.now before c.in_ok-g.g st c.args.s c.in_ok-g.ensures.inside c.in_ok-g.ensures.found)
+pub returns-in-None-clause-does : goal.returns-in-None-clause-does
+returns-in-None-clause-does c = λ settings before first known settled fits st ds. never (sym fits ∙ c.in-None.ensures.settled settings before st)
 
-pub returns-else-is_spawning-clause-idle : goal.returns-else-is_spawning-clause-idle
-returns-else-is_spawning-clause-idle c = λ settings before st. unawaited_idle settings c.args.s before c.stage.result c.is_spawning.result (c.stage.ensures settings before c.args.s c.in_ok-g.ensures.found st) c.is_spawning.ensures c.if-is_spawning.false
+pub returns-in_ok-start_at-in-Some-clause-does : goal.returns-in_ok-start_at-in-Some-clause-does
+returns-in_ok-start_at-in-Some-clause-does c = λ settings before first known settled fits st ds.
+    c.in_ok-start_at-in-Some.ensures.does settings before c.args.s c.in-Some.ensures.found first known settled st ds
