@@ -1,3 +1,2 @@
-pub mod Causes
 pub mod Done
 pub mod Said
