@@ -1,2 +1,4 @@
+pub mod Done
 pub mod EditorBuilt
 pub mod EditorRows
+pub mod Said

@@ -31,7 +31,9 @@ use std::alloc::Global;
 
 /// J1: an editor joined, which gives nothing. The tables have room for the editor of the next number alone, and below 2^63.
 pub fn joined(tables: &mut Tables, e: u64) -> Result<(), Memory>
-    ensures { (settings : Settings) (before : List Event) → Stands settings tables.old before → DocumentsStand settings nothing_owed tables.old before
+    ensures same_limit { tables.new.requests ≡ tables.old.requests }
+    ensures same_versions { tables.new.versions ≡ tables.old.versions }
+    ensures does { (settings : Settings) (before : List Event) → Stands settings tables.old before → DocumentsStand settings nothing_owed tables.old before
         → OnOk result (Done (λ k events. AllStand settings k events) (row_of settings before (Joined e))
         (with_cause before (Joined e)) [] (tables.new, nothing_owed) []) }
 {
@@ -56,7 +58,9 @@ fn from_new(
     requires limit { 2 ≤ tables.old.requests }
     requires versions { 1 ≤ tables.old.versions }
     requires ceilings { HaveCeilings servers.now }
-    ensures { (settings : Settings) (before : List Event) (body : List ℕ) → IsRead message.now body → (desk_of e before).phase ≡ New
+    ensures same_limit { tables.new.requests ≡ tables.old.requests }
+    ensures same_versions { tables.new.versions ≡ tables.old.versions }
+    ensures does { (settings : Settings) (before : List Event) (body : List ℕ) → IsRead message.now body → (desk_of e before).phase ≡ New
         → settings.servers ≡ servers.now → settings.default ≡ default → outs.old ≡ [] → Known settings before → Settled settings before
         → built_behind settings before (FromEditor e body) ≡ true
         → Stands settings tables.old before → DocumentsStand settings nothing_owed tables.old before
@@ -81,7 +85,9 @@ fn from_served(
     message: &Message,
 ) -> Result<(), Memory>
     requires { e < length tables.old.editors }
-    ensures { (settings : Settings) (before : List Event) (body : List ℕ) → IsRead message.now body → is_served (desk_of e before).phase ≡ true
+    ensures same_limit { tables.new.requests ≡ tables.old.requests }
+    ensures same_versions { tables.new.versions ≡ tables.old.versions }
+    ensures does { (settings : Settings) (before : List Event) (body : List ℕ) → IsRead message.now body → is_served (desk_of e before).phase ≡ true
         → outs.old ≡ [] → Settled settings before → built_behind settings before (FromEditor e body) ≡ true
         → Stands settings tables.old before → DocumentsStand settings nothing_owed tables.old before
         → OnOk result (Done (λ k events. AllStand settings k events) (row_of settings before (FromEditor e body))
@@ -117,7 +123,9 @@ fn from_phase(
     requires limit { 2 ≤ tables.old.requests }
     requires versions { 1 ≤ tables.old.versions }
     requires ceilings { HaveCeilings servers.now }
-    ensures { (settings : Settings) (before : List Event) (body : List ℕ) → IsRead message.now body
+    ensures same_limit { tables.new.requests ≡ tables.old.requests }
+    ensures same_versions { tables.new.versions ≡ tables.old.versions }
+    ensures does { (settings : Settings) (before : List Event) (body : List ℕ) → IsRead message.now body
         → settings.servers ≡ servers.now → settings.default ≡ default → outs.old ≡ [] → Known settings before → Settled settings before
         → built_behind settings before (FromEditor e body) ≡ true
         → Stands settings tables.old before → DocumentsStand settings nothing_owed tables.old before
@@ -153,7 +161,9 @@ fn from_malformed(
     fault: Malformed,
 ) -> Result<(), Memory>
     requires { e < length tables.old.editors }
-    ensures { (settings : Settings) (before : List Event) (body : List ℕ) → Refuses fault (message_of body) → outs.old ≡ []
+    ensures same_limit { tables.new.requests ≡ tables.old.requests }
+    ensures same_versions { tables.new.versions ≡ tables.old.versions }
+    ensures does { (settings : Settings) (before : List Event) (body : List ℕ) → Refuses fault (message_of body) → outs.old ≡ []
         → Stands settings tables.old before → DocumentsStand settings nothing_owed tables.old before
         → OnOk result (Done (λ k events. AllStand settings k events) (row_of settings before (FromEditor e body))
         (with_cause before (FromEditor e body)) [] (tables.new, nothing_owed) outs.new) }
@@ -181,6 +191,8 @@ pub fn from_editor(
     requires limit { 2 ≤ tables.old.requests }
     requires versions { 1 ≤ tables.old.versions }
     requires ceilings { HaveCeilings servers.now }
+    ensures same_limit { tables.new.requests ≡ tables.old.requests }
+    ensures same_versions { tables.new.versions ≡ tables.old.versions }
     ensures does { (settings : Settings) (before : List Event) → settings.servers ≡ servers.now → settings.default ≡ default → outs.old ≡ []
         → Known settings before → Settled settings before → fits_behind before (FromEditor e body.now) ≡ true
         → built_behind settings before (FromEditor e body.now) ≡ true

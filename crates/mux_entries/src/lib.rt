@@ -3,5 +3,6 @@
 
 mod editors;
 mod entry;
+mod servers;
 
 pub use entry::take;

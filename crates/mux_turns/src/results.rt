@@ -51,6 +51,8 @@ fn greet(
     shown: &[u8],
 ) -> Result<(), Memory>
     requires { e < length tables.old.editors }
+    ensures requests { tables.new.requests ≡ tables.old.requests }
+    ensures versions { tables.new.versions ≡ tables.old.versions }
     ensures count { OnOk result (length tables.new.editors ≡ length tables.old.editors) }
     ensures ids { OnOk result ((n : ℕ) → id_in (slice_get tables.new.editors n) ≡ id_in (slice_get tables.old.editors n)) }
     ensures told { OnOk result (Tells outs.old outs.new) }
@@ -77,7 +79,9 @@ fn greet_all(
     g: u64,
     shown: &[u8],
 ) -> Result<(), Memory>
-    ensures { (settings : Settings) (base : List Event) (body : List ℕ) → shown.now ≡ shown_of (result_bytes body) → IsShown body
+    ensures requests { tables.new.requests ≡ tables.old.requests }
+    ensures versions { tables.new.versions ≡ tables.old.versions }
+    ensures does { (settings : Settings) (base : List Event) (body : List ℕ) → shown.now ≡ shown_of (result_bytes body) → IsShown body
         → AllAsking (behind base outs.old)
         → OnOk result (Does (λ k events. AllStand settings k events) (look (λ events. each (welcome body)
         (waiting_in settings g events))) base (tables.old, nothing_owed) outs.old (tables.new, nothing_owed) outs.new) }
@@ -100,7 +104,9 @@ pub fn take_result(
 ) -> Result<(), Memory>
     requires group { g < length tables.old.lasts.items }
     requires stage { (x : Start) → slice_get tables.old.lasts.items g ≡ Some x → x.life.stage ≡ Initializing }
-    ensures { (settings : Settings) (before : List Event) (body : List ℕ) (id : Option Id) (value : Json) (s : ℕ) → IsRead message.now body
+    ensures requests { tables.new.requests ≡ tables.old.requests }
+    ensures versions { tables.new.versions ≡ tables.old.versions }
+    ensures does { (settings : Settings) (before : List Event) (body : List ℕ) (id : Option Id) (value : Json) (s : ℕ) → IsRead message.now body
         → message_of body ≡ outcome id value → is_first_result (message_of body) ≡ true → slice_get (map number_in tables.old.lasts.items) g ≡ Some s
         → outs.old ≡ []
         → IsShown body → AllAsking before → Stands settings tables.old before → DocumentsStand settings nothing_owed tables.old before

@@ -11,28 +11,28 @@ use Rattle.mux_entries.proofs.EditorBuilt.{rests_keeps, rests_unasked, waiting_s
 use Rattle.mux_entries.proofs.EditorRows.{done_alike, done_quietly, early_waiting, read_well, rests_one, served_one, unheard}
 use Rattle.mux_entries.proofs.editors.from_phase.Goals as goal
 
-pub returns-in_ok-from_new-in-New : goal.returns-in_ok-from_new-in-New
-returns-in_ok-from_new-in-New c = λ settings before body read servers default first known settled built st ds.
+pub returns-in_ok-from_new-in-New-clause-does : goal.returns-in_ok-from_new-in-New-clause-does
+returns-in_ok-from_new-in-New-clause-does c = λ settings before body read servers default first known settled built st ds.
     let at = sym (c.phase.ensures settings before st) ∙ c.in-New.is in
-    c.in_ok-from_new-in-New.ensures settings before body read at servers default first known settled built st ds
+    c.in_ok-from_new-in-New.ensures.does settings before body read at servers default first known settled built st ds
 
-pub returns-in_ok-take_early-in-Waiting : goal.returns-in_ok-take_early-in-Waiting
-returns-in_ok-take_early-in-Waiting c = λ settings before body read servers default first known settled built st ds.
+pub returns-in_ok-take_early-in-Waiting-clause-does : goal.returns-in_ok-take_early-in-Waiting-clause-does
+returns-in_ok-take_early-in-Waiting-clause-does c = λ settings before body read servers default first known settled built st ds.
     let e = c.args.e in
     let m = message_of body in
     let ids = open_of e before in
     let at = sym (c.phase.ensures settings before st) ∙ c.in-Waiting.is in
     let unplaced : places (desk_of e before).phase m ≡ false = ap (λ p. places p m) at in
     done_alike (λ k events. AllStand settings k events) (early_waiting settings before e body at (read_well c.args.message.now body read))
-    (c.in_ok-take_early-in-Waiting.ensures settings before body read (ap is_early at) unplaced (waiting_stays before e ids m (ap (λ p. built_from_editor p ids m) (sym at) ∙ built)) first st ds)
+    (c.in_ok-take_early-in-Waiting.ensures.does settings before body read (ap is_early at) unplaced (waiting_stays before e ids m (ap (λ p. built_from_editor p ids m) (sym at) ∙ built)) first st ds)
 
-pub returns-in_ok-from_served-in-Answered : goal.returns-in_ok-from_served-in-Answered
-returns-in_ok-from_served-in-Answered c = λ settings before body read servers default first known settled built st ds.
+pub returns-in_ok-from_served-in-Answered-clause-does : goal.returns-in_ok-from_served-in-Answered-clause-does
+returns-in_ok-from_served-in-Answered-clause-does c = λ settings before body read servers default first known settled built st ds.
     let served = ap is_served (sym (c.phase.ensures settings before st)) ∙ served_one c.phase.result c.in-Answered.is in
-    c.in_ok-from_served-in-Answered.ensures settings before body read served first settled built st ds
+    c.in_ok-from_served-in-Answered.ensures.does settings before body read served first settled built st ds
 
-pub returns-in-Absent : goal.returns-in-Absent
-returns-in-Absent c = λ settings before body read servers default first known settled built st ds.
+pub returns-in-Absent-clause-does : goal.returns-in-Absent-clause-does
+returns-in-Absent-clause-does c = λ settings before body read servers default first known settled built st ds.
     let e = c.args.e in
     let m = message_of body in
     let ids = open_of e before in
@@ -40,4 +40,4 @@ returns-in-Absent c = λ settings before body read servers default first known s
     let at = sym (c.phase.ensures settings before st) in
     let rest = rests_one p c.in-Absent.is in
     done_alike (λ k events. AllStand settings k events) (unheard settings before e body p at rest (read_well c.args.message.now body read))
-    (done_quietly (λ k events. AllStand settings k events) first (c.take_quiet.ensures settings before body read (rests_unasked ids p m rest (ap (λ q. built_from_editor q ids m) (sym at) ∙ built)) (rests_keeps before e p m at rest) st ds))
+    (done_quietly (λ k events. AllStand settings k events) first (c.take_quiet.ensures.does settings before body read (rests_unasked ids p m rest (ap (λ q. built_from_editor q ids m) (sym at) ∙ built)) (rests_keeps before e p m at rest) st ds))

@@ -8,8 +8,8 @@ use Rattle.mux_tables.specs.Documents.{AllStand, nothing_owed}
 use Rattle.mux_turns.proofs.Matched.{whole_entry}
 use Rattle.mux_entries.proofs.editors.joined.Goals as goal
 
-pub returns : goal.returns
-returns c = λ settings before st ds.
+pub returns-clause-does : goal.returns-clause-does
+returns-clause-does c = λ settings before st ds.
     let base = with_cause before (Joined c.args.e) in
     let u = c.hear_joined.new.self in
     let heard = c.in_ok-hear_joined.ensures.stands settings before st in
