@@ -1,28 +1,24 @@
 -- What a start says, by where it stands.
-use Rattle.std.proofs.Common.{◌≡◌, ℕ, ◌<◌, ◌^◌, Bool, true, false, not, ◌&&◌, ◌||◌, List, [], ◌∷◌, map, length, nat_eq, refl, ap, sym, subst, ◌∙◌, codes, if◌then◌else◌}
+use Rattle.std.proofs.Common.{◌≡◌, ℕ, Bool, true, false, not, ◌&&◌, ◌||◌, List, [], ◌∷◌, map, nat_eq, refl, ap, sym, subst, ◌∙◌, codes, if◌then◌else◌}
 use Rattle.std.specs.Prelude.{Option, Some, None, bytes_eq, find, fold, slice_get}
 use Rattle.std.proofs.lemmas.Bool.{and_parts}
 use Rattle.std.proofs.lemmas.Slice.Eq.{bytes_eq-Decides}
 use Rattle.json_text.specs.Json.{Json}
-use Rattle.mux_history.specs.declared.cause.Cause.{Cause}
 use Rattle.mux_history.specs.declared.cause.Cause.TheVariants.{Joined, FromEditor, EditorGone, Started, StartFailed, FromServer, ServerGone, Drained, Tick}
-use Rattle.mux_history.specs.declared.out.Out.{Out}
 use Rattle.mux_history.specs.declared.out.Out.TheVariants.{ToEditor, ToServer, Spawn, CloseEditor, EndServer}
 use Rattle.rpc_message.specs.declared.envelope.Envelope.{Envelope}
 use Rattle.rpc_message.specs.declared.envelope.Envelope.TheVariants.{Request, Notification, Outcome, Failure}
 use Rattle.rpc_message.specs.Envelopes.{Tells}
 use Rattle.json_nodes.specs.Doc.{Doc}
 use Rattle.rpc_message.specs.Message.{Message, Id, message_of, request, notification, result, error, not_json, not_message, result_bytes}
-use Rattle.rpc_message.specs.Message as messages
 use Rattle.rpc_message.specs.Parsed.{IsRead, Parsed}
 use Rattle.rpc_message.specs.ValueTexts.{IsShallowText}
 use Rattle.rpc_message.proofs.Ids.{result_bytes_law}
-use Rattle.event_model.specs.declared.phase.Phase.TheVariants.{Waiting}
 use Rattle.event_model.specs.declared.stage.Stage.{Stage}
 use Rattle.event_model.specs.declared.stage.Stage.TheVariants.{Unspawned, Spawning, Initializing, Ready, Stopping, Ending, Ended}
 use Rattle.event_model.specs.Does.{Alike}
 use Rattle.event_model.specs.Event.{Event, took, did}
-use Rattle.event_model.specs.Phases.{desk_of, is_malformed}
+use Rattle.event_model.specs.Phases.{is_malformed}
 use Rattle.event_model.specs.Requests.{answered_id}
 use Rattle.event_model.specs.Row.{nothing, on}
 use Rattle.event_model.specs.Settings.{Settings}
@@ -30,7 +26,7 @@ use Rattle.event_model.specs.Stages.{Life, is_ended, is_first_result, life_behin
 use Rattle.event_model.proofs.Frames.{never}
 use Rattle.event_model.proofs.Turns.{alike}
 use Rattle.group_facts.specs.Built.{built_answer, built_from_server, is_shown_whole}
-use Rattle.group_facts.specs.Facts.{AllForwarded, IsAsker, IsForwarded, WaitingAsked, is_early}
+use Rattle.group_facts.specs.Facts.{AllForwarded, IsForwarded, WaitingAsked, is_early}
 use Rattle.group_rows.specs.Forwarded.{Forwarded, answered_by, forwarding_of}
 use Rattle.group_rows.specs.Rows.{first_result, from_server, pass_on, response_row}
 use Rattle.group_words.specs.Houses.{is_first_error}

@@ -1,6 +1,5 @@
 -- A message of a start, by where it stands.
 use Rattle.std.proofs.Common.{sym, ◌∙◌}
-use Rattle.event_model.specs.Event.{behind}
 use Rattle.event_model.specs.Stages.{life_of}
 use Rattle.event_model.proofs.Places.{item_at}
 use Rattle.group_rows.specs.Forwarded.{forwarding_of}

@@ -1,5 +1,5 @@
 -- A start's program runs.
-use Rattle.std.proofs.Common.{map, ap, ◌∙◌}
+use Rattle.std.proofs.Common.{ap, ◌∙◌}
 use Rattle.std.specs.Prelude.{slice_get}
 use Rattle.event_model.specs.Event.{with_cause}
 use Rattle.event_model.proofs.Turns.{alike, does_alike, does_nothing}
