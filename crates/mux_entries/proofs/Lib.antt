@@ -1,4 +1,3 @@
-pub mod Done
 pub mod EditorBuilt
 pub mod EditorRows
 pub mod Said

@@ -2,7 +2,8 @@
 use Rattle.std.proofs.Common.{sym, ◌∙◌}
 use Rattle.event_model.proofs.Frames.{never}
 use Rattle.event_model.proofs.Places.{item_at}
-use Rattle.mux_entries.proofs.Done.{done_alike}
+use Rattle.mux_tables.specs.Documents.{AllStand}
+use Rattle.mux_entries.proofs.EditorRows.{done_alike}
 use Rattle.mux_entries.proofs.Said.{asking, first_built, first_entry, read_well, stage_here}
 use Rattle.mux_entries.proofs.servers.take_first.Goals as goal
 
@@ -19,4 +20,4 @@ returns-clause-does c = λ settings before body s read first at known built st d
     let x = item_at t.lasts.items c.args.g c.requires.group in
     let stage = stage_here settings t before c.args.g s x.0 x.1 at st ∙ c.requires.stage x.0 x.1 in
     let k = first_entry settings before s body stage (read_well c.args.message.now body read) built in
-    done_alike k.row (c.in_ok-take_result.ensures.does settings before body k.id k.value s read k.says k.first at first k.shown (asking before known.waiting) st ds)
+    done_alike (λ k events. AllStand settings k events) k.row (c.in_ok-take_result.ensures.does settings before body k.id k.value s read k.says k.first at first k.shown (asking before known.waiting) st ds)
