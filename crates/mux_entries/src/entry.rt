@@ -1,22 +1,68 @@
 // From a cause to its row.
-ghost use Rattle.std.specs.Prelude.{◌≡◌, ◌≤◌, true, List, IfOk};
+ghost use Rattle.std.specs.Prelude.{◌≡◌, ◌≤◌, true, List, [], IfOk, OnOk};
+ghost use Rattle.event_model.specs.Does.{Done};
 ghost use Rattle.event_model.specs.Event.{Event, behind, with_cause};
 ghost use Rattle.event_model.specs.Settings.{Settings};
 ghost use Rattle.group_facts.specs.Built.{built_behind};
 ghost use Rattle.group_facts.specs.Facts.{Known};
 ghost use Rattle.group_facts.specs.Settled.{Settled};
-ghost use Rattle.group_rows.specs.Rows.{outs_of};
+ghost use Rattle.group_rows.specs.Rows.{outs_of, row_of};
 ghost use Rattle.mux_history.specs.Cores.{body_length};
 ghost use Rattle.mux_model.specs.Fits.{fits_behind};
 ghost use Rattle.mux_tables.specs.Documents.{AllStand, DocumentsStand, nothing_owed};
 ghost use Rattle.mux_tables.specs.Stands.{Stands};
 ghost use Rattle.mux_turns.specs.Ceilings.{HaveCeilings};
 
+use crate::editors::{from_editor, joined};
+use crate::servers::from_server;
 use event_model::Server;
 use message_body::Memory;
 use mux_history::{Cause, Outs};
 use mux_tables::Tables;
+use mux_turns::take_started;
 use std::alloc::Global;
+
+// The row of a cause that is built, from the first of its outs.
+fn follow(
+    tables: &mut Tables,
+    alloc: Global,
+    servers: &[Server],
+    default: u32,
+    outs: &mut Outs,
+    cause: &Cause,
+) -> Result<(), Memory>
+    requires small { body_length cause.now ≤ 268435456 }
+    requires limit { 2 ≤ tables.old.requests }
+    requires versions { 1 ≤ tables.old.versions }
+    requires ceilings { HaveCeilings servers.now }
+    ensures same_limit { tables.new.requests ≡ tables.old.requests }
+    ensures same_versions { tables.new.versions ≡ tables.old.versions }
+    ensures does { (settings : Settings) (before : List Event) → settings.servers ≡ servers.now → settings.default ≡ default → outs.old ≡ []
+        → Known settings before → Settled settings before → fits_behind before cause.now ≡ true → built_behind settings before cause.now ≡ true
+        → Stands settings tables.old before → DocumentsStand settings nothing_owed tables.old before
+        → OnOk result (Done (λ k events. AllStand settings k events)
+        (row_of settings before cause.now) (with_cause before cause.now) [] (tables.new, nothing_owed) outs.new) }
+{
+    match cause {
+        Cause::Joined(e) => {
+            joined(tables, *e)?;
+            Ok(())
+        }
+        Cause::FromEditor(e, body) => {
+            from_editor(tables, alloc, servers, default, outs, *e, body)?;
+            Ok(())
+        }
+        Cause::Started(s) => {
+            take_started(tables, alloc, outs, *s)?;
+            Ok(())
+        }
+        Cause::FromServer(s, body) => {
+            from_server(tables, alloc, outs, *s, body)?;
+            Ok(())
+        }
+        _ => Ok(()),
+    }
+}
 
 /// Takes a cause that can come, and that meets rows which are built: its outs are the routing table's. Where the answer is an error
 /// the tables stand for nothing any more.
@@ -39,5 +85,7 @@ pub fn take(
         → IfOk result (λ outs. (outs ≡ outs_of settings before cause.now)
         × AllStand settings (tables.new, nothing_owed) (behind (with_cause before cause.now) outs)) }
 {
-    Err(Memory)
+    let mut outs = Outs::new(alloc);
+    follow(tables, alloc, servers, default, &mut outs, cause)?;
+    Ok(outs)
 }

@@ -1,16 +1,16 @@
 -- What the tables tell of the events, as the code has it.
-use Rattle.std.proofs.Common.{◌≡◌, ℕ, zero, suc, ◌<◌, ◌≤◌, true, List, [], ◌∷◌, map, length, get_or, ap, sym, subst, ◌∙◌, arith, inl, inr, ◌⊎◌}
+use Rattle.std.proofs.Common.{◌≡◌, ℕ, zero, suc, ◌<◌, ◌≤◌, Bool, true, false, not, ◌&&◌, List, [], ◌∷◌, map, length, get_or, refl, ap, sym, subst, ◌∙◌, arith, inl, inr, ◌⊎◌}
 use Rattle.std.specs.Prelude.{Option, Some, None, slice_get}
 use Rattle.std.specs.Option.{option_and_then}
 use Rattle.std.proofs.lemmas.Option.{slice_get-get_or, slice_get_past}
 use Rattle.event_model.specs.declared.phase.Phase.{Phase}
 use Rattle.event_model.specs.declared.phase.Phase.TheVariants.{Absent}
-use Rattle.event_model.specs.declared.stage.Stage.TheVariants.{Ended}
+use Rattle.event_model.specs.declared.stage.Stage.TheVariants.{Ended, Unspawned}
 use Rattle.event_model.specs.Event.{Event}
 use Rattle.event_model.specs.Phases.{desk_of, is_running}
 use Rattle.event_model.specs.Settings.{Settings}
 use Rattle.event_model.specs.Spawns.{start_of}
-use Rattle.event_model.specs.Stages.{Life, life_of}
+use Rattle.event_model.specs.Stages.{Life, is_ended, life_of, may_begin, may_start, runs}
 use Rattle.event_model.proofs.Places.{same_item}
 use Rattle.editor_session.specs.Sessions.{absent, numbers_of, runs_in, session_of}
 use Rattle.group_words.specs.Houses.{editors_in, home_of}
@@ -24,10 +24,24 @@ use Rattle.mux_tables.proofs.IdMoves.{numbers_mapped}
 use Rattle.mux_tables.proofs.Lists.{editors_for, runs_so}
 use Rattle.mux_tables.proofs.Starts.{read_here, start_at_place}
 
--- a start that isn't the last of its group is over
+and_off : (b : Bool) → (b && false) ≡ false
+and_off true = refl
+and_off false = refl
+
+-- its program doesn't run, and can't run or fail to any more
+abbrev IsOff : Life → Type 0
+IsOff life = (runs life ≡ false) × (may_start life ≡ false)
+
+ended_over : (life : Life) → life.stage ≡ Ended → is_over life.stage ≡ true
+ended_over life e = ap is_over e
+
+ended_off : (life : Life) → life.stage ≡ Ended → IsOff life
+ended_off life e = (ap (λ g. life.started && not (is_ended g)) e ∙ and_off life.started, ap (λ g. may_begin g && not life.started) e)
+
+-- a start that isn't the last of its group is over, and its program doesn't run
 module _ (settings : Settings) (t : Tables) (events : List Event) (s : ℕ) (st : Stands settings t events) where
-  pub unspawned_over : slice_get t.origins.items s ≡ None → is_over (life_of s events).stage ≡ true
-  unspawned_over h = ap (λ (l : Life). is_over l.stage) (st.lasts.fresh s (subst (λ n. n ≤ s) (sym st.origins.count) (past t.origins.items s h)) of_life)
+  unspawned : slice_get t.origins.items s ≡ None → life_of s events ≡ record { stage = Unspawned; started = false }
+  unspawned h = st.lasts.fresh s (subst (λ n. n ≤ s) (sym st.origins.count) (past t.origins.items s h)) of_life
     where
       past : (xs : List ℕ) (i : ℕ) → slice_get xs i ≡ None → length xs ≤ i
       past [] i h = omega arith
@@ -37,21 +51,43 @@ module _ (settings : Settings) (t : Tables) (events : List Event) (s : ℕ) (st 
           some x h = cc
       past (x ∷ xs) (suc i) h = let r = past xs i h in omega arith
 
-  old_over : (g : ℕ) → slice_get t.origins.items s ≡ Some g → (start_of g events ≡ Some s → ⊥) → is_over (life_of s events).stage ≡ true
-  old_over g h not_it = go (st.lasts.old s g (st.origins.group s ∙ h))
-    where
-      go : (start_of g events ≡ Some s) ⊎ ((life_of s events).stage ≡ Ended) → is_over (life_of s events).stage ≡ true
-      go (inl e) = absurd (not_it e)
-      go (inr e) = ap is_over e
+  pub unspawned_over : slice_get t.origins.items s ≡ None → is_over (life_of s events).stage ≡ true
+  unspawned_over h = ap (λ (l : Life). is_over l.stage) (unspawned h)
+
+  pub unspawned_halted : slice_get t.origins.items s ≡ None → runs (life_of s events) ≡ false
+  unspawned_halted h = ap runs (unspawned h)
+
+  pub unspawned_settled : slice_get t.origins.items s ≡ None → may_start (life_of s events) ≡ false
+  unspawned_settled h = ap may_start (unspawned h)
+
+  module _ (P : Life → Type 0) (ended : (life : Life) → life.stage ≡ Ended → P life) where
+    old_start : (g : ℕ) → slice_get t.origins.items s ≡ Some g → (start_of g events ≡ Some s → ⊥) → P (life_of s events)
+    old_start g h not_it = go (st.lasts.old s g (st.origins.group s ∙ h))
+      where
+        go : (start_of g events ≡ Some s) ⊎ ((life_of s events).stage ≡ Ended) → P (life_of s events)
+        go (inl e) = absurd (not_it e)
+        go (inr e) = ended (life_of s events) e
+
+    outside : (g : ℕ) → slice_get t.origins.items s ≡ Some g → length t.lasts.items ≤ g → P (life_of s events)
+    outside g h past = old_start g h (λ e. none (sym (st.lasts.none g past) ∙ e))
+      where
+        none : ◌≡◌ {A = Option ℕ} None (Some s) → ⊥
+        none h = cc
+
+    other : (g : ℕ) (z : Start) → slice_get t.origins.items s ≡ Some g → g < length t.lasts.items → z ≡ get_or t.lasts.items g z → (z.life.start ≡ s → ⊥) → P (life_of s events)
+    other g z h within read not_it = old_start g h (λ e. not_it (same_item (sym (st.lasts.each g z (read_here t.lasts.items g z within read)).start ∙ e)))
 
   pub outside_over : (g : ℕ) → slice_get t.origins.items s ≡ Some g → length t.lasts.items ≤ g → is_over (life_of s events).stage ≡ true
-  outside_over g h past = old_over g h (λ e. none (sym (st.lasts.none g past) ∙ e))
-    where
-      none : ◌≡◌ {A = Option ℕ} None (Some s) → ⊥
-      none h = cc
+  outside_over = outside (λ life. is_over life.stage ≡ true) ended_over
+
+  pub outside_off : (g : ℕ) → slice_get t.origins.items s ≡ Some g → length t.lasts.items ≤ g → IsOff (life_of s events)
+  outside_off = outside IsOff ended_off
 
   pub other_over : (g : ℕ) (z : Start) → slice_get t.origins.items s ≡ Some g → g < length t.lasts.items → z ≡ get_or t.lasts.items g z → (z.life.start ≡ s → ⊥) → is_over (life_of s events).stage ≡ true
-  other_over g z h within read not_it = old_over g h (λ e. not_it (same_item (sym (st.lasts.each g z (read_here t.lasts.items g z within read)).start ∙ e)))
+  other_over = other (λ life. is_over life.stage ≡ true) ended_over
+
+  pub other_off : (g : ℕ) (z : Start) → slice_get t.origins.items s ≡ Some g → g < length t.lasts.items → z ≡ get_or t.lasts.items g z → (z.life.start ≡ s → ⊥) → IsOff (life_of s events)
+  other_off = other IsOff ended_off
 
 pub start_read : (xs : List Start) (g s start : ℕ) (z : Start) → g < length xs → z ≡ get_or xs g z → start ≡ z.life.start → start ≡ s → slice_get (map number_in xs) g ≡ Some s
 start_read [] g s start z h r e f = absurd (omega arith)

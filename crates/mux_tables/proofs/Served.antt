@@ -30,7 +30,7 @@ use Rattle.mux_tables.proofs.IdMoves.{answered_ids, ended_ids, failed_ids, unans
 use Rattle.mux_tables.proofs.Starts.{groups_kept, is_late, late_shown, not_refused, part_ids, part_life, part_shown, read_back, read_here, start_at_place, start_moves, still_ids, still_shown}
 
 -- the program runs
-begun_start : (g : Stage) (l : Standing) → (begun_at g l).start ≡ l.start
+pub begun_start : (g : Stage) (l : Standing) → (begun_at g l).start ≡ l.start
 begun_start Spawning l = refl
 begun_start other l = refl
 

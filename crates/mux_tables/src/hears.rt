@@ -33,6 +33,8 @@ impl Tables {
     pub fn hear_joined(&mut self, e: u64) -> Result<(), Memory>
         requires next { e ≡ length self.old.editors }
         requires room { e < 2 ^ 63 }
+        ensures requests { self.new.requests ≡ self.old.requests }
+        ensures versions { self.new.versions ≡ self.old.versions }
         ensures stands { (settings : Settings) (events : List Event) → Stands settings self.old events
             → OnOk result (Stands settings self.new (events ++ heard (Joined e) ∷ [])) }
         ensures documents { (settings : Settings) (owed : Owed) (events : List Event) → Stands settings self.old events
@@ -46,6 +48,8 @@ impl Tables {
     pub fn hear_editor(&mut self, e: u64, phase: Phase)
         requires editor { e < length self.old.editors }
         requires joined { phase ≢ Absent }
+        ensures requests { self.new.requests ≡ self.old.requests }
+        ensures versions { self.new.versions ≡ self.old.versions }
         ensures lasts { self.new.lasts ≡ self.old.lasts }
         ensures stands { (settings : Settings) (events : List Event) (body : List ℕ) → Stands settings self.old events
             → places (desk_of e events).phase (message_of body) ≡ false → stops events e (message_of body) ≡ false
@@ -181,6 +185,8 @@ impl Tables {
     ) -> Result<Outs, Memory>
         requires editor { e < length self.old.editors }
         requires joined { phase ≢ Absent }
+        ensures requests { self.new.requests ≡ self.old.requests }
+        ensures versions { self.new.versions ≡ self.old.versions }
         ensures lasts { self.new.lasts ≡ self.old.lasts }
         ensures stands { (settings : Settings) (events : List Event) (body : List ℕ) → Stands settings self.old events
             → places (desk_of e events).phase (message_of body) ≡ false → stops events e (message_of body) ≡ false

@@ -1,10 +1,10 @@
 // What the tables tell of the events.
-ghost use Rattle.std.specs.Prelude.{◌≡◌, ◌<◌, ◌&&◌, ℕ, List, map, Some, None, true, length, IfNone, IfOk, IfSome, MatchOption, nat_lt, option_copied, slice_get};
+ghost use Rattle.std.specs.Prelude.{◌≡◌, ◌<◌, ◌&&◌, ℕ, List, map, Some, None, true, false, length, IfNone, IfOk, IfSome, MatchOption, nat_lt, option_copied, slice_get};
 ghost use Rattle.std.specs.List.{All};
 ghost use Rattle.event_model.specs.Event.{Event};
 ghost use Rattle.event_model.specs.Phases.{desk_of, is_running, is_there, is_waiting};
 ghost use Rattle.event_model.specs.Settings.{Settings};
-ghost use Rattle.event_model.specs.Stages.{is_ready, life_of};
+ghost use Rattle.event_model.specs.Stages.{is_ready, life_of, may_start, runs};
 ghost use Rattle.group_words.specs.Houses.{editors_in, home_of};
 ghost use Rattle.mux_tables.specs.declared.tables.Start.{Start};
 ghost use Rattle.group_rows.specs.Forwarded.{forwarding_of, numbers_of};
@@ -34,11 +34,13 @@ impl Tables {
 
     /// The place of the group whose last start this is; where there is none, no such start was spawned, or its program ended or
     /// couldn't be run.
-    #[tactic(auto, using(crate::proofs::Seen::unspawned_over))]
+    #[tactic(auto, using(crate::proofs::Seen::unspawned_over, crate::proofs::Seen::unspawned_halted, crate::proofs::Seen::unspawned_settled))]
     pub fn last(&self, s: u64) -> Option<usize>
         ensures inside { IfSome result (λ g. g < length self.now.lasts.items) }
         ensures found { IfSome result (λ g. slice_get (map number_in self.now.lasts.items) g ≡ Some s) }
         ensures none { IfNone result ((settings : Settings) (events : List Event) → Stands settings self.now events → is_over (life_of s events).stage ≡ true) }
+        ensures halted { IfNone result ((settings : Settings) (events : List Event) → Stands settings self.now events → runs (life_of s events) ≡ false) }
+        ensures settled { IfNone result ((settings : Settings) (events : List Event) → Stands settings self.now events → may_start (life_of s events) ≡ false) }
     {
         let g = self.origin(s)? as usize;
         if g >= self.lasts.len() {

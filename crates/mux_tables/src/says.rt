@@ -60,6 +60,8 @@ impl Tables {
     /// The result of its `initialize` goes to an editor that waits.
     pub fn welcome(&mut self, outs: &mut Outs, e: u64, body: Body) -> Result<(), Memory>
         requires { e < length self.old.editors }
+        ensures requests { self.new.requests ≡ self.old.requests }
+        ensures versions { self.new.versions ≡ self.old.versions }
         ensures count { OnOk result (length self.new.editors ≡ length self.old.editors) }
         ensures ids { OnOk result ((n : ℕ) → id_in (slice_get self.new.editors n) ≡ id_in (slice_get self.old.editors n)) }
         ensures outs { OnOk result (outs.new ≡ outs.old ++ ToEditor e body ∷ []) }
@@ -77,6 +79,8 @@ impl Tables {
     /// start is owed for them. Where the answer is an error the tables stand for nothing any more.
     pub fn close(&mut self, alloc: Global, outs: &mut Outs, e: u64) -> Result<Outs, Memory>
         requires { e < length self.old.editors }
+        ensures requests { self.new.requests ≡ self.old.requests }
+        ensures versions { self.new.versions ≡ self.old.versions }
         ensures lasts { self.new.lasts ≡ self.old.lasts }
         ensures does { (settings : Settings) (base : List Event)
             → OnOk result (Does (λ t events. Stands settings t events) (send (CloseEditor e)) base self.old outs.old self.new outs.new) }
@@ -167,6 +171,8 @@ impl Tables {
         requires group { g < length self.old.lasts.items }
         requires left { (x : Start) → slice_get self.old.lasts.items g ≡ Some x → x.ids.next < x.ids.limit }
         requires ready { (x : Start) → slice_get self.old.lasts.items g ≡ Some x → x.life.stage ≡ Ready }
+        ensures requests { self.new.requests ≡ self.old.requests }
+        ensures versions { self.new.versions ≡ self.old.versions }
         ensures starts { OnOk result (map number_in self.new.lasts.items ≡ map number_in self.old.lasts.items) }
         ensures does { (settings : Settings) (base : List Event) (s : ℕ) (name : Id) (method : List ℕ) (ps : Option Json)
             → slice_get (map number_in self.old.lasts.items) g ≡ Some s → message_of text ≡ message.request name method ps → is_own method ≡ false
@@ -253,6 +259,8 @@ impl Tables {
     pub fn found(&mut self, alloc: Global, outs: &mut Outs) -> Result<(), Memory>
         requires limit { 2 ≤ self.old.requests }
         requires versions { 1 ≤ self.old.versions }
+        ensures requests { self.new.requests ≡ self.old.requests }
+        ensures versions { self.new.versions ≡ self.old.versions }
         ensures does { (settings : Settings) (base : List Event)
             → OnOk result (Does (λ t events. Stands settings t events)
             (spawn (length self.old.lasts.items)) base self.old outs.old self.new outs.new) }

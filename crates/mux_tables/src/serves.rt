@@ -51,6 +51,9 @@ impl Tables {
     /// The program of the group's last start runs.
     pub fn hear_started(&mut self, g: usize)
         requires { g < length self.old.lasts.items }
+        ensures starts { map number_in self.new.lasts.items ≡ map number_in self.old.lasts.items }
+        ensures requests { self.new.requests ≡ self.old.requests }
+        ensures versions { self.new.versions ≡ self.old.versions }
         ensures stands { (settings : Settings) (events : List Event) (s : ℕ) → slice_get (map number_in self.old.lasts.items) g ≡ Some s
             → Stands settings self.old events → Stands settings self.new (events ++ heard (Started s) ∷ []) }
         ensures documents { (settings : Settings) (owed : Owed) (events : List Event) (s : ℕ) → DocumentsStand settings owed self.old events
@@ -74,6 +77,8 @@ impl Tables {
     ) -> Result<Outs, Memory>
         requires group { g < length self.old.lasts.items }
         requires stage { (x : Start) → slice_get self.old.lasts.items g ≡ Some x → x.life.stage ≡ Initializing }
+        ensures requests { self.new.requests ≡ self.old.requests }
+        ensures versions { self.new.versions ≡ self.old.versions }
         ensures editors { OnOk result (self.new.editors ≡ self.old.editors) }
         ensures starts { OnOk result (map number_in self.new.lasts.items ≡ map number_in self.old.lasts.items) }
         ensures ready { OnOk result ((x : Start) → slice_get self.new.lasts.items g ≡ Some x → x.life.stage ≡ Ready) }
@@ -180,6 +185,8 @@ impl Tables {
     /// answers, which isn't open any more. `n` is the number that its id writes.
     pub fn hear_answer(&mut self, g: usize, n: Option<u32>) -> Option<Pending>
         requires { g < length self.old.lasts.items }
+        ensures requests { self.new.requests ≡ self.old.requests }
+        ensures versions { self.new.versions ≡ self.old.versions }
         ensures moves { (settings : Settings) (events : List Event) (s : ℕ) (body : List ℕ) (x : Start) → slice_get self.old.lasts.items g ≡ Some x
             → slice_get (map number_in self.old.lasts.items) g ≡ Some s
             → (is_first_result (message_of body) && is_early x.life.stage) ≡ false

@@ -16,24 +16,25 @@ use Rattle.event_model.specs.Stages.{is_ready, life_of}
 use Rattle.event_model.proofs.Turns.{alike, does_alike, does_knowing, does_nothing}
 use Rattle.group_rows.specs.Forwarded.{moves_ids}
 use Rattle.group_rows.specs.Rows.{begin_in, started}
+use Rattle.group_rows.specs.Texts.{is_synced}
 use Rattle.group_words.specs.declared.kept.Kept.{Kept}
 use Rattle.group_words.specs.declared.placed.Placed.TheVariants.{Joins}
 use Rattle.group_words.specs.Houses.{groups_of}
 use Rattle.group_words.specs.Rows.{initialize_of, placed_row, spawn, welcomed}
 use Rattle.group_words.proofs.Frames.{groups_stay}
 use Rattle.mux_tables.specs.declared.tables.Tables.{Tables}
-use Rattle.mux_tables.specs.Stands.{Stands, is_over}
+use Rattle.mux_tables.specs.Stands.{Stands}
 use Rattle.mux_tables.proofs.Homes.{next_here}
 use Rattle.mux_turns.specs.Founding.{IsNext}
-use Rattle.group_facts.specs.Settled.{AreUtf8}
+use Rattle.document_model.specs.Sayings.{saying_of}
+use Rattle.document_model.specs.Sayings.{nothing as no_saying}
+use Rattle.group_facts.specs.Facts.{IsWritten, Known}
+use Rattle.group_facts.specs.Settled.{AreUtf8, Settled}
+use Rattle.group_facts.proofs.AnswerRows.{get_all}
 use Rattle.mux_turns.specs.Openings.{IsOpening, is_spawning}
 use Rattle.mux_turns.proofs.Rows.{is_second}
 
 -- a start whose program isn't awaited gives nothing
-pub over_idle : (settings : Settings) (s : ℕ) (before : List Event) (stage : Stage) → is_over stage ≡ true → started settings s before stage ≡ nothing
-over_idle settings s before Spawning h = absurd (cc)
-over_idle settings s before other h = refl
-
 unawaited : (settings : Settings) (s : ℕ) (before : List Event) (stage : Stage) → is_spawning stage ≡ false → started settings s before stage ≡ nothing
 unawaited settings s before Spawning h = absurd (cc)
 unawaited settings s before other h = refl
@@ -78,6 +79,19 @@ module _ (settings : Settings) (t : Tables) (before : List Event) (s g : ℕ) (x
       let is = writes k.folders in
       let says = ap message_of is ∙ k.says in
       does_alike (λ _. alike (ap opened at ∙ ap (λ w. send (ToServer s w)) (sym is))) (d (ap (requests (codes "shutdown")) says) (ap moves_ids says)))
+
+  pub begun_documents : {P : Type 0} (x : Kept) (text : List ℕ) → Some x ≡ slice_get (groups_of settings (behind base xs)) g → ((x : Kept) → slice_get (groups_of settings before) g ≡ Some x → IsOpening x) → (AreUtf8 x.key.folders → text ≡ initialize_of x)
+      → (saying_of (message_of text) ≡ no_saying → is_synced (message_of text) ≡ false → P) → P
+  begun_documents {P} x text seen known writes d =
+      let k = known x (here (Some x) seen) in
+      let says = ap message_of (writes k.folders) ∙ k.says in
+      d (ap saying_of says) (ap is_synced says)
+
+-- a group's `initialize` can be written
+pub opens : (settings : Settings) (before : List Event) (g : ℕ) → Known settings before → Settled settings before → (x : Kept) → slice_get (groups_of settings before) g ≡ Some x → IsOpening x
+opens settings before g known settled x at =
+    let k = get_all IsWritten (groups_of settings before) g x known.written at in
+    record { folders = get_all (λ (y : Kept). AreUtf8 y.key.folders) (groups_of settings before) g x settled.spelt at; params = k.params; says = k.says }
 
 -- E7
 module _ (before : List Event) (e : ℕ) (body : List ℕ) (g : ℕ) where

@@ -26,8 +26,8 @@ use mux_tables::Tables;
 use rpc_message::request;
 use std::alloc::Global;
 
-// Where the group's last start stands.
-fn stage_at(tables: &Tables, g: usize) -> Stage
+/// Where the group's last start stands, as it is kept.
+pub fn stage_at(tables: &Tables, g: usize) -> Stage
     requires { g < length tables.now.lasts.items }
     ensures { (x : Start) → slice_get tables.now.lasts.items g ≡ Some x → result ≡ x.life.stage }
 {
@@ -114,7 +114,9 @@ pub fn evict(tables: &mut Tables, alloc: Global, outs: &mut Outs, g: u64) -> Res
 pub fn replace(tables: &mut Tables, alloc: Global, outs: &mut Outs, g: u64) -> Result<(), Memory>
     requires limit { 2 ≤ tables.old.requests }
     requires versions { 1 ≤ tables.old.versions }
-    ensures { (settings : Settings) (before base : List Event) (e n : ℕ) (body : List ℕ) → IsNext n (behind base outs.old)
+    ensures requests { tables.new.requests ≡ tables.old.requests }
+    ensures versions { tables.new.versions ≡ tables.old.versions }
+    ensures does { (settings : Settings) (before base : List Event) (e n : ℕ) (body : List ℕ) → IsNext n (behind base outs.old)
         → Numbered (behind base outs.old)
         → OnOk result (Does (λ k events. AllStand settings k events)
         (placed_row e body before (Evicts g n)) base (tables.old, nothing_owed) outs.old (tables.new, nothing_owed) outs.new) }

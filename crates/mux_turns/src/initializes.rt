@@ -84,7 +84,9 @@ fn join(
     g: u64,
 ) -> Result<(), Memory>
     requires { e < length tables.old.editors }
-    ensures { (settings : Settings) (before : List Event) (body method : List ℕ) (id : Id) (params : Option Json) → IsRead message.now body
+    ensures requests { tables.new.requests ≡ tables.old.requests }
+    ensures versions { tables.new.versions ≡ tables.old.versions }
+    ensures does { (settings : Settings) (before : List Event) (body method : List ℕ) (id : Id) (params : Option Json) → IsRead message.now body
         → message_of body ≡ request id method params → places (desk_of e before).phase (message_of body) ≡ true → Plain before → outs.old ≡ []
         → AllStand settings (tables.old, nothing_owed) (with_cause before (FromEditor e body))
         → OnOk result (Does (λ k events. AllStand settings k events) (placed_row e body before (Joins g)) (with_cause before (FromEditor e body))
@@ -117,7 +119,9 @@ pub fn take_initialize(
     requires limit { 2 ≤ tables.old.requests }
     requires versions { 1 ≤ tables.old.versions }
     requires ceilings { HaveCeilings servers.now }
-    ensures { (settings : Settings) (before : List Event) (body method : List ℕ) (id : Id) (params : Option Json) → IsRead message.now body
+    ensures requests { tables.new.requests ≡ tables.old.requests }
+    ensures versions { tables.new.versions ≡ tables.old.versions }
+    ensures does { (settings : Settings) (before : List Event) (body method : List ℕ) (id : Id) (params : Option Json) → IsRead message.now body
         → message_of body ≡ request id method params → places (desk_of e before).phase (message_of body) ≡ true → settings.servers ≡ servers.now
         → settings.default ≡ default → outs.old ≡ [] → Known settings before → Settled settings before
         → Stands settings tables.old before → DocumentsStand settings nothing_owed tables.old before

@@ -15,7 +15,7 @@ mod results;
 mod starts;
 
 pub use answers::{answered_number, pass_on, take_answer};
-pub use evicting::{evict, replace};
+pub use evicting::{evict, replace, stage_at};
 pub use greeting::opening;
 pub use initializes::take_initialize;
 pub use leaves::{Departure, leave, leaving};
@@ -24,5 +24,5 @@ pub use placing::{found, turn_away, waits, welcome};
 pub use quiet::{take_early, take_malformed, take_quiet};
 pub use refusals::{asked_at, refuse, refuse_early, refuse_request, reject};
 pub use requests::take_request;
-pub use results::take_result;
-pub use starts::{awaited_at, begin};
+pub use results::{shown_of, take_result};
+pub use starts::take_started;

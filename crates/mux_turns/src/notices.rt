@@ -32,7 +32,9 @@ pub fn take_notice(
     message: &Message,
 ) -> Result<(), Memory>
     requires { e < length tables.old.editors }
-    ensures { (settings : Settings) (before : List Event) (body method : List ℕ) (params : Option Json) (g s : ℕ) → IsRead message.now body
+    ensures requests { tables.new.requests ≡ tables.old.requests }
+    ensures versions { tables.new.versions ≡ tables.old.versions }
+    ensures does { (settings : Settings) (before : List Event) (body method : List ℕ) (params : Option Json) (g s : ℕ) → IsRead message.now body
         → message_of body ≡ notification method params → bytes_eq (codes "exit") method ≡ false → is_served (desk_of e before).phase ≡ true
         → home_of settings e before ≡ Some g → start_of g before ≡ Some s → outs.old ≡ [] → Stands settings tables.old before
         → DocumentsStand settings nothing_owed tables.old before

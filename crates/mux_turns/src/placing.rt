@@ -52,7 +52,9 @@ pub fn welcome(
 ) -> Result<(), Memory>
     requires editor { e < length tables.old.editors }
     requires group { g < length tables.old.lasts.items }
-    ensures { (settings : Settings) (before : List Event) (body method : List ℕ) (id : Id) (params : Option Json) (s : ℕ)
+    ensures requests { tables.new.requests ≡ tables.old.requests }
+    ensures versions { tables.new.versions ≡ tables.old.versions }
+    ensures does { (settings : Settings) (before : List Event) (body method : List ℕ) (id : Id) (params : Option Json) (s : ℕ)
         → IsRead message.now body → message_of body ≡ request id method params → places (desk_of e before).phase (message_of body) ≡ true
         → start_of g before ≡ Some s → is_ready (life_of s before).stage ≡ true
         → ((given : List ℕ) → result_of s before ≡ Some given → IsShown given) → outs.old ≡ []
@@ -73,6 +75,8 @@ pub fn welcome(
 pub fn found(tables: &mut Tables, alloc: Global, outs: &mut Outs) -> Result<(), Memory>
     requires limit { 2 ≤ tables.old.requests }
     requires versions { 1 ≤ tables.old.versions }
+    ensures requests { tables.new.requests ≡ tables.old.requests }
+    ensures versions { tables.new.versions ≡ tables.old.versions }
     ensures does { (settings : Settings) (before base : List Event) (e n : ℕ) (body : List ℕ) → IsNext n (behind base outs.old)
         → OnOk result (Does (λ t events. Stands settings t events) (placed_row e body before (New n)) base tables.old outs.old tables.new outs.new) }
     ensures documents { (settings : Settings) (owed : Owed) (base : List Event) → Stands settings tables.old (behind base outs.old)
@@ -93,7 +97,9 @@ pub fn turn_away(
     message: &Message,
 ) -> Result<(), Memory>
     requires { e < length tables.old.editors }
-    ensures { (settings : Settings) (before base : List Event) (body method : List ℕ) (id : Id) (params : Option Json) → IsRead message.now body
+    ensures requests { tables.new.requests ≡ tables.old.requests }
+    ensures versions { tables.new.versions ≡ tables.old.versions }
+    ensures does { (settings : Settings) (before base : List Event) (body method : List ℕ) (id : Id) (params : Option Json) → IsRead message.now body
         → message_of body ≡ request id method params → is_served (desk_of e (behind base outs.old)).phase ≡ false
         → OnOk result (Does (λ k events. AllStand settings k events)
         (placed_row e body before TooMany) base (tables.old, nothing_owed) outs.old (tables.new, nothing_owed) outs.new) }

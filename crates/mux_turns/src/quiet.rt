@@ -46,7 +46,9 @@ pub fn take_malformed(
     fault: Malformed,
 ) -> Result<(), Memory>
     requires { e < length tables.old.editors }
-    ensures { (settings : Settings) (before : List Event) (body : List ℕ) → Refuses fault (message_of body) → outs.old ≡ []
+    ensures requests { tables.new.requests ≡ tables.old.requests }
+    ensures versions { tables.new.versions ≡ tables.old.versions }
+    ensures does { (settings : Settings) (before : List Event) (body : List ℕ) → Refuses fault (message_of body) → outs.old ≡ []
         → Stands settings tables.old before → DocumentsStand settings nothing_owed tables.old before
         → OnOk result (Done (λ k events. AllStand settings k events) (malformed_row e (message_of body) (desk_of e before).phase)
         (with_cause before (FromEditor e body)) [] (tables.new, nothing_owed) outs.new) }
@@ -70,7 +72,9 @@ pub fn take_early(
     message: &Message,
 ) -> Result<(), Memory>
     requires { e < length tables.old.editors }
-    ensures { (settings : Settings) (before : List Event) (body : List ℕ) → IsRead message.now body → is_early (desk_of e before).phase ≡ true
+    ensures requests { tables.new.requests ≡ tables.old.requests }
+    ensures versions { tables.new.versions ≡ tables.old.versions }
+    ensures does { (settings : Settings) (before : List Event) (body : List ℕ) → IsRead message.now body → is_early (desk_of e before).phase ≡ true
         → places (desk_of e before).phase (message_of body) ≡ false → stops before e (message_of body) ≡ false → outs.old ≡ []
         → Stands settings tables.old before → DocumentsStand settings nothing_owed tables.old before
         → OnOk result (Done (λ k events. AllStand settings k events) (early_row e body (message_of body))
@@ -99,7 +103,9 @@ fn phase_behind(phase: Phase, message: &Message) -> Phase
 /// A message of an editor that is no request, and changes no document, gives nothing.
 pub fn take_quiet(tables: &mut Tables, e: u64, message: &Message)
     requires { e < length tables.old.editors }
-    ensures { (settings : Settings) (before : List Event) (body : List ℕ) → IsRead message.now body → (sort_of (message_of body) ≡ Some Request → ⊥)
+    ensures requests { tables.new.requests ≡ tables.old.requests }
+    ensures versions { tables.new.versions ≡ tables.old.versions }
+    ensures does { (settings : Settings) (before : List Event) (body : List ℕ) → IsRead message.now body → (sort_of (message_of body) ≡ Some Request → ⊥)
         → changes_documents before e (message_of body) ≡ false → Stands settings tables.old before → DocumentsStand settings nothing_owed tables.old before
         → Done (λ k events. AllStand settings k events) nothing (with_cause before (FromEditor e body)) [] (tables.new, nothing_owed) [] }
 {

@@ -47,7 +47,9 @@ fn send_on(
 ) -> Result<(), Memory>
     requires group { g < length tables.old.lasts.items }
     requires takes { (x : Start) → slice_get tables.old.lasts.items g ≡ Some x → (x.life.stage ≡ Ready) × (x.ids.next < x.ids.limit) }
-    ensures { (settings : Settings) (before : List Event) (body method : List ℕ) (id : Id) (params : Option Json) (s : ℕ) → IsRead message.now body
+    ensures requests { tables.new.requests ≡ tables.old.requests }
+    ensures versions { tables.new.versions ≡ tables.old.versions }
+    ensures does { (settings : Settings) (before : List Event) (body method : List ℕ) (id : Id) (params : Option Json) (s : ℕ) → IsRead message.now body
         → message_of body ≡ request id method params → is_other (class_of method Editor false) ≡ true → outs.old ≡ []
         → slice_get (map number_in tables.old.lasts.items) g ≡ Some s
         → OnOk result (Does (λ k events. AllStand settings k events) (sync_row settings before g s e ⨾ forward s body) (with_cause before (FromEditor e body))
@@ -70,7 +72,9 @@ pub fn take_request(
     message: &Message,
 ) -> Result<(), Memory>
     requires { e < length tables.old.editors }
-    ensures { (settings : Settings) (before : List Event) (body method : List ℕ) (id : Id) (params : Option Json) → IsRead message.now body
+    ensures requests { tables.new.requests ≡ tables.old.requests }
+    ensures versions { tables.new.versions ≡ tables.old.versions }
+    ensures does { (settings : Settings) (before : List Event) (body method : List ℕ) (id : Id) (params : Option Json) → IsRead message.now body
         → message_of body ≡ request id method params → is_other (class_of method Editor false) ≡ true → is_served (desk_of e before).phase ≡ true
         → outs.old ≡ []
         → Stands settings tables.old before → DocumentsStand settings nothing_owed tables.old before

@@ -28,8 +28,9 @@ use mux_tables::Tables;
 use rpc_message::{Message, initialized, ok_reply};
 use std::alloc::Global;
 
-// What editors are shown of a start's result.
-fn shown_of(alloc: Global, answer: &[u8]) -> Result<Body, Memory>
+/// What editors are shown of the bytes of a start's result; nothing where they are no JSON text. Bytes longer than 268,435,456 are
+/// answered as a want of memory.
+pub fn shown_of(alloc: Global, answer: &[u8]) -> Result<Body, Memory>
     ensures { IfOk result (λ body. body ≡ shown_of answer.now) }
 {
     if answer.len() > 268_435_456 {
@@ -51,6 +52,8 @@ fn greet(
     shown: &[u8],
 ) -> Result<(), Memory>
     requires { e < length tables.old.editors }
+    ensures requests { tables.new.requests ≡ tables.old.requests }
+    ensures versions { tables.new.versions ≡ tables.old.versions }
     ensures count { OnOk result (length tables.new.editors ≡ length tables.old.editors) }
     ensures ids { OnOk result ((n : ℕ) → id_in (slice_get tables.new.editors n) ≡ id_in (slice_get tables.old.editors n)) }
     ensures told { OnOk result (Tells outs.old outs.new) }
@@ -77,7 +80,9 @@ fn greet_all(
     g: u64,
     shown: &[u8],
 ) -> Result<(), Memory>
-    ensures { (settings : Settings) (base : List Event) (body : List ℕ) → shown.now ≡ shown_of (result_bytes body) → IsShown body
+    ensures requests { tables.new.requests ≡ tables.old.requests }
+    ensures versions { tables.new.versions ≡ tables.old.versions }
+    ensures does { (settings : Settings) (base : List Event) (body : List ℕ) → shown.now ≡ shown_of (result_bytes body) → IsShown body
         → AllAsking (behind base outs.old)
         → OnOk result (Does (λ k events. AllStand settings k events) (look (λ events. each (welcome body)
         (waiting_in settings g events))) base (tables.old, nothing_owed) outs.old (tables.new, nothing_owed) outs.new) }
@@ -100,7 +105,9 @@ pub fn take_result(
 ) -> Result<(), Memory>
     requires group { g < length tables.old.lasts.items }
     requires stage { (x : Start) → slice_get tables.old.lasts.items g ≡ Some x → x.life.stage ≡ Initializing }
-    ensures { (settings : Settings) (before : List Event) (body : List ℕ) (id : Option Id) (value : Json) (s : ℕ) → IsRead message.now body
+    ensures requests { tables.new.requests ≡ tables.old.requests }
+    ensures versions { tables.new.versions ≡ tables.old.versions }
+    ensures does { (settings : Settings) (before : List Event) (body : List ℕ) (id : Option Id) (value : Json) (s : ℕ) → IsRead message.now body
         → message_of body ≡ outcome id value → is_first_result (message_of body) ≡ true → slice_get (map number_in tables.old.lasts.items) g ≡ Some s
         → outs.old ≡ []
         → IsShown body → AllAsking before → Stands settings tables.old before → DocumentsStand settings nothing_owed tables.old before

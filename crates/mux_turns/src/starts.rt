@@ -1,14 +1,16 @@
 //! The daemon's `initialize` to a start whose program runs.
-ghost use Rattle.std.specs.Prelude.{◌≡◌, ◌<◌, ℕ, List, [], map, Some, length, IfNone, IfSome, OnOk, slice_get};
-ghost use Rattle.event_model.specs.Does.{Alike, Does};
-ghost use Rattle.event_model.specs.Event.{Event, with_cause};
-ghost use Rattle.event_model.specs.Row.{nothing};
+ghost use Rattle.std.specs.Prelude.{◌≡◌, ◌<◌, ℕ, List, [], map, Some, length, OnOk, slice_get, true};
+ghost use Rattle.event_model.specs.Does.{Does, Done};
+ghost use Rattle.event_model.specs.Event.{Event, behind, with_cause};
 ghost use Rattle.event_model.specs.Settings.{Settings};
-ghost use Rattle.event_model.specs.Stages.{life_of};
-ghost use Rattle.group_rows.specs.Rows.{begin_in, started};
+ghost use Rattle.group_facts.specs.Facts.{Known};
+ghost use Rattle.group_facts.specs.Settled.{Settled};
+ghost use Rattle.group_rows.specs.Rows.{begin_in, row_of};
 ghost use Rattle.group_words.specs.declared.kept.Kept.{Kept};
 ghost use Rattle.group_words.specs.Houses.{groups_of};
 ghost use Rattle.mux_history.specs.declared.cause.Cause.TheVariants.{Started};
+ghost use Rattle.mux_model.specs.Fits.{fits_behind};
+ghost use Rattle.mux_tables.specs.Documents.{AllStand, DocumentsStand, Owed, nothing_owed};
 ghost use Rattle.mux_tables.specs.Stands.{Stands, number_in};
 ghost use Rattle.mux_turns.specs.Openings.{IsOpening, is_spawning};
 
@@ -26,37 +28,67 @@ fn is_spawning(stage: Stage) -> bool
     matches!(stage, Stage::Spawning)
 }
 
-/// The place of the group whose last start's program is awaited, where it is this start; as it stands before it runs. None where its
-/// program gives nothing.
-pub fn awaited_at(tables: &Tables, s: u64) -> Option<usize>
-    ensures inside { IfSome result (λ g. g < length tables.now.lasts.items) }
-    ensures idle { IfNone result ((settings : Settings) (before : List Event) → Stands settings tables.now before
-        → started settings s before (life_of s before).stage ≡ nothing) }
-    ensures found { IfSome result (λ g. slice_get (map number_in tables.now.lasts.items) g ≡ Some s) }
-    ensures begins { IfSome result (λ g. (settings : Settings) (before : List Event) → Stands settings tables.now before
-        → started settings s before (life_of s before).stage ≡ begin_in settings before s g) }
-{
-    let g = tables.last(s)?;
-    if is_spawning(tables.stage(g)) {
-        Some(g)
-    } else {
-        None
-    }
-}
-
-/// A start's program runs: it is sent the daemon's `initialize`, of the group's key and of what is declared.
-pub fn begin(tables: &Tables, alloc: Global, outs: &mut Outs, g: usize) -> Result<(), Memory>
+// A start's program runs: it is sent the daemon's `initialize`, of the group's key and of what is declared.
+fn begin(tables: &Tables, alloc: Global, outs: &mut Outs, g: usize) -> Result<(), Memory>
     requires { g < length tables.now.lasts.items }
-    ensures { (settings : Settings) (before : List Event) (s : ℕ) → slice_get (map number_in tables.now.lasts.items) g ≡ Some s → outs.old ≡ []
+    ensures does { (settings : Settings) (before : List Event) (s : ℕ) → slice_get (map number_in tables.now.lasts.items) g ≡ Some s → outs.old ≡ []
         → ((x : Kept) → slice_get (groups_of settings before) g ≡ Some x → IsOpening x)
         → OnOk result (Does (λ t events. Stands settings t events) (begin_in settings before s g)
         (with_cause before (Started s)) tables.now outs.old tables.now outs.new) }
+    ensures documents { (settings : Settings) (owed : Owed) (before : List Event) (s : ℕ) → outs.old ≡ []
+        → ((x : Kept) → slice_get (groups_of settings before) g ≡ Some x → IsOpening x)
+        → Stands settings tables.now (behind (with_cause before (Started s)) outs.old)
+        → DocumentsStand settings owed tables.now (behind (with_cause before (Started s)) outs.old)
+        → OnOk result (DocumentsStand settings owed tables.now (behind (with_cause before (Started s)) outs.new)) }
 {
     match tables.kept(g as u64) {
         None => Ok(()),
         Some(kept) => {
             let text = opening(alloc, kept)?;
             tables.notify(outs, g, text)?;
+            Ok(())
+        }
+    }
+}
+
+// The program of the group's last start runs: the start is sent `initialize`, where its program was awaited.
+fn start_at(tables: &mut Tables, alloc: Global, outs: &mut Outs, g: usize) -> Result<(), Memory>
+    requires { g < length tables.old.lasts.items }
+    ensures requests { tables.new.requests ≡ tables.old.requests }
+    ensures versions { tables.new.versions ≡ tables.old.versions }
+    ensures does { (settings : Settings) (before : List Event) (s : ℕ) → slice_get (map number_in tables.old.lasts.items) g ≡ Some s → outs.old ≡ []
+        → Known settings before → Settled settings before → Stands settings tables.old before → DocumentsStand settings nothing_owed tables.old before
+        → OnOk result (Done (λ k events. AllStand settings k events) (row_of settings before (Started s))
+        (with_cause before (Started s)) [] (tables.new, nothing_owed) outs.new) }
+{
+    let awaited = is_spawning(tables.stage(g));
+    tables.hear_started(g);
+    if !awaited {
+        return Ok(());
+    }
+    begin(tables, alloc, outs, g)?;
+    Ok(())
+}
+
+/// A start's program runs: where it was awaited, the start is sent the daemon's `initialize` (LSP 3.17, Initialize Request); where it
+/// is to end already, nothing.
+pub fn take_started(
+    tables: &mut Tables,
+    alloc: Global,
+    outs: &mut Outs,
+    s: u64,
+) -> Result<(), Memory>
+    ensures requests { tables.new.requests ≡ tables.old.requests }
+    ensures versions { tables.new.versions ≡ tables.old.versions }
+    ensures does { (settings : Settings) (before : List Event) → outs.old ≡ [] → Known settings before → Settled settings before
+        → fits_behind before (Started s) ≡ true → Stands settings tables.old before → DocumentsStand settings nothing_owed tables.old before
+        → OnOk result (Done (λ k events. AllStand settings k events) (row_of settings before (Started s))
+        (with_cause before (Started s)) [] (tables.new, nothing_owed) outs.new) }
+{
+    match tables.last(s) {
+        None => Ok(()),
+        Some(g) => {
+            start_at(tables, alloc, outs, g)?;
             Ok(())
         }
     }

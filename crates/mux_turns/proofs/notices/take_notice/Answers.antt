@@ -12,8 +12,8 @@ use Rattle.mux_turns.proofs.Noticing.{noticed}
 use Rattle.mux_turns.proofs.Serving.{notice_runs, notice_stops, stands_so, unplaced}
 use Rattle.mux_turns.proofs.notices.take_notice.Goals as goal
 
-pub returns : goal.returns
-returns c = λ settings before body method params g s read says stays served home starts first st ds.
+pub returns-clause-does : goal.returns-clause-does
+returns-clause-does c = λ settings before body method params g s read says stays served home starts first st ds.
     let e = c.args.e in
     let base = with_cause before (FromEditor e body) in
     let u = c.hear_notice.new.self in

@@ -10,14 +10,14 @@ use Rattle.mux_turns.proofs.Joining.{joins_ready, was_shown}
 use Rattle.mux_turns.proofs.Welcoming.{kept_none}
 use Rattle.mux_turns.proofs.placing.welcome.Goals as goal
 
-pub returns-in-None : goal.returns-in-None
-returns-in-None c = λ settings before body method id params s read says new starts ready whole first.
+pub returns-in-None-clause-does : goal.returns-in-None-clause-does
+returns-in-None-clause-does c = λ settings before body method id params s read says new starts ready whole first.
     let base = with_cause before (FromEditor c.args.e body) in
     does_knowing (λ k. kept_none (was_shown settings c.args.tables.now c.args.tables.now before c.args.e c.args.g s body method id params c.args.outs.now c.args.outs.now first says new starts ready _ c.requires.group
     (λ n at r. c.in-None.ensures settings (behind base c.args.outs.now) n at k.0 r) k.0).2)
 
-pub returns-in_ok-welcome-in-Some : goal.returns-in_ok-welcome-in-Some
-returns-in_ok-welcome-in-Some c = λ settings before body method id params s read says new starts ready whole first.
+pub returns-in_ok-welcome-in-Some-clause-does : goal.returns-in_ok-welcome-in-Some-clause-does
+returns-in_ok-welcome-in-Some-clause-does c = λ settings before body method id params s read says new starts ready whole first.
     let base = with_cause before (FromEditor c.args.e body) in
     let text = c.in_ok-text-in-Some.text in
     does_knowing (λ k.

@@ -11,8 +11,8 @@ use Rattle.mux_turns.proofs.Asides.{desk_now, early_keeps, early_stays}
 use Rattle.mux_turns.proofs.Matched.{whole_entry}
 use Rattle.mux_turns.proofs.quiet.take_early.Goals as goal
 
-pub returns : goal.returns
-returns c = λ settings before body read early unplaced unstopped first st ds.
+pub returns-clause-does : goal.returns-clause-does
+returns-clause-does c = λ settings before body read early unplaced unstopped first st ds.
     let e = c.args.e in
     let base = with_cause before (FromEditor e body) in
     let u = c.hear_editor.new.self in

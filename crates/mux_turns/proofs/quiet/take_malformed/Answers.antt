@@ -15,8 +15,8 @@ use Rattle.mux_turns.proofs.Matched.{whole_entry}
 use Rattle.mux_turns.proofs.quiet.take_malformed.Goals as goal
 use Rattle.mux_turns.proofs.quiet.take_malformed.Goals.{in-Memory, in_default}
 
-pub returns : goal.returns
-returns c = λ settings before body refuses first st ds.
+pub returns-clause-does : goal.returns-clause-does
+returns-clause-does c = λ settings before body refuses first st ds.
     let e = c.args.e in
     let base = with_cause before (FromEditor e body) in
     let u = c.hear_editor.new.self in

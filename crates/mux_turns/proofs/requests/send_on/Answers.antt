@@ -7,8 +7,8 @@ use Rattle.mux_turns.proofs.Asking.{goes_on, sends, works}
 use Rattle.mux_turns.proofs.Classes.{not_own, serves}
 use Rattle.mux_turns.proofs.requests.send_on.Goals as goal
 
-pub returns : goal.returns
-returns c = λ settings before body method id params s read says other first at.
+pub returns-clause-does : goal.returns-clause-does
+returns-clause-does c = λ settings before body method id params s read says other first at.
     let t = c.args.tables.now in
     let n = c.next_number-n.result in
     let x = item_at t.lasts.items c.args.g c.requires.group in

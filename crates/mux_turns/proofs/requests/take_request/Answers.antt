@@ -17,8 +17,8 @@ use Rattle.mux_turns.proofs.Matched.{whole_entry}
 use Rattle.mux_turns.proofs.Serving.{request_keeps, request_runs, request_stops, stands_so, unplaced}
 use Rattle.mux_turns.proofs.requests.take_request.Goals as goal
 
-pub returns-in_ok-refuse_request-in-None : goal.returns-in_ok-refuse_request-in-None
-returns-in_ok-refuse_request-in-None c = λ settings before body method id params read says other served first st ds.
+pub returns-in_ok-refuse_request-in-None-clause-does : goal.returns-in_ok-refuse_request-in-None-clause-does
+returns-in_ok-refuse_request-in-None-clause-does c = λ settings before body method id params read says other served first st ds.
     let e = c.args.e in
     let base = with_cause before (FromEditor e body) in
     let u = c.hear_editor.new.self in
@@ -30,8 +30,8 @@ returns-in_ok-refuse_request-in-None c = λ settings before body method id param
     (all_does settings u u nothing_owed nothing_owed base c.args.outs.now c.refuse_request.new.outs (c.in_ok-refuse_request-in-None.ensures.does settings before base body method id params read says (c.in-None.ensures.refused settings before body st))
     (λ _ d. c.in_ok-refuse_request-in-None.ensures.documents settings nothing_owed base d))
 
-pub returns-in_ok-send_on-in-Some : goal.returns-in_ok-send_on-in-Some
-returns-in_ok-send_on-in-Some c = λ settings before body method id params read says other served first st ds.
+pub returns-in_ok-send_on-in-Some-clause-does : goal.returns-in_ok-send_on-in-Some-clause-does
+returns-in_ok-send_on-in-Some-clause-does c = λ settings before body method id params read says other served first st ds.
     let e = c.args.e in
     let base = with_cause before (FromEditor e body) in
     let g = c.in-Some.g in
@@ -42,4 +42,4 @@ returns-in_ok-send_on-in-Some c = λ settings before body method id params read 
     let docs = c.hear_editor.ensures.documents settings nothing_owed before body (request_keeps method id params serve before e (message_of body) says) ds in
     whole_entry (λ k events. AllStand settings k events) (request_row settings before e body) base (c.hear_editor.new.self, nothing_owed) (c.send_on.new.tables, nothing_owed) c.args.outs.now c.send_on.new.outs first (heard, docs)
     (does_alike (λ _. c.in-Some.ensures.goes settings before body s.0 s.1 st)
-    (c.in_ok-send_on-in-Some.ensures settings before body method id params s.0 read says other first (ap (λ ls. slice_get (map number_in ls.items) g) c.hear_editor.ensures.lasts ∙ s.1)))
+    (c.in_ok-send_on-in-Some.ensures.does settings before body method id params s.0 read says other first (ap (λ ls. slice_get (map number_in ls.items) g) c.hear_editor.ensures.lasts ∙ s.1)))

@@ -13,6 +13,8 @@ pub loop-e-preserved : goal.loop-e-preserved
 loop-e-preserved c = record {
   count = c.in_ok-greet.ensures.count ∙ c.loop-e.invariant.count;
   ids = λ n. c.in_ok-greet.ensures.ids n ∙ c.loop-e.invariant.ids n;
+  requests = c.in_ok-greet.ensures.requests ∙ c.loop-e.invariant.requests;
+  versions = c.in_ok-greet.ensures.versions ∙ c.loop-e.invariant.versions;
   told = tells_then c.args.outs.now c.loop-e.outs c.greet.new.outs c.loop-e.invariant.told c.in_ok-greet.ensures.told;
   does = λ settings base body are shown all.
       let items = c.deref-e-items.result.now in
@@ -24,8 +26,8 @@ loop-e-preserved c = record {
       (c.loop-e.invariant.ids e ∙ (known.1 ∙ ap (λ w. Some (id_bytes w)) (sym (same_desk base e c.args.outs.now c.loop-e.outs told.more told.is told.bodies)))));
 }
 
-pub returns : goal.returns
-returns c = λ settings base body are shown asking.
+pub returns-clause-does : goal.returns-clause-does
+returns-clause-does c = λ settings base body are shown asking.
     let items = c.deref-e-items.result.now in
     let now = behind base c.args.outs.now in
     does_knowing (λ k.

@@ -17,8 +17,8 @@ use Rattle.mux_turns.proofs.Ready.{start_from}
 use Rattle.mux_turns.proofs.Replies.{begun_entry, first_encoding, initialized_quiet, sent_so, still_asking}
 use Rattle.mux_turns.proofs.results.take_result.Goals as goal
 
-pub returns : goal.returns
-returns c = λ settings before body id value s read says first at none shown asking st ds.
+pub returns-clause-does : goal.returns-clause-does
+returns-clause-does c = λ settings before body id value s read says first at none shown asking st ds.
     let g = c.args.g in
     let base = with_cause before (FromServer s body) in
     let bodies = replaying settings before g in
@@ -34,7 +34,7 @@ returns c = λ settings before body id value s read says first at none shown ask
     let pays = subst (λ n. Does (λ k events. AllStand settings k events) (to_start n bodies) base (u, owes g bodies) c.notify.new.outs (u, nothing_owed) c.pay.new.outs) own
     (c.in_ok-pay.ensures.does settings base g x.0 bodies x.1 (c.in_ok-owed.ensures.ready x.0 x.1) (owed.0 ∙ ap (λ n. to n bodies) (sym own))) in
     let sent = sent_so s c.in_ok-text.text bodies c.args.outs.now c.notify.new.outs c.pay.new.outs c.in_ok-owed.owed none (c.in_ok-notify.ensures.outs s there) owed.0 c.in_ok-pay.ensures.outs in
-    let greets = c.in_ok-greet_all.ensures settings base body (c.bytes.ensures ∙ shows) shown
+    let greets = c.in_ok-greet_all.ensures.does settings base body (c.bytes.ensures ∙ shows) shown
     (still_asking before s body (c.in_ok-text.text ∷ bodies) c.pay.new.outs sent asking) in
     begun_entry settings before s g body u c.greet_all.new.tables c.args.outs.now c.notify.new.outs c.pay.new.outs c.greet_all.new.outs (group_seen settings c.args.tables.now before g st s c.requires.group at) none (heard, owed.1)
     (subst (λ w. Does (λ k events. AllStand settings k events) (send (ToServer s w)) base (u, owes g bodies) c.args.outs.now (u, owes g bodies) c.notify.new.outs) c.in_ok-text.ensures begins) pays greets

@@ -1,0 +1,189 @@
+-- Which row a message of an editor meets.
+use Rattle.std.proofs.Common.{◌≡◌, ℕ, Bool, true, false, List, [], ◌++◌, refl, ap, sym, subst, ◌∙◌, ◌⊎◌, inl, inr, codes}
+use Rattle.std.specs.Prelude.{Option, Some}
+use Rattle.json_text.specs.Json.{Json}
+use Rattle.json_nodes.specs.Doc.{Doc}
+use Rattle.mux_history.specs.declared.cause.Cause.TheVariants.{FromEditor}
+use Rattle.mux_history.specs.declared.out.Out.{Out}
+use Rattle.rpc_message.specs.declared.envelope.Envelope.{Envelope}
+use Rattle.rpc_message.specs.declared.envelope.Envelope.TheVariants as envelope
+use Rattle.rpc_message.specs.declared.sort.Malformed.{Malformed}
+use Rattle.rpc_message.specs.declared.sort.Malformed.TheVariants as fault
+use Rattle.rpc_message.specs.declared.sort.Sort.{Sort}
+use Rattle.rpc_message.specs.declared.sort.Sort.TheVariants as sort
+use Rattle.rpc_message.specs.Envelopes.{Tells}
+use Rattle.rpc_message.specs.Message.{Message, Id, message_of, request, notification, result, error, not_json, not_message}
+use Rattle.rpc_message.specs.Parsed.{Parsed, IsRead}
+use Rattle.rpc_message.specs.Sorts.{Refuses, sort_of}
+use Rattle.document_model.specs.Sayings.{saying_by}
+use Rattle.event_model.specs.declared.phase.Phase.{Phase}
+use Rattle.event_model.specs.declared.phase.Phase.TheVariants.{Absent, New, Waiting, Answered, Running, Down, Closed, Gone}
+use Rattle.event_model.specs.Does.{Alike, Done}
+use Rattle.event_model.specs.Event.{Event, behind, requests}
+use Rattle.event_model.specs.Phases.{desk_of, is_linked, is_malformed, is_served}
+use Rattle.event_model.specs.Row.{Row, nothing}
+use Rattle.event_model.specs.Settings.{Settings}
+use Rattle.event_model.proofs.Turns.{alike, alike_then}
+use Rattle.mux_model.specs.Rows.{malformed_row}
+use Rattle.group_words.specs.Rows.{initialize_row}
+use Rattle.group_rows.specs.Rows.{document_row, early_row, from_editor, message_row, request_row, row_of, served_row}
+use Rattle.mux_turns.proofs.Rows.{is_first, is_second}
+
+-- a whole entry of a row that sends what another one does
+pub done_alike : {K : Type 0} (Holds : K → List Event → Type 0) {r p : Row} {base : List Event} {xs ys : List Out} {u : K} → Alike r p → Done Holds p base xs u ys → Done Holds r base xs u ys
+done_alike Holds {r} {p} {base} {xs} {ys} {u} a d = record { outs = d.outs ∙ ap (λ zs. xs ++ zs) (sym (a.sends (behind base xs))); stands = d.stands }
+
+-- where nothing was sent
+pub done_quietly : {K : Type 0} (Holds : K → List Event → Type 0) {r : Row} {base : List Event} {xs : List Out} {u : K} → xs ≡ [] → Done Holds r base [] u [] → Done Holds r base [] u xs
+done_quietly Holds {r} {base} {xs} {u} first d = subst (λ zs. Done Holds r base [] u zs) (sym first) d
+
+-- what was read is a message
+told_well : (d : Doc) (v : Envelope) (m : Message) → Tells d v m → is_malformed m ≡ false
+told_well d (envelope.Request i n ps) m t = ap is_malformed t.is
+told_well d (envelope.Notification n ps) m t = ap is_malformed t.is
+told_well d (envelope.Outcome i v) m t = ap is_malformed t.is
+told_well d (envelope.Failure i v) m t = ap is_malformed t.is
+
+pub read_well : (p : Parsed) (body : List ℕ) → IsRead p body → is_malformed (message_of body) ≡ false
+read_well p body r = told_well p.doc p.envelope (message_of body) r.tells
+
+-- a request, with its parts
+pub record Asks (m : Message) : Type 0 where
+  pub id : Id
+  pub method : List ℕ
+  pub params : Option Json
+  pub is : m ≡ request id method params
+
+pub asks_by_name : (name : List ℕ) (m : Message) → requests name m ≡ true → Asks m
+asks_by_name name (request id method params) h = record { id = id; method = method; params = params; is = refl }
+asks_by_name name (notification method params) h = absurd (cc)
+asks_by_name name (result id r) h = absurd (cc)
+asks_by_name name (error id r) h = absurd (cc)
+asks_by_name name not_json h = absurd (cc)
+asks_by_name name not_message h = absurd (cc)
+
+pub asks_by_sort : (m : Message) → sort_of m ≡ Some sort.Request → Asks m
+asks_by_sort (request id method params) h = record { id = id; method = method; params = params; is = refl }
+asks_by_sort (notification method params) h = absurd (cc)
+asks_by_sort (result id r) h = absurd (cc)
+asks_by_sort (error id r) h = absurd (cc)
+asks_by_sort not_json h = absurd (cc)
+asks_by_sort not_message h = absurd (cc)
+
+-- a notification, with its parts
+pub record Notes (m : Message) : Type 0 where
+  pub method : List ℕ
+  pub params : Option Json
+  pub is : m ≡ notification method params
+
+pub notes_by_sort : (m : Message) → sort_of m ≡ Some sort.Notification → Notes m
+notes_by_sort (notification method params) h = record { method = method; params = params; is = refl }
+notes_by_sort (request id method params) h = absurd (cc)
+notes_by_sort (result id r) h = absurd (cc)
+notes_by_sort (error id r) h = absurd (cc)
+notes_by_sort not_json h = absurd (cc)
+notes_by_sort not_message h = absurd (cc)
+
+-- a message of an editor that is neither early nor served gives nothing
+abbrev pub rests : Phase → Bool
+rests Absent = true
+rests Down = true
+rests Closed = true
+rests Gone = true
+rests other = false
+
+-- what was refused is none
+pub refused_malformed : (f : Malformed) (m : Message) → (f ≡ fault.NotJson) ⊎ (f ≡ fault.NotMessage) → Refuses f m → is_malformed m ≡ true
+refused_malformed f m (inl h) r = ap is_malformed (subst (λ z. Refuses z m) h r)
+refused_malformed f m (inr h) r = ap is_malformed (subst (λ z. Refuses z m) h r)
+
+-- an editor that never joined says nothing
+pub unlinked : (p : Phase) → p ≡ Absent → is_linked p ≡ true → ⊥
+unlinked p at h = let off = ap is_linked at in cc
+
+-- of several variants one
+pub served_one : (p : Phase) → (p ≡ Answered) ⊎ (p ≡ Running) → is_served p ≡ true
+served_one p (inl h) = ap is_served h
+served_one p (inr h) = ap is_served h
+
+pub rests_one : (p : Phase) → (p ≡ Absent) ⊎ ((p ≡ Down) ⊎ ((p ≡ Closed) ⊎ (p ≡ Gone))) → rests p ≡ true
+rests_one p (inl h) = ap rests h
+rests_one p (inr (inl h)) = ap rests h
+rests_one p (inr (inr (inl h))) = ap rests h
+rests_one p (inr (inr (inr h))) = ap rests h
+
+-- a response is no call
+pub unasking : (m : Message) (x : Sort) → sort_of m ≡ Some x → (x ≡ sort.Result) ⊎ (x ≡ sort.Error) → sort_of m ≡ Some sort.Request → ⊥
+unasking m x at (inl h) k = cc
+unasking m x at (inr h) k = cc
+
+pub unnoting : (m : Message) (x : Sort) → sort_of m ≡ Some x → (x ≡ sort.Result) ⊎ (x ≡ sort.Error) → sort_of m ≡ Some sort.Notification → ⊥
+unnoting m x at (inl h) k = cc
+unnoting m x at (inr h) k = cc
+
+module _ (settings : Settings) (before : List Event) (e : ℕ) (body : List ℕ) where
+  abbrev row : Row
+  row = row_of settings before (FromEditor e body)
+
+  -- E2
+  pub malformed : is_malformed (message_of body) ≡ true → Alike row (malformed_row e (message_of body) (desk_of e before).phase)
+  malformed h = is_first refl h
+
+  phased : (p : Phase) → (desk_of e before).phase ≡ p → is_malformed (message_of body) ≡ false → Alike row (message_row settings before e body (message_of body) p)
+  phased p at well = alike_then (alike (ap (from_editor settings before e body (message_of body)) at)) (is_second refl well)
+
+  -- E7
+  pub begins : (desk_of e before).phase ≡ New → is_malformed (message_of body) ≡ false → requests (codes "initialize") (message_of body) ≡ true → Alike row (initialize_row settings before e body)
+  begins at well h = alike_then (phased New at well) (is_first refl h)
+
+  -- E8
+  pub early_new : (desk_of e before).phase ≡ New → is_malformed (message_of body) ≡ false → requests (codes "initialize") (message_of body) ≡ false → Alike row (early_row e body (message_of body))
+  early_new at well h = alike_then (phased New at well) (is_second refl h)
+
+  pub early_waiting : (desk_of e before).phase ≡ Waiting → is_malformed (message_of body) ≡ false → Alike row (early_row e body (message_of body))
+  early_waiting at well = phased Waiting at well
+
+  served_as : (m : Message) (p : Phase) → is_served p ≡ true → message_row settings before e body m p ≡ served_row settings before e body m
+  served_as m Answered h = refl
+  served_as m Running h = refl
+  served_as m Absent h = absurd (cc)
+  served_as m New h = absurd (cc)
+  served_as m Waiting h = absurd (cc)
+  served_as m Down h = absurd (cc)
+  served_as m Closed h = absurd (cc)
+  served_as m Gone h = absurd (cc)
+
+  served : (m : Message) → message_of body ≡ m → is_served (desk_of e before).phase ≡ true → is_malformed (message_of body) ≡ false → Alike row (served_row settings before e body m)
+  served m says h well = alike_then (phased (desk_of e before).phase refl well) (alike (served_as (message_of body) (desk_of e before).phase h ∙ ap (served_row settings before e body) says))
+
+  -- E10
+  pub asked : (id : Id) (method : List ℕ) (params : Option Json) → message_of body ≡ request id method params → is_served (desk_of e before).phase ≡ true → is_malformed (message_of body) ≡ false → Alike row (request_row settings before e body)
+  asked id method params says h well = served (request id method params) says h well
+
+  -- E12 to E15
+  pub noted : (method : List ℕ) (params : Option Json) → message_of body ≡ notification method params → is_served (desk_of e before).phase ≡ true → is_malformed (message_of body) ≡ false → Alike row (document_row settings before e body (saying_by method params))
+  noted method params says h well = served (notification method params) says h well
+
+  rests_as : (m : Message) (p : Phase) → rests p ≡ true → message_row settings before e body m p ≡ nothing
+  rests_as m Absent h = refl
+  rests_as m Down h = refl
+  rests_as m Closed h = refl
+  rests_as m Gone h = refl
+  rests_as m New h = absurd (cc)
+  rests_as m Waiting h = absurd (cc)
+  rests_as m Answered h = absurd (cc)
+  rests_as m Running h = absurd (cc)
+
+  pub unheard : (p : Phase) → (desk_of e before).phase ≡ p → rests p ≡ true → is_malformed (message_of body) ≡ false → Alike row nothing
+  unheard p at h well = alike_then (phased p at well) (alike (rests_as (message_of body) p h))
+
+  answers_as : (m : Message) → (sort_of m ≡ Some sort.Request → ⊥) → (sort_of m ≡ Some sort.Notification → ⊥) → served_row settings before e body m ≡ nothing
+  answers_as (request id method params) h k = absurd (h refl)
+  answers_as (notification method params) h k = absurd (k refl)
+  answers_as (result id r) h k = refl
+  answers_as (error id r) h k = refl
+  answers_as not_json h k = refl
+  answers_as not_message h k = refl
+
+  pub answered : (sort_of (message_of body) ≡ Some sort.Request → ⊥) → (sort_of (message_of body) ≡ Some sort.Notification → ⊥) → is_served (desk_of e before).phase ≡ true → is_malformed (message_of body) ≡ false → Alike row nothing
+  answered h k p well = alike_then (served (message_of body) refl p well) (alike (answers_as (message_of body) h k))

@@ -1,0 +1,3 @@
+pub mod EditorBuilt
+pub mod EditorRows
+pub mod Said

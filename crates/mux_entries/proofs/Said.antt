@@ -1,0 +1,262 @@
+-- What a start says, by where it stands.
+use Rattle.std.proofs.Common.{◌≡◌, ℕ, Bool, true, false, not, ◌&&◌, ◌||◌, List, [], ◌∷◌, map, nat_eq, refl, ap, sym, subst, ◌∙◌, codes, if◌then◌else◌}
+use Rattle.std.specs.Prelude.{Option, Some, None, bytes_eq, find, fold, slice_get}
+use Rattle.std.proofs.lemmas.Bool.{and_parts}
+use Rattle.std.proofs.lemmas.Slice.Eq.{bytes_eq-Decides}
+use Rattle.json_text.specs.Json.{Json}
+use Rattle.mux_history.specs.declared.cause.Cause.TheVariants.{Joined, FromEditor, EditorGone, Started, StartFailed, FromServer, ServerGone, Drained, Tick}
+use Rattle.mux_history.specs.declared.out.Out.TheVariants.{ToEditor, ToServer, Spawn, CloseEditor, EndServer}
+use Rattle.rpc_message.specs.declared.envelope.Envelope.{Envelope}
+use Rattle.rpc_message.specs.declared.envelope.Envelope.TheVariants.{Request, Notification, Outcome, Failure}
+use Rattle.rpc_message.specs.Envelopes.{Tells}
+use Rattle.json_nodes.specs.Doc.{Doc}
+use Rattle.rpc_message.specs.Message.{Message, Id, message_of, request, notification, result, error, not_json, not_message, result_bytes}
+use Rattle.rpc_message.specs.Parsed.{IsRead, Parsed}
+use Rattle.rpc_message.specs.ValueTexts.{IsShallowText}
+use Rattle.rpc_message.proofs.Ids.{result_bytes_law}
+use Rattle.event_model.specs.declared.stage.Stage.{Stage}
+use Rattle.event_model.specs.declared.stage.Stage.TheVariants.{Unspawned, Spawning, Initializing, Ready, Stopping, Ending, Ended}
+use Rattle.event_model.specs.Does.{Alike}
+use Rattle.event_model.specs.Event.{Event, took, did}
+use Rattle.event_model.specs.Phases.{is_malformed}
+use Rattle.event_model.specs.Requests.{answered_id}
+use Rattle.event_model.specs.Row.{nothing, on}
+use Rattle.event_model.specs.Settings.{Settings}
+use Rattle.event_model.specs.Stages.{Life, is_ended, is_first_result, life_behind, life_of, no_life, runs, stage_ending, stage_hears, stage_started, stage_told}
+use Rattle.event_model.proofs.Frames.{never}
+use Rattle.event_model.proofs.Turns.{alike}
+use Rattle.group_facts.specs.Built.{built_answer, built_from_server, is_shown_whole}
+use Rattle.group_facts.specs.Facts.{AllForwarded, IsForwarded, WaitingAsked, is_early}
+use Rattle.group_rows.specs.Forwarded.{Forwarded, answered_by, forwarding_of}
+use Rattle.group_rows.specs.Rows.{first_result, from_server, pass_on, response_row}
+use Rattle.group_words.specs.Houses.{is_first_error}
+use Rattle.group_words.specs.Rows.{shown_of}
+use Rattle.mux_facts.proofs.Lists.{found_is}
+use Rattle.mux_tables.specs.declared.tables.Start.{Start}
+use Rattle.mux_tables.specs.declared.tables.Tables.{Tables}
+use Rattle.mux_tables.specs.Stands.{NamesAt, Stands, number_in, of_life}
+use Rattle.mux_tables.proofs.Starts.{start_at_place}
+use Rattle.mux_turns.specs.Answers.{IsAsked}
+use Rattle.mux_turns.specs.Welcomes.{AllAsking, IsShown}
+use Rattle.mux_turns.proofs.Rows.{is_first, is_second}
+
+-- where the last start of a group stands
+module _ (settings : Settings) (t : Tables) (before : List Event) (g s : ℕ) (x : Start) (here : slice_get t.lasts.items g ≡ Some x) (at : slice_get (map number_in t.lasts.items) g ≡ Some s) (st : Stands settings t before) where
+  life_here : life_of s before ≡ record { stage = x.life.stage; started = x.started }
+  life_here = subst (λ n. life_of n before ≡ record { stage = x.life.stage; started = x.started }) (start_at_place t.lasts.items g s x here at) ((st.lasts.each g x here).parts of_life)
+
+  pub stage_here : (life_of s before).stage ≡ x.life.stage
+  stage_here = ap (λ (l : Life). l.stage) life_here
+
+-- a start whose program is awaited has none that runs
+abbrev IsFresh : Life → Type 0
+IsFresh life = life.stage ≡ Spawning → life.started ≡ false
+
+started_late : (g : Stage) → stage_started g ≡ Spawning → true ≡ false
+started_late Spawning h = cc
+started_late Unspawned h = cc
+started_late Initializing h = cc
+started_late Ready h = cc
+started_late Stopping h = cc
+started_late Ending h = cc
+started_late Ended h = cc
+
+hears_late : (g : Stage) (m : Message) → stage_hears g m ≡ Spawning → g ≡ Spawning
+hears_late Initializing m h = go (is_first_result m) h
+  where
+    go : (b : Bool) → (if b then Ready else Initializing) ≡ Spawning → Initializing ≡ Spawning
+    go true k = absurd (cc)
+    go false k = k
+hears_late Spawning m h = h
+hears_late Unspawned m h = h
+hears_late Ready m h = h
+hears_late Stopping m h = h
+hears_late Ending m h = h
+hears_late Ended m h = h
+
+told_late : (g : Stage) (m : Message) → stage_told g m ≡ Spawning → g ≡ Spawning
+told_late Ready (request id method params) h = go (bytes_eq (codes "shutdown") method) h
+  where
+    go : (b : Bool) → (if b then Stopping else Ready) ≡ Spawning → Ready ≡ Spawning
+    go true k = absurd (cc)
+    go false k = k
+told_late Ready (notification method params) h = h
+told_late Ready (result id r) h = h
+told_late Ready (error id r) h = h
+told_late Ready not_json h = h
+told_late Ready not_message h = h
+told_late Spawning m h = h
+told_late Unspawned m h = h
+told_late Initializing m h = h
+told_late Stopping m h = h
+told_late Ending m h = h
+told_late Ended m h = h
+
+ending_late : (g : Stage) → stage_ending g ≡ Spawning → true ≡ false
+ending_late Spawning h = cc
+ending_late Unspawned h = cc
+ending_late Initializing h = cc
+ending_late Ready h = cc
+ending_late Stopping h = cc
+ending_late Ending h = cc
+ending_late Ended h = cc
+
+if_fresh : (b : Bool) (moved life : Life) → IsFresh moved → IsFresh life → IsFresh (if b then moved else life)
+if_fresh true moved life h k = h
+if_fresh false moved life h k = k
+
+fresh_behind : (s : ℕ) (life : Life) (event : Event) → IsFresh life → IsFresh (life_behind s life event)
+fresh_behind s life (took (Started n) m) h = if_fresh (nat_eq n s) (record { stage = stage_started life.stage; started = true }) life (started_late life.stage) h
+fresh_behind s life (took (StartFailed n) m) h = if_fresh (nat_eq n s) (record { stage = Ended; started = life.started }) life (λ e. absurd (cc)) h
+fresh_behind s life (took (FromServer n body) m) h = if_fresh (nat_eq n s) (record { stage = stage_hears life.stage m; started = life.started }) life (λ e. h (hears_late life.stage m e)) h
+fresh_behind s life (took (ServerGone n) m) h = if_fresh (nat_eq n s) (record { stage = Ended; started = life.started }) life (λ e. absurd (cc)) h
+fresh_behind s life (did (Spawn n g) m) h = if_fresh (nat_eq n s) (record { stage = Spawning; started = false }) life (λ e. refl) h
+fresh_behind s life (did (ToServer n body) m) h = if_fresh (nat_eq n s) (record { stage = stage_told life.stage m; started = life.started }) life (λ e. h (told_late life.stage m e)) h
+fresh_behind s life (did (EndServer n) m) h = if_fresh (nat_eq n s) (record { stage = stage_ending life.stage; started = life.started }) life (λ e. never (ending_late life.stage e)) h
+fresh_behind s life (took (Joined e) m) h = h
+fresh_behind s life (took (FromEditor e body) m) h = h
+fresh_behind s life (took (EditorGone e why) m) h = h
+fresh_behind s life (took (Drained e k) m) h = h
+fresh_behind s life (took (Tick k) m) h = h
+fresh_behind s life (did (ToEditor e body) m) h = h
+fresh_behind s life (did (CloseEditor e) m) h = h
+
+fresh_all : (s : ℕ) (life : Life) (events : List Event) → IsFresh life → IsFresh (fold (life_behind s) life events)
+fresh_all s life [] h = h
+fresh_all s life (event ∷ events) h = fresh_all s (life_behind s life event) events (fresh_behind s life event h)
+
+pub runs_late : (s : ℕ) (before : List Event) (stage : Stage) → runs (life_of s before) ≡ true → (life_of s before).stage ≡ stage → stage ≡ Spawning → ⊥
+runs_late s before stage run at is = never (sym (and_parts (life_of s before).started (not (is_ended (life_of s before).stage)) run).0 ∙ fresh_all s no_life before (λ e. refl) (at ∙ is))
+
+-- S1: a body that is no message answers nothing
+nobody : (fs : List Forwarded) → find (answered_by None) fs ≡ None
+nobody [] = refl
+nobody (f ∷ fs) = nobody fs
+
+pub malformed_first : (m : Message) (b : Bool) → is_malformed m ≡ true → (is_first_result m && b) ≡ false
+malformed_first not_json b h = refl
+malformed_first not_message b h = refl
+malformed_first (request id method params) b h = absurd (cc)
+malformed_first (notification method params) b h = absurd (cc)
+malformed_first (result id r) b h = absurd (cc)
+malformed_first (error id r) b h = absurd (cc)
+
+pub malformed_error : (m : Message) (b : Bool) → is_malformed m ≡ true → (is_first_error m && b) ≡ false
+malformed_error not_json b h = refl
+malformed_error not_message b h = refl
+malformed_error (request id method params) b h = absurd (cc)
+malformed_error (notification method params) b h = absurd (cc)
+malformed_error (result id r) b h = absurd (cc)
+malformed_error (error id r) b h = absurd (cc)
+
+malformed_names : (m : Message) → is_malformed m ≡ true → answered_id m ≡ None
+malformed_names not_json h = refl
+malformed_names not_message h = refl
+malformed_names (request id method params) h = absurd (cc)
+malformed_names (notification method params) h = absurd (cc)
+malformed_names (result id r) h = absurd (cc)
+malformed_names (error id r) h = absurd (cc)
+
+pub malformed_named : (m : Message) → is_malformed m ≡ true → NamesAt (answered_id m) None
+malformed_named m h = subst (λ id. NamesAt id None) (sym (malformed_names m h)) (λ n l. refl)
+
+module _ (settings : Settings) (s : ℕ) (before : List Event) (body : List ℕ) (m : Message) where
+  pub malformed_row : (stage : Stage) → is_malformed m ≡ true → Alike (from_server settings s before body m stage) nothing
+  malformed_row Initializing h = is_second refl (first_not m h)
+    where
+      first_not : (m : Message) → is_malformed m ≡ true → is_first_result m ≡ false
+      first_not not_json h = refl
+      first_not not_message h = refl
+      first_not (request id method params) h = absurd (cc)
+      first_not (notification method params) h = absurd (cc)
+      first_not (result id r) h = absurd (cc)
+      first_not (error id r) h = absurd (cc)
+  malformed_row Ready h = alike (ap (λ o. on o nothing (pass_on before body)) (ap (λ id. find (answered_by id) (forwarding_of s before).open_requests) (malformed_names m h) ∙ nobody (forwarding_of s before).open_requests))
+  malformed_row Unspawned h = alike refl
+  malformed_row Spawning h = alike refl
+  malformed_row Stopping h = alike refl
+  malformed_row Ending h = alike refl
+  malformed_row Ended h = alike refl
+
+-- a body that was read is a message
+tells_one : (doc : Doc) (envelope : Envelope) (m : Message) → Tells doc envelope m → is_malformed m ≡ false
+tells_one doc (Request id method params) m h = ap is_malformed h.is
+tells_one doc (Notification method params) m h = ap is_malformed h.is
+tells_one doc (Outcome id value) m h = ap is_malformed h.is
+tells_one doc (Failure id failure) m h = ap is_malformed h.is
+
+pub read_well : (parsed : Parsed) (body : List ℕ) → IsRead parsed body → is_malformed (message_of body) ≡ false
+read_well parsed body read = tells_one parsed.doc parsed.envelope (message_of body) read.tells
+
+-- what is built of the messages of a start
+record IsBuilt (stage : Stage) (fs : List Forwarded) (body : List ℕ) (m : Message) : Type 0 where
+  pub answer : built_answer stage fs m ≡ true
+  pub whole : is_first_result m ≡ true → is_shown_whole body ≡ true
+
+built_parts : (stage : Stage) (fs : List Forwarded) (body : List ℕ) (m : Message) → is_malformed m ≡ false → built_from_server stage fs body m ≡ true → IsBuilt stage fs body m
+built_parts stage fs body m well built =
+    let both = and_parts (built_answer stage fs m) (not (is_first_result m) || is_shown_whole body) (ap (λ b. b || (built_answer stage fs m && (not (is_first_result m) || is_shown_whole body))) (sym well) ∙ built) in
+    record { answer = both.0; whole = λ first. ap (λ b. not b || is_shown_whole body) (sym first) ∙ both.1 }
+
+-- S2
+first_is : (m : Message) → is_first_result m ≡ true → (id : Option Id) × (r : Json) × (m ≡ result id r)
+first_is (result id r) h = (id, r, refl)
+first_is (request id method params) h = absurd (cc)
+first_is (notification method params) h = absurd (cc)
+first_is (error id r) h = absurd (cc)
+first_is not_json h = absurd (cc)
+first_is not_message h = absurd (cc)
+
+pub asking : (before : List Event) → WaitingAsked before → AllAsking before
+asking before waiting e waits = let k = waiting e waits in record { name = k.0; method = codes "initialize"; params = k.1.params; says = k.1.asks }
+
+-- the first result of a start, as its row needs it
+pub record IsFirst (settings : Settings) (before : List Event) (s : ℕ) (body : List ℕ) : Type 0 where
+  pub id : Option Id
+  pub value : Json
+  pub says : message_of body ≡ result id value
+  pub first : is_first_result (message_of body) ≡ true
+  pub shown : IsShown body
+  pub row : Alike (from_server settings s before body (message_of body) (life_of s before).stage) (first_result settings before s body)
+
+module _ (settings : Settings) (before : List Event) (s : ℕ) (body : List ℕ) (stage : (life_of s before).stage ≡ Initializing) (well : is_malformed (message_of body) ≡ false) (built : built_from_server (life_of s before).stage (forwarding_of s before).open_requests body (message_of body) ≡ true) where
+  now_built : IsBuilt Initializing (forwarding_of s before).open_requests body (message_of body)
+  now_built = built_parts Initializing (forwarding_of s before).open_requests body (message_of body) well (ap (λ g. built_from_server g (forwarding_of s before).open_requests body (message_of body)) (sym stage) ∙ built)
+
+  pub first_built : is_first_result (message_of body) ≡ true
+  first_built = now_built.answer
+
+  pub first_entry : IsFirst settings before s body
+  first_entry =
+      let k = first_is (message_of body) first_built in
+      record {
+        id = k.0;
+        value = k.1;
+        says = k.2;
+        first = first_built;
+        shown = record { value = k.1; text = subst (IsShallowText 1023 k.1) (sym ((bytes_eq-Decides (shown_of (result_bytes body)) (result_bytes body)).0 (now_built.whole first_built))) (result_bytes_law body k.0 k.1 k.2) };
+        row = is_first (ap (from_server settings s before body (message_of body)) stage) first_built;
+      }
+
+-- S5
+asked_so : (before : List Event) (f : Forwarded) → IsForwarded before f → IsAsked before f
+asked_so before f k = record { name = k.id; text = k.text; answered = λ waits. never (sym (ap is_early waits) ∙ k.late) }
+
+pub asked : (before : List Event) (s : ℕ) (m : Message) → AllForwarded before → (f : Forwarded) → find (answered_by (answered_id m)) (forwarding_of s before).open_requests ≡ Some f → IsAsked before f
+asked before s m all f found = asked_so before f (found_is (IsForwarded before) (answered_by (answered_id m)) f (forwarding_of s before).open_requests (all s) found)
+
+pub ready_row : (settings : Settings) (before : List Event) (s : ℕ) (body : List ℕ) → (life_of s before).stage ≡ Ready → Alike (from_server settings s before body (message_of body) (life_of s before).stage) (response_row s before body (message_of body))
+ready_row settings before s body stage = alike (ap (from_server settings s before body (message_of body)) stage)
+
+-- in other stages no message is built
+answers_none : (stage : Stage) (fs : List Forwarded) (m : Message) → (stage ≡ Initializing → ⊥) → (stage ≡ Ready → ⊥) → built_answer stage fs m ≡ false
+answers_none Initializing fs m h k = absurd (h refl)
+answers_none Ready fs m h k = absurd (k refl)
+answers_none Unspawned fs m h k = refl
+answers_none Spawning fs m h k = refl
+answers_none Stopping fs m h k = refl
+answers_none Ending fs m h k = refl
+answers_none Ended fs m h k = refl
+
+pub built_elsewhere : {A : Type 0} (stage kept : Stage) (fs : List Forwarded) (body : List ℕ) (m : Message) → stage ≡ kept → (kept ≡ Initializing → ⊥) → (kept ≡ Ready → ⊥) → is_malformed m ≡ false → built_from_server stage fs body m ≡ true → A
+built_elsewhere stage kept fs body m at h k well built = never (sym (built_parts stage fs body m well built).answer ∙ answers_none stage fs m (λ e. h (sym at ∙ e)) (λ e. k (sym at ∙ e)))

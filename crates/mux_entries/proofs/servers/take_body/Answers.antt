@@ -1,0 +1,21 @@
+-- A body of a start.
+use Rattle.std.proofs.Common.{[], subst, sym}
+use Rattle.event_model.specs.Does.{Done}
+use Rattle.event_model.specs.Event.{with_cause}
+use Rattle.group_rows.specs.Rows.{row_of}
+use Rattle.mux_history.specs.declared.cause.Cause.TheVariants.{FromServer}
+use Rattle.rpc_message.specs.Message.{message_of}
+use Rattle.rpc_message.specs.Parsed.{IsRead}
+use Rattle.rpc_message.specs.Sorts.{Refuses}
+use Rattle.mux_tables.specs.Documents.{AllStand, nothing_owed}
+use Rattle.mux_entries.proofs.servers.take_body.Goals as goal
+
+pub returns-in_ok-take_message-in-Ok-clause-does : goal.returns-in_ok-take_message-in-Ok-clause-does
+returns-in_ok-take_message-in-Ok-clause-does c = λ settings before s first at known run built st ds.
+    c.in_ok-take_message-in-Ok.ensures.does settings before c.args.body.now s (subst (λ w. IsRead c.in-Ok.message w) c.bytes.ensures c.in-Ok.ensures.ok) first at known built st ds
+
+pub returns-in_ok-ignore-in-Err-clause-does : goal.returns-in_ok-ignore-in-Err-clause-does
+returns-in_ok-ignore-in-Err-clause-does c = λ settings before s first at known run built st ds.
+    let body = c.args.body.now in
+    subst (λ ys. Done (λ k events. AllStand settings k events) (row_of settings before (FromServer s body)) (with_cause before (FromServer s body)) [] (c.ignore.new.tables, nothing_owed) ys) (sym first)
+    (c.in_ok-ignore-in-Err.ensures.does settings before body s (subst (λ w. Refuses c.in-Err.fault (message_of w)) c.bytes.ensures c.in-Err.ensures.refused) at run st ds)

@@ -1,0 +1,216 @@
+//! What editors do: that one joined, and what one said.
+ghost use Rattle.std.specs.Prelude.{◌≡◌, ◌≤◌, ◌<◌, ℕ, List, [], true, length, OnOk};
+ghost use Rattle.event_model.specs.declared.phase.Phase.TheVariants.{New};
+ghost use Rattle.event_model.specs.Does.{Done};
+ghost use Rattle.event_model.specs.Event.{Event, with_cause};
+ghost use Rattle.event_model.specs.Phases.{desk_of, is_served};
+ghost use Rattle.event_model.specs.Settings.{Settings};
+ghost use Rattle.group_facts.specs.Built.{built_behind};
+ghost use Rattle.group_facts.specs.Facts.{Known};
+ghost use Rattle.group_facts.specs.Settled.{Settled};
+ghost use Rattle.group_rows.specs.Rows.{row_of};
+ghost use Rattle.mux_history.specs.declared.cause.Cause.TheVariants.{FromEditor, Joined};
+ghost use Rattle.mux_model.specs.Fits.{fits_behind};
+ghost use Rattle.mux_tables.specs.Documents.{AllStand, DocumentsStand, nothing_owed};
+ghost use Rattle.mux_tables.specs.Stands.{Stands};
+ghost use Rattle.mux_turns.specs.Ceilings.{HaveCeilings};
+ghost use Rattle.rpc_message.specs.Message.{message_of};
+ghost use Rattle.rpc_message.specs.Parsed.{IsRead};
+ghost use Rattle.rpc_message.specs.Sorts.{Refuses};
+
+use event_model::{Phase, Server};
+use message_body::{Body, Memory};
+use mux_history::Outs;
+use mux_members::is_initialize;
+use mux_tables::Tables;
+use mux_turns::{
+    take_early, take_initialize, take_malformed, take_notice, take_quiet, take_request,
+};
+use rpc_message::{Malformed, Message, Sort};
+use std::alloc::Global;
+
+/// J1: an editor joined, which gives nothing. The tables have room for the editor of the next number alone, and below 2^63.
+pub fn joined(tables: &mut Tables, e: u64) -> Result<(), Memory>
+    ensures same_limit { tables.new.requests ≡ tables.old.requests }
+    ensures same_versions { tables.new.versions ≡ tables.old.versions }
+    ensures does { (settings : Settings) (before : List Event) → Stands settings tables.old before → DocumentsStand settings nothing_owed tables.old before
+        → OnOk result (Done (λ k events. AllStand settings k events) (row_of settings before (Joined e))
+        (with_cause before (Joined e)) [] (tables.new, nothing_owed) []) }
+{
+    if e != tables.editors.count() || e >= 9_223_372_036_854_775_808 {
+        return Err(Memory);
+    }
+    tables.hear_joined(e)?;
+    Ok(())
+}
+
+// E7 and E8: the first messages of an editor.
+fn from_new(
+    tables: &mut Tables,
+    alloc: Global,
+    servers: &[Server],
+    default: u32,
+    outs: &mut Outs,
+    e: u64,
+    message: &Message,
+) -> Result<(), Memory>
+    requires editor { e < length tables.old.editors }
+    requires limit { 2 ≤ tables.old.requests }
+    requires versions { 1 ≤ tables.old.versions }
+    requires ceilings { HaveCeilings servers.now }
+    ensures same_limit { tables.new.requests ≡ tables.old.requests }
+    ensures same_versions { tables.new.versions ≡ tables.old.versions }
+    ensures does { (settings : Settings) (before : List Event) (body : List ℕ) → IsRead message.now body → (desk_of e before).phase ≡ New
+        → settings.servers ≡ servers.now → settings.default ≡ default → outs.old ≡ [] → Known settings before → Settled settings before
+        → built_behind settings before (FromEditor e body) ≡ true
+        → Stands settings tables.old before → DocumentsStand settings nothing_owed tables.old before
+        → OnOk result (Done (λ k events. AllStand settings k events) (row_of settings before (FromEditor e body))
+        (with_cause before (FromEditor e body)) [] (tables.new, nothing_owed) outs.new) }
+{
+    if is_initialize(message) {
+        take_initialize(tables, alloc, servers, default, outs, e, message)?;
+        Ok(())
+    } else {
+        take_early(tables, alloc, outs, e, message)?;
+        Ok(())
+    }
+}
+
+// E10, and E12 to E15: a message of an editor that is served.
+fn from_served(
+    tables: &mut Tables,
+    alloc: Global,
+    outs: &mut Outs,
+    e: u64,
+    message: &Message,
+) -> Result<(), Memory>
+    requires { e < length tables.old.editors }
+    ensures same_limit { tables.new.requests ≡ tables.old.requests }
+    ensures same_versions { tables.new.versions ≡ tables.old.versions }
+    ensures does { (settings : Settings) (before : List Event) (body : List ℕ) → IsRead message.now body → is_served (desk_of e before).phase ≡ true
+        → outs.old ≡ [] → Settled settings before → built_behind settings before (FromEditor e body) ≡ true
+        → Stands settings tables.old before → DocumentsStand settings nothing_owed tables.old before
+        → OnOk result (Done (λ k events. AllStand settings k events) (row_of settings before (FromEditor e body))
+        (with_cause before (FromEditor e body)) [] (tables.new, nothing_owed) outs.new) }
+{
+    match message.sort() {
+        Sort::Request => {
+            take_request(tables, alloc, outs, e, message)?;
+            Ok(())
+        }
+        Sort::Notification => {
+            take_notice(tables, alloc, outs, e, message)?;
+            Ok(())
+        }
+        Sort::Result | Sort::Error => {
+            take_quiet(tables, e, message);
+            Ok(())
+        }
+    }
+}
+
+// A message, by where its editor stands: behind its `shutdown`, and where its link is to be ended, it gives nothing.
+fn from_phase(
+    tables: &mut Tables,
+    alloc: Global,
+    servers: &[Server],
+    default: u32,
+    outs: &mut Outs,
+    e: u64,
+    message: &Message,
+) -> Result<(), Memory>
+    requires editor { e < length tables.old.editors }
+    requires limit { 2 ≤ tables.old.requests }
+    requires versions { 1 ≤ tables.old.versions }
+    requires ceilings { HaveCeilings servers.now }
+    ensures same_limit { tables.new.requests ≡ tables.old.requests }
+    ensures same_versions { tables.new.versions ≡ tables.old.versions }
+    ensures does { (settings : Settings) (before : List Event) (body : List ℕ) → IsRead message.now body
+        → settings.servers ≡ servers.now → settings.default ≡ default → outs.old ≡ [] → Known settings before → Settled settings before
+        → built_behind settings before (FromEditor e body) ≡ true
+        → Stands settings tables.old before → DocumentsStand settings nothing_owed tables.old before
+        → OnOk result (Done (λ k events. AllStand settings k events) (row_of settings before (FromEditor e body))
+        (with_cause before (FromEditor e body)) [] (tables.new, nothing_owed) outs.new) }
+{
+    match tables.phase(e) {
+        Phase::New => {
+            from_new(tables, alloc, servers, default, outs, e, message)?;
+            Ok(())
+        }
+        Phase::Waiting => {
+            take_early(tables, alloc, outs, e, message)?;
+            Ok(())
+        }
+        Phase::Answered | Phase::Running => {
+            from_served(tables, alloc, outs, e, message)?;
+            Ok(())
+        }
+        Phase::Absent | Phase::Down | Phase::Closed | Phase::Gone => {
+            take_quiet(tables, e, message);
+            Ok(())
+        }
+    }
+}
+
+// E2: a body that is no message.
+fn from_malformed(
+    tables: &mut Tables,
+    alloc: Global,
+    outs: &mut Outs,
+    e: u64,
+    fault: Malformed,
+) -> Result<(), Memory>
+    requires { e < length tables.old.editors }
+    ensures same_limit { tables.new.requests ≡ tables.old.requests }
+    ensures same_versions { tables.new.versions ≡ tables.old.versions }
+    ensures does { (settings : Settings) (before : List Event) (body : List ℕ) → Refuses fault (message_of body) → outs.old ≡ []
+        → Stands settings tables.old before → DocumentsStand settings nothing_owed tables.old before
+        → OnOk result (Done (λ k events. AllStand settings k events) (row_of settings before (FromEditor e body))
+        (with_cause before (FromEditor e body)) [] (tables.new, nothing_owed) outs.new) }
+{
+    match fault {
+        Malformed::NotJson | Malformed::NotMessage => {
+            take_malformed(tables, alloc, outs, e, fault)?;
+            Ok(())
+        }
+        Malformed::Memory => Err(Memory),
+    }
+}
+
+/// A body comes from an editor: E2 where it is no message; else E7, E8, E10, or E12 to E15, by where the editor stands, or nothing.
+pub fn from_editor(
+    tables: &mut Tables,
+    alloc: Global,
+    servers: &[Server],
+    default: u32,
+    outs: &mut Outs,
+    e: u64,
+    body: &Body,
+) -> Result<(), Memory>
+    requires small { length body.now ≤ 268435456 }
+    requires limit { 2 ≤ tables.old.requests }
+    requires versions { 1 ≤ tables.old.versions }
+    requires ceilings { HaveCeilings servers.now }
+    ensures same_limit { tables.new.requests ≡ tables.old.requests }
+    ensures same_versions { tables.new.versions ≡ tables.old.versions }
+    ensures does { (settings : Settings) (before : List Event) → settings.servers ≡ servers.now → settings.default ≡ default → outs.old ≡ []
+        → Known settings before → Settled settings before → fits_behind before (FromEditor e body.now) ≡ true
+        → built_behind settings before (FromEditor e body.now) ≡ true
+        → Stands settings tables.old before → DocumentsStand settings nothing_owed tables.old before
+        → OnOk result (Done (λ k events. AllStand settings k events) (row_of settings before (FromEditor e body.now))
+        (with_cause before (FromEditor e body.now)) [] (tables.new, nothing_owed) outs.new) }
+{
+    if e >= tables.editors.count() {
+        return Ok(());
+    }
+    match Message::read(alloc, body.bytes()) {
+        Ok(message) => {
+            from_phase(tables, alloc, servers, default, outs, e, &message)?;
+            Ok(())
+        }
+        Err(fault) => {
+            from_malformed(tables, alloc, outs, e, fault)?;
+            Ok(())
+        }
+    }
+}

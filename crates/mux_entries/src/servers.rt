@@ -1,0 +1,161 @@
+//! What the program of a start says: S1, S2 and S5.
+ghost use Rattle.std.specs.Prelude.{◌≡◌, ◌<◌, ◌≤◌, ℕ, List, [], map, Some, true, length, OnOk, slice_get};
+ghost use Rattle.event_model.specs.declared.stage.Stage.TheVariants.{Initializing};
+ghost use Rattle.event_model.specs.Does.{Done};
+ghost use Rattle.event_model.specs.Event.{Event, with_cause};
+ghost use Rattle.event_model.specs.Settings.{Settings};
+ghost use Rattle.event_model.specs.Stages.{life_of, runs};
+ghost use Rattle.group_facts.specs.Built.{built_behind};
+ghost use Rattle.group_facts.specs.Facts.{Known};
+ghost use Rattle.group_facts.specs.Settled.{Settled};
+ghost use Rattle.group_rows.specs.Rows.{row_of};
+ghost use Rattle.mux_history.specs.declared.cause.Cause.TheVariants.{FromServer};
+ghost use Rattle.mux_model.specs.Fits.{fits_behind};
+ghost use Rattle.mux_tables.specs.declared.tables.Start.{Start};
+ghost use Rattle.mux_tables.specs.Documents.{AllStand, DocumentsStand, nothing_owed};
+ghost use Rattle.mux_tables.specs.Stands.{Stands, number_in};
+ghost use Rattle.rpc_message.specs.Message.{message_of};
+ghost use Rattle.rpc_message.specs.Parsed.{IsRead};
+ghost use Rattle.rpc_message.specs.Sorts.{Refuses};
+
+use event_model::Stage;
+use message_body::{Body, Memory};
+use mux_history::Outs;
+use mux_members::is_first_result;
+use mux_tables::Tables;
+use mux_turns::{stage_at, take_answer, take_result};
+use rpc_message::{Malformed, Message};
+use std::alloc::Global;
+
+// S1: a body that is no message gives nothing.
+fn ignore(tables: &mut Tables, g: usize, fault: Malformed) -> Result<(), Memory>
+    requires { g < length tables.old.lasts.items }
+    ensures same_limit { tables.new.requests ≡ tables.old.requests }
+    ensures same_versions { tables.new.versions ≡ tables.old.versions }
+    ensures does { (settings : Settings) (before : List Event) (body : List ℕ) (s : ℕ) → Refuses fault (message_of body)
+        → slice_get (map number_in tables.old.lasts.items) g ≡ Some s → runs (life_of s before) ≡ true → Stands settings tables.old before
+        → DocumentsStand settings nothing_owed tables.old before
+        → OnOk result (Done (λ k events. AllStand settings k events) (row_of settings before (FromServer s body))
+        (with_cause before (FromServer s body)) [] (tables.new, nothing_owed) []) }
+{
+    if matches!(fault, Malformed::Memory) {
+        return Err(Memory);
+    }
+    tables.hear_answer(g, None);
+    Ok(())
+}
+
+// S2: a message comes from a start that gave no result of its `initialize` yet. Of these only that result is built.
+fn take_first(
+    tables: &mut Tables,
+    alloc: Global,
+    outs: &mut Outs,
+    g: usize,
+    message: &Message,
+) -> Result<(), Memory>
+    requires group { g < length tables.old.lasts.items }
+    requires stage { (x : Start) → slice_get tables.old.lasts.items g ≡ Some x → x.life.stage ≡ Initializing }
+    ensures same_limit { tables.new.requests ≡ tables.old.requests }
+    ensures same_versions { tables.new.versions ≡ tables.old.versions }
+    ensures does { (settings : Settings) (before : List Event) (body : List ℕ) (s : ℕ) → IsRead message.now body → outs.old ≡ []
+        → slice_get (map number_in tables.old.lasts.items) g ≡ Some s → Known settings before → built_behind settings before (FromServer s body) ≡ true
+        → Stands settings tables.old before → DocumentsStand settings nothing_owed tables.old before
+        → OnOk result (Done (λ k events. AllStand settings k events) (row_of settings before (FromServer s body))
+        (with_cause before (FromServer s body)) [] (tables.new, nothing_owed) outs.new) }
+{
+    if !is_first_result(message) {
+        return Ok(());
+    }
+    take_result(tables, alloc, outs, g, message)?;
+    Ok(())
+}
+
+// A message comes from the group's last start. In other stages than these two none is built.
+fn take_message(
+    tables: &mut Tables,
+    alloc: Global,
+    outs: &mut Outs,
+    g: usize,
+    message: &Message,
+) -> Result<(), Memory>
+    requires { g < length tables.old.lasts.items }
+    ensures same_limit { tables.new.requests ≡ tables.old.requests }
+    ensures same_versions { tables.new.versions ≡ tables.old.versions }
+    ensures does { (settings : Settings) (before : List Event) (body : List ℕ) (s : ℕ) → IsRead message.now body → outs.old ≡ []
+        → slice_get (map number_in tables.old.lasts.items) g ≡ Some s → Known settings before → built_behind settings before (FromServer s body) ≡ true
+        → Stands settings tables.old before → DocumentsStand settings nothing_owed tables.old before
+        → OnOk result (Done (λ k events. AllStand settings k events) (row_of settings before (FromServer s body))
+        (with_cause before (FromServer s body)) [] (tables.new, nothing_owed) outs.new) }
+{
+    let stage = stage_at(tables, g);
+    match stage {
+        Stage::Initializing => {
+            take_first(tables, alloc, outs, g, message)?;
+            Ok(())
+        }
+        Stage::Ready => {
+            take_answer(tables, alloc, outs, g, message)?;
+            Ok(())
+        }
+        _ => Ok(()),
+    }
+}
+
+// A body comes from the group's last start.
+fn take_body(
+    tables: &mut Tables,
+    alloc: Global,
+    outs: &mut Outs,
+    g: usize,
+    body: &Body,
+) -> Result<(), Memory>
+    requires group { g < length tables.old.lasts.items }
+    requires small { length body.now ≤ 268435456 }
+    ensures same_limit { tables.new.requests ≡ tables.old.requests }
+    ensures same_versions { tables.new.versions ≡ tables.old.versions }
+    ensures does { (settings : Settings) (before : List Event) (s : ℕ) → outs.old ≡ []
+        → slice_get (map number_in tables.old.lasts.items) g ≡ Some s → Known settings before → runs (life_of s before) ≡ true
+        → built_behind settings before (FromServer s body.now) ≡ true
+        → Stands settings tables.old before → DocumentsStand settings nothing_owed tables.old before
+        → OnOk result (Done (λ k events. AllStand settings k events) (row_of settings before (FromServer s body.now))
+        (with_cause before (FromServer s body.now)) [] (tables.new, nothing_owed) outs.new) }
+{
+    match Message::read(alloc, body.bytes()) {
+        Ok(message) => {
+            take_message(tables, alloc, outs, g, &message)?;
+            Ok(())
+        }
+        Err(fault) => {
+            ignore(tables, g, fault)?;
+            Ok(())
+        }
+    }
+}
+
+/// The program of a start says something: where it gives the result of its `initialize`, the editors that wait are answered; where it
+/// answers an editor's request, that editor is; a body that is no message gives nothing. Only a start that is the last of its group
+/// has a program that runs.
+pub fn from_server(
+    tables: &mut Tables,
+    alloc: Global,
+    outs: &mut Outs,
+    s: u64,
+    body: &Body,
+) -> Result<(), Memory>
+    requires small { length body.now ≤ 268435456 }
+    ensures same_limit { tables.new.requests ≡ tables.old.requests }
+    ensures same_versions { tables.new.versions ≡ tables.old.versions }
+    ensures does { (settings : Settings) (before : List Event) → outs.old ≡ [] → Known settings before → Settled settings before
+        → fits_behind before (FromServer s body.now) ≡ true → built_behind settings before (FromServer s body.now) ≡ true
+        → Stands settings tables.old before → DocumentsStand settings nothing_owed tables.old before
+        → OnOk result (Done (λ k events. AllStand settings k events) (row_of settings before (FromServer s body.now))
+        (with_cause before (FromServer s body.now)) [] (tables.new, nothing_owed) outs.new) }
+{
+    match tables.last(s) {
+        None => Ok(()),
+        Some(g) => {
+            take_body(tables, alloc, outs, g, body)?;
+            Ok(())
+        }
+    }
+}
