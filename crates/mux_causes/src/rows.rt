@@ -11,7 +11,6 @@ ghost use Rattle.group_facts.specs.Built.{built_answer, built_as, built_behind, 
 ghost use Rattle.group_facts.specs.Facts.{Known};
 ghost use Rattle.group_facts.specs.Settled.{Settled};
 ghost use Rattle.group_rows.specs.Forwarded.{answered_by, forwarding_of};
-ghost use Rattle.group_words.specs.Rows.{shown_of};
 ghost use Rattle.json_text.specs.Json.{Json};
 ghost use Rattle.mux_history.specs.Cores.{body_length};
 ghost use Rattle.mux_model.specs.Built.{is_other};
@@ -20,7 +19,6 @@ ghost use Rattle.rpc_message.specs.Message.{Id, message_of, request, result as o
 ghost use Rattle.rpc_message.specs.Parsed.{IsRead};
 ghost use Rattle.rpc_message.specs.ValueTexts.{IsIdText};
 
-use capability_meet::{CapFault, shown};
 use event_model::{Phase, Stage};
 use lsp_method::Class;
 use message_body::{Body, Memory};
@@ -29,7 +27,7 @@ use mux_members::{
     class_in, has_token, is_first_result, is_initialize, is_initialized, reads_versions, speaks,
 };
 use mux_tables::Tables;
-use mux_turns::answered_number;
+use mux_turns::{answered_number, shown_of};
 use rpc_message::{Malformed, Message, Sort, same_id};
 use std::alloc::Global;
 
@@ -145,21 +143,7 @@ fn built_from_editor(tables: &Tables, alloc: Global, e: u64, body: &Body) -> Res
     }
 }
 
-// What editors are shown of a start's result.
-fn shown_of(alloc: Global, answer: &[u8]) -> Result<Body, Memory>
-    ensures { IfOk result (λ body. body ≡ shown_of answer.now) }
-{
-    if answer.len() > 268_435_456 {
-        return Err(Memory);
-    }
-    match shown(alloc, answer) {
-        Ok(body) => Ok(body),
-        Err(CapFault::NotJson) => Ok(Body::new(Vec::new(alloc))),
-        Err(CapFault::Memory) => Err(Memory),
-    }
-}
-
-// S2: whether they are shown all of it.
+// S2: whether editors are shown all of a start's result.
 fn is_shown_whole(alloc: Global, message: &Message) -> Result<bool, Memory>
     ensures { (body : List ℕ) → IsRead message.now body → IfOk result (λ answer. answer ≡ is_shown_whole body) }
 {
