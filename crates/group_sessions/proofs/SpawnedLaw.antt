@@ -3,7 +3,7 @@ use Rattle.std.proofs.Common.{ℕ, ◌≤◌, List, refl}
 use Rattle.mux_history.specs.Cores.{spawns}
 use Rattle.mux_history.specs.declared.entry.Entry.{Entry}
 use Rattle.mux_history.specs.declared.out.Out.TheVariants.{ToEditor, ToServer, CloseEditor, EndServer}
-use Rattle.event_model.specs.Event.{heard, said}
+use Rattle.event_model.specs.Event.{events_of, heard, said}
 use Rattle.event_model.specs.Settings.{Settings}
 use Rattle.mux_facts.specs.Ranges.{InRange}
 use Rattle.session_laws.proofs.SpawnedLaw.{Once, heard_starts, heard_still, none_spawned, once_counts, one_more, still}
@@ -21,5 +21,9 @@ law settings = record {
   rest = λ before cause fits known h i. i;
 }
 
+-- each start that was spawned was so once, under the next number
+pub numbered : (settings : Settings) → InRange settings → (history : List Entry) → Legal settings history → Once (events_of history)
+numbered settings range history legal = law_holds settings range Once (law settings) none_spawned history legal
+
 pub spawned_once_law : (settings : Settings) → InRange settings → (history : List Entry) → Legal settings history → (s : ℕ) → spawns s history ≤ 1
-spawned_once_law settings range history legal s = once_counts history s (law_holds settings range Once (law settings) none_spawned history legal)
+spawned_once_law settings range history legal s = once_counts history s (numbered settings range history legal)

@@ -1,8 +1,10 @@
 // The rules of session_laws, each a law of every legal history of several editors and groups: of each editor and each start.
-ghost use Rattle.std.specs.Prelude.{ℕ, ◌≤◌, List};
+ghost use Rattle.std.specs.Prelude.{◌≡◌, ℕ, ◌≤◌, ◌<◌, List};
 ghost use Rattle.mux_history.specs.Cores.{spawns};
 ghost use Rattle.mux_history.specs.declared.entry.Entry.{Entry};
+ghost use Rattle.event_model.specs.Event.{events_of};
 ghost use Rattle.event_model.specs.Settings.{Settings};
+ghost use Rattle.event_model.specs.Spawns.{starts_of};
 ghost use Rattle.mux_facts.specs.Ranges.{InRange};
 ghost use Rattle.group_facts.specs.Legal.{Legal};
 ghost use Rattle.session_laws.specs.ClientRules.{KeepsClient2, KeepsClient3};
@@ -47,4 +49,10 @@ pub fn server_4()
 /// has its own starts follows from it.
 pub fn spawned_once()
     ensures { (settings : Settings) → InRange settings → (history : List Entry) → Legal settings history → (s : ℕ) → spawns s history ≤ 1 }
+{}
+
+/// A law: the starts that were spawned are those whose numbers are below how many there are, each of them once.
+pub fn spawned_in_order()
+    ensures below { (settings : Settings) → InRange settings → (history : List Entry) → Legal settings history → (s : ℕ) → s < starts_of (events_of history) → spawns s history ≡ 1 }
+    ensures above { (settings : Settings) → InRange settings → (history : List Entry) → Legal settings history → (s : ℕ) → starts_of (events_of history) ≤ s → spawns s history ≡ 0 }
 {}

@@ -2,9 +2,9 @@
 #![tactic(auto)]
 
 mod backlogs;
-mod built;
-mod fits;
+mod coming;
+mod rows;
 
 pub use backlogs::Backlogs;
-pub use built::built;
-pub use fits::fits;
+pub use coming::fits;
+pub use rows::built;
