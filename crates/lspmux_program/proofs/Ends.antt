@@ -5,7 +5,7 @@ use Rattle.std.specs.Io.KnownBytes.{append_known}
 use Rattle.std.proofs.lemmas.List.{append-nil}
 use Rattle.mux_history.specs.declared.entry.Entry.{Entry}
 use Rattle.mux_hub.specs.Hubs.{HubView, Tells}
-use Rattle.mux_model.specs.Legal.{Legal}
+use Rattle.group_facts.specs.Legal.{Legal}
 use Rattle.outside_io.specs.Faults.{Rose}
 use Rattle.event_model.specs.Settings.{Settings}
 use Rattle.lspmux_program.specs.declared.refusal.Refusal.{Refusal}
@@ -14,7 +14,7 @@ use Rattle.lspmux_program.specs.declared.stop.Stop.TheVariants as stop
 use Rattle.lspmux_program.proofs.Driving.{append_both, take_more}
 use Rattle.lspmux_program.specs.Lines.{lines_of}
 use Rattle.drive_text.specs.Outs.{outs_text}
-use Rattle.session_laws.proofs.Sessions.{sessions_kept}
+use Rattle.group_sessions.proofs.Sessions.{sessions_kept}
 use Rattle.lspmux_program.specs.Program.{status_of, fault_line, status_line, refused_line, Ran, Drove, JournalTells, words_line, IsUnrefused, Undisturbed}
 use Rattle.lspmux_program.specs.Reports.{Wrote, Reported, said, unsaid}
 use Rattle.lspmux_program.specs.Runs.{built_in, Refused, Outcome, drive_of, IsRunOfRead, TakesFirst, WroteFront}
@@ -128,7 +128,7 @@ whole_behind w v u a b failed e (inr f) = inr f
 
 -- a stop with one, behind all outs
 spoken : {J : Type 0} (told : J → Option (List Entry)) (journal : J) (input left w v u : Option (List ℕ)) (failed : Type 0) (s : Stop) (status : ℕ) (r : Ran told journal input left w v (Err s))
-    → 5 ≤ status → v ≡ append_known w (outs_text r.history) → Wrote v u (status_line status) failed → (status ≡ 6 → IfSome r.rest (TakesFirst r.history)) → (status ≡ 7 → IsRunOfRead built_in input left r.history)
+    → 5 ≤ status → v ≡ append_known w (outs_text r.history) → Wrote v u (status_line status) failed → (status ≡ 6 → IfSome r.rest (TakesFirst built_in r.history)) → (status ≡ 7 → IsRunOfRead built_in input left r.history)
     → Drove told (Some journal) input left w u failed status
 spoken told journal input left w v u failed s status r m o f six seven = record {
   history = r.history;

@@ -5,7 +5,7 @@ use Rattle.std.specs.Io.KnownBytes.{append_known}
 use Rattle.mux_history.specs.declared.entry.Entry.{Entry}
 use Rattle.mux_hub.specs.Hubs.{Tells}
 use Rattle.session_laws.specs.Sessions.{KeepsSessions}
-use Rattle.mux_model.specs.Legal.{Legal}
+use Rattle.group_facts.specs.Legal.{Legal}
 use Rattle.outside_io.specs.Faults.{Rose}
 use Rattle.lspmux_program.specs.declared.refusal.Refusal.{Refusal}
 use Rattle.lspmux_program.specs.declared.refusal.Refusal.TheVariants.{Form, Absent, Unbuilt}
@@ -100,7 +100,7 @@ pub record CutOff (input left before now : Option (List ℕ)) (failed : Type 0) 
   -- status 6 and 7: all of it, unless the output failed
   pub whole : (status ≡ 6) ⊎ (status ≡ 7) → (now ≡ append_known before (outs_text history ++ status_line status)) ⊎ failed
   -- status 6: the next line isn't refused; its entry was not appended
-  pub journal_failed : status ≡ 6 → IfSome rest (TakesFirst history)
+  pub journal_failed : status ≡ 6 → IfSome rest (TakesFirst built_in history)
   -- status 7: the lines are all that end in what was read
   pub input_failed : status ≡ 7 → IsRunOfRead built_in input left history
 

@@ -3,8 +3,8 @@ ghost use Rattle.std.specs.Prelude.{◌≡◌, ℕ, ◌≤◌, Ok, Err, false, t
 ghost use Rattle.mux_history.specs.declared.entry.Entry.{Entry};
 ghost use Rattle.mux_history.specs.Cores.{body_length};
 ghost use Rattle.mux_hub.specs.Hubs.{HubView, HubStands};
-ghost use Rattle.mux_model.specs.Built.{built};
 ghost use Rattle.mux_model.specs.Fits.{fits};
+ghost use Rattle.group_facts.specs.Built.{built};
 ghost use Rattle.lspmux_program.specs.Runs.{judged};
 
 use message_body::Memory;
@@ -31,11 +31,11 @@ pub fn refusal_of<J: Journal>(cause: &Cause, hub: &Hub<J>) -> Result<Option<Refu
     requires ready { hub.now.spent ≡ false }
     requires small { body_length cause.now ≤ 67108864 }
     ensures refused { (history : List Entry) → HubStands J.told hub.now history
-        → IfOk result (λ refusal. IfSome refusal (λ r. judged history (Some cause.now) ≡ Err r)) }
+        → IfOk result (λ refusal. IfSome refusal (λ r. judged hub.now.settings history (Some cause.now) ≡ Err r)) }
     ensures taken { (history : List Entry) → HubStands J.told hub.now history
-        → IfOk result (λ refusal. IfNone refusal (judged history (Some cause.now) ≡ Ok cause.now)) }
+        → IfOk result (λ refusal. IfNone refusal (judged hub.now.settings history (Some cause.now) ≡ Ok cause.now)) }
     ensures fits { (history : List Entry) → HubStands J.told hub.now history → IfOk result (λ refusal. IfNone refusal (IsTrue (fits history cause.now))) }
-    ensures is_built { (history : List Entry) → HubStands J.told hub.now history → IfOk result (λ refusal. IfNone refusal (IsTrue (built history cause.now))) }
+    ensures is_built { (history : List Entry) → HubStands J.told hub.now history → IfOk result (λ refusal. IfNone refusal (IsTrue (built hub.now.settings history cause.now))) }
 {
     if !hub.fits(cause) {
         return Ok(Some(Refusal::Absent));

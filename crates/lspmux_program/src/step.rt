@@ -4,8 +4,8 @@ ghost use Rattle.outside_io.specs.Faults.{Rose};
 ghost use Rattle.mux_history.specs.declared.entry.Entry.{Entry};
 ghost use Rattle.mux_history.specs.Cores.{body_length};
 ghost use Rattle.mux_hub.specs.Hubs.{HubView, HubStands};
-ghost use Rattle.mux_model.specs.Built.{built};
 ghost use Rattle.mux_model.specs.Fits.{fits};
+ghost use Rattle.group_facts.specs.Built.{built};
 ghost use Rattle.lspmux_program.specs.Runs.{reading_bytes};
 ghost use Rattle.lspmux_program.specs.Steps.{IsTaken, LineTaken, LineLeft};
 ghost use Rattle.lspmux_program.specs.Faults.{LeavesWritten};
@@ -76,9 +76,9 @@ fn read_line<J: Journal>(
     hub: &Hub<J>,
 ) -> Result<Result<Cause, Refusal>, Memory>
     requires ready { hub.now.spent ≡ false }
-    ensures reads { (history : List Entry) → HubStands J.told hub.now history → IfOk result (λ read. read ≡ reading_bytes history line.items) }
+    ensures reads { (history : List Entry) → HubStands J.told hub.now history → IfOk result (λ read. read ≡ reading_bytes hub.now.settings history line.items) }
     ensures fits { (history : List Entry) → HubStands J.told hub.now history → IfOk result (λ read. IfOk read (λ cause. IsTrue (fits history cause))) }
-    ensures is_built { (history : List Entry) → HubStands J.told hub.now history → IfOk result (λ read. IfOk read (λ cause. IsTrue (built history cause))) }
+    ensures is_built { (history : List Entry) → HubStands J.told hub.now history → IfOk result (λ read. IfOk read (λ cause. IsTrue (built hub.now.settings history cause))) }
     ensures small { IfOk result (λ read. IfOk read (λ cause. body_length cause ≤ 67108864)) }
 {
     let read = cause_of_line(alloc, &line, CONTENT)?;
@@ -103,8 +103,8 @@ pub fn take_line<J: Journal, O: Sink>(
     ensures taken { (history : List Entry) → HubStands J.told hub.old history
         → OnOk result (LineTaken J.told history line.items hub.old hub.new (O.written output.old) (O.written output.new)) }
     ensures refused { (history : List Entry) (r : Refusal) → HubStands J.told hub.old history → IsErrOf result (TakeFault.Refused r)
-        → reading_bytes history line.items ≡ Err r }
-    ensures entry { (history : List Entry) → HubStands J.told hub.old history → IsErrOf result TakeFault.Journal → IsTaken history line.items }
+        → reading_bytes hub.old.settings history line.items ≡ Err r }
+    ensures entry { (history : List Entry) → HubStands J.told hub.old history → IsErrOf result TakeFault.Journal → IsTaken hub.old.settings history line.items }
     ensures left { (history : List Entry) → HubStands J.told hub.old history
         → OnErr result (LineLeft J.told history line.items hub.old hub.new (O.written output.old) (O.written output.new)) }
     ensures kept { (history : List Entry) → HubStands J.told hub.old history

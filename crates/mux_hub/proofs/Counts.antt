@@ -1,5 +1,5 @@
 -- How many editors joined and how many starts were spawned, by the entries of a history and by its events.
-use Rattle.std.proofs.Common.{◌≡◌, ℕ, ◌+◌, ◌≤◌, ◌<◌, List, [], ◌∷◌, ◌++◌, fold, map, refl, sym, ◌∙◌, subst, true, false, arith}
+use Rattle.std.proofs.Common.{◌≡◌, ℕ, ◌+◌, ◌≤◌, ◌<◌, List, [], ◌∷◌, ◌++◌, fold, length, map, refl, sym, ◌∙◌, subst, true, false, arith}
 use Rattle.std.specs.Prelude.{Option}
 use Rattle.std.proofs.lemmas.List.Sums.{fold-append}
 use Rattle.mux_history.specs.Cores.{joins, joined, spawns}
@@ -11,10 +11,12 @@ use Rattle.mux_history.specs.declared.out.Out.TheVariants.{ToEditor, ToServer, S
 use Rattle.event_model.specs.Event.{Event, heard, said, with_cause, with_entry, events_of}
 use Rattle.event_model.specs.Phases.{editors_of, editors_behind}
 use Rattle.event_model.specs.Settings.{Settings}
-use Rattle.mux_model.specs.Rows.{emits, entry_of}
-use Rattle.session_laws.proofs.SpawnedLaw.{spawned_below, spawned_above, spawned_once}
+use Rattle.mux_facts.specs.Ranges.{InRange}
+use Rattle.session_laws.proofs.SpawnedLaw.{counts_above, counts_below}
+use Rattle.group_facts.specs.Legal.{Legal}
+use Rattle.group_sessions.proofs.SpawnedLaw.{numbered, spawned_once_law}
+use Rattle.mux_hub.specs.Entries.{emits, entry_of}
 use Rattle.mux_hub.specs.Hubs.{HubView, HubStands}
-use Rattle.mux_hub.specs.Tables.{joined_in, spawned_in}
 
 heard_joins : (n : ℕ) (cause : Cause) → editors_behind n (heard cause) ≡ n + joins cause
 heard_joins n (Joined e) = refl
@@ -44,29 +46,27 @@ history_joins [] events = omega arith
 history_joins (entry ∷ history) events = let r = history_joins history (with_entry events entry) in let e = entry_joins events entry in omega (arith, r, e)
 
 -- the hub's next editor
-pub next_joins : {J : Type 0} (told : J → Option (List Entry)) (hub : HubView J) (history : List Entry) → HubStands told hub history → hub.spent ≡ false → joined_in hub.tables.phase ≡ joined history
-next_joins told hub history h s = let e : joined_in hub.tables.phase ≡ editors_of (events_of history) = sym (h.tables s).editors in let r : editors_of (events_of history) ≡ 0 + joined history = history_joins history [] in omega (arith, e, r)
-
--- a start that the hub spawned, and one that it didn't
-pub spawned_start : {J : Type 0} (told : J → Option (List Entry)) (hub : HubView J) (history : List Entry) (s : ℕ) → HubStands told hub history → hub.spent ≡ false → s < spawned_in hub.tables.stage → spawns s history ≡ 1
-spawned_start told hub history s h fresh l = spawned_below hub.settings history h.legal s (subst (λ n. s < n) (sym (h.tables fresh).starts) l)
-
-pub no_start : {J : Type 0} (told : J → Option (List Entry)) (hub : HubView J) (history : List Entry) (s : ℕ) → HubStands told hub history → hub.spent ≡ false → spawned_in hub.tables.stage ≤ s → spawns s history ≡ 0
-no_start told hub history s h fresh l = spawned_above hub.settings history h.legal s (subst (λ n. n ≤ s) (sym (h.tables fresh).starts) l)
+pub next_joins : {J : Type 0} (told : J → Option (List Entry)) (hub : HubView J) (history : List Entry) → HubStands told hub history → hub.spent ≡ false → length hub.tables.editors ≡ joined history
+next_joins told hub history h s =
+    let e : length hub.tables.editors ≡ editors_of (events_of history) = sym (h.tables s).tables.house.editors.count in
+    let r : editors_of (events_of history) ≡ 0 + joined history = history_joins history [] in
+    omega (arith, e, r)
 
 -- whether a start has a place, by the number of those that were spawned
-pub place_given : {J : Type 0} (told : J → Option (List Entry)) (hub : HubView J) (history : List Entry) (s n : ℕ) → HubStands told hub history → hub.spent ≡ false → n ≡ spawned_in hub.tables.stage → s < n
+pub place_given : {J : Type 0} (told : J → Option (List Entry)) (hub : HubView J) (history : List Entry) (s n : ℕ) → InRange hub.settings → HubStands told hub history → hub.spent ≡ false → n ≡ length hub.tables.origins.items → s < n
     → (true ≡ false → spawns s history ≡ 0) × (spawns s history ≡ 0 → true ≡ false)
-place_given told hub history s n h fresh e l =
-    let one : spawns s history ≡ 1 = spawned_start told hub history s h fresh (subst (λ m. s < m) e l) in
+place_given told hub history s n range h fresh e l =
+    let one : spawns s history ≡ 1 = counts_below history s (numbered hub.settings range history h.legal) (subst (λ m. s < m) (e ∙ sym (h.tables fresh).tables.origins.count) l) in
     (λ no. absurd cc, λ zeros. absurd (omega (arith, one, zeros)))
 
-pub place_missing : {J : Type 0} (told : J → Option (List Entry)) (hub : HubView J) (history : List Entry) (s n : ℕ) → HubStands told hub history → hub.spent ≡ false → n ≡ spawned_in hub.tables.stage → n ≤ s
+pub place_missing : {J : Type 0} (told : J → Option (List Entry)) (hub : HubView J) (history : List Entry) (s n : ℕ) → InRange hub.settings → HubStands told hub history → hub.spent ≡ false → n ≡ length hub.tables.origins.items → n ≤ s
     → (false ≡ false → spawns s history ≡ 0) × (spawns s history ≡ 0 → false ≡ false)
-place_missing told hub history s n h fresh e l =
-    (λ same. no_start told hub history s h fresh (subst (λ m. m ≤ s) e l), λ zeros. refl)
+place_missing told hub history s n range h fresh e l =
+    (λ same. counts_above history s (numbered hub.settings range history h.legal) (subst (λ m. m ≤ s) (e ∙ sym (h.tables fresh).tables.origins.count) l), λ zeros. refl)
 
 -- behind one more entry no start was spawned twice
-pub once_more : {J : Type 0} (told : J → Option (List Entry)) (settings : Settings) (hub : HubView J) (history : List Entry) (cause : Cause) (xs : List Out) → xs ≡ emits settings history cause → HubStands told hub (history ++ entry_of settings history cause ∷ [])
-    → (s : ℕ) → spawns s (history ++ record { cause = cause; outs = xs } ∷ []) ≤ 1
-once_more told settings hub history cause xs same h s = subst (λ ys. spawns s (history ++ record { cause = cause; outs = ys } ∷ []) ≤ 1) (sym same) (spawned_once hub.settings (history ++ entry_of settings history cause ∷ []) h.legal s)
+pub once_more : {J : Type 0} (told : J → Option (List Entry)) (settings : Settings) (hub : HubView J) (history : List Entry) (cause : Cause) (xs : List Out) → InRange settings → hub.settings ≡ settings → xs ≡ emits settings history cause
+    → HubStands told hub (history ++ entry_of settings history cause ∷ []) → (s : ℕ) → spawns s (history ++ record { cause = cause; outs = xs } ∷ []) ≤ 1
+once_more told settings hub history cause xs range kept same h s =
+    let legal : Legal settings (history ++ entry_of settings history cause ∷ []) = subst (λ q. Legal q (history ++ entry_of settings history cause ∷ [])) kept h.legal in
+    subst (λ ys. spawns s (history ++ record { cause = cause; outs = ys } ∷ []) ≤ 1) (sym same) (spawned_once_law settings range (history ++ entry_of settings history cause ∷ []) legal s)

@@ -1,42 +1,48 @@
 -- A step of the hub leads from a history to the longer one.
-use Rattle.std.proofs.Common.{◌≡◌, ◌<◌, ◌^◌, List, [], ◌∷◌, ◌++◌, ap, sym, subst, ◌∙◌, append_assoc, append-nil, Bool, false}
-use Rattle.std.specs.Prelude.{Option, Some, None, IsTrue}
+use Rattle.std.proofs.Common.{◌≡◌, ℕ, ◌^◌, ◌<◌, ◌≤◌, List, [], ◌∷◌, ◌++◌, ap, sym, subst, ◌∙◌, append_assoc, append-nil, refl, Bool, true, false}
+use Rattle.std.specs.Prelude.{Option, Some, None, Result, IsTrue, IfOk}
 use Rattle.std.proofs.lemmas.List.Sums.{fold-append}
+use Rattle.message_body.specs.declared.Memory.{Memory}
 use Rattle.mux_history.specs.declared.cause.Cause.{Cause}
 use Rattle.mux_history.specs.declared.out.Out.{Out}
 use Rattle.mux_history.specs.declared.entry.Entry.{Entry}
 use Rattle.mux_history.specs.Journals.{append_told}
-use Rattle.mux_model.specs.Built.{built}
-use Rattle.event_model.specs.Event.{events_of, with_entry}
-use Rattle.mux_model.specs.Fits.{fits}
-use Rattle.mux_model.specs.Legal.{Legal, LegalFrom}
-use Rattle.mux_model.specs.Rows.{emits, entry_of}
+use Rattle.event_model.specs.Event.{Event, behind, events_of, with_cause, with_entry}
 use Rattle.event_model.specs.Settings.{Settings}
-use Rattle.mux_hub.specs.Hubs.{HubView, HubStands, Tells}
-use Rattle.mux_hub.specs.Stands.{Stands}
-use Rattle.mux_hub.specs.Tables.{Kept, built_in}
-use Rattle.mux_hub.specs.Turns.{turn, Gives}
-use Rattle.mux_hub.proofs.BuiltLaw.{built_so}
-use Rattle.mux_hub.proofs.TurnLaw.{turn_right}
-use Rattle.mux_hub.proofs.Versions.{versions_kept}
+use Rattle.mux_facts.specs.Ranges.{InRange}
+use Rattle.mux_model.specs.Fits.{fits, fits_behind}
+use Rattle.group_facts.specs.Built.{built, built_behind}
+use Rattle.group_facts.specs.Facts.{Known}
+use Rattle.group_facts.specs.Legal.{Legal, LegalFrom}
+use Rattle.group_facts.specs.Settled.{Settled}
+use Rattle.group_facts.proofs.Everywhere.{known_holds}
+use Rattle.group_facts.proofs.Settling.{settled_holds}
+use Rattle.group_rows.specs.Rows.{outs_of}
+use Rattle.mux_tables.specs.declared.tables.Tables.{Tables}
+use Rattle.mux_tables.specs.Documents.{DocumentsStand, nothing_owed}
+use Rattle.mux_tables.specs.Stands.{Stands}
+use Rattle.mux_turns.specs.Ceilings.{HaveCeilings}
+use Rattle.mux_causes.specs.Backlogs.{BacklogsStand}
+use Rattle.mux_hub.specs.Entries.{emits, entry_of}
+use Rattle.mux_hub.specs.Hubs.{HubView, HubStands, IsSound, TablesStand, Tells}
 
-legal_from : (settings : Settings) (before rest : List Entry) (cause : Cause) → LegalFrom settings before rest → IsTrue (fits (before ++ rest) cause) → IsTrue (built (before ++ rest) cause)
+legal_from : (settings : Settings) (before rest : List Entry) (cause : Cause) → LegalFrom settings before rest → IsTrue (fits (before ++ rest) cause) → IsTrue (built settings (before ++ rest) cause)
     → LegalFrom settings before (rest ++ entry_of settings (before ++ rest) cause ∷ [])
 legal_from settings before [] cause l f b =
     let e : before ++ [] ≡ before = append-nil before in
-    let P : List Entry → Type 0 = λ h. IsTrue (fits before cause) × IsTrue (built before cause) × ((entry_of settings h cause).outs ≡ emits settings before cause) × Unit {0} in
-    (subst (λ h. IsTrue (fits h cause)) e f, subst (λ h. IsTrue (built h cause)) e b, ap (λ h. emits settings h cause) e, tt)
+    (subst (λ h. IsTrue (fits h cause)) e f, subst (λ h. IsTrue (built settings h cause)) e b, ap (λ h. emits settings h cause) e, tt)
 legal_from settings before (entry ∷ rest) cause l f b =
     let e : (before ++ entry ∷ []) ++ rest ≡ before ++ entry ∷ rest = append_assoc before (entry ∷ []) rest in (
       l.0,
       l.1,
       l.2,
       subst (λ h. LegalFrom settings (before ++ entry ∷ []) (rest ++ entry_of settings h cause ∷ [])) e
-          (legal_from settings (before ++ entry ∷ []) rest cause l.3 (subst (λ h. IsTrue (fits h cause)) (sym e) f) (subst (λ h. IsTrue (built h cause)) (sym e) b)),
+          (legal_from settings (before ++ entry ∷ []) rest cause l.3 (subst (λ h. IsTrue (fits h cause)) (sym e) f) (subst (λ h. IsTrue (built settings h cause)) (sym e) b)),
     )
 
 -- a legal history and one more entry by the routing table are one
-pub legal_more : (settings : Settings) (history : List Entry) (cause : Cause) → Legal settings history → IsTrue (fits history cause) → IsTrue (built history cause) → Legal settings (history ++ entry_of settings history cause ∷ [])
+pub legal_more : (settings : Settings) (history : List Entry) (cause : Cause) → Legal settings history → IsTrue (fits history cause) → IsTrue (built settings history cause)
+    → Legal settings (history ++ entry_of settings history cause ∷ [])
 legal_more settings history cause l f b = legal_from settings [] history cause l f b
 
 told_more : (told old : Option (List Entry)) (history : List Entry) (entry kept : Entry) → Tells old history → told ≡ append_told old (kept ∷ []) → kept ≡ entry → Tells told (history ++ entry ∷ [])
@@ -46,29 +52,52 @@ told_more told (Some entries) history entry kept t e k = subst (λ o. Tells o (h
 abbrev entry_record : Cause → List Out → Entry
 entry_record cause xs = record { cause = cause; outs = xs }
 
-pub record Stepped {J : Type 0} (told : J → Option (List Entry)) (hub : HubView J) (cause : Cause) (xs : List Out) (now : Kept) (journal : J) (history : List Entry) : Type 0 where
-  pub outs : xs ≡ emits hub.settings history cause
-  pub stands : HubStands told (record { settings = hub.settings; tables = now; spent = false; journal = journal }) (history ++ entry_of hub.settings history cause ∷ [])
+-- the outs of a turn, and what the tables stand for behind it
+abbrev pub Turns : Settings → List Event → Cause → List Out → Tables → List ℕ → Type 0
+Turns settings before cause xs now counts = (xs ≡ outs_of settings before cause) × TablesStand settings now counts (behind (with_cause before cause) xs)
 
-pub stepped : {J : Type 0} (told : J → Option (List Entry)) (hub : HubView J) (cause : Cause) (xs : List Out) (now : Kept) (journal : J) (history : List Entry) → HubStands told hub history → hub.spent ≡ false
-    → hub.settings.limits.requests < 2 ^ 32 → hub.settings.limits.versions < 2 ^ 32 → IsTrue (fits history cause) → IsTrue (built history cause) → Gives (turn hub.settings.limits.requests hub.tables cause) xs now
-    → told journal ≡ append_told (told hub.journal) (record { cause = cause; outs = xs } ∷ []) → Stepped told hub cause xs now journal history
-stepped told hub cause xs now journal history h s l v f b g t =
-    let right = turn_right hub.settings (events_of history) hub.tables cause l v (h.versions s) (h.tables s) f b in
-    let outs : xs ≡ emits hub.settings history cause = g.0 ∙ right.outs in
-    let longer : events_of (history ++ entry_of hub.settings history cause ∷ []) ≡ with_entry (events_of history) (entry_of hub.settings history cause) = fold-append with_entry [] history (entry_of hub.settings history cause ∷ []) in
-    let same : with_entry (events_of history) (entry_record cause (turn hub.settings.limits.requests hub.tables cause).outs) ≡ with_entry (events_of history) (entry_of hub.settings history cause) =
-    ap (λ ys. with_entry (events_of history) (entry_record cause ys)) right.outs in
+pub record Stepped {J : Type 0} (told : J → Option (List Entry)) (hub : HubView J) (cause : Cause) (xs : List Out) (now : Tables) (counts : List ℕ) (journal : J) (history : List Entry) : Type 0 where
+  pub outs : xs ≡ emits hub.settings history cause
+  pub stands : HubStands told (record { settings = hub.settings; tables = now; backlogs = counts; spent = false; journal = journal }) (history ++ entry_of hub.settings history cause ∷ [])
+
+pub stepped : {J : Type 0} (told : J → Option (List Entry)) (hub : HubView J) (cause : Cause) (xs : List Out) (now : Tables) (counts : List ℕ) (journal : J) (history : List Entry) → HubStands told hub history → hub.spent ≡ false
+    → InRange hub.settings → IsTrue (fits history cause) → IsTrue (built hub.settings history cause)
+    → ((settings : Settings) (before : List Event) → settings.servers ≡ hub.settings.servers → settings.default ≡ hub.settings.default → Known settings before → Settled settings before
+    → fits_behind before cause ≡ true → built_behind settings before cause ≡ true → TablesStand settings hub.tables hub.backlogs before → Turns settings before cause xs now counts)
+    → told journal ≡ append_told (told hub.journal) (record { cause = cause; outs = xs } ∷ []) → Stepped told hub cause xs now counts journal history
+stepped told hub cause xs now counts journal history h s range f b takes t =
+    let events : List Event = events_of history in
+    let turned : Turns hub.settings events cause xs now counts =
+    takes hub.settings events refl refl (known_holds hub.settings range history h.legal) (settled_holds hub.settings range history h.legal) f b (h.tables s) in
+    let outs : xs ≡ emits hub.settings history cause = turned.0 in
+    let longer : events_of (history ++ entry_of hub.settings history cause ∷ []) ≡ with_entry events (entry_of hub.settings history cause) = fold-append with_entry [] history (entry_of hub.settings history cause ∷ []) in
+    let same : with_entry events (entry_record cause xs) ≡ with_entry events (entry_of hub.settings history cause) = ap (λ ys. with_entry events (entry_record cause ys)) outs in
     record {
       outs = outs;
       stands = record {
         legal = legal_more hub.settings history cause h.legal f b;
         told_by = told_more (told journal) (told hub.journal) history (entry_of hub.settings history cause) (entry_record cause xs) h.told_by t (ap (entry_record cause) outs);
-        tables = λ n. subst (λ evs. Stands now evs) (same ∙ sym longer) (subst (λ k. Stands k (with_entry (events_of history) (entry_record cause (turn hub.settings.limits.requests hub.tables cause).outs))) (sym g.1) right.stands);
-        versions = λ n. ap (λ (k : Kept). k.documents.versions) g.1 ∙ versions_kept hub.settings.limits.requests hub.tables cause ∙ h.versions s;
+        tables = λ n. subst (λ evs. TablesStand hub.settings now counts evs) (same ∙ sym longer) turned.1;
       };
     }
 
--- the answer of the tables is that of the history
-pub built_answer : {J : Type 0} (told : J → Option (List Entry)) (hub : HubView J) (history : List Entry) (cause : Cause) (answer : Bool) → HubStands told hub history → hub.spent ≡ false → answer ≡ built_in hub.tables cause → answer ≡ built history cause
-built_answer told hub history cause answer h s e = e ∙ built_so hub.tables (events_of history) cause (h.tables s)
+-- the answer over the tables is that of the history
+pub built_answer : {J : Type 0} (told : J → Option (List Entry)) (hub : HubView J) (history : List Entry) (cause : Cause) (result : Result Bool Memory) → InRange hub.settings
+    → ((settings : Settings) (before : List Event) → Known settings before → Settled settings before → Stands settings hub.tables before → IfOk result (λ answer. answer ≡ built_behind settings before cause))
+    → HubStands told hub history → hub.spent ≡ false → IfOk result (λ answer. answer ≡ built hub.settings history cause)
+built_answer told hub history cause result range says h s =
+    says hub.settings (events_of history) (known_holds hub.settings range history h.legal) (settled_holds hub.settings range history h.legal) (h.tables s).tables
+
+-- tables and counts of nothing stand for the empty history, and are sound
+pub begins : {J : Type 0} (told : J → Option (List Entry)) (settings : Settings) (kept : Tables) (counts : List ℕ) (journal : J) → Tells (told journal) [] → Stands settings kept [] → DocumentsStand settings nothing_owed kept []
+    → BacklogsStand counts [] → HubStands told (record { settings = settings; tables = kept; backlogs = counts; spent = false; journal = journal }) []
+begins told settings kept counts journal t s d b = record { legal = tt; told_by = t; tables = λ _. record { tables = s; documents = d; backlogs = b } }
+
+pub begins_sound : (settings : Settings) (kept : Tables) → 2 ≤ settings.limits.requests → 1 ≤ settings.limits.versions → HaveCeilings settings.servers → Stands settings kept [] → DocumentsStand settings nothing_owed kept []
+    → IsSound settings kept
+begins_sound settings kept r v c s d = record {
+  range = record { requests = subst (λ n. n < 2 ^ 32) (sym s.requests) s.range; versions = subst (λ n. n < 2 ^ 32) (sym d.versions) d.range };
+  requests = subst (λ n. 2 ≤ n) s.requests r;
+  versions = subst (λ n. 1 ≤ n) d.versions v;
+  ceilings = c;
+}

@@ -1,15 +1,20 @@
 -- What contracts see of a hub, and when it stands for a history.
-use Rattle.std.specs.Prelude.{◌≡◌, List, Bool, false, Option, Some, None}
+use Rattle.std.specs.Prelude.{◌≡◌, ℕ, ◌≤◌, List, Bool, false, Option, Some, None}
 use Rattle.mux_history.specs.declared.entry.Entry.{Entry}
-use Rattle.event_model.specs.Event.{events_of}
-use Rattle.mux_model.specs.Legal.{Legal}
+use Rattle.event_model.specs.Event.{Event, events_of}
 use Rattle.event_model.specs.Settings.{Settings}
-use Rattle.mux_hub.specs.Tables.{Kept}
-use Rattle.mux_hub.specs.Stands.{Stands}
+use Rattle.mux_facts.specs.Ranges.{InRange}
+use Rattle.group_facts.specs.Legal.{Legal}
+use Rattle.mux_tables.specs.declared.tables.Tables.{Tables}
+use Rattle.mux_tables.specs.Documents.{DocumentsStand, nothing_owed}
+use Rattle.mux_tables.specs.Stands.{Stands}
+use Rattle.mux_turns.specs.Ceilings.{HaveCeilings}
+use Rattle.mux_causes.specs.Backlogs.{BacklogsStand}
 
 pub record HubView (J : Type 0) : Type 0 where
   pub settings : Settings
-  pub tables : Kept
+  pub tables : Tables
+  pub backlogs : List ℕ
   pub spent : Bool
   pub journal : J
 
@@ -18,9 +23,22 @@ abbrev pub Tells : Option (List Entry) → List Entry → Type 0
 Tells None history = Unit {0}
 Tells (Some entries) history = entries ≡ history
 
+-- the tables owe nothing of documents, and the counts are those of what is on its way
+pub record TablesStand (settings : Settings) (kept : Tables) (counts : List ℕ) (events : List Event) : Type 0 where
+  pub tables : Stands settings kept events
+  pub documents : DocumentsStand settings nothing_owed kept events
+  pub backlogs : BacklogsStand counts events
+
 -- the history is legal and the journal's, and the tables of a hub that isn't spent stand for it
 pub record HubStands {J : Type 0} (told : J → Option (List Entry)) (hub : HubView J) (history : List Entry) : Type 0 where
   pub legal : Legal hub.settings history
   pub told_by : Tells (told hub.journal) history
-  pub tables : hub.spent ≡ false → Stands hub.tables (events_of history)
-  pub versions : hub.spent ≡ false → hub.tables.documents.versions ≡ hub.settings.limits.versions
+  pub tables : hub.spent ≡ false → TablesStand hub.settings hub.tables hub.backlogs (events_of history)
+
+-- the settings are numbers of the machine, and leave room for the requests and versions of the multiplexer's own; each ceiling is
+-- the text of an object
+pub record IsSound (settings : Settings) (kept : Tables) : Type 0 where
+  pub range : InRange settings
+  pub requests : 2 ≤ kept.requests
+  pub versions : 1 ≤ kept.versions
+  pub ceilings : HaveCeilings settings.servers

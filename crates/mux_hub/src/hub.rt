@@ -1,46 +1,68 @@
 // The hub: the tables, the journal, and whether a step had a fault.
-ghost use Rattle.std.specs.Prelude.{◌≡◌, ℕ, ◌^◌, ◌≤◌, ◌<◌, ◌↔◌, List, [], ◌∷◌, ◌++◌, Bool, true, false, length, IsTrue, IfOk, OnOk, OnErr, IsErrOf, IfErr};
+ghost use Rattle.std.specs.Prelude.{◌≡◌, ℕ, ◌^◌, ◌≤◌, ◌<◌, ◌↔◌, List, [], ◌∷◌, ◌++◌, Bool, true, false, length, IsTrue, IfOk, OnOk, OnErr, IsErrOf, IfErr, slice_get};
+ghost use Rattle.std.specs.Option.{option_map_or};
 ghost use Rattle.outside_io.specs.Faults.{Rose};
 ghost use Rattle.mux_history.specs.declared.entry.Entry.{Entry};
-ghost use Rattle.mux_history.specs.Journals.{append_told};
-ghost use Rattle.mux_model.specs.Built.{built};
-ghost use Rattle.mux_model.specs.Fits.{fits};
-ghost use Rattle.mux_model.specs.Rows.{emits, entry_of};
 ghost use Rattle.mux_history.specs.Cores.{body_length};
-ghost use Rattle.mux_hub.specs.Hubs.{HubView, HubStands, Tells};
-ghost use Rattle.mux_hub.specs.Turns.{turn, Gives};
+ghost use Rattle.mux_history.specs.Journals.{append_told};
+ghost use Rattle.event_model.specs.Event.{Event, behind, with_cause};
+ghost use Rattle.event_model.specs.Settings.{Settings};
+ghost use Rattle.mux_model.specs.Fits.{fits, fits_behind};
+ghost use Rattle.group_words.specs.declared.kept.Kept.{Kept};
+ghost use Rattle.group_words.specs.Houses.{groups_of};
+ghost use Rattle.group_rows.specs.Rows.{outs_of};
+ghost use Rattle.group_facts.specs.Built.{built, built_behind};
+ghost use Rattle.group_facts.specs.Facts.{Known};
+ghost use Rattle.group_facts.specs.Settled.{Settled};
+ghost use Rattle.mux_tables.specs.Stands.{Stands};
+ghost use Rattle.mux_turns.specs.Ceilings.{HaveCeilings};
+ghost use Rattle.mux_hub.specs.Entries.{emits, entry_of};
+ghost use Rattle.mux_hub.specs.Hubs.{HubView, HubStands, TablesStand, Tells};
 
 use crate::fault::StepFault;
-use crate::tables::Tables;
-use event_model::{Limits, Phase, Server, Stage};
-use focus_switch::Shared;
-use message_body::{Body, Memory};
+use event_model::{Limits, Server};
+use message_body::Memory;
+use mux_causes::Backlogs;
 use mux_history::{Cause, Entry, Journal, Outs, StepFault as CoreFault, Steps};
+use mux_tables::Tables;
 use std::alloc::Global;
 use std::marker::Model;
 
-// A turn over the tables, and its entry in the journal.
-fn commit<J: Journal>(
+// The outs of a cause, the tables and the counts behind it. Where the answer is an error these stand for nothing any more.
+fn turn(
     alloc: Global,
-    limits: Limits,
+    servers: &[Server],
+    default: u32,
     tables: &mut Tables,
-    journal: &mut J,
-    cause: Cause,
-) -> Result<Outs, StepFault>
-    requires { body_length cause ≤ 268435456 }
-    ensures range { limits.requests < 2 ^ 32 }
-    ensures versions_range { limits.versions < 2 ^ 32 }
-    ensures turn { IfOk result (λ outs. Gives (turn limits.requests tables.old cause) outs tables.new) }
-    ensures told { IfOk result (λ outs. J.told journal.new ≡ append_told (J.told journal.old) (record { cause = cause; outs = outs } ∷ [])) }
-    ensures err { OnErr result (J.told journal.new ≡ J.told journal.old) }
-    ensures not_spent { IsErrOf result StepFault.Spent → ⊥ }
-    ensures journal_only { IsErrOf result StepFault.Journal → Rose (J.faults journal.old) (J.faults journal.new) }
-    ensures later { J.faults journal.old ≤ J.faults journal.new }
+    backlogs: &mut Backlogs,
+    cause: &Cause,
+) -> Result<Outs, Memory>
+    requires small { body_length cause.now ≤ 268435456 }
+    requires limit { 2 ≤ tables.old.requests }
+    requires versions { 1 ≤ tables.old.versions }
+    requires ceilings { HaveCeilings servers.now }
+    ensures same_limit { tables.new.requests ≡ tables.old.requests }
+    ensures same_versions { tables.new.versions ≡ tables.old.versions }
+    ensures takes { (settings : Settings) (before : List Event) → settings.servers ≡ servers.now → settings.default ≡ default
+        → Known settings before → Settled settings before → fits_behind before cause.now ≡ true → built_behind settings before cause.now ≡ true
+        → TablesStand settings tables.old backlogs.old before
+        → IfOk result (λ outs. (outs ≡ outs_of settings before cause.now)
+        × TablesStand settings tables.new backlogs.new (behind (with_cause before cause.now) outs)) }
 {
-    let outs = tables.take(alloc, limits.requests, &cause)?;
-    let entry = Entry { cause, outs };
-    journal.append(&entry)?;
-    Ok(entry.outs)
+    let outs = mux_entries::take(tables, alloc, servers, default, cause)?;
+    backlogs.take(cause, &outs)?;
+    Ok(outs)
+}
+
+// The place of the server that the starts of a group run.
+fn server_in(tables: &Tables, default: u32, group: u64) -> u32
+    ensures { (settings : Settings) (events : List Event) → Stands settings tables.now events
+        → result ≡ option_map_or (λ (x : Kept). x.key.server) (slice_get (groups_of settings events) group) default }
+{
+    match tables.kept(group) {
+        Some(kept) => kept.key.server,
+        None => default,
+    }
 }
 
 /// The core of the multiplexer. It stands for the history of its steps, and its journal has the entries.
@@ -51,16 +73,19 @@ pub struct Hub<J: Journal> {
     servers: Vec<Server>,
     default: u32,
     tables: Tables,
+    backlogs: Backlogs,
     spent: bool,
     journal: J,
 }
 
 impl<J: Journal> Model for Hub<J> {
-    ghost use Rattle.mux_hub.specs.Hubs.{HubView};
+    ghost use Rattle.mux_hub.specs.Hubs.{HubView, IsSound};
 
     ghost Value = { HubView J };
 
-    ghost view = { λ h. record { settings = record { limits = h.limits; servers = h.servers.items; default = h.default }; tables = h.tables; spent = h.spent; journal = h.journal } };
+    ghost view = { λ h. record { settings = record { limits = h.limits; servers = h.servers.items; default = h.default }; tables = h.tables; backlogs = h.backlogs; spent = h.spent; journal = h.journal } };
+
+    ghost invariant = { λ h. IsSound (record { limits = h.limits; servers = h.servers.items; default = h.default }) h.tables };
 }
 
 impl<J: Journal> Hub<J> {
@@ -73,7 +98,9 @@ impl<J: Journal> Hub<J> {
         journal: J,
     ) -> Result<Hub<J>, J>
         requires told { Tells (J.told journal) [] }
+        requires requests { 2 ≤ limits.requests }
         requires versions { 1 ≤ limits.versions }
+        requires ceilings { HaveCeilings servers.items }
         ensures settings { IfOk result (λ hub. hub.settings ≡ record { limits = limits; servers = servers.items; default = default }) }
         ensures stands { IfOk result (λ hub. HubStands J.told hub []) }
         ensures fresh { IfOk result (λ hub. hub.spent ≡ false) }
@@ -85,17 +112,14 @@ impl<J: Journal> Hub<J> {
             limits,
             servers,
             default,
-            tables: Tables {
-                phase: Phase::Absent,
-                id: Body::new(Vec::new(alloc)),
-                opening: Body::new(Vec::new(alloc)),
-                sent: 0,
-                stage: Stage::Unspawned,
-                started: false,
-                next: 1,
-                pending: Vec::new(alloc),
-                documents: Shared::new(alloc, limits.versions),
-            },
+            tables: Tables::new(
+                alloc,
+                limits.groups,
+                limits.idle,
+                limits.requests,
+                limits.versions,
+            ),
+            backlogs: Backlogs::new(alloc),
             spent: false,
             journal,
         })
@@ -113,24 +137,24 @@ impl<J: Journal> Hub<J> {
     pub fn fits(&self, cause: &Cause) -> bool
         ensures { (history : List Entry) → HubStands J.told self.now history → self.now.spent ≡ false → result ≡ fits history cause.now }
     {
-        self.tables.fits(cause)
+        mux_causes::fits(&self.tables, &self.backlogs, cause)
     }
 
     /// Whether this cause, which fits, meets only rows of the routing table that are built.
-    #[tactic(auto, using(crate::proofs::HubLaw::built_answer))]
     pub fn built(&self, cause: &Cause) -> Result<bool, Memory>
         requires { body_length cause.now ≤ 268435456 }
         ensures { (history : List Entry) → HubStands J.told self.now history → self.now.spent ≡ false
-            → IfOk result (λ answer. answer ≡ built history cause.now) }
+            → IfOk result (λ answer. answer ≡ built self.now.settings history cause.now) }
     {
-        self.tables.built(self.alloc, cause)
+        mux_causes::built(&self.tables, self.alloc, cause)
     }
 
     /// Takes a cause and gives its outs: those of the routing table. The entry was appended to the journal.
     pub fn step(&mut self, cause: Cause) -> Result<Outs, StepFault>
         requires small { body_length cause ≤ 268435456 }
         requires fits { (history : List Entry) → HubStands J.told self.old history → self.old.spent ≡ false → IsTrue (fits history cause) }
-        requires is_built { (history : List Entry) → HubStands J.told self.old history → self.old.spent ≡ false → IsTrue (built history cause) }
+        requires is_built { (history : List Entry) → HubStands J.told self.old history → self.old.spent ≡ false
+            → IsTrue (built self.old.settings history cause) }
         ensures settings { self.new.settings ≡ self.old.settings }
         ensures outs { (history : List Entry) → HubStands J.told self.old history → IfOk result (λ outs. outs ≡ emits self.old.settings history cause) }
         ensures stands { (history : List Entry) → HubStands J.told self.old history
@@ -146,15 +170,18 @@ impl<J: Journal> Hub<J> {
             return Err(StepFault::Spent);
         }
         self.spent = true;
-        let outs = commit(
+        let outs = turn(
             self.alloc,
-            self.limits,
+            self.servers.as_slice(),
+            self.default,
             &mut self.tables,
-            &mut self.journal,
-            cause,
+            &mut self.backlogs,
+            &cause,
         )?;
+        let entry = Entry { cause, outs };
+        self.journal.append(&entry)?;
         self.spent = false;
-        Ok(outs)
+        Ok(entry.outs)
     }
 }
 
@@ -178,11 +205,11 @@ impl<J: Journal> Steps for Hub<J> {
     ghost stops = { λ history. false };
 
     fn fits(&self, cause: &Cause) -> bool {
-        self.tables.fits(cause)
+        Hub::fits(self, cause)
     }
 
     fn next_editor(&self) -> u64 {
-        self.tables.editors()
+        self.tables.editors.count()
     }
 
     fn stopped(&self) -> bool {
@@ -190,8 +217,9 @@ impl<J: Journal> Steps for Hub<J> {
     }
 
     fn server_of(&self, start: u64) -> Option<u32> {
-        if start < self.tables.starts() {
-            Some(self.default)
+        if start < self.tables.origins.len() as u64 {
+            let group = self.tables.origins[start as usize];
+            Some(server_in(&self.tables, self.default, group))
         } else {
             None
         }

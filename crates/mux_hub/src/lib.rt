@@ -1,12 +1,8 @@
 //! The core of the multiplexer: one call takes a cause and gives its outs.
 #![tactic(auto)]
 
-mod built;
 mod fault;
 mod hub;
-mod pending;
-mod tables;
-mod turns;
 
 pub use event_model::{Limits, Server};
 pub use fault::StepFault;

@@ -12,7 +12,8 @@ use std::test::Fail;
 
 /// Limits as the program has them, but for the numbers of requests and of versions.
 pub fn limits(requests: u32, versions: u32) -> Limits
-    ensures { result.versions ≡ versions }
+    ensures requests { result.requests ≡ requests }
+    ensures versions { result.versions ≡ versions }
 {
     Limits {
         groups: 8,
@@ -34,22 +35,23 @@ fn add(lines: &mut String, outs: &mut String, rows: &[(&str, &str)]) -> Result<(
     Ok(())
 }
 
-/// The lines of the opening and of these rows bring just the lines that stand beside them, and the run ends with this answer. Each row is a
+/// The lines of these rows, part by part, bring just the lines that stand beside them, and the run ends with this answer. Each row is a
 /// cause line and its out lines.
 pub fn play(
     rt: &impl Abort,
     alloc: Global,
     limits: Limits,
-    opening: &[(&str, &str)],
-    rows: &[(&str, &str)],
+    parts: &[&[(&str, &str)]],
     end: Result<(), Stop>,
 ) -> Result<(), Fail>
-    requires { 1 ≤ limits.versions }
+    requires requests { 2 ≤ limits.requests }
+    requires versions { 1 ≤ limits.versions }
 {
     let mut lines = String::new(alloc);
     let mut outs = String::new(alloc);
-    add(&mut lines, &mut outs, opening)?;
-    add(&mut lines, &mut outs, rows)?;
+    for rows in parts.iter() {
+        add(&mut lines, &mut outs, rows)?;
+    }
     let server = Server {
         name: Body::new(Vec::from_slice(alloc, b"main")?),
         ceiling: None,

@@ -117,14 +117,170 @@ const MALFORMED: [(&str, &str); 12] = [
     ),
 ];
 
+// Two editors share a start, and run.
+const TWO_EDITORS: [(&str, &str); 8] = [
+    ("join 0\n", ""),
+    (
+        "ed 0 {\"jsonrpc\":\"2.0\",\"id\":0,\"method\":\"initialize\",\"params\":{\"rootUri\":\"file:///w\",\"capabilities\":{}}}\n",
+        ">spawn 0 0\n",
+    ),
+    ("join 1\n", ""),
+    (
+        "ed 1 {\"jsonrpc\":\"2.0\",\"id\":0,\"method\":\"initialize\",\"params\":{\"rootUri\":\"file:///w\",\"capabilities\":{}}}\n",
+        "",
+    ),
+    (
+        "up 0\n",
+        ">sv 0 {\"jsonrpc\":\"2.0\",\"id\":1,\"method\":\"initialize\",\"params\":{\"processId\":null,\"clientInfo\":{\"name\":\"lspmux\"},\"rootUri\":\"file:///w\",\"capabilities\":{},\"trace\":\"off\"}}\n",
+    ),
+    (
+        "sv 0 {\"jsonrpc\":\"2.0\",\"id\":1,\"result\":{\"capabilities\":{}}}\n",
+        ">sv 0 {\"jsonrpc\":\"2.0\",\"method\":\"initialized\",\"params\":{}}\n>ed 0 {\"jsonrpc\":\"2.0\",\"id\":0,\"result\":{\"capabilities\":{}}}\n>ed 1 {\"jsonrpc\":\"2.0\",\"id\":0,\"result\":{\"capabilities\":{}}}\n",
+    ),
+    (
+        "ed 0 {\"jsonrpc\":\"2.0\",\"method\":\"initialized\",\"params\":{}}\n",
+        "",
+    ),
+    (
+        "ed 1 {\"jsonrpc\":\"2.0\",\"method\":\"initialized\",\"params\":{}}\n",
+        "",
+    ),
+];
+
+// Both ask under one id, and are answered out of order.
+const BOTH_ASK: [(&str, &str); 5] = [
+    (
+        "ed 0 {\"jsonrpc\":\"2.0\",\"id\":1,\"method\":\"textDocument/hover\",\"params\":{}}\n",
+        ">sv 0 {\"jsonrpc\":\"2.0\",\"id\":2,\"method\":\"textDocument/hover\",\"params\":{}}\n",
+    ),
+    (
+        "ed 1 {\"jsonrpc\":\"2.0\",\"id\":1,\"method\":\"textDocument/hover\",\"params\":{}}\n",
+        ">sv 0 {\"jsonrpc\":\"2.0\",\"id\":3,\"method\":\"textDocument/hover\",\"params\":{}}\n",
+    ),
+    (
+        "sv 0 {\"jsonrpc\":\"2.0\",\"id\":3,\"result\":null}\n",
+        ">ed 1 {\"jsonrpc\":\"2.0\",\"id\":1,\"result\":null}\n",
+    ),
+    (
+        "sv 0 {\"jsonrpc\":\"2.0\",\"id\":2,\"result\":null}\n",
+        ">ed 0 {\"jsonrpc\":\"2.0\",\"id\":1,\"result\":null}\n",
+    ),
+    ("sv 0 {\"jsonrpc\":\"2.0\",\"id\":2,\"result\":null}\n", ""),
+];
+
+// Both have a document open, in two texts: the start is switched to the text of the one that asks.
+const SWITCHING: [(&str, &str); 5] = [
+    (
+        "ed 0 {\"jsonrpc\":\"2.0\",\"method\":\"textDocument/didOpen\",\"params\":{\"textDocument\":{\"uri\":\"file:///u\",\"languageId\":\"x\",\"version\":5,\"text\":\"a\"}}}\n",
+        ">sv 0 {\"jsonrpc\":\"2.0\",\"method\":\"textDocument/didOpen\",\"params\":{\"textDocument\":{\"uri\":\"file:///u\",\"languageId\":\"x\",\"version\":1,\"text\":\"a\"}}}\n",
+    ),
+    (
+        "ed 1 {\"jsonrpc\":\"2.0\",\"method\":\"textDocument/didOpen\",\"params\":{\"textDocument\":{\"uri\":\"file:///u\",\"languageId\":\"x\",\"version\":9,\"text\":\"b\"}}}\n",
+        ">sv 0 {\"jsonrpc\":\"2.0\",\"method\":\"textDocument/didChange\",\"params\":{\"textDocument\":{\"uri\":\"file:///u\",\"version\":2},\"contentChanges\":[{\"text\":\"b\"}]}}\n",
+    ),
+    (
+        "ed 0 {\"jsonrpc\":\"2.0\",\"id\":1,\"method\":\"textDocument/hover\",\"params\":{}}\n",
+        ">sv 0 {\"jsonrpc\":\"2.0\",\"method\":\"textDocument/didChange\",\"params\":{\"textDocument\":{\"uri\":\"file:///u\",\"version\":3},\"contentChanges\":[{\"text\":\"a\"}]}}\n>sv 0 {\"jsonrpc\":\"2.0\",\"id\":2,\"method\":\"textDocument/hover\",\"params\":{}}\n",
+    ),
+    (
+        "ed 1 {\"jsonrpc\":\"2.0\",\"id\":1,\"method\":\"textDocument/hover\",\"params\":{}}\n",
+        ">sv 0 {\"jsonrpc\":\"2.0\",\"method\":\"textDocument/didChange\",\"params\":{\"textDocument\":{\"uri\":\"file:///u\",\"version\":4},\"contentChanges\":[{\"text\":\"b\"}]}}\n>sv 0 {\"jsonrpc\":\"2.0\",\"id\":3,\"method\":\"textDocument/hover\",\"params\":{}}\n",
+    ),
+    (
+        "ed 1 {\"jsonrpc\":\"2.0\",\"id\":2,\"method\":\"textDocument/hover\",\"params\":{}}\n",
+        ">sv 0 {\"jsonrpc\":\"2.0\",\"id\":4,\"method\":\"textDocument/hover\",\"params\":{}}\n",
+    ),
+];
+
+// And each of the two changes its text.
+const CHANGING: [(&str, &str); 4] = [
+    (
+        "ed 0 {\"jsonrpc\":\"2.0\",\"method\":\"textDocument/didChange\",\"params\":{\"textDocument\":{\"uri\":\"file:///u\",\"version\":6},\"contentChanges\":[{\"range\":{\"start\":{\"line\":0,\"character\":1},\"end\":{\"line\":0,\"character\":1}},\"text\":\"x\"}]}}\n",
+        ">sv 0 {\"jsonrpc\":\"2.0\",\"method\":\"textDocument/didChange\",\"params\":{\"textDocument\":{\"uri\":\"file:///u\",\"version\":5},\"contentChanges\":[{\"text\":\"ax\"}]}}\n",
+    ),
+    (
+        "ed 0 {\"jsonrpc\":\"2.0\",\"method\":\"textDocument/didChange\",\"params\":{\"textDocument\":{\"uri\":\"file:///u\",\"version\":7},\"contentChanges\":[{\"range\":{\"start\":{\"line\":0,\"character\":0},\"end\":{\"line\":0,\"character\":1}},\"text\":\"\"}]}}\n",
+        ">sv 0 {\"jsonrpc\":\"2.0\",\"method\":\"textDocument/didChange\",\"params\":{\"textDocument\":{\"uri\":\"file:///u\",\"version\":6},\"contentChanges\":[{\"range\":{\"start\":{\"line\":0,\"character\":0},\"end\":{\"line\":0,\"character\":1}},\"text\":\"\"}]}}\n",
+    ),
+    (
+        "ed 1 {\"jsonrpc\":\"2.0\",\"method\":\"textDocument/didChange\",\"params\":{\"textDocument\":{\"uri\":\"file:///u\",\"version\":10},\"contentChanges\":[{\"text\":\"x\"}]}}\n",
+        "",
+    ),
+    (
+        "ed 0 {\"jsonrpc\":\"2.0\",\"method\":\"textDocument/didChange\",\"params\":{\"textDocument\":{\"uri\":\"file:///u\",\"version\":8},\"contentChanges\":7}}\n",
+        "",
+    ),
+];
+
+// And each of the two closes it.
+const CLOSING: [(&str, &str); 5] = [
+    (
+        "ed 0 {\"jsonrpc\":\"2.0\",\"method\":\"textDocument/didOpen\",\"params\":{\"textDocument\":{\"uri\":\"file:///u\",\"languageId\":\"x\",\"version\":1,\"text\":\"a\"}}}\n",
+        ">sv 0 {\"jsonrpc\":\"2.0\",\"method\":\"textDocument/didOpen\",\"params\":{\"textDocument\":{\"uri\":\"file:///u\",\"languageId\":\"x\",\"version\":1,\"text\":\"a\"}}}\n",
+    ),
+    (
+        "ed 1 {\"jsonrpc\":\"2.0\",\"method\":\"textDocument/didOpen\",\"params\":{\"textDocument\":{\"uri\":\"file:///u\",\"languageId\":\"x\",\"version\":1,\"text\":\"b\"}}}\n",
+        ">sv 0 {\"jsonrpc\":\"2.0\",\"method\":\"textDocument/didChange\",\"params\":{\"textDocument\":{\"uri\":\"file:///u\",\"version\":2},\"contentChanges\":[{\"text\":\"b\"}]}}\n",
+    ),
+    (
+        "ed 1 {\"jsonrpc\":\"2.0\",\"method\":\"textDocument/didClose\",\"params\":{\"textDocument\":{\"uri\":\"file:///u\"}}}\n",
+        ">sv 0 {\"jsonrpc\":\"2.0\",\"method\":\"textDocument/didChange\",\"params\":{\"textDocument\":{\"uri\":\"file:///u\",\"version\":3},\"contentChanges\":[{\"text\":\"a\"}]}}\n",
+    ),
+    (
+        "ed 0 {\"jsonrpc\":\"2.0\",\"method\":\"textDocument/didClose\",\"params\":{\"textDocument\":{\"uri\":\"file:///u\"}}}\n",
+        ">sv 0 {\"jsonrpc\":\"2.0\",\"method\":\"textDocument/didClose\",\"params\":{\"textDocument\":{\"uri\":\"file:///u\"}}}\n",
+    ),
+    (
+        "ed 0 {\"jsonrpc\":\"2.0\",\"method\":\"textDocument/didClose\",\"params\":{\"textDocument\":{\"uri\":\"file:///u\"}}}\n",
+        "",
+    ),
+];
+
+// Two editors in two groups, each with the same document open.
+const TWO_GROUPS: [(&str, &str); 10] = [
+    ("join 0\n", ""),
+    (
+        "ed 0 {\"jsonrpc\":\"2.0\",\"id\":0,\"method\":\"initialize\",\"params\":{\"rootUri\":\"file:///w\",\"capabilities\":{}}}\n",
+        ">spawn 0 0\n",
+    ),
+    ("join 1\n", ""),
+    (
+        "ed 1 {\"jsonrpc\":\"2.0\",\"id\":0,\"method\":\"initialize\",\"params\":{\"rootUri\":\"file:///v\",\"capabilities\":{}}}\n",
+        ">spawn 1 1\n",
+    ),
+    (
+        "up 0\n",
+        ">sv 0 {\"jsonrpc\":\"2.0\",\"id\":1,\"method\":\"initialize\",\"params\":{\"processId\":null,\"clientInfo\":{\"name\":\"lspmux\"},\"rootUri\":\"file:///w\",\"capabilities\":{},\"trace\":\"off\"}}\n",
+    ),
+    (
+        "sv 0 {\"jsonrpc\":\"2.0\",\"id\":1,\"result\":{\"capabilities\":{\"positionEncoding\":\"utf-8\"}}}\n",
+        ">sv 0 {\"jsonrpc\":\"2.0\",\"method\":\"initialized\",\"params\":{}}\n>ed 0 {\"jsonrpc\":\"2.0\",\"id\":0,\"result\":{\"capabilities\":{\"positionEncoding\":\"utf-8\"}}}\n",
+    ),
+    (
+        "ed 0 {\"jsonrpc\":\"2.0\",\"method\":\"textDocument/didOpen\",\"params\":{\"textDocument\":{\"uri\":\"file:///u\",\"languageId\":\"x\",\"version\":1,\"text\":\"a\"}}}\n",
+        ">sv 0 {\"jsonrpc\":\"2.0\",\"method\":\"textDocument/didOpen\",\"params\":{\"textDocument\":{\"uri\":\"file:///u\",\"languageId\":\"x\",\"version\":1,\"text\":\"a\"}}}\n",
+    ),
+    (
+        "up 1\n",
+        ">sv 1 {\"jsonrpc\":\"2.0\",\"id\":1,\"method\":\"initialize\",\"params\":{\"processId\":null,\"clientInfo\":{\"name\":\"lspmux\"},\"rootUri\":\"file:///v\",\"capabilities\":{},\"trace\":\"off\"}}\n",
+    ),
+    (
+        "sv 1 {\"jsonrpc\":\"2.0\",\"id\":1,\"result\":{\"capabilities\":{}}}\n",
+        ">sv 1 {\"jsonrpc\":\"2.0\",\"method\":\"initialized\",\"params\":{}}\n>ed 1 {\"jsonrpc\":\"2.0\",\"id\":0,\"result\":{\"capabilities\":{}}}\n",
+    ),
+    (
+        "ed 1 {\"jsonrpc\":\"2.0\",\"method\":\"textDocument/didOpen\",\"params\":{\"textDocument\":{\"uri\":\"file:///u\",\"languageId\":\"x\",\"version\":1,\"text\":\"b\"}}}\n",
+        ">sv 1 {\"jsonrpc\":\"2.0\",\"method\":\"textDocument/didOpen\",\"params\":{\"textDocument\":{\"uri\":\"file:///u\",\"languageId\":\"x\",\"version\":1,\"text\":\"b\"}}}\n",
+    ),
+];
+
 // Lines that fit, and that no row takes yet.
-const UNBUILT: [&str; 6] = [
+const UNBUILT: [&str; 5] = [
     "ed 0 {\"jsonrpc\":\"2.0\",\"id\":1,\"result\":null}\n",
     "ed 0 {\"jsonrpc\":\"2.0\",\"id\":1,\"method\":\"shutdown\"}\n",
     "ed 0 {\"jsonrpc\":\"2.0\",\"id\":1,\"method\":\"x\",\"params\":{\"workDoneToken\":1}}\n",
     "sv 0 {\"jsonrpc\":\"2.0\",\"method\":\"x\"}\n",
     "tick 1\n",
-    "join 1\n",
 ];
 
 #[test]
@@ -140,10 +296,24 @@ fn sessions_bring_their_lines(rt: HostRuntime) -> Result<(), Fail> {
             &rt,
             alloc,
             limits(requests, versions),
-            &OPENING,
-            rows,
+            &[&OPENING, rows],
             Ok(()),
         )?;
+    }
+    Ok(())
+}
+
+#[test]
+fn several_editors_bring_their_lines(rt: HostRuntime) -> Result<(), Fail> {
+    let alloc = rt.alloc();
+    let sessions: [&[&[(&str, &str)]]; 4] = [
+        &[&TWO_EDITORS, &BOTH_ASK],
+        &[&TWO_EDITORS, &SWITCHING, &CHANGING],
+        &[&TWO_EDITORS, &CLOSING],
+        &[&TWO_GROUPS],
+    ];
+    for parts in sessions {
+        play(&rt, alloc, limits(MOST, MOST), parts, Ok(()))?;
     }
     Ok(())
 }
@@ -153,7 +323,13 @@ fn a_line_that_no_row_takes_is_refused(rt: HostRuntime) -> Result<(), Fail> {
     let alloc = rt.alloc();
     for line in UNBUILT {
         let end = Err(Stop::Refused(6, Refusal::Unbuilt));
-        play(&rt, alloc, limits(MOST, MOST), &OPENING, &[(line, "")], end)?;
+        play(
+            &rt,
+            alloc,
+            limits(MOST, MOST),
+            &[&OPENING, &[(line, "")]],
+            end,
+        )?;
     }
     Ok(())
 }

@@ -6,5 +6,5 @@ use Rattle.mux_hub.proofs.hub.HubSteps.next_editor.Goals as goal
 
 pub returns : goal.returns
 returns g c = λ history h s.
-    subst (λ (v : HubView g.row.J.Denot). HubStands g.J.Journal.told v history → v.spent ≡ false → c.editors.result ≡ joined history) c.self.view_is
-    (λ k t. c.editors.ensures ∙ next_joins g.J.Journal.told _ history k t) h s
+    subst (λ (v : HubView g.row.J.Denot). HubStands g.J.Journal.told v history → v.spent ≡ false → c.count.result ≡ joined history) c.self.view_is
+    (λ k t. c.count.ensures ∙ next_joins g.J.Journal.told _ history k t) h s

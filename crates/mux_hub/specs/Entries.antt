@@ -1,0 +1,14 @@
+-- What a hub says to a cause behind a history: the outs of the routing table over several editors and groups.
+use Rattle.std.specs.Prelude.{List}
+use Rattle.mux_history.specs.declared.cause.Cause.{Cause}
+use Rattle.mux_history.specs.declared.entry.Entry.{Entry}
+use Rattle.mux_history.specs.declared.out.Out.{Out}
+use Rattle.event_model.specs.Event.{events_of}
+use Rattle.event_model.specs.Settings.{Settings}
+use Rattle.group_rows.specs.Rows.{outs_of}
+
+abbrev pub emits : Settings → List Entry → Cause → List Out
+emits settings history cause = outs_of settings (events_of history) cause
+
+abbrev pub entry_of : Settings → List Entry → Cause → Entry
+entry_of settings history cause = record { cause = cause; outs = emits settings history cause }
