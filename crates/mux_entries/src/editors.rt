@@ -109,7 +109,7 @@ fn from_served(
     }
 }
 
-// A message, by where its editor stands: behind its `shutdown`, and where its link is to be ended, it gives nothing.
+// A message, by where its editor stands: behind its `shutdown`, and where its link is to be ended (J2), it gives nothing.
 fn from_phase(
     tables: &mut Tables,
     alloc: Global,

@@ -45,7 +45,8 @@ fn ignore(tables: &mut Tables, g: usize, fault: Malformed) -> Result<(), Memory>
     Ok(())
 }
 
-// S2: a message comes from a start that gave no result of its `initialize` yet. Of these only that result is built.
+// S2, with the replay X4: a message comes from a start that gave no result of its `initialize` yet. Of these only that result is
+// built.
 fn take_first(
     tables: &mut Tables,
     alloc: Global,
