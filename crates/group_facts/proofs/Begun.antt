@@ -6,7 +6,7 @@ use Rattle.std.proofs.lemmas.Bool.{and_parts}
 use Rattle.std.proofs.lemmas.List.{length-append}
 use Rattle.std.proofs.lemmas.List.Sums.{fold-append}
 use Rattle.mux_history.specs.declared.cause.Cause.{Cause}
-use Rattle.mux_history.specs.declared.cause.Cause.TheVariants.{Joined, FromEditor, Started, FromServer}
+use Rattle.mux_history.specs.declared.cause.Cause.TheVariants.{Joined, FromEditor, Started, FromServer, Drained}
 use Rattle.mux_history.specs.declared.out.Out.{Out}
 use Rattle.mux_history.specs.declared.out.Out.TheVariants.{ToEditor, ToServer, Spawn, CloseEditor, EndServer}
 use Rattle.document_model.specs.Sayings.{Saying, saying_by}
@@ -256,6 +256,7 @@ module _ (settings : Settings) where
       (ap length (groups_more settings before (heard (FromServer s body))) ∙ at_same (group_of s before) (is_first_error (message_of body) && is_initializing (life_of s before).stage) (groups_of settings before))
   founding_of before (Started s) built = quiet (all_outs NoSpawn _ _ (quiet_started settings before s (life_of s before).stage (with_cause before (Started s))).why) (counts_stay before (heard (Started s)) refl)
   founding_of before (Joined e) built = quiet tt (counts_stay before (heard (Joined e)) refl)
+  founding_of before (Drained e k) built = quiet tt (counts_stay before (heard (Drained e k)) refl)
   founding_of before cause built = absurd (cc)
 
   -- Each group has a start

@@ -2,7 +2,7 @@
 use Rattle.std.proofs.Common.{◌≡◌, ℕ, ◌+◌, ◌<◌, ◌≤◌, ◌^◌, Bool, true, false, not, ◌&&◌, ◌||◌, List, [], ◌∷◌, ◌++◌, find, nat_eq, if◌then◌else◌, Some, None, ◌⊎◌, inl, inr, refl, sym, ◌∙◌, ap, ap₂, subst, arith, append-nil}
 use Rattle.std.proofs.lemmas.Bool.{and_parts}
 use Rattle.mux_history.specs.declared.cause.Cause.{Cause}
-use Rattle.mux_history.specs.declared.cause.Cause.TheVariants.{Joined, FromEditor, Started, FromServer}
+use Rattle.mux_history.specs.declared.cause.Cause.TheVariants.{Joined, FromEditor, Started, FromServer, Drained}
 use Rattle.mux_history.specs.declared.out.Out.TheVariants.{ToEditor}
 use Rattle.rpc_message.specs.Message.{Message, request, notification, result, error, not_json, not_message, Id, message_of}
 use Rattle.rpc_message.specs.Texts.{with_id_text}
@@ -32,7 +32,7 @@ use Rattle.group_facts.proofs.AnswerRows.{answers_only, response_is}
 use Rattle.group_facts.proofs.Begun.{Begun}
 use Rattle.group_facts.proofs.Facts.{Facts}
 use Rattle.group_facts.proofs.OwnEntry.{Nobody, message_rests, placed_open, turned_rests}
-use Rattle.group_facts.proofs.Sent.{Found, IsOf, OneOf, Passed, SentAt, found_one, none_first, rising_of, sent_answered, sent_heard, sent_joined, sent_started}
+use Rattle.group_facts.proofs.Sent.{Found, IsOf, OneOf, Passed, SentAt, found_one, none_first, rising_of, sent_answered, sent_drained, sent_heard, sent_joined, sent_started}
 use Rattle.group_facts.proofs.OpenByPhase.{OpenDesk, OpenIf, answered_closed, if_other}
 use Rattle.group_facts.proofs.OpenByOut.{OpenAt, S, open_at, open_entry}
 
@@ -89,6 +89,14 @@ module _ (settings : Settings) (range : InRange settings) (before : List Event) 
       go : (b : Bool) → nat_eq n e ≡ b → OpenDesk (S settings e Nobody (with_cause before (Joined n))) (if b then record { phase = New; initialize = [] } else desk_of e before) (open_of e before)
       go true same = subst (λ p. OpenIf (S settings e Nobody before) p (desk_of e before).initialize (open_of e before)) (absent same) (h e)
       go false other = if_other (S settings e Nobody before) (S settings e Nobody (with_cause before (Joined n))) (desk_of e before).phase (desk_of e before).initialize (open_of e before) (λ served id is. sent id) (h e)
+
+  -- an editor to which bytes were written
+  drained_now : (n k e : ℕ) → OpenAt settings e Nobody (with_cause before (Drained n k))
+  drained_now n k e = open_at settings e Nobody before (heard (Drained n k)) (if_other (S settings e Nobody before) (S settings e Nobody (with_cause before (Drained n k))) (desk_of e before).phase (desk_of e before).initialize (open_of e before) (λ served id is. sent id) (h e))
+    where
+      sent : (id : Id) → SentAt settings before e id ⊎ ⊥ → SentAt settings (with_cause before (Drained n k)) e id ⊎ ⊥
+      sent id (inl at) = inl (sent_drained settings e id before n k at)
+      sent id (inr at) = inr at
 
   -- a program that begins
   started_now : (s e : ℕ) → OpenAt settings e Nobody (with_cause before (Started s))
@@ -215,4 +223,5 @@ module _ (settings : Settings) (range : InRange settings) (before : List Event) 
   open_rests (FromServer s body) fits built = λ e. server_at s body built e
   open_rests (Joined n) fits built = λ e. open_entry settings e Nobody before (Joined n) refl range facts begun built (joined_now n e fits)
   open_rests (Started s) fits built = λ e. open_entry settings e Nobody before (Started s) refl range facts begun built (started_now s e)
+  open_rests (Drained n k) fits built = λ e. open_entry settings e Nobody before (Drained n k) refl range facts begun built (drained_now n k e)
   open_rests cause fits built = absurd (cc)

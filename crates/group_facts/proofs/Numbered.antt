@@ -5,7 +5,7 @@ use Rattle.std.proofs.lemmas.Bool.{and_parts}
 use Rattle.json_text.specs.Json.{Json}
 use Rattle.document_model.proofs.Written.{Spoken, spoken}
 use Rattle.mux_history.specs.declared.cause.Cause.{Cause}
-use Rattle.mux_history.specs.declared.cause.Cause.TheVariants.{Joined, FromEditor, Started, FromServer}
+use Rattle.mux_history.specs.declared.cause.Cause.TheVariants.{Joined, FromEditor, Started, FromServer, Drained}
 use Rattle.mux_history.specs.declared.out.Out.{Out}
 use Rattle.mux_history.specs.declared.out.Out.TheVariants.{ToServer}
 use Rattle.rpc_message.specs.Message.{Message, request, notification, integer, message_of}
@@ -62,6 +62,7 @@ tied_took settings events (Started n) built h = λ s rest. tied_by s events (wit
 tied_took settings events (FromServer n body) built h = λ s rest. tied_by s events (with_cause events (FromServer n body)) _ (ap (λ (l : Life). l.stage) (life_more s events (heard (FromServer n body)))) (asking_heard s events (FromServer n body)) (forwarding_heard settings s events (FromServer n body) built)
     (if_life (nat_eq n s) (record { stage = stage_hears (life_of s events).stage (message_of body); started = (life_of s events).started }) (life_of s events) (asking_of s events).next (forwarding_of s events).next
     (heard_first (life_of s events).stage (message_of body) (asking_of s events).next (forwarding_of s events).next (h s)) (h s))
+tied_took settings events (Drained e k) built h = λ s rest. tied_by s events (with_cause events (Drained e k)) (life_of s events).stage (ap (λ (l : Life). l.stage) (life_more s events (heard (Drained e k)))) (asking_heard s events (Drained e k)) (forwarding_heard settings s events (Drained e k) built) (h s)
 tied_took settings events cause built h = absurd (cc)
 
 -- A body to a start

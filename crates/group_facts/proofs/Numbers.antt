@@ -5,7 +5,7 @@ use Rattle.document_model.specs.Helds.{told}
 use Rattle.document_model.specs.Sayings.{saying_of}
 use Rattle.document_model.proofs.Written.{Spoken, spoken}
 use Rattle.mux_history.specs.declared.cause.Cause.{Cause}
-use Rattle.mux_history.specs.declared.cause.Cause.TheVariants.{Joined, FromEditor, Started, FromServer}
+use Rattle.mux_history.specs.declared.cause.Cause.TheVariants.{Joined, FromEditor, Started, FromServer, Drained}
 use Rattle.mux_history.specs.declared.out.Out.{Out}
 use Rattle.mux_history.specs.declared.out.Out.TheVariants.{ToServer}
 use Rattle.rpc_message.specs.Message.{Message, request, notification, integer, message_of}
@@ -46,6 +46,7 @@ forwarding_heard settings s events (Joined e) built = ap (λ (x : Forwarding). x
 forwarding_heard settings s events (FromEditor e body) built = ap (λ (x : Forwarding). x.next) (forwarding_more s events (heard (FromEditor e body)))
 forwarding_heard settings s events (Started n) built = ap (λ (x : Forwarding). x.next) (forwarding_more s events (heard (Started n)))
 forwarding_heard settings s events (FromServer n body) built = ap (λ (x : Forwarding). x.next) (forwarding_more s events (heard (FromServer n body)))
+forwarding_heard settings s events (Drained e k) built = ap (λ (x : Forwarding). x.next) (forwarding_more s events (heard (Drained e k)))
 forwarding_heard settings s events other built = absurd (cc)
 
 -- Bodies to a start

@@ -3,7 +3,7 @@ use Rattle.std.proofs.Common.{◌≡◌, ℕ, ◌+◌, ◌<◌, ◌≤◌, Bool,
 use Rattle.std.proofs.lemmas.Bool.{and_parts}
 use Rattle.std.proofs.lemmas.List.{length-append}
 use Rattle.mux_history.specs.declared.cause.Cause.{Cause}
-use Rattle.mux_history.specs.declared.cause.Cause.TheVariants.{Joined, FromEditor, Started, FromServer}
+use Rattle.mux_history.specs.declared.cause.Cause.TheVariants.{Joined, FromEditor, Started, FromServer, Drained}
 use Rattle.mux_history.specs.declared.out.Out.{Out}
 use Rattle.mux_history.specs.declared.out.Out.TheVariants.{ToEditor, ToServer, Spawn, CloseEditor, EndServer}
 use Rattle.rpc_message.specs.Message.{Message, id_bytes, message_of}
@@ -228,6 +228,7 @@ module _ (settings : Settings) where
     placed_took (Joined n) built longer e stays = stays_placed e before (heard (Joined n)) (home_stays settings e before (heard (Joined n)) refl) longer (by_desk e before (heard (Joined n)) (joined_needed e before n)) (h e)
     placed_took (Started s) built longer e stays = stays_placed e before (heard (Started s)) (home_stays settings e before (heard (Started s)) refl) longer (by_desk e before (heard (Started s)) (λ needs. needs)) (h e)
     placed_took (FromServer s body) built longer e stays = stays_placed e before (heard (FromServer s body)) (home_stays settings e before (heard (FromServer s body)) refl) longer (by_desk e before (heard (FromServer s body)) (λ needs. needs)) (h e)
+    placed_took (Drained n k) built longer e stays = stays_placed e before (heard (Drained n k)) (home_stays settings e before (heard (Drained n k)) refl) longer (by_desk e before (heard (Drained n k)) (λ needs. needs)) (h e)
     placed_took cause built longer e stays = absurd (cc)
 
     -- one that is turned away is closed

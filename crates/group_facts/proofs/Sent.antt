@@ -5,7 +5,7 @@ use Rattle.std.specs.Fmt.{digits}
 use Rattle.std.proofs.lemmas.Fmt.{decimal_injective}
 use Rattle.std.proofs.lemmas.Slice.Eq.{bytes_eq-Decides}
 use Rattle.json_text.specs.Json.{Json}
-use Rattle.mux_history.specs.declared.cause.Cause.TheVariants.{Joined, FromEditor, Started, StartFailed, FromServer, ServerGone}
+use Rattle.mux_history.specs.declared.cause.Cause.TheVariants.{Joined, FromEditor, Started, StartFailed, FromServer, ServerGone, Drained}
 use Rattle.mux_history.specs.declared.out.Out.{Out}
 use Rattle.mux_history.specs.declared.out.Out.TheVariants.{ToEditor, ToServer, Spawn, CloseEditor, EndServer}
 use Rattle.rpc_message.specs.Message.{Message, request, notification, result, error, not_json, not_message, Id, integer, text, message_of}
@@ -149,6 +149,9 @@ module _ (settings : Settings) (e : ℕ) (id : Id) where
 
   pub sent_started : (events : List Event) (n : ℕ) → SentAt settings events e id → SentAt settings (with_cause events (Started n)) e id
   sent_started events n k = sent_more events (heard (Started n)) (λ g at. home_stays settings e events (heard (Started n)) refl ∙ at) (λ g s at. at) (λ s h. h) k
+
+  pub sent_drained : (events : List Event) (n bytes : ℕ) → SentAt settings events e id → SentAt settings (with_cause events (Drained n bytes)) e id
+  sent_drained events n bytes k = sent_more events (heard (Drained n bytes)) (λ g at. home_stays settings e events (heard (Drained n bytes)) refl ∙ at) (λ g s at. at) (λ s h. h) k
 
   pub sent_heard : (events : List Event) (n : ℕ) (body : List ℕ) → (nat_eq n e && places (desk_of n events).phase (message_of body)) ≡ false → SentAt settings events e id → SentAt settings (with_cause events (FromEditor n body)) e id
   sent_heard events n body off k = sent_more events (heard (FromEditor n body)) (λ g at. home_more settings e events (heard (FromEditor n body))

@@ -1,11 +1,11 @@
 -- Which causes meet only rows of the table over several editors and groups that are built, until all are.
 -- Not built: requests under an id that is open (E3), requests of the multiplexer's own (E4 to E6), `initialize` in another phase than New, `shutdown` and `exit` (E9), requests of another class than Other, and behind the answer to `initialize` those with tokens;
--- notifications but `initialized` and those on documents; responses of editors; a server's own requests and notifications; results that read versions; a refused `initialize` (S3); the end of a link or of a program; ticks, and drained bytes.
+-- notifications but `initialized` and those on documents; responses of editors; a server's own requests and notifications; results that read versions; a refused `initialize` (S3); the end of a link or of a program; and ticks.
 -- Of S2, what is read back must be what was meant: editors are shown all of the result.
 use Rattle.std.specs.Prelude.{ℕ, Bool, true, false, not, ◌&&◌, ◌||◌, List, find, codes, bytes_eq}
 use Rattle.std.specs.Prelude.{Option, Some, None}
 use Rattle.mux_history.specs.declared.cause.Cause.{Cause}
-use Rattle.mux_history.specs.declared.cause.Cause.TheVariants.{Joined, FromEditor, Started, FromServer}
+use Rattle.mux_history.specs.declared.cause.Cause.TheVariants.{Joined, FromEditor, Started, FromServer, Drained}
 use Rattle.mux_history.specs.declared.entry.Entry.{Entry}
 use Rattle.json_text.specs.Json.{Json}
 use Rattle.document_model.specs.Sayings.{speaks, saying_by}
@@ -74,6 +74,7 @@ built_behind settings before (Joined e) = true
 built_behind settings before (Started s) = true
 built_behind settings before (FromEditor e body) = built_from_editor (desk_of e before).phase (open_of e before) (message_of body)
 built_behind settings before (FromServer s body) = built_from_server (life_of s before).stage (forwarding_of s before).open_requests body (message_of body)
+built_behind settings before (Drained e k) = true
 built_behind settings before other = false
 
 abbrev pub built : Settings → List Entry → Cause → Bool

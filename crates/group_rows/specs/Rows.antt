@@ -112,6 +112,7 @@ abbrev pub early_row : ℕ → List ℕ → Message → Row
 early_row e body (request id method params) = answer_error e body server_not_initialized
 early_row e body other = nothing
 
+-- J2: a closed editor's messages give nothing
 abbrev pub message_row : Settings → List Event → ℕ → List ℕ → Message → Phase → Row
 message_row settings before e body m New = choose (requests (codes "initialize") m) (initialize_row settings before e body) (early_row e body m)
 message_row settings before e body m Waiting = early_row e body m
@@ -156,7 +157,7 @@ abbrev pub started : Settings → ℕ → List Event → Stage → Row
 started settings s before Spawning = on (group_of s before) nothing (begin_in settings before s)
 started settings s before other = nothing
 
--- J1 gives nothing, as each cause without a row of its own does
+-- J1 and X6 give nothing, as each cause without a row of its own does
 abbrev pub row_of : Settings → List Event → Cause → Row
 row_of settings before (FromEditor e body) = from_editor settings before e body (message_of body) (desk_of e before).phase
 row_of settings before (FromServer s body) = from_server settings s before body (message_of body) (life_of s before).stage

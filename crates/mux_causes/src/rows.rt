@@ -261,6 +261,7 @@ pub fn built(tables: &Tables, alloc: Global, cause: &Cause) -> Result<bool, Memo
     match cause {
         Cause::Joined(_) => Ok(true),
         Cause::Started(_) => Ok(true),
+        Cause::Drained(_, _) => Ok(true),
         Cause::FromEditor(e, body) => built_from_editor(tables, alloc, *e, body),
         Cause::FromServer(s, body) => built_from_server(tables, alloc, *s, body),
         _ => Ok(false),

@@ -3,7 +3,7 @@ use Rattle.std.proofs.Common.{◌≡◌, ℕ, Bool, true, false, List, [], ◌++
 use Rattle.std.specs.Prelude.{Option, Some}
 use Rattle.json_text.specs.Json.{Json}
 use Rattle.json_nodes.specs.Doc.{Doc}
-use Rattle.mux_history.specs.declared.cause.Cause.TheVariants.{FromEditor}
+use Rattle.mux_history.specs.declared.cause.Cause.TheVariants.{Drained, FromEditor}
 use Rattle.mux_history.specs.declared.out.Out.{Out}
 use Rattle.rpc_message.specs.declared.envelope.Envelope.{Envelope}
 use Rattle.rpc_message.specs.declared.envelope.Envelope.TheVariants as envelope
@@ -19,14 +19,20 @@ use Rattle.document_model.specs.Sayings.{saying_by}
 use Rattle.event_model.specs.declared.phase.Phase.{Phase}
 use Rattle.event_model.specs.declared.phase.Phase.TheVariants.{Absent, New, Waiting, Answered, Running, Down, Closed, Gone}
 use Rattle.event_model.specs.Does.{Alike, Done}
-use Rattle.event_model.specs.Event.{Event, behind, requests}
+use Rattle.event_model.specs.Event.{Event, behind, requests, with_cause}
 use Rattle.event_model.specs.Phases.{desk_of, is_linked, is_malformed, is_served}
 use Rattle.event_model.specs.Row.{Row, nothing}
 use Rattle.event_model.specs.Settings.{Settings}
-use Rattle.event_model.proofs.Turns.{alike, alike_then}
+use Rattle.event_model.proofs.Turns.{alike, alike_then, does_nothing}
 use Rattle.mux_model.specs.Rows.{malformed_row}
 use Rattle.group_words.specs.Rows.{initialize_row}
 use Rattle.group_rows.specs.Rows.{document_row, early_row, from_editor, message_row, request_row, row_of, served_row}
+use Rattle.mux_tables.specs.declared.tables.Tables.{Tables}
+use Rattle.mux_tables.specs.Documents.{AllStand, DocumentsStand, nothing_owed}
+use Rattle.mux_tables.specs.Stands.{Stands}
+use Rattle.mux_tables.proofs.DocumentHeard.{drained_documents}
+use Rattle.mux_tables.proofs.Heard.{drained_moves}
+use Rattle.mux_turns.proofs.Matched.{whole_entry}
 use Rattle.mux_turns.proofs.Rows.{is_first, is_second}
 
 -- a whole entry of a row that sends what another one does
@@ -187,3 +193,10 @@ module _ (settings : Settings) (before : List Event) (e : ℕ) (body : List ℕ)
 
   pub answered : (sort_of (message_of body) ≡ Some sort.Request → ⊥) → (sort_of (message_of body) ≡ Some sort.Notification → ⊥) → is_served (desk_of e before).phase ≡ true → is_malformed (message_of body) ≡ false → Alike row nothing
   answered h k p well = alike_then (served (message_of body) refl p well) (alike (answers_as (message_of body) h k))
+
+-- X6: bytes were written, and the tables stay
+pub drained_entry : (settings : Settings) (before : List Event) (e k : ℕ) (t : Tables) → Stands settings t before → DocumentsStand settings nothing_owed t before
+    → Done (λ k events. AllStand settings k events) (row_of settings before (Drained e k)) (with_cause before (Drained e k)) [] (t, nothing_owed) []
+drained_entry settings before e k t st ds =
+    whole_entry (λ k events. AllStand settings k events) nothing (with_cause before (Drained e k)) (t, nothing_owed) (t, nothing_owed) [] [] refl
+    (drained_moves settings t before e k st, drained_documents settings nothing_owed t before e k ds) does_nothing

@@ -60,6 +60,8 @@ fn follow(
             from_server(tables, alloc, outs, *s, body)?;
             Ok(())
         }
+        // X6: bytes were written to the editor, which gives nothing.
+        Cause::Drained(_, _) => Ok(()),
         _ => Ok(()),
     }
 }

@@ -274,6 +274,16 @@ const TWO_GROUPS: [(&str, &str); 10] = [
     ),
 ];
 
+// An editor is sent a body of 75 bytes, and all of them are written: one more was never sent.
+const DRAINED: [(&str, &str); 3] = [
+    ("join 0\n", ""),
+    (
+        "ed 0 {\n",
+        ">ed 0 {\"jsonrpc\":\"2.0\",\"id\":null,\"error\":{\"code\":-32700,\"message\":\"Parse error\"}}\n",
+    ),
+    ("drained 0 75\n", ""),
+];
+
 // Lines that fit, and that no row takes yet.
 const UNBUILT: [&str; 5] = [
     "ed 0 {\"jsonrpc\":\"2.0\",\"id\":1,\"result\":null}\n",
@@ -316,6 +326,19 @@ fn several_editors_bring_their_lines(rt: HostRuntime) -> Result<(), Fail> {
         play(&rt, alloc, limits(MOST, MOST), parts, Ok(()))?;
     }
     Ok(())
+}
+
+#[test]
+fn bytes_are_drained_once(rt: HostRuntime) -> Result<(), Fail> {
+    let alloc = rt.alloc();
+    let end = Err(Stop::Refused(4, Refusal::Absent));
+    play(
+        &rt,
+        alloc,
+        limits(MOST, MOST),
+        &[&DRAINED, &[("drained 0 1\n", "")]],
+        end,
+    )
 }
 
 #[test]

@@ -3,7 +3,7 @@ use Rattle.std.proofs.Common.{◌≡◌, ℕ, ◌<◌, Bool, true, false, ◌&&�
 use Rattle.std.specs.Prelude.{Option, Some, None, bytes_eq, slice_get, slice_set}
 use Rattle.std.proofs.lemmas.Bool.{ne_eqb}
 use Rattle.std.proofs.lemmas.Slice.Eq.{bytes_eq-Decides}
-use Rattle.mux_history.specs.declared.cause.Cause.TheVariants.{Joined, FromEditor, FromServer, Started}
+use Rattle.mux_history.specs.declared.cause.Cause.TheVariants.{Joined, FromEditor, FromServer, Started, Drained}
 use Rattle.rpc_message.specs.Message.{Message, error, result, request, notification, not_json, not_message}
 use Rattle.document_model.specs.Sayings.{saying_of, speaks}
 use Rattle.event_model.specs.declared.phase.Phase.TheVariants.{New}
@@ -41,6 +41,10 @@ joined_documents settings owed t u events e next ls ds vs st = quiet_documents s
   where
     absent : (n : ℕ) → n ≡ length t.editors → is_served (desk_of n events).phase ≡ false
     absent n is = ap is_served (st.house.editors.phase n) ∙ ap (λ (o : Option Session). is_served (phase_in o)) (ap (slice_get t.editors) is ∙ past_none t.editors)
+
+-- X6
+pub drained_documents : (settings : Settings) (owed : Owed) (t : Tables) (events : List Event) (e k : ℕ) → DocumentsStand settings owed t events → DocumentsStand settings owed t (events ++ took (Drained e k) not_message ∷ [])
+drained_documents settings owed t events e k ds = quiet_documents settings owed t t events (took (Drained e k) not_message) refl refl refl refl refl (λ g o at. refl) ds
 
 -- a message of an editor
 pub rest_heard : (settings : Settings) (t : Tables) (events : List Event) (e : ℕ) (body : List ℕ) (m : Message) → changes_documents events e m ≡ false → Rest settings t events (events ++ took (FromEditor e body) m ∷ [])

@@ -5,7 +5,7 @@ use Rattle.std.proofs.lemmas.Bool.{ne_eqb}
 use Rattle.std.proofs.lemmas.Option.{slice_get-get_or}
 use Rattle.std.proofs.lemmas.List.{length-set, length-append}
 use Rattle.mux_history.specs.declared.cause.Why.{Why}
-use Rattle.mux_history.specs.declared.cause.Cause.TheVariants.{Joined, FromEditor, EditorGone, Tick}
+use Rattle.mux_history.specs.declared.cause.Cause.TheVariants.{Joined, FromEditor, EditorGone, Drained, Tick}
 use Rattle.rpc_message.specs.Message.{id_bytes, message_of, not_message}
 use Rattle.event_model.specs.declared.phase.Phase.{Phase}
 use Rattle.event_model.specs.declared.phase.Phase.TheVariants.{Absent, New, Waiting}
@@ -31,7 +31,7 @@ use Rattle.mux_tables.proofs.Ends.{tick_heard}
 use Rattle.mux_tables.proofs.Exits.{stop_groups}
 use Rattle.mux_tables.proofs.Frames.{itself, groups_stand}
 use Rattle.mux_tables.proofs.Leaves.{gone_by}
-use Rattle.mux_tables.proofs.Moves.{house_moves}
+use Rattle.mux_tables.proofs.Moves.{house_moves, quiet_moves}
 use Rattle.mux_tables.proofs.Named.{Goes, goes_heard, goes_so, goes_then, named_by, named_new}
 use Rattle.mux_tables.proofs.Seated.{Seated, initialize_heard}
 
@@ -132,6 +132,10 @@ module _ (settings : Settings) (t u : Tables) (events : List Event) (e : ℕ) (b
   -- E6
   pub stopped_moves : (ns : List ℕ) → ns ≡ all_from 0 is_live t.groups.groups → u.groups ≡ with_groups (ends ns t.groups.groups) t.groups → stops events e (message_of body) ≡ true → Stands settings t events → Stands settings u (events ++ ev ∷ [])
   stopped_moves ns all gs stop = all_heard (λ h. stop_groups settings events e body (message_of body) t.groups u.groups stays stop (ap (λ (w : Table). w.limit) gs) (ap (λ (w : Table). w.idle) gs) (ap (λ (w : Table). w.groups) gs ∙ ap (λ ms. ends ms t.groups.groups) all) h)
+
+-- X6: no table speaks of bytes that were written
+pub drained_moves : (settings : Settings) (t : Tables) (events : List Event) (e k : ℕ) → Stands settings t events → Stands settings t (events ++ heard (Drained e k) ∷ [])
+drained_moves settings t events e k s = quiet_moves settings t events (heard (Drained e k)) refl refl refl (λ n. refl) refl s
 
 -- X5
 pub gone_heard : (settings : Settings) (t u : Tables) (events : List Event) (e : ℕ) (why : Why) (mid : List Session) (p : Phase) (home : Option ℕ) (was : Bool) → e < length t.editors
