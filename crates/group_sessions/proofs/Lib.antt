@@ -7,3 +7,4 @@ pub mod Server3Law
 pub mod Server4Law
 pub mod Sessions
 pub mod SpawnedLaw
+pub mod Worked
