@@ -274,6 +274,30 @@ const TWO_GROUPS: [(&str, &str); 10] = [
     ),
 ];
 
+// A third editor joins their group, whose start is ready: it is answered at once.
+const A_THIRD: [(&str, &str); 2] = [
+    ("join 2\n", ""),
+    (
+        "ed 2 {\"jsonrpc\":\"2.0\",\"id\":\"b\",\"method\":\"initialize\",\"params\":{\"rootUri\":\"file:///w\",\"capabilities\":{}}}\n",
+        ">ed 2 {\"jsonrpc\":\"2.0\",\"id\":\"b\",\"result\":{\"capabilities\":{}}}\n",
+    ),
+];
+
+// Where one group is the limit, an editor of other folders is turned away, and gets nothing more.
+const TURNED_AWAY: [(&str, &str); 5] = [
+    ("join 0\n", ""),
+    (
+        "ed 0 {\"jsonrpc\":\"2.0\",\"id\":0,\"method\":\"initialize\",\"params\":{\"rootUri\":\"file:///w\",\"capabilities\":{}}}\n",
+        ">spawn 0 0\n",
+    ),
+    ("join 1\n", ""),
+    (
+        "ed 1 {\"jsonrpc\":\"2.0\",\"id\":0,\"method\":\"initialize\",\"params\":{\"rootUri\":\"file:///v\",\"capabilities\":{}}}\n",
+        ">ed 1 {\"jsonrpc\":\"2.0\",\"id\":0,\"error\":{\"code\":-32803,\"message\":\"Request failed\"}}\n>close 1\n",
+    ),
+    ("ed 1 {\n", ""),
+];
+
 // An editor is sent a body of 75 bytes, and all of them are written: one more was never sent.
 const DRAINED: [(&str, &str); 3] = [
     ("join 0\n", ""),
@@ -316,7 +340,8 @@ fn sessions_bring_their_lines(rt: HostRuntime) -> Result<(), Fail> {
 #[test]
 fn several_editors_bring_their_lines(rt: HostRuntime) -> Result<(), Fail> {
     let alloc = rt.alloc();
-    let sessions: [&[&[(&str, &str)]]; 4] = [
+    let sessions: [&[&[(&str, &str)]]; 5] = [
+        &[&TWO_EDITORS, &A_THIRD],
         &[&TWO_EDITORS, &BOTH_ASK],
         &[&TWO_EDITORS, &SWITCHING, &CHANGING],
         &[&TWO_EDITORS, &CLOSING],
@@ -326,6 +351,14 @@ fn several_editors_bring_their_lines(rt: HostRuntime) -> Result<(), Fail> {
         play(&rt, alloc, limits(MOST, MOST), parts, Ok(()))?;
     }
     Ok(())
+}
+
+#[test]
+fn an_editor_too_many_is_turned_away(rt: HostRuntime) -> Result<(), Fail> {
+    let alloc = rt.alloc();
+    let mut few = limits(MOST, MOST);
+    few.groups = 1;
+    play(&rt, alloc, few, &[&TURNED_AWAY], Ok(()))
 }
 
 #[test]
