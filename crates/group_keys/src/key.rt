@@ -25,7 +25,12 @@ fn kept(alloc: Global, bytes: Option<&[u8]>) -> Result<Option<Body>, Memory>
 /// The key of the group for which an `initialize` asks: the server that is meant, the folders, and the options.
 pub fn key_of(alloc: Global, message: &Message, server: u32) -> Result<Key, Memory>
     ensures { (body : List ℕ) → IsRead message.now body
-        → IfOk result (λ key. key ≡ record { server = server; folders = folders_of (params_of body); normal = map normal_of (folders_of (params_of body)); options = options_of body }) }
+        → IfOk result (λ key. key ≡ record {
+          server = server;
+          folders = folders_of (params_of body);
+          normal = map normal_of (folders_of (params_of body));
+          options = options_of body;
+        }) }
 {
     let tape = message.tape();
     let params = member(tape, Some(tape.root()), "params");

@@ -53,6 +53,8 @@ pub fn spawned_once()
 
 /// A law: the starts that were spawned are those whose numbers are below how many there are, each of them once.
 pub fn spawned_in_order()
-    ensures below { (settings : Settings) → InRange settings → (history : List Entry) → Legal settings history → (s : ℕ) → s < starts_of (events_of history) → spawns s history ≡ 1 }
-    ensures above { (settings : Settings) → InRange settings → (history : List Entry) → Legal settings history → (s : ℕ) → starts_of (events_of history) ≤ s → spawns s history ≡ 0 }
+    ensures below { (settings : Settings) → InRange settings → (history : List Entry) → Legal settings history
+        → (s : ℕ) → s < starts_of (events_of history) → spawns s history ≡ 1 }
+    ensures above { (settings : Settings) → InRange settings → (history : List Entry) → Legal settings history
+        → (s : ℕ) → starts_of (events_of history) ≤ s → spawns s history ≡ 0 }
 {}

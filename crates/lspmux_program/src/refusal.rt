@@ -35,7 +35,8 @@ pub fn refusal_of<J: Journal>(cause: &Cause, hub: &Hub<J>) -> Result<Option<Refu
     ensures taken { (history : List Entry) → HubStands J.told hub.now history
         → IfOk result (λ refusal. IfNone refusal (judged hub.now.settings history (Some cause.now) ≡ Ok cause.now)) }
     ensures fits { (history : List Entry) → HubStands J.told hub.now history → IfOk result (λ refusal. IfNone refusal (IsTrue (fits history cause.now))) }
-    ensures is_built { (history : List Entry) → HubStands J.told hub.now history → IfOk result (λ refusal. IfNone refusal (IsTrue (built hub.now.settings history cause.now))) }
+    ensures is_built { (history : List Entry) → HubStands J.told hub.now history
+        → IfOk result (λ refusal. IfNone refusal (IsTrue (built hub.now.settings history cause.now))) }
 {
     if !hub.fits(cause) {
         return Ok(Some(Refusal::Absent));

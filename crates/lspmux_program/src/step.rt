@@ -78,7 +78,8 @@ fn read_line<J: Journal>(
     requires ready { hub.now.spent ≡ false }
     ensures reads { (history : List Entry) → HubStands J.told hub.now history → IfOk result (λ read. read ≡ reading_bytes hub.now.settings history line.items) }
     ensures fits { (history : List Entry) → HubStands J.told hub.now history → IfOk result (λ read. IfOk read (λ cause. IsTrue (fits history cause))) }
-    ensures is_built { (history : List Entry) → HubStands J.told hub.now history → IfOk result (λ read. IfOk read (λ cause. IsTrue (built hub.now.settings history cause))) }
+    ensures is_built { (history : List Entry) → HubStands J.told hub.now history
+        → IfOk result (λ read. IfOk read (λ cause. IsTrue (built hub.now.settings history cause))) }
     ensures small { IfOk result (λ read. IfOk read (λ cause. body_length cause ≤ 67108864)) }
 {
     let read = cause_of_line(alloc, &line, CONTENT)?;

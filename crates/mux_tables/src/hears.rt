@@ -197,7 +197,8 @@ impl Tables {
             → home_of settings e events ≡ Some g → start_of g events ≡ Some s
             → Stands settings self.old events → DocumentsStand settings nothing_owed self.old events
             → IfOk result (λ owed. (owed ≡ to s (noticing settings events g s e body (saying_by method params)))
-            × DocumentsStand settings (owes g (noticing settings events g s e body (saying_by method params))) self.new (events ++ heard (FromEditor e body) ∷ [])) }
+            × DocumentsStand settings (owes g (noticing settings events g s e body (saying_by method params))) self.new
+            (events ++ heard (FromEditor e body) ∷ [])) }
     {
         let home = self.editors.group(e);
         self.editors.set(e, phase);

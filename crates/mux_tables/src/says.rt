@@ -178,7 +178,8 @@ impl Tables {
             → slice_get (map number_in self.old.lasts.items) g ≡ Some s → message_of text ≡ message.request name method ps → is_own method ≡ false
             → Sends s e id (behind base outs.old) → worker_of (behind base outs.old) ≡ Some e
             → OnOk result (Does (λ k events. AllStand settings k events)
-            (look (λ now. to_start s (syncing settings now g s e) ⨾ send (ToServer s text))) base (self.old, nothing_owed) outs.old (self.new, nothing_owed) outs.new) }
+            (look (λ now. to_start s (syncing settings now g s e) ⨾ send (ToServer s text))) base
+            (self.old, nothing_owed) outs.old (self.new, nothing_owed) outs.new) }
     {
         let told = sync(alloc, &mut self.documents, g, e)?;
         outs.append(told)?;
