@@ -246,12 +246,6 @@ said_parts (Some a) (Some b) None u v cs e = absurd (cc)
 said_parts (Some a) None c u v cs e = absurd (cc)
 said_parts None b c u v cs e = absurd (cc)
 
-unsaid_parts : (a b : Option (List ℕ)) (c : Option Json) → changing a b (option_map bare c) ≡ misshapen → did_change_of a b c ≡ None
-unsaid_parts (Some a) (Some b) (Some c) e = absurd (cc)
-unsaid_parts (Some a) (Some b) None e = refl
-unsaid_parts (Some a) None c e = refl
-unsaid_parts None b c e = refl
-
 -- what is found of a change is what the body says
 pub change_said : (body : List ℕ) (t : Json) (u v : List ℕ) (cs : Json) → tree_of body ≡ Some t → saying_of (message_of body) ≡ changes u v cs
     → (list : Json) × (did_change t ≡ Some (record { uri = u; version = v; changes = list })) × (bare list ≡ cs)
@@ -263,16 +257,3 @@ change_said body t u v cs e h =
     subst (λ z. (list : Json) × (did_change z ≡ Some (record { uri = u; version = v; changes = list })) × (bare list ≡ cs)) same
     (said_parts (uri_in (object n.span n.members)) (version_in (object n.span n.members)) (changes_in (object n.span n.members)) u v cs
     (sym (notice_said body m.0 n) ∙ ap saying_of (sym m.1) ∙ h))
-
--- and nothing is found where it lacks a part
-pub change_unsaid : (body : List ℕ) (t : Json) (method : List ℕ) (params : Option Json) → tree_of body ≡ Some t → message_of body ≡ notification method params
-    → bytes_eq (codes "textDocument/didChange") method ≡ true → saying_of (message_of body) ≡ misshapen → did_change t ≡ None
-change_unsaid body t method params e m b h =
-    let name : codes "textDocument/didChange" ≡ method = (bytes_eq-Decides (codes "textDocument/didChange") method).0 b in
-    let is : message_of body ≡ notification (codes "textDocument/didChange") params = m ∙ ap (λ z. notification z params) (sym name) in
-    let n : Notice (codes "textDocument/didChange") params body = notice (codes "textDocument/didChange") params body is in
-    let tree : tree_of body ≡ Some (object n.span n.members) = n.tree in
-    let same : object n.span n.members ≡ t = cc in
-    subst (λ z. did_change z ≡ None) same
-    (unsaid_parts (uri_in (object n.span n.members)) (version_in (object n.span n.members)) (changes_in (object n.span n.members))
-    (sym (notice_said body params n) ∙ ap saying_of (sym is) ∙ h))

@@ -1,9 +1,8 @@
--- What the routing table reads in the params and results of bodies (LSP 3.17, initialize, and VersionedTextDocumentIdentifier).
-use Rattle.std.specs.Prelude.{ℕ, Bool, true, false, ◌&&◌, ◌||◌, List, [], ◌∷◌, codes, is_some, if◌then◌else◌, encode_utf8_all}
+-- What the routing table reads in the params and results of bodies (LSP 3.17, initialize, ProgressToken, and VersionedTextDocumentIdentifier).
+use Rattle.std.specs.Prelude.{ℕ, Bool, true, false, ◌&&◌, ◌||◌, List, [], ◌∷◌, codes, is_some, if◌then◌else◌}
 use Rattle.std.specs.Prelude.{Option, Some, None}
 use Rattle.std.specs.List.{list_any}
-use Rattle.json.specs.Print.{quoted}
-use Rattle.json_text.specs.Json.{Json, string, array, object, member}
+use Rattle.json_text.specs.Json.{Json, string, array, object}
 use Rattle.json_text.specs.Named.{named_in, items_list, named}
 use Rattle.json_text.specs.Tree.{tree_of}
 use Rattle.rpc_message.specs.Message.{place_in, slice_of, is_integer_value, is_string_value}
@@ -19,27 +18,9 @@ abbrev pub string_of : Option Json → Option (List ℕ)
 string_of (Some (string s cs)) = Some cs
 string_of _ = None
 
--- the first of the objects of a list with a string `uri`: that uri
-abbrev pub or_first : Option (List ℕ) → Option (List ℕ) → Option (List ℕ)
-or_first (Some u) other = Some u
-or_first None other = other
-
-abbrev pub first_uri : List Json → Option (List ℕ)
-first_uri [] = None
-first_uri (j ∷ js) = or_first (string_of (named_in (codes "uri") j)) (first_uri js)
-
 abbrev pub listed : Option Json → List Json
 listed (Some (array s js)) = items_list js
 listed _ = []
-
--- the first folder's uri: of `workspaceFolders` with a string uri, else `rootUri`
-abbrev pub root_uri : Option Json → Option (List ℕ)
-root_uri params = or_first (first_uri (listed (named_of (codes "workspaceFolders") params))) (string_of (named_of (codes "rootUri") params))
-
--- characters written as a JSON string, or null
-abbrev pub string_or_null : Option (List ℕ) → List ℕ
-string_or_null (Some cs) = quoted (encode_utf8_all cs)
-string_or_null None = codes "null"
 
 -- the bytes of a member, where it is there
 abbrev pub bytes_if : List ℕ → Option Json → List ℕ → Option (List ℕ)
@@ -47,11 +28,6 @@ bytes_if name tree body = if is_some (named_of name tree) then Some (slice_of bo
 
 abbrev pub options_of : List ℕ → Option (List ℕ)
 options_of body = bytes_if (codes "initializationOptions") (params_of body) body
-
--- absent, no object, or an object without members
-abbrev pub is_bare_capabilities : Option Json → Bool
-is_bare_capabilities (Some (object s (member n cs j ms))) = false
-is_bare_capabilities _ = true
 
 -- a progress token (LSP 3.17, ProgressToken)
 abbrev pub is_token : Option Json → Bool

@@ -12,7 +12,7 @@ use Rattle.rpc_message.specs.Message.{request, Id, id_of, integer, message_of}
 use Rattle.rpc_message.specs.ValueTexts.{IsIdText}
 use Rattle.rpc_message.proofs.Ids.{id_flat}
 use Rattle.event_model.specs.Event.{Event, heard, said, with_cause}
-use Rattle.event_model.specs.Requests.{answered_id, asking_of, is_open, is_own, open_of}
+use Rattle.event_model.specs.Requests.{answered_id, next_number, is_open, is_own, open_of}
 use Rattle.event_model.specs.Settings.{Settings}
 use Rattle.event_model.proofs.Frames.{never}
 use Rattle.mux_facts.proofs.Lists.{all_filtered, all_join, all_of, found_is}
@@ -122,7 +122,7 @@ module _ (settings : Settings) (before : List Event) (cause : Cause) (events : L
   apart_sent (greets k) h = apart_fewer events sent (fewer_notified n events body (codes "initialized") k.params k.says) h
   apart_sent (forwarded k) h = forwarded_apart k h
   apart_sent (tells k) h = let m : Spoken (message_of body) = spoken (message_of body) k.spoken in apart_fewer events sent (fewer_notified n events body m.method m.params m.is) h
-  apart_sent (shuts k) h = apart_fewer events sent (own_fewer (integer (decimal (asking_of n events).next)) (codes "shutdown") None k.says refl) h
+  apart_sent (shuts k) h = apart_fewer events sent (own_fewer (integer (decimal (next_number n events))) (codes "shutdown") None k.says refl) h
 
 -- A response that is passed on
 

@@ -12,7 +12,7 @@ use Rattle.rpc_message.specs.ValueTexts.{IsIdText}
 use Rattle.event_model.specs.declared.phase.Phase.TheVariants.{New, Waiting, Gone}
 use Rattle.event_model.specs.Event.{Event, heard, said, same_id, with_cause}
 use Rattle.event_model.specs.Phases.{Desk, desk_of, desk_behind, desk_hears, editors_of, phase_closed, phase_told}
-use Rattle.event_model.specs.Requests.{answered_id, asking_of, is_open, is_own, open_behind, open_of, without}
+use Rattle.event_model.specs.Requests.{answered_id, next_number, is_open, is_own, open_behind, open_of, without}
 use Rattle.event_model.specs.Settings.{Settings}
 use Rattle.event_model.proofs.Frames.{never}
 use Rattle.mux_model.specs.Fits.{fits_behind}
@@ -139,7 +139,7 @@ module _ (settings : Settings) (before : List Event) (cause : Cause) (events : L
   one_asked (greets k) h = notified (codes "initialized") k.params k.says h
   one_asked (forwarded k) h = asked_on k h
   one_asked (tells k) h = let m : Spoken (message_of body) = spoken (message_of body) k.spoken in notified m.method m.params m.is h
-  one_asked (shuts k) h = own_request (integer (decimal (asking_of n events).next)) (codes "shutdown") None k.says refl h
+  one_asked (shuts k) h = own_request (integer (decimal (next_number n events))) (codes "shutdown") None k.says refl h
 
   pub asked_sent : WhyToServer settings before cause events n body → AllForwarded events → AllForwarded sent
   asked_sent why h s = each_start Later n (one_asked why)

@@ -12,7 +12,7 @@ use Rattle.event_model.specs.declared.stage.Stage.{Stage}
 use Rattle.event_model.specs.declared.stage.Stage.TheVariants.{Unspawned, Spawning, Initializing, Ready, Stopping, Ending, Ended}
 use Rattle.event_model.specs.Event.{Event, behind, heard, said, with_cause}
 use Rattle.event_model.specs.Phases.{Desk, desk_hears, desk_of, editors_of, is_malformed, is_served, is_there}
-use Rattle.event_model.specs.Requests.{answered_id, asks, is_open, open_of, without}
+use Rattle.event_model.specs.Requests.{answered_id, with_request, is_open, open_of, without}
 use Rattle.event_model.specs.Row.{choose, nothing, on, outs, send}
 use Rattle.event_model.specs.Settings.{Settings}
 use Rattle.event_model.specs.Stages.{is_first_result, life_of}
@@ -53,7 +53,7 @@ module _ (settings : Settings) (range : InRange settings) (before : List Event) 
       sent id (inl k) = inl (sent_heard settings e id before n body (ap (λ b. b && places (desk_of n before).phase (message_of body)) other) k)
       sent id (inr k) = inr k
 
-      go : (b : Bool) → b ≡ false → OpenDesk (S settings e Nobody (with_cause before (FromEditor n body))) (if b then desk_hears (desk_of e before).phase (desk_of e before).initialize body (message_of body) else desk_of e before) (if b then asks (message_of body) (open_of e before) else open_of e before)
+      go : (b : Bool) → b ≡ false → OpenDesk (S settings e Nobody (with_cause before (FromEditor n body))) (if b then desk_hears (desk_of e before).phase (desk_of e before).initialize body (message_of body) else desk_of e before) (if b then with_request (message_of body) (open_of e before) else open_of e before)
       go true other = never other
       go false other = if_other (S settings e Nobody before) (S settings e Nobody (with_cause before (FromEditor n body))) (desk_of e before).phase (desk_of e before).initialize (open_of e before) (λ served id is. sent id) (h e)
 

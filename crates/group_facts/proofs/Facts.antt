@@ -6,7 +6,7 @@ use Rattle.event_model.specs.declared.stage.Stage.{Stage}
 use Rattle.event_model.specs.declared.stage.Stage.TheVariants.{Initializing, Ready}
 use Rattle.event_model.specs.Event.{Event}
 use Rattle.event_model.specs.Phases.{desk_of}
-use Rattle.event_model.specs.Requests.{asking_of, open_of}
+use Rattle.event_model.specs.Requests.{next_number, open_of}
 use Rattle.event_model.specs.Settings.{Settings}
 use Rattle.event_model.specs.Stages.{life_of}
 use Rattle.mux_facts.proofs.Editors.{Editors}
@@ -37,14 +37,14 @@ TiedAt Ready a f = a ≡ f
 TiedAt other a f = Unit {0}
 
 abbrev pub Tied : List Event → ℕ → Type 0
-Tied events s = TiedAt (life_of s events).stage (asking_of s events).next (forwarding_of s events).next
+Tied events s = TiedAt (life_of s events).stage (next_number s events) (forwarding_of s events).next
 
 abbrev pub AllTied : List Event → Type 0
 AllTied events = (s : ℕ) → Tied events s
 
 -- so while a start is ready
 pub numbered_of : (events : List Event) → AllTied events → Numbered events
-numbered_of events h s at = subst (λ z. TiedAt z (asking_of s events).next (forwarding_of s events).next) at (h s)
+numbered_of events h s at = subst (λ z. TiedAt z (next_number s events) (forwarding_of s events).next) at (h s)
 
 -- between entries also the two numbers are tied, and each editor that waits has its `initialize` open
 pub record Facts (settings : Settings) (events : List Event) : Type 0 where

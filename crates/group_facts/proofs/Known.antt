@@ -8,7 +8,7 @@ use Rattle.mux_history.specs.declared.out.Out.TheVariants.{ToEditor, ToServer, S
 use Rattle.event_model.specs.declared.stage.Stage.TheVariants.{Unspawned, Spawning}
 use Rattle.event_model.specs.Event.{Event, heard, said, behind, with_cause, events_of}
 use Rattle.event_model.specs.Phases.{Desk, desk_of, is_there, phase_closed}
-use Rattle.event_model.specs.Requests.{Asking, asking_of}
+use Rattle.event_model.specs.Requests.{next_number}
 use Rattle.event_model.specs.Settings.{Settings}
 use Rattle.event_model.specs.Spawns.{starts_of}
 use Rattle.event_model.specs.Stages.{Life, life_of, no_life, stage_ending}
@@ -19,7 +19,7 @@ use Rattle.mux_facts.specs.Ranges.{InRange}
 use Rattle.mux_facts.proofs.Editors as editors
 use Rattle.mux_facts.proofs.Editors.{Editors}
 use Rattle.mux_facts.proofs.FactLaws.{editors_took, starts_spawn, starts_took, there_not}
-use Rattle.mux_facts.proofs.Folds.{asking_more}
+use Rattle.mux_facts.proofs.Folds.{number_more}
 use Rattle.mux_facts.proofs.Keeps.{events_more}
 use Rattle.mux_facts.proofs.Known.{is_unbegun}
 use Rattle.mux_facts.proofs.Reasons.{reasons_keep}
@@ -99,8 +99,8 @@ module _ (settings : Settings) where
       housed = housed_did settings events (ToEditor n body) refl (λ s. refl) h.housed;
     }
       where
-        a : (s : ℕ) → (asking_of s (events ++ said (ToEditor n body) ∷ [])).next ≡ (asking_of s events).next
-        a s = ap (λ (x : Asking). x.next) (asking_more s events (said (ToEditor n body)))
+        a : (s : ℕ) → next_number s (events ++ said (ToEditor n body) ∷ []) ≡ next_number s events
+        a s = (number_more s events (said (ToEditor n body)))
 
         f : (s : ℕ) → (forwarding_of s (events ++ said (ToEditor n body) ∷ [])).next ≡ (forwarding_of s events).next
         f s = ap (λ (x : Forwarding). x.next) (forwarding_more s events (said (ToEditor n body)))
@@ -120,8 +120,8 @@ module _ (settings : Settings) where
       housed = housed_spawn settings events g inside h.housed;
     }
       where
-        a : (s : ℕ) → (asking_of s (events ++ said (Spawn (starts_of events) g) ∷ [])).next ≡ (asking_of s events).next
-        a s = ap (λ (x : Asking). x.next) (asking_more s events (said (Spawn (starts_of events) g)))
+        a : (s : ℕ) → next_number s (events ++ said (Spawn (starts_of events) g) ∷ []) ≡ next_number s events
+        a s = (number_more s events (said (Spawn (starts_of events) g)))
 
         f : (s : ℕ) → (forwarding_of s (events ++ said (Spawn (starts_of events) g) ∷ [])).next ≡ (forwarding_of s events).next
         f s = ap (λ (x : Forwarding). x.next) (forwarding_more s events (said (Spawn (starts_of events) g)))
@@ -142,8 +142,8 @@ module _ (settings : Settings) where
       housed = housed_did settings events (CloseEditor n) refl (λ s. refl) h.housed;
     }
       where
-        a : (s : ℕ) → (asking_of s (events ++ said (CloseEditor n) ∷ [])).next ≡ (asking_of s events).next
-        a s = ap (λ (x : Asking). x.next) (asking_more s events (said (CloseEditor n)))
+        a : (s : ℕ) → next_number s (events ++ said (CloseEditor n) ∷ []) ≡ next_number s events
+        a s = (number_more s events (said (CloseEditor n)))
 
         f : (s : ℕ) → (forwarding_of s (events ++ said (CloseEditor n) ∷ [])).next ≡ (forwarding_of s events).next
         f s = ap (λ (x : Forwarding). x.next) (forwarding_more s events (said (CloseEditor n)))
@@ -164,8 +164,8 @@ module _ (settings : Settings) where
       housed = housed_did settings events (EndServer n) refl (λ s. refl) h.housed;
     }
       where
-        a : (s : ℕ) → (asking_of s (events ++ said (EndServer n) ∷ [])).next ≡ (asking_of s events).next
-        a s = ap (λ (x : Asking). x.next) (asking_more s events (said (EndServer n)))
+        a : (s : ℕ) → next_number s (events ++ said (EndServer n) ∷ []) ≡ next_number s events
+        a s = (number_more s events (said (EndServer n)))
 
         f : (s : ℕ) → (forwarding_of s (events ++ said (EndServer n) ∷ [])).next ≡ (forwarding_of s events).next
         f s = ap (λ (x : Forwarding). x.next) (forwarding_more s events (said (EndServer n)))
@@ -174,16 +174,16 @@ module _ (settings : Settings) where
         d s u = ap (λ (x : Sent). x.held) (sent_more s u events (said (EndServer n)))
 
     tied_told : (n : ℕ) (body : List ℕ) → OthersTied cause events → OthersTied cause (events ++ said (ToEditor n body) ∷ [])
-    tied_told n body h = tied_said cause events (ToEditor n body) (λ s. ap (λ (x : Asking). x.next) (asking_more s events (said (ToEditor n body)))) (λ s. ap (λ (x : Forwarding). x.next) (forwarding_more s events (said (ToEditor n body)))) (λ s a f k. k) h
+    tied_told n body h = tied_said cause events (ToEditor n body) (λ s. (number_more s events (said (ToEditor n body)))) (λ s. ap (λ (x : Forwarding). x.next) (forwarding_more s events (said (ToEditor n body)))) (λ s a f k. k) h
 
     tied_closed : (n : ℕ) → OthersTied cause events → OthersTied cause (events ++ said (CloseEditor n) ∷ [])
-    tied_closed n h = tied_said cause events (CloseEditor n) (λ s. ap (λ (x : Asking). x.next) (asking_more s events (said (CloseEditor n)))) (λ s. ap (λ (x : Forwarding). x.next) (forwarding_more s events (said (CloseEditor n)))) (λ s a f k. k) h
+    tied_closed n h = tied_said cause events (CloseEditor n) (λ s. (number_more s events (said (CloseEditor n)))) (λ s. ap (λ (x : Forwarding). x.next) (forwarding_more s events (said (CloseEditor n)))) (λ s a f k. k) h
 
     tied_spawned : (g : ℕ) → OthersTied cause events → OthersTied cause (events ++ said (Spawn (starts_of events) g) ∷ [])
-    tied_spawned g h = tied_said cause events (Spawn (starts_of events) g) (λ s. ap (λ (x : Asking). x.next) (asking_more s events (said (Spawn (starts_of events) g)))) (λ s. ap (λ (x : Forwarding). x.next) (forwarding_more s events (said (Spawn (starts_of events) g)))) (λ s a f k. tied_life (nat_eq (starts_of events) s) (record { stage = Spawning; started = false }) (life_of s events) a f (λ b c. tt) k) h
+    tied_spawned g h = tied_said cause events (Spawn (starts_of events) g) (λ s. (number_more s events (said (Spawn (starts_of events) g)))) (λ s. ap (λ (x : Forwarding). x.next) (forwarding_more s events (said (Spawn (starts_of events) g)))) (λ s a f k. tied_life (nat_eq (starts_of events) s) (record { stage = Spawning; started = false }) (life_of s events) a f (λ b c. tt) k) h
 
     tied_ended : (n : ℕ) → OthersTied cause events → OthersTied cause (events ++ said (EndServer n) ∷ [])
-    tied_ended n h = tied_said cause events (EndServer n) (λ s. ap (λ (x : Asking). x.next) (asking_more s events (said (EndServer n)))) (λ s. ap (λ (x : Forwarding). x.next) (forwarding_more s events (said (EndServer n)))) (λ s a f k. tied_life (nat_eq n s) (record { stage = stage_ending (life_of s events).stage; started = (life_of s events).started }) (life_of s events) a f (ending_tied (life_of s events).stage) k) h
+    tied_ended n h = tied_said cause events (EndServer n) (λ s. (number_more s events (said (EndServer n)))) (λ s. ap (λ (x : Forwarding). x.next) (forwarding_more s events (said (EndServer n)))) (λ s a f k. tied_life (nat_eq n s) (record { stage = stage_ending (life_of s events).stage; started = (life_of s events).started }) (life_of s events) a f (ending_tied (life_of s events).stage) k) h
 
     pub mid_did : (out : Out) → Why settings before cause events out → Mid settings before cause events → Mid settings before cause (events ++ said out ∷ [])
     mid_did (ToEditor n body) why h = record { steady = to_editor n body why h.steady; tied = tied_told n body h.tied; waiting = waiting_told settings before cause events n body why h.waiting }

@@ -12,7 +12,7 @@ use Rattle.rpc_message.specs.Message.{Message, request, notification, integer, m
 use Rattle.event_model.specs.declared.stage.Stage.{Stage}
 use Rattle.event_model.specs.declared.stage.Stage.TheVariants.{Unspawned, Spawning, Initializing, Ready, Stopping, Ending, Ended}
 use Rattle.event_model.specs.Event.{Event, heard, said, behind, with_cause, requests}
-use Rattle.event_model.specs.Requests.{Asking, asking_of}
+use Rattle.event_model.specs.Requests.{next_number}
 use Rattle.event_model.specs.Row.{outs}
 use Rattle.event_model.specs.Settings.{Settings}
 use Rattle.event_model.specs.Spawns.{starts_of}
@@ -35,10 +35,10 @@ use Rattle.group_facts.proofs.AnswerRows.{get_all}
 use Rattle.group_facts.proofs.Facts.{AllTied, OthersTied, Tied, TiedAt, begins_now}
 use Rattle.group_facts.proofs.Forwards.{notified_next}
 use Rattle.group_facts.proofs.Levels.{each_start}
-use Rattle.group_facts.proofs.Numbers.{asking_heard, asking_other, asking_sent, forwarding_heard, forwarding_other, forwarding_sent, stage_sent}
+use Rattle.group_facts.proofs.Numbers.{number_heard, number_other, number_sent, forwarding_heard, forwarding_other, forwarding_sent, stage_sent}
 
-tied_by : (s : ℕ) (events later : List Event) (stage : Stage) → (life_of s later).stage ≡ stage → (asking_of s later).next ≡ (asking_of s events).next → (forwarding_of s later).next ≡ (forwarding_of s events).next → TiedAt stage (asking_of s events).next (forwarding_of s events).next → Tied later s
-tied_by s events later stage l a f h = subst (λ z. TiedAt z (asking_of s later).next (forwarding_of s later).next) (sym l) (subst₂ (TiedAt stage) (sym a) (sym f) h)
+tied_by : (s : ℕ) (events later : List Event) (stage : Stage) → (life_of s later).stage ≡ stage → next_number s later ≡ (next_number s events) → (forwarding_of s later).next ≡ (forwarding_of s events).next → TiedAt stage (next_number s events) (forwarding_of s events).next → Tied later s
+tied_by s events later stage l a f h = subst (λ z. TiedAt z (next_number s later) (forwarding_of s later).next) (sym l) (subst₂ (TiedAt stage) (sym a) (sym f) h)
 
 -- A cause
 
@@ -55,14 +55,14 @@ if_life true x y a f h k = h
 if_life false x y a f h k = k
 
 pub tied_took : (settings : Settings) (events : List Event) (cause : Cause) → built_behind settings events cause ≡ true → AllTied events → OthersTied cause (with_cause events cause)
-tied_took settings events (Joined e) built h = λ s rest. tied_by s events (with_cause events (Joined e)) (life_of s events).stage (ap (λ (l : Life). l.stage) (life_more s events (heard (Joined e)))) (asking_heard s events (Joined e)) (forwarding_heard settings s events (Joined e) built) (h s)
-tied_took settings events (FromEditor e body) built h = λ s rest. tied_by s events (with_cause events (FromEditor e body)) (life_of s events).stage (ap (λ (l : Life). l.stage) (life_more s events (heard (FromEditor e body)))) (asking_heard s events (FromEditor e body)) (forwarding_heard settings s events (FromEditor e body) built) (h s)
+tied_took settings events (Joined e) built h = λ s rest. tied_by s events (with_cause events (Joined e)) (life_of s events).stage (ap (λ (l : Life). l.stage) (life_more s events (heard (Joined e)))) (number_heard s events (Joined e)) (forwarding_heard settings s events (Joined e) built) (h s)
+tied_took settings events (FromEditor e body) built h = λ s rest. tied_by s events (with_cause events (FromEditor e body)) (life_of s events).stage (ap (λ (l : Life). l.stage) (life_more s events (heard (FromEditor e body)))) (number_heard s events (FromEditor e body)) (forwarding_heard settings s events (FromEditor e body) built) (h s)
 tied_took settings events (Started n) built h = λ s rest. tied_by s events (with_cause events (Started n)) (life_of s events).stage
-    (ap (λ (l : Life). l.stage) (life_more s events (heard (Started n))) ∙ ap (λ b. (if b then record { stage = stage_started (life_of s events).stage; started = true } else life_of s events).stage) rest) (asking_heard s events (Started n)) (forwarding_heard settings s events (Started n) built) (h s)
-tied_took settings events (FromServer n body) built h = λ s rest. tied_by s events (with_cause events (FromServer n body)) _ (ap (λ (l : Life). l.stage) (life_more s events (heard (FromServer n body)))) (asking_heard s events (FromServer n body)) (forwarding_heard settings s events (FromServer n body) built)
-    (if_life (nat_eq n s) (record { stage = stage_hears (life_of s events).stage (message_of body); started = (life_of s events).started }) (life_of s events) (asking_of s events).next (forwarding_of s events).next
-    (heard_first (life_of s events).stage (message_of body) (asking_of s events).next (forwarding_of s events).next (h s)) (h s))
-tied_took settings events (Drained e k) built h = λ s rest. tied_by s events (with_cause events (Drained e k)) (life_of s events).stage (ap (λ (l : Life). l.stage) (life_more s events (heard (Drained e k)))) (asking_heard s events (Drained e k)) (forwarding_heard settings s events (Drained e k) built) (h s)
+    (ap (λ (l : Life). l.stage) (life_more s events (heard (Started n))) ∙ ap (λ b. (if b then record { stage = stage_started (life_of s events).stage; started = true } else life_of s events).stage) rest) (number_heard s events (Started n)) (forwarding_heard settings s events (Started n) built) (h s)
+tied_took settings events (FromServer n body) built h = λ s rest. tied_by s events (with_cause events (FromServer n body)) _ (ap (λ (l : Life). l.stage) (life_more s events (heard (FromServer n body)))) (number_heard s events (FromServer n body)) (forwarding_heard settings s events (FromServer n body) built)
+    (if_life (nat_eq n s) (record { stage = stage_hears (life_of s events).stage (message_of body); started = (life_of s events).started }) (life_of s events) (next_number s events) (forwarding_of s events).next
+    (heard_first (life_of s events).stage (message_of body) (next_number s events) (forwarding_of s events).next (h s)) (h s))
+tied_took settings events (Drained e k) built h = λ s rest. tied_by s events (with_cause events (Drained e k)) (life_of s events).stage (ap (λ (l : Life). l.stage) (life_more s events (heard (Drained e k)))) (number_heard s events (Drained e k)) (forwarding_heard settings s events (Drained e k) built) (h s)
 tied_took settings events cause built h = absurd (cc)
 
 -- A body to a start
@@ -87,20 +87,20 @@ module _ (settings : Settings) (cause : Cause) (events : List Event) (n : ℕ) (
 
   notified : (method : List ℕ) (params : Option Json) → message_of body ≡ notification method params → (life_of n events).stage ≡ Ready → Later n
   notified method params says ready rest h = tied_by n events sent Ready (stage_now (notification method params) says ∙ ap (λ z. stage_told z (notification method params)) ready)
-      (ap (λ (a : Asking). a.next) (asking_sent events n body (notification method params) says))
+      ((number_sent events n body (notification method params) says))
       (ap (λ (x : Forwarding). x.next) (forwarding_sent events n body (notification method params) says) ∙ notified_next (forwarding_of n events) method params)
-      (subst (λ z. TiedAt z (asking_of n events).next (forwarding_of n events).next) ready h)
+      (subst (λ z. TiedAt z (next_number n events) (forwarding_of n events).next) ready h)
 
   -- an editor's request
   goes : (k : IsForward settings cause events n body) → Tied events n → Tied sent n
   goes k h =
       let m : Message = request (integer (decimal (forwarding_of n events).next)) k.method k.params in
-      let a : (asking_of n sent).next ≡ (asking_of n events).next + 1 = ap (λ (x : Asking). x.next) (asking_sent events n body m k.says) in
+      let a : next_number n sent ≡ next_number n events + 1 = (number_sent events n body m k.says) in
       let f : (forwarding_of n sent).next ≡ (forwarding_of n events).next + 1 = ap (λ (x : Forwarding). x.next) (forwarding_sent events n body m k.says)
       ∙ ap (λ c. (if c then forwarding_of n events else record { sender = (forwarding_of n events).sender; next = (forwarding_of n events).next + 1; open_requests = (forwarding_of n events).open_requests ++ numbered (forwarding_of n events).sender (forwarding_of n events).next }).next) k.other in
-      let same : (asking_of n events).next ≡ (forwarding_of n events).next = subst (λ z. TiedAt z (asking_of n events).next (forwarding_of n events).next) k.ready h in
+      let same : next_number n events ≡ (forwarding_of n events).next = subst (λ z. TiedAt z (next_number n events) (forwarding_of n events).next) k.ready h in
       let stage : (life_of n sent).stage ≡ stage_told Ready m = stage_now m k.says ∙ ap (λ z. stage_told z m) k.ready in
-      subst (λ z. TiedAt z (asking_of n sent).next (forwarding_of n sent).next) (sym stage) (told_tied m (asking_of n sent).next (forwarding_of n sent).next (a ∙ ap (λ z. z + 1) same ∙ sym f))
+      subst (λ z. TiedAt z (next_number n sent) (forwarding_of n sent).next) (sym stage) (told_tied m (next_number n sent) (forwarding_of n sent).next (a ∙ ap (λ z. z + 1) same ∙ sym f))
 
   module _ (before : List Event) where
     one_tied : WhyToServer settings before cause events n body → Later n
@@ -108,21 +108,21 @@ module _ (settings : Settings) (cause : Cause) (events : List Event) (n : ℕ) (
     one_tied (greets k) rest h = notified (codes "initialized") k.params k.says k.ready rest h
     one_tied (forwarded k) rest h = goes k h
     one_tied (tells k) rest h = let m : Spoken (message_of body) = spoken (message_of body) k.spoken in notified m.method m.params m.is k.ready rest h
-    one_tied (shuts k) rest h = subst (λ z. TiedAt z (asking_of n sent).next (forwarding_of n sent).next)
-        (sym (stage_now (request (integer (decimal (asking_of n events).next)) (codes "shutdown") None) k.says ∙ ap (λ z. stage_told z (request (integer (decimal (asking_of n events).next)) (codes "shutdown") None)) k.ready)) tt
+    one_tied (shuts k) rest h = subst (λ z. TiedAt z (next_number n sent) (forwarding_of n sent).next)
+        (sym (stage_now (request (integer (decimal (next_number n events))) (codes "shutdown") None) k.says ∙ ap (λ z. stage_told z (request (integer (decimal (next_number n events))) (codes "shutdown") None)) k.ready)) tt
 
     pub tied_sent : WhyToServer settings before cause events n body → OthersTied cause events → OthersTied cause sent
     tied_sent why h s rest = each_start Later n (one_tied why)
         (λ k other left l. tied_by k events sent (life_of k events).stage (ap (λ (x : Life). x.stage) (life_more k events (said (ToServer n body)))
         ∙ ap (λ b. (if b then record { stage = stage_told (life_of k events).stage (message_of body); started = (life_of k events).started } else life_of k events).stage) other)
-        (ap (λ (a : Asking). a.next) (asking_other events n body k other)) (ap (λ (x : Forwarding). x.next) (forwarding_other events n body k other)) l) s rest (h s rest)
+        ((number_other events n body k other)) (ap (λ (x : Forwarding). x.next) (forwarding_other events n body k other)) l) s rest (h s rest)
 
 -- Other outs
 
-pub tied_said : (cause : Cause) (events : List Event) (out : Out) → ((s : ℕ) → (asking_of s (events ++ said out ∷ [])).next ≡ (asking_of s events).next) → ((s : ℕ) → (forwarding_of s (events ++ said out ∷ [])).next ≡ (forwarding_of s events).next)
+pub tied_said : (cause : Cause) (events : List Event) (out : Out) → ((s : ℕ) → next_number s (events ++ said out ∷ []) ≡ next_number s events) → ((s : ℕ) → (forwarding_of s (events ++ said out ∷ [])).next ≡ (forwarding_of s events).next)
     → ((s : ℕ) (a f : ℕ) → TiedAt (life_of s events).stage a f → TiedAt (life_behind s (life_of s events) (said out)).stage a f) → OthersTied cause events → OthersTied cause (events ++ said out ∷ [])
 tied_said cause events out a f l h s rest = tied_by s events (events ++ said out ∷ []) (life_behind s (life_of s events) (said out)).stage (ap (λ (x : Life). x.stage) (life_more s events (said out))) (a s) (f s)
-    (l s (asking_of s events).next (forwarding_of s events).next (h s rest))
+    (l s (next_number s events) (forwarding_of s events).next (h s rest))
 
 -- a start that is spawned, or that ends, has nothing to tie
 pub tied_life : (b : Bool) (x y : Life) (a f : ℕ) → ((a f : ℕ) → TiedAt x.stage a f) → TiedAt y.stage a f → TiedAt (if b then x else y).stage a f
@@ -146,15 +146,15 @@ module _ (settings : Settings) (before : List Event) (n : ℕ) where
   opened : (x : Kept) → IsWritten x → (life_of n before).stage ≡ Spawning → Unbegun before → Tied (later (ToServer n (initialize_of x) ∷ [])) n
   opened x k at unbegun =
       let m : Message = request (integer (codes "1")) (codes "initialize") k.params in
-      let none : ((asking_of n before).next ≡ 1) × ((forwarding_of n before).next ≡ 2) = unbegun n (rw at refl) in
+      let none : (next_number n before ≡ 1) × ((forwarding_of n before).next ≡ 2) = unbegun n (rw at refl) in
       let end : List Event = later (ToServer n (initialize_of x) ∷ []) in
       let stage : (life_of n end).stage ≡ Initializing = ap (λ (l : Life). l.stage) (life_more n now (said (ToServer n (initialize_of x)))) ∙ stage_sent now n (initialize_of x) m k.says
       ∙ ap (λ z. stage_told z m) (ap (λ (l : Life). l.stage) (life_more n before (heard (Started n)))
       ∙ ap (λ b. (if b then record { stage = stage_started (life_of n before).stage; started = true } else life_of n before).stage) (same_number n) ∙ ap stage_started at) in
-      let a : (asking_of n end).next ≡ (asking_of n now).next + 1 = ap (λ (z : Asking). z.next) (asking_sent now n (initialize_of x) m k.says) in
+      let a : next_number n end ≡ next_number n now + 1 = (number_sent now n (initialize_of x) m k.says) in
       let f : (forwarding_of n end).next ≡ (forwarding_of n now).next = ap (λ (z : Forwarding). z.next) (forwarding_sent now n (initialize_of x) m k.says) in
-      subst (λ z. TiedAt z (asking_of n end).next (forwarding_of n end).next) (sym stage)
-      (a ∙ ap (λ z. z + 1) (asking_heard n before (Started n) ∙ none.0), f ∙ forwarding_heard settings n before (Started n) refl ∙ none.1)
+      subst (λ z. TiedAt z (next_number n end) (forwarding_of n end).next) (sym stage)
+      (a ∙ ap (λ z. z + 1) (number_heard n before (Started n) ∙ none.0), f ∙ forwarding_heard settings n before (Started n) refl ∙ none.1)
 
   -- a start that is spawned has a group
   spawned : Starts before → (life_of n before).stage ≡ Spawning → n < starts_of before
@@ -169,7 +169,7 @@ module _ (settings : Settings) (before : List Event) (n : ℕ) where
       let item : (x : Kept) × (slice_get (groups_of settings before) h.group ≡ Some x) = item_at (groups_of settings before) h.group h.kept in
       let sends : outs (started settings n before Spawning) now ≡ ToServer n (initialize_of item.0) ∷ [] = rw (h.is, item.1) refl in
       subst (λ xs. Tied (later xs) n) (sym sends) (opened item.0 (get_all IsWritten (groups_of settings before) h.group item.0 written item.1) at unbegun)
-  begun_tied starts unbegun housed written Ending at may = subst (λ z. Tied z n) (sym (append-nil now)) (subst (λ z. TiedAt z (asking_of n now).next (forwarding_of n now).next)
+  begun_tied starts unbegun housed written Ending at may = subst (λ z. Tied z n) (sym (append-nil now)) (subst (λ z. TiedAt z (next_number n now) (forwarding_of n now).next)
       (sym (ap (λ (l : Life). l.stage) (life_more n before (heard (Started n))) ∙ ap (λ b. (if b then record { stage = stage_started (life_of n before).stage; started = true } else life_of n before).stage) (same_number n) ∙ ap stage_started at)) tt)
   begun_tied starts unbegun housed written Unspawned at may = absurd (cc)
   begun_tied starts unbegun housed written Initializing at may = absurd (cc)

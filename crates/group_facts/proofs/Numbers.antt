@@ -12,13 +12,13 @@ use Rattle.rpc_message.specs.Message.{Message, request, notification, integer, m
 use Rattle.event_model.specs.declared.stage.Stage.{Stage}
 use Rattle.event_model.specs.declared.stage.Stage.TheVariants.{Initializing, Ready, Stopping}
 use Rattle.event_model.specs.Event.{Event, heard, said, with_cause}
-use Rattle.event_model.specs.Requests.{Asking, asking_of, asking_sends}
+use Rattle.event_model.specs.Requests.{next_number, number_told}
 use Rattle.event_model.specs.Settings.{Settings}
 use Rattle.event_model.specs.Spawns.{starts_of}
 use Rattle.event_model.specs.Stages.{Life, life_behind, life_of, no_life, stage_started, stage_told}
 use Rattle.event_model.proofs.Frames.{never}
 use Rattle.mux_model.specs.Documents.{Sent, held_at, sent_of}
-use Rattle.mux_facts.proofs.Folds.{asking_more, life_more}
+use Rattle.mux_facts.proofs.Folds.{number_more, life_more}
 use Rattle.mux_facts.proofs.Known.{is_unbegun}
 use Rattle.mux_facts.proofs.Starts.{Starts}
 use Rattle.mux_facts.proofs.Tellings.{sent_more}
@@ -33,9 +33,9 @@ use Rattle.group_facts.specs.Why.{IsBeginning, IsForward, WhyToServer, begins, g
 
 -- A cause leaves the numbers and the documents alone
 
-pub asking_heard : (s : ℕ) (events : List Event) (cause : Cause) → (asking_of s (with_cause events cause)).next ≡ (asking_of s events).next
-asking_heard s events (Joined e) = ap (λ (a : Asking). a.next) (asking_more s events (heard (Joined e)))
-asking_heard s events cause = ap (λ (a : Asking). a.next) (asking_more s events (heard cause))
+pub number_heard : (s : ℕ) (events : List Event) (cause : Cause) → next_number s (with_cause events cause) ≡ next_number s events
+number_heard s events (Joined e) = (number_more s events (heard (Joined e)))
+number_heard s events cause = (number_more s events (heard cause))
 
 held_heard : (s : ℕ) (u : List ℕ) (events : List Event) (cause : Cause) → held_at s u (with_cause events cause) ≡ held_at s u events
 held_heard s u events (Joined e) = ap (λ (x : Sent). x.held) (sent_more s u events (heard (Joined e)))
@@ -56,8 +56,8 @@ module _ (events : List Event) (n : ℕ) (body : List ℕ) where
   later = events ++ said (ToServer n body) ∷ []
 
   module _ (m : Message) (says : message_of body ≡ m) where
-    pub asking_sent : asking_of n later ≡ asking_sends (asking_of n events) m
-    asking_sent = asking_more n events (said (ToServer n body)) ∙ ap₂ (λ b k. if b then asking_sends (asking_of n events) k else asking_of n events) (same_number n) says
+    pub number_sent : next_number n later ≡ number_told (next_number n events) m
+    number_sent = number_more n events (said (ToServer n body)) ∙ ap₂ (λ b k. if b then number_told (next_number n events) k else next_number n events) (same_number n) says
 
     pub forwarding_sent : forwarding_of n later ≡ forwards (forwarding_of n events) m
     forwarding_sent = forwarding_more n events (said (ToServer n body)) ∙ ap₂ (λ b k. if b then forwards (forwarding_of n events) k else forwarding_of n events) (same_number n) says
@@ -71,8 +71,8 @@ module _ (events : List Event) (n : ℕ) (body : List ℕ) where
 
   -- another start
   module _ (s : ℕ) (other : nat_eq n s ≡ false) where
-    pub asking_other : asking_of s later ≡ asking_of s events
-    asking_other = asking_more s events (said (ToServer n body)) ∙ ap (λ b. if b then asking_sends (asking_of s events) (message_of body) else asking_of s events) other
+    pub number_other : next_number s later ≡ next_number s events
+    number_other = number_more s events (said (ToServer n body)) ∙ ap (λ b. if b then number_told (next_number s events) (message_of body) else next_number s events) other
 
     pub forwarding_other : forwarding_of s later ≡ forwarding_of s events
     forwarding_other = forwarding_more s events (said (ToServer n body)) ∙ ap (λ b. if b then forwards (forwarding_of s events) (message_of body) else forwarding_of s events) other
@@ -104,28 +104,28 @@ spawn_fresh test f events starts s same = ap (λ (l : Life). test l.stage) (star
 -- A start whose program never ran was sent no request
 
 abbrev NoRequest : ℕ → List Event → Type 0
-NoRequest s events = ((asking_of s events).next ≡ 1) × ((forwarding_of s events).next ≡ 2)
+NoRequest s events = (next_number s events ≡ 1) × ((forwarding_of s events).next ≡ 2)
 
 abbrev HasNone : ℕ → List Event → Type 0
 HasNone s events = (u : List ℕ) → held_at s u events ≡ None
 
 module _ (settings : Settings) where
   abbrev InBounds : ℕ → List Event → Type 0
-  InBounds s events = ((asking_of s events).next ≤ (forwarding_of s events).next) × ((forwarding_of s events).next ≤ settings.limits.requests + 2)
+  InBounds s events = (next_number s events ≤ (forwarding_of s events).next) × ((forwarding_of s events).next ≤ settings.limits.requests + 2)
 
-  bounds_by : (s : ℕ) (events later : List Event) → (asking_of s later).next ≡ (asking_of s events).next → (forwarding_of s later).next ≡ (forwarding_of s events).next → InBounds s events → InBounds s later
-  bounds_by s events later a f k = (subst (λ z. z ≤ (forwarding_of s later).next) (sym a) (subst (λ z. (asking_of s events).next ≤ z) (sym f) k.0), subst (λ z. z ≤ settings.limits.requests + 2) (sym f) k.1)
+  bounds_by : (s : ℕ) (events later : List Event) → next_number s later ≡ (next_number s events) → (forwarding_of s later).next ≡ (forwarding_of s events).next → InBounds s events → InBounds s later
+  bounds_by s events later a f k = (subst (λ z. z ≤ (forwarding_of s later).next) (sym a) (subst (λ z. next_number s events ≤ z) (sym f) k.0), subst (λ z. z ≤ settings.limits.requests + 2) (sym f) k.1)
 
   -- at a cause
   module _ (events : List Event) (cause : Cause) (built : built_behind settings events cause ≡ true) where
     pub unbegun_took : ((s : ℕ) → Fresh is_unbegun unbegun_falls s (life_of s events) (heard cause)) → Unbegun events → Unbegun (with_cause events cause)
-    unbegun_took fresh h = level_more is_unbegun unbegun_falls NoRequest events (heard cause) fresh (λ s was after k. (asking_heard s events cause ∙ k.0, forwarding_heard settings s events cause built ∙ k.1)) h
+    unbegun_took fresh h = level_more is_unbegun unbegun_falls NoRequest events (heard cause) fresh (λ s was after k. (number_heard s events cause ∙ k.0, forwarding_heard settings s events cause built ∙ k.1)) h
 
     pub untold_took : ((s : ℕ) → Fresh is_unready unready_falls s (life_of s events) (heard cause)) → Untold events → Untold (with_cause events cause)
     untold_took fresh h = level_more is_unready unready_falls HasNone events (heard cause) fresh (λ s was after k u. held_heard s u events cause ∙ k u) h
 
     pub bounded_took : ((s : ℕ) → Fresh is_up up_falls s (life_of s events) (heard cause)) → Bounded settings events → Bounded settings (with_cause events cause)
-    bounded_took fresh h = level_more is_up up_falls InBounds events (heard cause) fresh (λ s was after k. bounds_by s events (with_cause events cause) (asking_heard s events cause) (forwarding_heard settings s events cause built) k) h
+    bounded_took fresh h = level_more is_up up_falls InBounds events (heard cause) fresh (λ s was after k. bounds_by s events (with_cause events cause) (number_heard s events cause) (forwarding_heard settings s events cause built) k) h
 
   -- at a body to a start
   module _ (before : List Event) (cause : Cause) (facts : Facts settings before) (built : built_behind settings before cause ≡ true) (events : List Event) (n : ℕ) (body : List ℕ) (why : WhyToServer settings before cause events n body) where
@@ -137,7 +137,7 @@ module _ (settings : Settings) where
         (each_start (Step is_unbegun unbegun_falls NoRequest events (said (ToServer n body))) n
         (λ was after k. ready_or settings before cause events n body (NoRequest n sent) why
         (λ b. clash is_unbegun (life_of n events).stage Initializing (begun_stage before cause events n body b) refl was) (λ ready. clash is_unbegun (life_of n events).stage Ready ready refl was))
-        (λ s other was after k. (ap (λ (a : Asking). a.next) (asking_other events n body s other) ∙ k.0, ap (λ (x : Forwarding). x.next) (forwarding_other events n body s other) ∙ k.1))) h
+        (λ s other was after k. ((number_other events n body s other) ∙ k.0, ap (λ (x : Forwarding). x.next) (forwarding_other events n body s other) ∙ k.1))) h
 
     pub untold_sent : Untold events → Untold sent
     untold_sent h = level_more is_unready unready_falls HasNone events (said (ToServer n body)) (λ s. tt)
@@ -148,7 +148,7 @@ module _ (settings : Settings) where
 
     -- a notification
     notified : (method : List ℕ) (params : Option Json) → message_of body ≡ notification method params → InBounds n events → InBounds n sent
-    notified method params says k = bounds_by n events sent (ap (λ (a : Asking). a.next) (asking_sent events n body (notification method params) says))
+    notified method params says k = bounds_by n events sent ((number_sent events n body (notification method params) says))
         (ap (λ (x : Forwarding). x.next) (forwarding_sent events n body (notification method params) says) ∙ notified_next (forwarding_of n events) method params) k
 
     -- the daemon's own `initialize`
@@ -157,9 +157,9 @@ module _ (settings : Settings) where
         let m : Message = request (integer (codes "1")) (codes "initialize") b.params in
         let here : events ≡ with_cause before (Started n) = b.place ∙ ap (with_cause before) b.from in
         let none : NoRequest n before = (facts.steady).unbegun n (rw b.stage refl) in
-        let asked : (asking_of n events).next ≡ 1 = ap (λ z. (asking_of n z).next) here ∙ asking_heard n before (Started n) ∙ none.0 in
+        let asked : next_number n events ≡ 1 = ap (λ z. next_number n z) here ∙ number_heard n before (Started n) ∙ none.0 in
         let sent_on : (forwarding_of n events).next ≡ 2 = ap (λ z. (forwarding_of n z).next) here ∙ forwarding_heard settings n before (Started n) refl ∙ none.1 in
-        let a : (asking_of n sent).next ≡ (asking_of n events).next + 1 = ap (λ (x : Asking). x.next) (asking_sent events n body m b.says) in
+        let a : next_number n sent ≡ next_number n events + 1 = (number_sent events n body m b.says) in
         let f : (forwarding_of n sent).next ≡ (forwarding_of n events).next = ap (λ (x : Forwarding). x.next) (forwarding_sent events n body m b.says) in
         (omega (arith, a, f, asked, sent_on), omega (arith, f, sent_on))
 
@@ -167,11 +167,11 @@ module _ (settings : Settings) where
     asked_on : IsForward settings cause events n body → InBounds n events → InBounds n sent
     asked_on k b =
         let m : Message = request (integer (decimal (forwarding_of n events).next)) k.method k.params in
-        let a : (asking_of n sent).next ≡ (asking_of n events).next + 1 = ap (λ (x : Asking). x.next) (asking_sent events n body m k.says) in
+        let a : next_number n sent ≡ next_number n events + 1 = (number_sent events n body m k.says) in
         let f : (forwarding_of n sent).next ≡ (forwarding_of n events).next + 1 = ap (λ (x : Forwarding). x.next) (forwarding_sent events n body m k.says)
         ∙ ap (λ c. (if c then forwarding_of n events else record { sender = (forwarding_of n events).sender; next = (forwarding_of n events).next + 1; open_requests = (forwarding_of n events).open_requests ++ numbered (forwarding_of n events).sender (forwarding_of n events).next }).next) k.other in
         let room : (forwarding_of n events).next < settings.limits.requests = ltb-true (forwarding_of n events).next settings.limits.requests k.room in
-        let first : (asking_of n events).next ≤ (forwarding_of n events).next = b.0 in
+        let first : next_number n events ≤ (forwarding_of n events).next = b.0 in
         (omega (arith, a, f, first), omega (arith, f, room))
 
     -- it is to end behind the daemon's own `shutdown`
@@ -181,15 +181,15 @@ module _ (settings : Settings) where
     one_bounded (forwarded b) was after k = asked_on b k
     one_bounded (tells b) was after k = let m : Spoken (message_of body) = spoken (message_of body) b.spoken in notified m.method m.params m.is k
     one_bounded (shuts b) was after k = clash is_up (life_behind n (life_of n events) (said (ToServer n body))).stage Stopping
-        (stage_sent events n body (request (integer (decimal (asking_of n events).next)) (codes "shutdown") None) b.says ∙ ap (λ z. stage_told z (request (integer (decimal (asking_of n events).next)) (codes "shutdown") None)) b.ready) refl after
+        (stage_sent events n body (request (integer (decimal (next_number n events))) (codes "shutdown") None) b.says ∙ ap (λ z. stage_told z (request (integer (decimal (next_number n events))) (codes "shutdown") None)) b.ready) refl after
 
     pub bounded_sent : Bounded settings events → Bounded settings sent
     bounded_sent h = level_more is_up up_falls InBounds events (said (ToServer n body)) (λ s. tt)
         (each_start (Step is_up up_falls InBounds events (said (ToServer n body))) n (one_bounded why)
-        (λ s other was after k. bounds_by s events sent (ap (λ (a : Asking). a.next) (asking_other events n body s other)) (ap (λ (x : Forwarding). x.next) (forwarding_other events n body s other)) k)) h
+        (λ s other was after k. bounds_by s events sent ((number_other events n body s other)) (ap (λ (x : Forwarding). x.next) (forwarding_other events n body s other)) k)) h
 
   -- at any other out: these words stay
-  module _ (events : List Event) (out : Out) (a : (s : ℕ) → (asking_of s (events ++ said out ∷ [])).next ≡ (asking_of s events).next) (f : (s : ℕ) → (forwarding_of s (events ++ said out ∷ [])).next ≡ (forwarding_of s events).next)
+  module _ (events : List Event) (out : Out) (a : (s : ℕ) → next_number s (events ++ said out ∷ []) ≡ next_number s events) (f : (s : ℕ) → (forwarding_of s (events ++ said out ∷ [])).next ≡ (forwarding_of s events).next)
       (d : (s : ℕ) (u : List ℕ) → held_at s u (events ++ said out ∷ []) ≡ held_at s u events) where
     pub unbegun_said : ((s : ℕ) → Fresh is_unbegun unbegun_falls s (life_of s events) (said out)) → Unbegun events → Unbegun (events ++ said out ∷ [])
     unbegun_said fresh h = level_more is_unbegun unbegun_falls NoRequest events (said out) fresh (λ s was after k. (a s ∙ k.0, f s ∙ k.1)) h

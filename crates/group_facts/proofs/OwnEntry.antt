@@ -16,7 +16,7 @@ use Rattle.event_model.specs.declared.phase.Phase.TheVariants.{Absent, New, Wait
 use Rattle.event_model.specs.Event.{Event, behind, heard, requests, said, with_cause}
 use Rattle.event_model.specs.Members.{has_token}
 use Rattle.event_model.specs.Phases.{Desk, desk_hears, desk_of, has_id, is_new, is_served, is_there, phase_told}
-use Rattle.event_model.specs.Requests.{answered_id, asks, is_open, is_own, open_of, without}
+use Rattle.event_model.specs.Requests.{answered_id, with_request, is_open, is_own, open_of, without}
 use Rattle.event_model.specs.Row.{choose, nothing, on, outs, send, ◌⨾◌}
 use Rattle.event_model.specs.Settings.{Settings}
 use Rattle.event_model.specs.Spawns.{start_of}
@@ -118,8 +118,8 @@ module _ (settings : Settings) (before : List Event) (n : ℕ) (body : List ℕ)
   abbrev told_now : List ℕ → List Event
   told_now text = now ++ said (ToEditor n text) ∷ []
 
-  open_now : open_of n now ≡ asks (message_of body) ids
-  open_now = opens_more n before (heard (FromEditor n body)) ∙ ap (λ b. if b then asks (message_of body) ids else ids) (same_number n)
+  open_now : open_of n now ≡ with_request (message_of body) ids
+  open_now = opens_more n before (heard (FromEditor n body)) ∙ ap (λ b. if b then with_request (message_of body) ids else ids) (same_number n)
 
   -- a body to it
   open_told : (E : Id → Type 0) (events : List Event) (text : List ℕ) (m : Message) → message_of text ≡ m
@@ -144,14 +144,14 @@ module _ (settings : Settings) (before : List Event) (n : ℕ) (body : List ℕ)
         (if_hears (S settings n E now) (desk_of n before).phase (desk_of n before).initialize body (message_of body) ids other (still_sent E))
 
     -- a message that is no request
-    no_request : (m : Message) → message_of body ≡ m → asks m ids ≡ ids → requests (codes "initialize") m ≡ false → OpenAt settings n Nobody now
-    no_request m says same none = subst (λ z. OpenIf (S settings n Nobody now) here.phase here.initialize z) (sym (open_now ∙ ap (λ k. asks k ids) says ∙ same)) (heard_if Nobody (λ new. ap (requests (codes "initialize")) says ∙ none))
+    no_request : (m : Message) → message_of body ≡ m → with_request m ids ≡ ids → requests (codes "initialize") m ≡ false → OpenAt settings n Nobody now
+    no_request m says same none = subst (λ z. OpenIf (S settings n Nobody now) here.phase here.initialize z) (sym (open_now ∙ ap (λ k. with_request k ids) says ∙ same)) (heard_if Nobody (λ new. ap (requests (codes "initialize")) says ∙ none))
 
     rests_here : OpenAt settings n Nobody now → Rests []
     rests_here k = subst (OpenAt settings n Nobody) (sym (append-nil now)) k
 
     -- one that is none at all
-    malformed_rests : (m : Message) (phase : Phase) → message_of body ≡ m → asks m ids ≡ ids → requests (codes "initialize") m ≡ false → Rests (outs (malformed_row n m phase) now)
+    malformed_rests : (m : Message) (phase : Phase) → message_of body ≡ m → with_request m ids ≡ ids → requests (codes "initialize") m ≡ false → Rests (outs (malformed_row n m phase) now)
     malformed_rests m phase says same none = go (is_there phase)
       where
         heard : OpenAt settings n Nobody now
@@ -166,7 +166,7 @@ module _ (settings : Settings) (before : List Event) (n : ℕ) (body : List ℕ)
 
     module _ (id : Id) (method : List ℕ) (params : Option Json) (says : message_of body ≡ request id method params) (fresh : is_open id ids ≡ false) where
       asked_now : open_of n now ≡ ids ++ id ∷ []
-      asked_now = open_now ∙ ap (λ m. asks m ids) says
+      asked_now = open_now ∙ ap (λ m. with_request m ids) says
 
       -- refused in its own entry
       refused : ((desk_of n before).phase ≡ New → requests (codes "initialize") (message_of body) ≡ false) → (code : Code) → Rests (ToEditor n (error_text (id_bytes body) code) ∷ [])
@@ -340,7 +340,7 @@ module _ (settings : Settings) (before : List Event) (n : ℕ) (body : List ℕ)
         none = subst (λ p. OpenIf (S settings n Nobody before) p (desk_of n before).initialize ids) new h
 
         alone : open_of n now ≡ id ∷ []
-        alone = open_now ∙ ap₂ asks says none
+        alone = open_now ∙ ap₂ with_request says none
     first_open (notification method params) says new first = absurd (cc)
     first_open (result id r) says new first = absurd (cc)
     first_open (error id x) says new first = absurd (cc)

@@ -13,14 +13,14 @@ use Rattle.event_model.specs.declared.stage.Stage.{Stage}
 use Rattle.event_model.specs.declared.stage.Stage.TheVariants.{Unspawned, Spawning, Initializing, Ready, Stopping, Ending, Ended}
 use Rattle.event_model.specs.Event.{Event, behind, heard, said}
 use Rattle.event_model.specs.Phases.{Desk, desk_of, desk_hears, phase_told, is_there}
-use Rattle.event_model.specs.Requests.{Asking, asking_of}
+use Rattle.event_model.specs.Requests.{next_number}
 use Rattle.event_model.specs.Row.{Row, nothing, on, outs}
 use Rattle.event_model.specs.Settings.{Settings}
 use Rattle.event_model.specs.Spawns.{start_of}
 use Rattle.event_model.specs.Stages.{Life, life_of}
 use Rattle.mux_facts.specs.Ranges.{InRange}
 use Rattle.mux_facts.proofs.Bodies.{refusal_says, welcome_says}
-use Rattle.mux_facts.proofs.Folds.{asking_more, desk_more, life_more}
+use Rattle.mux_facts.proofs.Folds.{number_more, desk_more, life_more}
 use Rattle.mux_facts.proofs.Late.{error_told}
 use Rattle.mux_facts.proofs.Reasons.{Because, by_nothing, by_send, by_then, by_choose, by_look, by_on}
 use Rattle.mux_facts.proofs.Table.{open_taken}
@@ -96,15 +96,15 @@ module _ (settings : Settings) (range : InRange settings) (before : List Event) 
 
   -- end(g), of an idle group
   shuts_down : Bounded settings before → (s : ℕ) (stage : Stage) → (life_of s now).stage ≡ stage → Mine (end_start s stage)
-  shuts_down bounded s Ready at = by_look (by_send (shuts (record { ready = at; stays = refl; place = refl; says = shutdown_says (asking_of s now).next low })))
+  shuts_down bounded s Ready at = by_look (by_send (shuts (record { ready = at; stays = refl; place = refl; says = shutdown_says (next_number s now) low })))
     where
       stood : (life_of s before).stage ≡ Ready
       stood = sym (ap (λ (l : Life). l.stage) (life_more s before (heard (FromEditor e body)))) ∙ at
 
-      low : (asking_of s now).next < 2 ^ 128
+      low : next_number s now < 2 ^ 128
       low = let b = bounded s (rw stood refl) in
-          let same : (asking_of s now).next ≡ (asking_of s before).next = ap (λ (a : Asking). a.next) (asking_more s before (heard (FromEditor e body))) in
-          let first : (asking_of s before).next ≤ (forwarding_of s before).next = b.0 in
+          let same : next_number s now ≡ (next_number s before) = (number_more s before (heard (FromEditor e body))) in
+          let first : next_number s before ≤ (forwarding_of s before).next = b.0 in
           let second : (forwarding_of s before).next ≤ settings.limits.requests + 2 = b.1 in
           let wide : settings.limits.requests < 2 ^ 32 = range.requests in
           omega (arith, same, first, second, wide)
@@ -148,7 +148,7 @@ module _ (settings : Settings) (range : InRange settings) (before : List Event) 
 
   -- end(g) leaves the groups alone
   end_groups : (s : ℕ) (stage : Stage) → groups_of settings (behind now (outs (end_start s stage) now)) ≡ groups_of settings now
-  end_groups s Ready = groups_stay settings now (said (ToServer s (request_text (asking_of s now).next (codes "shutdown") None))) refl
+  end_groups s Ready = groups_stay settings now (said (ToServer s (request_text (next_number s now) (codes "shutdown") None))) refl
   end_groups s Spawning = groups_stay settings now (said (EndServer s)) refl
   end_groups s Initializing = groups_stay settings now (said (EndServer s)) refl
   end_groups s other = ap (groups_of settings) (behind_nothing now)

@@ -15,7 +15,7 @@ use Rattle.event_model.specs.declared.stage.Stage.{Stage}
 use Rattle.event_model.specs.declared.stage.Stage.TheVariants.{Unspawned, Spawning, Initializing, Ready}
 use Rattle.event_model.specs.Event.{Event}
 use Rattle.event_model.specs.Phases.{desk_of, editors_of}
-use Rattle.event_model.specs.Requests.{asking_of, is_open, open_of}
+use Rattle.event_model.specs.Requests.{next_number, is_open, open_of}
 use Rattle.event_model.specs.Settings.{Settings}
 use Rattle.event_model.specs.Spawns.{group_of, starts_of}
 use Rattle.event_model.specs.Stages.{life_of, no_life}
@@ -83,7 +83,7 @@ is_unbegun Spawning = true
 is_unbegun other = false
 
 abbrev pub Unbegun : List Event → Type 0
-Unbegun events = (s : ℕ) → is_unbegun (life_of s events).stage ≡ true → ((asking_of s events).next ≡ 1) × ((forwarding_of s events).next ≡ 2)
+Unbegun events = (s : ℕ) → is_unbegun (life_of s events).stage ≡ true → (next_number s events ≡ 1) × ((forwarding_of s events).next ≡ 2)
 
 -- a start that gave no result has no document
 abbrev pub is_unready : Stage → Bool
@@ -104,11 +104,11 @@ is_up Ready = true
 is_up other = false
 
 abbrev pub Bounded : Settings → List Event → Type 0
-Bounded settings events = (s : ℕ) → is_up (life_of s events).stage ≡ true → ((asking_of s events).next ≤ (forwarding_of s events).next) × ((forwarding_of s events).next ≤ settings.limits.requests + 2)
+Bounded settings events = (s : ℕ) → is_up (life_of s events).stage ≡ true → (next_number s events ≤ (forwarding_of s events).next) × ((forwarding_of s events).next ≤ settings.limits.requests + 2)
 
 -- while a start is ready, the next request to it has the same number by the count of all requests as by that of editors' requests
 abbrev pub Numbered : List Event → Type 0
-Numbered events = (s : ℕ) → (life_of s events).stage ≡ Ready → (asking_of s events).next ≡ (forwarding_of s events).next
+Numbered events = (s : ℕ) → (life_of s events).stage ≡ Ready → next_number s events ≡ (forwarding_of s events).next
 
 -- it got no result to its `initialize` yet
 abbrev pub is_early : Phase → Bool

@@ -18,7 +18,7 @@ use Rattle.event_model.specs.declared.stage.Stage.TheVariants.{Spawning, Initial
 use Rattle.event_model.specs.Event.{Event, events_of, heard, said, with_cause}
 use Rattle.event_model.specs.Parts.{server_part}
 use Rattle.event_model.specs.Phases.{desk_of, has_id, is_there, is_malformed}
-use Rattle.event_model.specs.Requests.{asking_of, answered_id, open_of, is_open, is_own}
+use Rattle.event_model.specs.Requests.{next_number, answered_id, open_of, is_open, is_own}
 use Rattle.event_model.specs.Settings.{Settings}
 use Rattle.event_model.specs.Spawns.{starts_of}
 use Rattle.event_model.specs.Stages.{is_first_result, is_initializing, is_spawning, life_of}
@@ -103,7 +103,7 @@ pub record IsShutting (before : List Event) (cause : Cause) (events : List Event
   pub ready : (life_of s events).stage ≡ Ready
   pub stays : moves before cause s ≡ false
   pub place : events ≡ with_cause before cause
-  pub says : message_of body ≡ request (integer (decimal (asking_of s events).next)) (codes "shutdown") None
+  pub says : message_of body ≡ request (integer (decimal (next_number s events))) (codes "shutdown") None
 
 pub data WhyToServer (settings : Settings) (before : List Event) (cause : Cause) (events : List Event) (s : ℕ) (body : List ℕ) : Type 0 where
   begins : IsBeginning before cause events s body → WhyToServer settings before cause events s body

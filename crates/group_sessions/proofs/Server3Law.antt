@@ -4,7 +4,7 @@ use Rattle.mux_history.specs.declared.cause.Cause.{Cause}
 use Rattle.mux_history.specs.declared.entry.Entry.{Entry}
 use Rattle.rpc_message.specs.Message.{integer, message_of}
 use Rattle.event_model.specs.Event.{Event}
-use Rattle.event_model.specs.Requests.{asking_of, no_asking}
+use Rattle.event_model.specs.Requests.{next_number}
 use Rattle.event_model.specs.Settings.{Settings}
 use Rattle.mux_facts.specs.Ranges.{InRange}
 use Rattle.session_laws.specs.ServerRules.{HasNumber, KeepsServer3, ServerRule3}
@@ -20,20 +20,20 @@ use Rattle.group_sessions.proofs.PartLaws.{ServerRule, no_law, server_history}
 
 module _ (settings : Settings) (before : List Event) (cause : Cause) (events : List Event) (s : ℕ) (body : List ℕ) where
   -- a request has the next number
-  numbered : WhyToServer settings before cause events s body → Facts settings before → Mid settings before cause events → HasNumber (asking_of s events).next (message_of body)
+  numbered : WhyToServer settings before cause events s body → Facts settings before → Mid settings before cause events → HasNumber (next_number s events) (message_of body)
   numbered (begins k) h here = begun_numbered before cause events s k.params (message_of body) ((h.steady).unbegun s (ap is_unbegun k.stage)).0 k.from k.place k.says
-  numbered (greets k) h here = subst (HasNumber (asking_of s events).next) (sym k.says) tt
+  numbered (greets k) h here = subst (HasNumber (next_number s events)) (sym k.says) tt
   numbered (forwarded k) h here =
-      let tied : (asking_of s events).next ≡ (forwarding_of s events).next = subst (λ z. TiedAt z (asking_of s events).next (forwarding_of s events).next) k.ready (here.tied s (ap (λ c. begins_now c s) k.from)) in
-      subst (HasNumber (asking_of s events).next) (sym k.says) (ap (λ n. integer (decimal n)) (sym tied))
-  numbered (tells k) h here = told_numbered (asking_of s events).next (message_of body) k.spoken
-  numbered (shuts k) h here = subst (HasNumber (asking_of s events).next) (sym k.says) refl
+      let tied : next_number s events ≡ (forwarding_of s events).next = subst (λ z. TiedAt z (next_number s events) (forwarding_of s events).next) k.ready (here.tied s (ap (λ c. begins_now c s) k.from)) in
+      subst (HasNumber (next_number s events)) (sym k.says) (ap (λ n. integer (decimal n)) (sym tied))
+  numbered (tells k) h here = told_numbered (next_number s events) (message_of body) k.spoken
+  numbered (shuts k) h here = subst (HasNumber (next_number s events)) (sym k.says) refl
 
 rule : (settings : Settings) → ServerRule settings No (Inside No) ServerRule3
 rule settings = record {
   law = no_law settings;
   free = free;
-  sent = λ before cause events s body why h here own i. subst (λ n. HasNumber n (message_of body)) (known s no_asking 0 events refl) (numbered settings before cause events s body why h here);
+  sent = λ before cause events s body why h here own i. subst (λ n. HasNumber n (message_of body)) (known s 1 0 events refl) (numbered settings before cause events s body why h here);
 }
 
 pub server_3_law : (settings : Settings) → InRange settings → (history : List Entry) → Legal settings history → KeepsServer3 history

@@ -20,7 +20,7 @@ use Rattle.event_model.specs.declared.stage.Stage.{Stage}
 use Rattle.event_model.specs.declared.stage.Stage.TheVariants.{Spawning, Initializing, Ready}
 use Rattle.event_model.specs.Event.{Event, took, behind, with_cause}
 use Rattle.event_model.specs.Phases.{desk_of}
-use Rattle.event_model.specs.Requests.{asking_of}
+use Rattle.event_model.specs.Requests.{next_number}
 use Rattle.event_model.specs.Row.{Row, nothing, send, choose, look, outs, on, ◌⨾◌}
 use Rattle.event_model.specs.Settings.{Settings}
 use Rattle.event_model.specs.Spawns.{starts_of, start_of}
@@ -49,7 +49,7 @@ welcomed e body before s = choose (is_ready (life_of s before).stage) (on (resul
 
 -- end(g)
 abbrev pub end_start : ℕ → Stage → Row
-end_start s Ready = look (λ events. send (ToServer s (request_text (asking_of s events).next (codes "shutdown") None)))
+end_start s Ready = look (λ events. send (ToServer s (request_text (next_number s events) (codes "shutdown") None)))
 end_start s Spawning = send (EndServer s)
 end_start s Initializing = send (EndServer s)
 end_start s other = nothing

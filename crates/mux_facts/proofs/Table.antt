@@ -9,7 +9,7 @@ use Rattle.event_model.specs.declared.phase.Phase.{Phase}
 use Rattle.event_model.specs.declared.phase.Phase.TheVariants.{Absent, New, Waiting, Answered, Running, Down, Closed, Gone}
 use Rattle.event_model.specs.Event.{Event, heard, said, with_cause, requests}
 use Rattle.event_model.specs.Phases.{Desk, desk_of, desk_behind, desk_hears, phase_told, is_there, makes_running}
-use Rattle.event_model.specs.Requests.{open_of, is_open, asks}
+use Rattle.event_model.specs.Requests.{open_of, is_open, with_request}
 use Rattle.event_model.specs.Phases.{is_waiting}
 use Rattle.event_model.specs.Settings.{Settings}
 use Rattle.event_model.specs.Stages.{is_first_result}
@@ -28,7 +28,7 @@ module _ (before : List Event) (e : ℕ) (body : List ℕ) where
 
   module _ (id : Id) (method : List ℕ) (params : Option Json) (says : message_of body ≡ request id method params) where
     pub open_taken : is_open id (open_of e (with_cause before (FromEditor e body))) ≡ true
-    open_taken = ap (is_open id) (opens_more e before (heard (FromEditor e body)) ∙ ap₂ (λ b m. if b then asks m (open_of e before) else open_of e before) (same_number e) says)
+    open_taken = ap (is_open id) (opens_more e before (heard (FromEditor e body)) ∙ ap₂ (λ b m. if b then with_request m (open_of e before) else open_of e before) (same_number e) says)
         ∙ open_last id (open_of e before)
 
 -- a result with the number 1

@@ -8,7 +8,7 @@ use Rattle.event_model.specs.declared.phase.Phase.{Phase}
 use Rattle.event_model.specs.declared.phase.Phase.TheVariants.{Absent, New, Waiting, Answered, Running, Down, Closed, Gone}
 use Rattle.event_model.specs.Event.{Event, took, requests, same_id}
 use Rattle.event_model.specs.Phases.{Desk, desk_of, desk_behind, desk_hears, has_id, phase_told, makes_running}
-use Rattle.event_model.specs.Requests.{answered_id, open_of, open_behind, is_open, asks, without}
+use Rattle.event_model.specs.Requests.{answered_id, open_of, open_behind, is_open, with_request, without}
 use Rattle.mux_facts.proofs.Asked.{hears_open}
 use Rattle.mux_facts.proofs.Why.{is_early}
 use Rattle.mux_facts.proofs.Folds.{desk_more, opens_more}
@@ -49,7 +49,7 @@ pick_desk false x y ids f g = g
 
 -- A message of the editor
 
-asks_initialize : (body : List ℕ) (ids : List Id) (m : Message) → message_of body ≡ m → requests (codes "initialize") m ≡ true → Waits body (asks m ids)
+asks_initialize : (body : List ℕ) (ids : List Id) (m : Message) → message_of body ≡ m → requests (codes "initialize") m ≡ true → Waits body (with_request m ids)
 asks_initialize body ids (request id method params) e h =
     let same : codes "initialize" ≡ method = (bytes_eq-Decides (codes "initialize") method).0 h in
     record { id = id; params = params; asks = e ∙ ap (λ z. request id z params) (sym same); waits = open_last id ids }
@@ -59,23 +59,23 @@ asks_initialize body ids (error k x) e h = absurd (cc)
 asks_initialize body ids not_json e h = absurd (cc)
 asks_initialize body ids not_message e h = absurd (cc)
 
-hears_waits : (phase : Phase) (initialize body : List ℕ) (ids : List Id) (m : Message) → message_of body ≡ m → WaitsIf phase initialize ids → WaitsAt (desk_hears phase initialize body m) (asks m ids)
+hears_waits : (phase : Phase) (initialize body : List ℕ) (ids : List Id) (m : Message) → message_of body ≡ m → WaitsIf phase initialize ids → WaitsAt (desk_hears phase initialize body m) (with_request m ids)
 hears_waits Absent initialize body ids m e h = tt
 hears_waits New initialize body ids m e h = go (requests (codes "initialize") m) refl
   where
-    go : (b : Bool) → requests (codes "initialize") m ≡ b → WaitsAt (if b then record { phase = Waiting; initialize = body } else record { phase = New; initialize = initialize }) (asks m ids)
+    go : (b : Bool) → requests (codes "initialize") m ≡ b → WaitsAt (if b then record { phase = Waiting; initialize = body } else record { phase = New; initialize = initialize }) (with_request m ids)
     go true r = asks_initialize body ids m e r
     go false r = tt
 hears_waits Waiting initialize body ids m e h = record { id = h.id; params = h.params; asks = h.asks; waits = hears_open true m ids h.id h.waits }
 hears_waits Answered initialize body ids m e h = go (requests (codes "shutdown") m) (makes_running m)
   where
-    go : (a b : Bool) → WaitsIf (if a then Down else if b then Running else Answered) initialize (asks m ids)
+    go : (a b : Bool) → WaitsIf (if a then Down else if b then Running else Answered) initialize (with_request m ids)
     go true b = tt
     go false true = tt
     go false false = tt
 hears_waits Running initialize body ids m e h = go (requests (codes "shutdown") m)
   where
-    go : (a : Bool) → WaitsIf (if a then Down else Running) initialize (asks m ids)
+    go : (a : Bool) → WaitsIf (if a then Down else Running) initialize (with_request m ids)
     go true = tt
     go false = tt
 hears_waits Down initialize body ids m e h = tt
@@ -122,7 +122,7 @@ null_waits false desk ids x h = h
 
 pub from_editor : (events : List Event) (n : ℕ) (body : List ℕ) → AllWaiting events → AllWaiting (events ++ took (FromEditor n body) (message_of body) ∷ [])
 from_editor events n body h = more events (took (FromEditor n body) (message_of body)) (λ e. pick (nat_eq n e)
-    (desk_hears (desk_of e events).phase (desk_of e events).initialize body (message_of body)) (desk_of e events) (asks (message_of body) (open_of e events)) (open_of e events)
+    (desk_hears (desk_of e events).phase (desk_of e events).initialize body (message_of body)) (desk_of e events) (with_request (message_of body) (open_of e events)) (open_of e events)
     (λ same. hears_waits (desk_of e events).phase (desk_of e events).initialize body (open_of e events) (message_of body) refl (h e)) (h e))
 
 pub late_not : (phase : Phase) → is_early phase ≡ false → phase ≡ Waiting → ⊥

@@ -14,7 +14,7 @@ use Rattle.event_model.specs.declared.stage.Stage.{Stage}
 use Rattle.event_model.specs.declared.stage.Stage.TheVariants.{Unspawned, Spawning, Initializing, Ready, Stopping, Ending, Ended}
 use Rattle.event_model.specs.Does.{Does}
 use Rattle.event_model.specs.Event.{Event, behind, heard, said, with_cause}
-use Rattle.event_model.specs.Requests.{Asking, asking_behind, asking_of}
+use Rattle.event_model.specs.Requests.{number_behind, next_number}
 use Rattle.event_model.specs.Row.{nothing, look, on, outs, send}
 use Rattle.event_model.specs.Settings.{Settings}
 use Rattle.event_model.specs.Spawns.{start_behind, start_of}
@@ -81,14 +81,14 @@ module _ (settings : Settings) (t u : Tables) (base : List Event) (xs ys : List 
   stage_here st = subst (λ n. (life_of n (behind base xs)).stage ≡ x.life.stage) own (ap (λ (l : Life). l.stage) ((st.lasts.each g x at).parts of_life))
 
   -- it is sent `shutdown`
-  pub shuts : (n : ℕ) (text : List ℕ) → x.life.stage ≡ Ready → (IsInOrder x.ids → x.ids.limit ≡ t.requests → n ≡ x.ids.next) → text ≡ request_text n (codes "shutdown") None → (asking_of s (behind base xs)).next ≡ (forwarding_of s (behind base xs)).next
+  pub shuts : (n : ℕ) (text : List ℕ) → x.life.stage ≡ Ready → (IsInOrder x.ids → x.ids.limit ≡ t.requests → n ≡ x.ids.next) → text ≡ request_text n (codes "shutdown") None → next_number s (behind base xs) ≡ (forwarding_of s (behind base xs)).next
       → ((name : Id) (ps : Option Json) → message_of text ≡ request name (codes "shutdown") ps → Does (λ t events. Stands settings t events) (send (ToServer s text)) base t xs u ys)
       → ((name : Id) (ps : Option Json) → message_of text ≡ request name (codes "shutdown") ps → DocumentsStand settings nothing_owed t (behind base xs) → DocumentsStand settings nothing_owed u (behind base ys))
       → Does (λ k events. AllStand settings k events) (end_start s Ready) base (t, nothing_owed) xs (u, nothing_owed) ys
   shuts n text ready same is asked d docs = does_knowing (λ k.
       let ids = (k.0.lasts.each g x at).parts of_ids in
       let next : n ≡ x.ids.next = same ids.order ids.ends in
-      let asks : (asking_of s (behind base xs)).next ≡ n = asked ∙ (ap (λ m. (forwarding_of m (behind base xs)).next) (sym own) ∙ (ids.next ∙ sym next)) in
+      let asks : next_number s (behind base xs) ≡ n = asked ∙ (ap (λ m. (forwarding_of m (behind base xs)).next) (sym own) ∙ (ids.next ∙ sym next)) in
       let within = ids.order.within in
       let ends = ids.ends in
       let range = k.0.range in
@@ -124,7 +124,7 @@ module _ (settings : Settings) (t u : Tables) (base : List Event) (xs ys : List 
 
 -- what it is sent spawns none
 end_spawns : (h s : ℕ) (stage : Stage) (events : List Event) → start_of h (behind events (outs (end_start s stage) events)) ≡ start_of h events
-end_spawns h s Ready events = one_more (start_behind h) _ _ events (said (ToServer s (request_text (asking_of s events).next (codes "shutdown") None))) refl
+end_spawns h s Ready events = one_more (start_behind h) _ _ events (said (ToServer s (request_text (next_number s events) (codes "shutdown") None))) refl
 end_spawns h s Spawning events = one_more (start_behind h) _ _ events (said (EndServer s)) refl
 end_spawns h s Initializing events = one_more (start_behind h) _ _ events (said (EndServer s)) refl
 end_spawns h s other events = ap (start_of h) (append-nil events)
@@ -149,4 +149,4 @@ pub numbered_heard : (before : List Event) (e : ℕ) (body : List ℕ) → Numbe
 numbered_heard before e body k s ready =
     let cause = heard (FromEditor e body) in
     let stood : (life_of s before).stage ≡ Ready = sym (ap (λ (l : Life). l.stage) (one_more (life_behind s) _ _ before cause refl)) ∙ ready in
-    ap (λ (a : Asking). a.next) (one_more (asking_behind s) _ _ before cause refl) ∙ (k s stood ∙ sym (ap (λ (f : Forwarding). f.next) (one_more (forwarding_behind s) _ _ before cause refl)))
+    (one_more (number_behind s) _ _ before cause refl) ∙ (k s stood ∙ sym (ap (λ (f : Forwarding). f.next) (one_more (forwarding_behind s) _ _ before cause refl)))

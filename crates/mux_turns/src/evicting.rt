@@ -3,7 +3,7 @@ ghost use Rattle.std.specs.Prelude.{◌≡◌, ◌≢◌, ◌<◌, ◌≤◌, �
 ghost use Rattle.event_model.specs.declared.stage.Stage.TheVariants.{Ready};
 ghost use Rattle.event_model.specs.Does.{Does};
 ghost use Rattle.event_model.specs.Event.{Event, behind};
-ghost use Rattle.event_model.specs.Requests.{asking_of};
+ghost use Rattle.event_model.specs.Requests.{next_number};
 ghost use Rattle.event_model.specs.Row.{look};
 ghost use Rattle.event_model.specs.Settings.{Settings};
 ghost use Rattle.event_model.specs.Stages.{life_of};
@@ -61,7 +61,7 @@ fn shut_down(tables: &mut Tables, alloc: Global, outs: &mut Outs, g: usize) -> R
     ensures requests { tables.new.requests ≡ tables.old.requests }
     ensures versions { tables.new.versions ≡ tables.old.versions }
     ensures does { (settings : Settings) (base : List Event) (s : ℕ) → slice_get (map number_in tables.old.lasts.items) g ≡ Some s
-        → (asking_of s (behind base outs.old)).next ≡ (forwarding_of s (behind base outs.old)).next
+        → next_number s (behind base outs.old) ≡ (forwarding_of s (behind base outs.old)).next
         → OnOk result (Does (λ k events. AllStand settings k events)
         (end_start s Ready) base (tables.old, nothing_owed) outs.old (tables.new, nothing_owed) outs.new) }
 {

@@ -48,8 +48,9 @@ pub trait Berth {
         requires sink { out.old ≡ None }
         ensures filled { OnOk result (IsSome inn.new × IsSome out.new) }
         ensures run { OnOk result (IfSome inn.new (λ source. IfSome out.new (λ sink.
-            left self.old ≡ prepend_to
-            (session_of Self.In.Source.taken Self.In.Source.left Self.In.Source.faults Self.Out.Sink.written Self.Out.Sink.faults source sink ∷ []) (left self.new)))) }
+            left self.old ≡ prepend_to (session_of
+            Self.In.Source.taken Self.In.Source.left Self.In.Source.faults Self.Out.Sink.written Self.Out.Sink.faults
+            source sink ∷ []) (left self.new)))) }
         ensures given { OnOk result (held self.new ≡ held self.old + 1) }
         ensures empty { OnErr result ((inn.new ≡ None) × (out.new ≡ None)) }
         ensures kept { OnErr result ((left self.new ≡ left self.old) × (held self.new ≡ held self.old)) }

@@ -45,8 +45,9 @@ pub trait Port {
         requires sink { out.old ≡ None }
         ensures filled { OnLink result (IsSome inn.new × IsSome out.new) }
         ensures link { OnLink result (IfSome inn.new (λ source. IfSome out.new (λ sink.
-            links self.old ≡ prepend_to
-            (session_of Self.In.Source.taken Self.In.Source.left Self.In.Source.faults Self.Out.Sink.written Self.Out.Sink.faults source sink ∷ []) (links self.new)))) }
+            links self.old ≡ prepend_to (session_of
+            Self.In.Source.taken Self.In.Source.left Self.In.Source.faults Self.Out.Sink.written Self.Out.Sink.faults
+            source sink ∷ []) (links self.new)))) }
         ensures given { OnLink result (held self.new ≡ held self.old + 1) }
         ensures empty { OnNoLink result ((inn.new ≡ None) × (out.new ≡ None)) }
         ensures kept { OnNoLink result ((links self.new ≡ links self.old) × (held self.new ≡ held self.old)) }

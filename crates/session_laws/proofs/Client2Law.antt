@@ -6,7 +6,7 @@ use Rattle.json_text.specs.Json.{Json}
 use Rattle.rpc_message.specs.Message.{Message, error, Id, message_of}
 use Rattle.event_model.specs.Event.{Event, took, did, said, heard, with_cause}
 use Rattle.event_model.specs.Phases.{is_malformed}
-use Rattle.event_model.specs.Requests.{answered_id, open_of, open_behind, is_open, asks, without}
+use Rattle.event_model.specs.Requests.{answered_id, open_of, open_behind, is_open, with_request, without}
 use Rattle.event_model.specs.Always.{Always}
 use Rattle.session_laws.specs.ClientRules.{IsAnswer, null_errors_of, null_errors_behind, malformed_of, malformed_behind, ClientRule2}
 use Rattle.event_model.specs.Parts.{editor_part, is_of_editor}
@@ -25,7 +25,7 @@ Everywhere events = (e : ℕ) → Here e events
 
 -- what is open by the part is open
 others_still : (e : ℕ) (ids : List Id) (event : Event) → is_of_editor e event ≡ false → open_behind e ids event ≡ ids
-others_still e ids (took (FromEditor n body) m) h = ap (λ b. if b then asks m ids else ids) h
+others_still e ids (took (FromEditor n body) m) h = ap (λ b. if b then with_request m ids else ids) h
 others_still e ids (took (Joined n) m) h = refl
 others_still e ids (took (EditorGone n why) m) h = refl
 others_still e ids (took (Started s) m) h = refl

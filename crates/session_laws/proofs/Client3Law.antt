@@ -11,7 +11,7 @@ use Rattle.event_model.specs.declared.phase.Phase.TheVariants.{Absent, New, Wait
 use Rattle.mux_model.specs.Built.{is_other}
 use Rattle.event_model.specs.Event.{Event, took, requests, heard, with_cause}
 use Rattle.event_model.specs.Phases.{Desk, desk_of, desk_behind, desk_hears, has_id, phase_told, is_there, makes_running, phase_closed, editors_of}
-use Rattle.event_model.specs.Requests.{is_open, asks, without}
+use Rattle.event_model.specs.Requests.{is_open, with_request, without}
 use Rattle.event_model.specs.Always.{Always}
 use Rattle.session_laws.specs.ClientRules.{Opening, opening_hears, opening_told, opening_behind, opening_of, may_hear, ClientRule3}
 use Rattle.event_model.specs.Parts.{editor_part, is_of_editor}
@@ -64,7 +64,7 @@ other_not method h = go (bytes_eq (codes "initialize") method) refl
     go false e = refl
 
 same_initializes : (o : Opening) (m : Message) (ids : List Id) → requests (codes "initialize") m ≡ false → o.initializes ≡ ids → (opening_hears o m).initializes ≡ ids
-same_initializes o m ids e h = ap (λ b. if b then asks m o.initializes else o.initializes) e ∙ h
+same_initializes o m ids e h = ap (λ b. if b then with_request m o.initializes else o.initializes) e ∙ h
 
 founds : (body : List ℕ) (o : Opening) (m : Message) → message_of body ≡ m → requests (codes "initialize") m ≡ true → Fresh o → Expects body (opening_hears o m)
 founds body o (request id method params) says e h = let same : codes "initialize" ≡ method = (bytes_eq-Decides (codes "initialize") method).0 e in record {

@@ -7,7 +7,7 @@ use Rattle.mux_history.specs.declared.out.Out.TheVariants.{ToEditor}
 use Rattle.rpc_message.specs.Message.{Message, request, notification, result, error, not_json, not_message, Id}
 use Rattle.event_model.specs.Event.{Event, took, did, events_of, requests}
 use Rattle.event_model.specs.Phases.{is_malformed}
-use Rattle.event_model.specs.Requests.{open_of, is_open, without, asks}
+use Rattle.event_model.specs.Requests.{open_of, is_open, without, with_request}
 use Rattle.event_model.specs.Always.{Always}
 use Rattle.event_model.specs.Parts.{editor_part}
 
@@ -54,7 +54,7 @@ pub record Opening : Type 0 where
 
 abbrev pub opening_hears : Opening → Message → Opening
 opening_hears o m = record {
-  initializes = if requests (codes "initialize") m then asks m o.initializes else o.initializes;
+  initializes = if requests (codes "initialize") m then with_request m o.initializes else o.initializes;
   answered = o.answered;
   spoke = o.spoke || (o.answered && not (is_malformed m));
 }
