@@ -204,8 +204,8 @@ module _ (settings : Settings) (range : InRange settings) (before : List Event) 
     result_why : FirstResult (message_of body) → (life_of s before).stage ≡ Initializing → is_first_result (message_of body) ≡ true → shown_of (result_bytes body) ≡ result_bytes body → Because R now (first_result settings before s body)
     result_why first at is whole = by_on (λ none. by_nothing) (λ g home. greet_why first.r first.is whole at is opened untold waiting g)
 
-    pub server_why : (is_first_result (message_of body) ≡ true → shown_of (result_bytes body) ≡ result_bytes body) → (stage : Stage) → (life_of s before).stage ≡ stage → Because R now (from_server settings s before body (message_of body) stage)
-    server_why whole Initializing at = by_choose (λ yes. result_why (first_result_is (message_of body) yes) at yes (whole yes)) (λ no. by_nothing)
+    pub server_why : ((life_of s before).stage ≡ Initializing → is_first_result (message_of body) ≡ true → shown_of (result_bytes body) ≡ result_bytes body) → (stage : Stage) → (life_of s before).stage ≡ stage → Because R now (from_server settings s before body (message_of body) stage)
+    server_why whole Initializing at = by_choose (λ yes. result_why (first_result_is (message_of body) yes) at yes (whole at yes)) (λ no. by_nothing)
     server_why whole Ready at = response_why all apart
     server_why whole Unspawned at = by_nothing
     server_why whole Spawning at = by_nothing

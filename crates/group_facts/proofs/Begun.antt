@@ -118,7 +118,7 @@ module _ (settings : Settings) (before : List Event) where
   quiet_document e body x events = by_on (λ none. by_nothing) (λ g home. quiet_documents e body x events g)
 
   quiet_served : (e : ℕ) (body : List ℕ) (m : Message) (events : List Event) → Quiet events (served_row settings before e body m)
-  quiet_served e body (request id method params) events = quiet_request e body events
+  quiet_served e body (request id method params) events = by_choose (λ wrong. by_send tt) (λ right. quiet_request e body events)
   quiet_served e body (notification method params) events = quiet_document e body (saying_by method params) events
   quiet_served e body (result id r) events = by_nothing
   quiet_served e body (error id x) events = by_nothing

@@ -26,7 +26,7 @@ use Rattle.mux_facts.proofs.Words.{number_same, same_number}
 use Rattle.group_words.specs.Houses.{groups_of, placed_for, places}
 use Rattle.group_rows.specs.Forwarded.{Forwarded, answered_by, forwarding_of}
 use Rattle.group_rows.specs.Rows.{from_server, outs_of, pass_on, response_row}
-use Rattle.group_facts.specs.Built.{built_answer, built_behind, is_shown_whole}
+use Rattle.group_facts.specs.Built.{built_behind, built_early, built_from_server, built_late, is_shown_whole}
 use Rattle.group_facts.specs.Facts.{is_too_many, is_up, turned_away}
 use Rattle.group_facts.proofs.AnswerRows.{answers_only, response_is}
 use Rattle.group_facts.proofs.Begun.{Begun}
@@ -186,6 +186,7 @@ module _ (settings : Settings) (range : InRange settings) (before : List Event) 
           let r : FirstResult (message_of body) = first_result_is (message_of body) first in
           none_first (IsOf e id) (answered_id (message_of body)) (forwarding_of s before).next (low (ap is_up at)) (ap answered_id r.is) fs (rising_of s before) k
 
+      -- what isn't a response answers nothing
       malformed_none : (m : Message) → is_malformed m ≡ true → answered_id m ≡ None
       malformed_none not_json h = refl
       malformed_none not_message h = refl
@@ -194,21 +195,33 @@ module _ (settings : Settings) (range : InRange settings) (before : List Event) 
       malformed_none (result id r) h = absurd (cc)
       malformed_none (error id x) h = absurd (cc)
 
-      fine_not : (stage : Stage) → (life_of s before).stage ≡ stage → built_answer stage fs (message_of body) ≡ true → (id : Id) → Passed settings e id before s body → Stays stage id
-      fine_not Initializing at answer id k served still = first_not at answer id k
-      fine_not Ready at answer id k served still = ready_not at id k served still
-      fine_not Unspawned at answer id k served still = never (sym answer)
-      fine_not Spawning at answer id k served still = never (sym answer)
-      fine_not Stopping at answer id k served still = never (sym answer)
-      fine_not Ending at answer id k served still = never (sym answer)
-      fine_not Ended at answer id k served still = never (sym answer)
+      late_none : (m : Message) → built_late m ≡ true → answered_id m ≡ None
+      late_none not_json h = refl
+      late_none not_message h = refl
+      late_none (request id method params) h = refl
+      late_none (notification method params) h = refl
+      late_none (result id r) h = absurd (cc)
+      late_none (error id x) h = absurd (cc)
+
+      early_not : (life_of s before).stage ≡ Initializing → (m : Message) → message_of body ≡ m → built_early body m ≡ true → (id : Id) → Passed settings e id before s body → ⊥
+      early_not at (result i r) says h id k = first_not at (ap is_first_result says ∙ (and_parts (is_first_result (result i r)) (is_shown_whole body) h).0) id k
+      early_not at (error i x) says h id k = absurd (cc)
+      early_not at (request i method params) says h id k = absurd (cc)
+      early_not at (notification method params) says h id k = none_answered id (ap answered_id says) k
+      early_not at not_json says h id k = none_answered id (ap answered_id says) k
+      early_not at not_message says h id k = none_answered id (ap answered_id says) k
+
+      fine_not : (stage : Stage) → (life_of s before).stage ≡ stage → built_from_server stage fs body (message_of body) ≡ true → (id : Id) → Passed settings e id before s body → Stays stage id
+      fine_not Initializing at fine id k served still = early_not at (message_of body) refl fine id k
+      fine_not Ready at fine id k served still = ready_not at id k served still
+      fine_not Stopping at fine id k served still = none_answered id (late_none (message_of body) fine) k
+      fine_not Ending at fine id k served still = none_answered id (late_none (message_of body) fine) k
+      fine_not Unspawned at fine id k served still = none_answered id (malformed_none (message_of body) fine) k
+      fine_not Spawning at fine id k served still = none_answered id (malformed_none (message_of body) fine) k
+      fine_not Ended at fine id k served still = none_answered id (malformed_none (message_of body) fine) k
 
       passed_not : (id : Id) → Passed settings e id before s body → Stays (life_of s before).stage id
-      passed_not id k served still = go (is_malformed (message_of body)) refl built
-        where
-          go : (b : Bool) → is_malformed (message_of body) ≡ b → (b || (built_answer (life_of s before).stage fs (message_of body) && (not (is_first_result (message_of body)) || is_shown_whole body))) ≡ true → ⊥
-          go true malformed h = none_answered id (malformed_none (message_of body) malformed) k
-          go false fine h = fine_not (life_of s before).stage refl (and_parts (built_answer (life_of s before).stage fs (message_of body)) (not (is_first_result (message_of body)) || is_shown_whole body) h).0 id k served still
+      passed_not id k = fine_not (life_of s before).stage refl built id k
 
       server_at : OpenAt settings e Nobody (later (FromServer s body))
       server_at = if_other (S settings e Answers (later (FromServer s body))) (S settings e Nobody (later (FromServer s body))) (desk_of e (later (FromServer s body))).phase (desk_of e (later (FromServer s body))).initialize (open_of e (later (FromServer s body)))

@@ -1,15 +1,17 @@
 -- What is open at an editor, behind the entry of a message of its own.
-use Rattle.std.proofs.Common.{◌≡◌, ℕ, Bool, true, false, not, ◌&&◌, List, [], ◌∷◌, ◌++◌, map, nat_eq, codes, decimal, if◌then◌else◌, Option, Some, None, ◌⊎◌, inl, inr, refl, sym, ◌∙◌, ap, ap₂, subst, subst₂, append-nil, append_assoc}
+use Rattle.std.proofs.Common.{◌≡◌, ℕ, Bool, true, false, not, ◌&&◌, List, ◌||◌, [], ◌∷◌, ◌++◌, map, nat_eq, codes, decimal, if◌then◌else◌, Option, Some, None, ◌⊎◌, inl, inr, refl, sym, ◌∙◌, ap, ap₂, subst, subst₂, append-nil, append_assoc}
 use Rattle.std.specs.List.{AllByRecursion}
 use Rattle.std.proofs.lemmas.Bool.{and_parts}
 use Rattle.std.proofs.lemmas.Slice.Eq.{bytes_eq-Decides}
 use Rattle.json_text.specs.Json.{Json}
 use Rattle.document_model.specs.Sayings.{Saying, saying_by}
+use Rattle.lsp_method.specs.Class.{class_of}
+use Rattle.lsp_method.specs.declared.variants.Origin.TheVariants.{Editor}
 use Rattle.mux_history.specs.declared.cause.Cause.TheVariants.{FromEditor}
 use Rattle.mux_history.specs.declared.out.Out.{Out}
 use Rattle.mux_history.specs.declared.out.Out.TheVariants.{ToEditor, ToServer, Spawn, CloseEditor, EndServer}
 use Rattle.rpc_message.specs.Message.{Message, request, notification, result, error, not_json, not_message, Id, id_bytes, integer, message_of}
-use Rattle.rpc_message.specs.Texts.{Code, error_text, error_tree, request_failed, server_not_initialized, with_id_text}
+use Rattle.rpc_message.specs.Texts.{Code, error_text, error_tree, invalid_request, request_failed, server_not_initialized, with_id_text}
 use Rattle.rpc_message.proofs.Ids.{request_id_bytes}
 use Rattle.event_model.specs.declared.phase.Phase.{Phase}
 use Rattle.event_model.specs.declared.phase.Phase.TheVariants.{Absent, New, Waiting, Answered, Running, Down, Closed, Gone}
@@ -22,6 +24,7 @@ use Rattle.event_model.specs.Settings.{Settings}
 use Rattle.event_model.specs.Spawns.{start_of}
 use Rattle.event_model.proofs.Frames.{never}
 use Rattle.mux_model.specs.Documents.{held_at}
+use Rattle.mux_model.specs.Methods.{is_wrong}
 use Rattle.mux_model.specs.Rows.{malformed_code, malformed_row, malformed_text, to_start}
 use Rattle.mux_facts.specs.Ranges.{InRange}
 use Rattle.mux_facts.proofs.Bodies.{malformed_says, refusal_says}
@@ -37,9 +40,9 @@ use Rattle.group_words.specs.Placing.{home_by}
 use Rattle.group_words.specs.Rows.{initialize_row}
 use Rattle.group_words.proofs.Frames.{home_more, home_stays}
 use Rattle.group_rows.specs.Forwarded.{Forwarding, forwarding_of, numbered}
-use Rattle.group_rows.specs.Rows.{answer_error, can_ask, document_at, document_bodies, document_row, early_row, forward, from_editor, message_row, outs_of, request_at, request_row, sync_row}
+use Rattle.group_rows.specs.Rows.{answer_error, can_ask, document_at, document_bodies, document_row, early_row, forward, from_editor, message_row, outs_of, request_at, request_row, served_row, sync_row, wrong_code}
 use Rattle.group_rows.specs.Texts.{encoding_of, texts_of}
-use Rattle.group_facts.specs.Built.{built_as, built_from_editor, is_plain}
+use Rattle.group_facts.specs.Built.{built_as, built_from_editor, is_bare, is_fresh}
 use Rattle.group_facts.specs.Facts.{turned_away}
 use Rattle.group_facts.specs.Why.{IsForward}
 use Rattle.group_facts.proofs.Begun.{NoSpawn, all_outs, quiet_bodies, start_did, start_took, starts_stay}
@@ -48,7 +51,7 @@ use Rattle.group_facts.proofs.Forwards.{more_requests}
 use Rattle.group_facts.proofs.Numbers.{forwarding_sent}
 use Rattle.group_facts.proofs.RequestRow.{desk_taken, goes_on, plain_other, synced_sender}
 use Rattle.group_facts.proofs.Sent.{IsOf, OneOf, SentAt, one_last, sent_did, sent_heard}
-use Rattle.group_facts.proofs.Table.{not_so}
+use Rattle.group_facts.proofs.Table.{bare_plain, not_so}
 use Rattle.group_facts.proofs.OpenByPhase.{OpenDesk, OpenIf, if_asked, if_hears, if_null, if_other, without_last}
 use Rattle.group_facts.proofs.Waiting.{new_is, turned_outs}
 use Rattle.group_facts.proofs.OpenByOut.{OpenAt, S, open_at, open_closed, open_sent, open_still, or_later, told}
@@ -262,6 +265,24 @@ module _ (settings : Settings) (before : List Event) (n : ℕ) (body : List ℕ)
         request_rests : Rests (outs (request_row settings before n body) now)
         request_rests = by_home (home_of settings n before) refl
 
+    -- a closed editor's request gives nothing
+    asked_closed : (desk_of n before).phase ≡ Closed → OpenAt settings n Nobody now
+    asked_closed at = subst (λ (d : Desk). OpenIf (S settings n Nobody now) d.phase d.initialize (open_of n now)) (sym (desk_taken settings before n body ∙ ap (λ p. desk_hears p (desk_of n before).initialize body (message_of body)) at)) tt
+
+    -- Responses
+
+    result_silent : (id : Option Id) (r : Json) (phase : Phase) → outs (from_editor settings before n body (result id r) phase) now ≡ []
+    result_silent id r New = refl
+    result_silent id r other = refl
+
+    error_silent : (id : Option Id) (x : Json) (phase : Phase) → outs (from_editor settings before n body (error id x) phase) now ≡ []
+    error_silent id x New = refl
+    error_silent id x other = refl
+
+    response_rests : (m : Message) → message_of body ≡ m → with_request m ids ≡ ids → requests (codes "initialize") m ≡ false → outs (from_editor settings before n body m (desk_of n before).phase) now ≡ []
+        → Rests (outs (from_editor settings before n body m (desk_of n before).phase) now)
+    response_rests m says same none silent = subst (λ xs. OpenAt settings n Nobody (behind now xs)) (sym silent) (rests_here (no_request m says same none))
+
     -- Notifications
 
     document_rests : (method : List ℕ) (params : Option Json) → message_of body ≡ notification method params → Rests (outs (document_row settings before n body (saying_by method params)) now)
@@ -294,23 +315,28 @@ module _ (settings : Settings) (before : List Event) (n : ℕ) (body : List ℕ)
 
       asked_rests : (id : Id) (method : List ℕ) (params : Option Json) → message_of body ≡ request id method params → (phase : Phase) → (desk_of n before).phase ≡ phase → BuiltAs phase (request id method params) → places phase (request id method params) ≡ false
           → Rests (outs (message_row settings before n body (request id method params) phase) now)
-      asked_rests id method params says phase at built off = go phase at (not_so (is_open id ids) parts.0) parts.1 off
+      asked_rests id method params says phase at built off = go phase at parts.0 parts.1 off
         where
-          parts : (not (is_open id ids) ≡ true) × (built_as phase method params ≡ true)
-          parts = and_parts (not (is_open id ids)) (built_as phase method params) built
+          parts : (is_fresh phase id ids ≡ true) × (built_as phase method params ≡ true)
+          parts = and_parts (is_fresh phase id ids) (built_as phase method params) built
 
-          served : is_open id ids ≡ false → is_there (desk_of n before).phase ≡ true → is_early (desk_of n before).phase ≡ false → is_plain method && not (has_token params) ≡ true → Rests (outs (request_row settings before n body) now)
-          served fresh there late plain = request_rests id method params says fresh range facts there late (plain_other method (and_parts (is_plain method) (not (has_token params)) plain).0)
+          served : is_open id ids ≡ false → is_there (desk_of n before).phase ≡ true → is_early (desk_of n before).phase ≡ false → (is_wrong (class_of method Editor false) || is_bare method params) ≡ true
+              → Rests (outs (served_row settings before n body (request id method params)) now)
+          served fresh there late sort = by_class (is_wrong (class_of method Editor false)) sort
+            where
+              by_class : (wrong : Bool) → (wrong || is_bare method params) ≡ true → Rests (outs (choose wrong (answer_error n body (wrong_code method invalid_request)) (request_row settings before n body)) now)
+              by_class true sort = refused id method params says fresh (λ new. never (sym (ap is_early new) ∙ late)) (wrong_code method invalid_request)
+              by_class false sort = request_rests id method params says fresh range facts there late (plain_other method (bare_plain false method params refl sort))
 
-          go : (phase : Phase) → (desk_of n before).phase ≡ phase → is_open id ids ≡ false → built_as phase method params ≡ true → places phase (request id method params) ≡ false → Rests (outs (message_row settings before n body (request id method params) phase) now)
+          go : (phase : Phase) → (desk_of n before).phase ≡ phase → is_fresh phase id ids ≡ true → built_as phase method params ≡ true → places phase (request id method params) ≡ false → Rests (outs (message_row settings before n body (request id method params) phase) now)
           go New at fresh sort off = subst (λ b. Rests (outs (choose b (initialize_row settings before n body) (early_row n body (request id method params))) now)) (sym off)
-              (refused id method params says fresh (λ new. ap (requests (codes "initialize")) says ∙ off) server_not_initialized)
-          go Waiting at fresh sort off = refused id method params says fresh (λ new. absurd (let clash : ◌≡◌ {A = Phase} Waiting New = sym at ∙ new in cc)) server_not_initialized
-          go Answered at fresh sort off = served fresh (ap is_there at) (ap is_early at) sort
-          go Running at fresh sort off = served fresh (ap is_there at) (ap is_early at) sort
+              (refused id method params says (not_so (is_open id ids) fresh) (λ new. ap (requests (codes "initialize")) says ∙ off) (wrong_code method server_not_initialized))
+          go Waiting at fresh sort off = refused id method params says (not_so (is_open id ids) fresh) (λ new. absurd (let clash : ◌≡◌ {A = Phase} Waiting New = sym at ∙ new in cc)) (wrong_code method server_not_initialized)
+          go Answered at fresh sort off = served (not_so (is_open id ids) fresh) (ap is_there at) (ap is_early at) sort
+          go Running at fresh sort off = served (not_so (is_open id ids) fresh) (ap is_there at) (ap is_early at) sort
           go Absent at fresh sort off = absurd (cc)
           go Down at fresh sort off = absurd (cc)
-          go Closed at fresh sort off = absurd (cc)
+          go Closed at fresh sort off = rests_here (asked_closed at)
           go Gone at fresh sort off = absurd (cc)
 
       own_rests : (m : Message) → message_of body ≡ m → BuiltAs (desk_of n before).phase m → places (desk_of n before).phase m ≡ false → Rests (outs (from_editor settings before n body m (desk_of n before).phase) now)
@@ -318,8 +344,8 @@ module _ (settings : Settings) (before : List Event) (n : ℕ) (body : List ℕ)
       own_rests (notification method params) says built off = notified_rests method params says (desk_of n before).phase
       own_rests not_json says built off = malformed_rests not_json (desk_of n before).phase says refl refl
       own_rests not_message says built off = malformed_rests not_message (desk_of n before).phase says refl refl
-      own_rests (result id r) says built off = absurd (cc)
-      own_rests (error id x) says built off = absurd (cc)
+      own_rests (result id r) says built off = response_rests (result id r) says refl refl (result_silent id r (desk_of n before).phase)
+      own_rests (error id x) says built off = response_rests (error id x) says refl refl (error_silent id x (desk_of n before).phase)
 
       pub message_rests : BuiltAs (desk_of n before).phase (message_of body) → places (desk_of n before).phase (message_of body) ≡ false → OpenAt settings n Nobody (behind now (outs_of settings before (FromEditor n body)))
       message_rests built off = own_rests (message_of body) refl built off

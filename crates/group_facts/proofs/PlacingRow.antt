@@ -177,7 +177,7 @@ module _ (settings : Settings) (range : InRange settings) (before : List Event) 
         (by_send (turned, there_still))
 
   placed_why : Plain before → Bounded settings before → (p : Placed) → placed_for settings before e body (groups_of settings before) ≡ p → Mine (placed_row e body before p)
-  placed_why plain bounded (Joins g) at = by_on (λ none. by_nothing) (λ s start. by_choose (λ ready. by_on (λ none. by_nothing) (λ given found. joins plain s given (plain s given found))) (λ no. by_nothing))
+  placed_why plain bounded (Joins g) at = by_on (λ none. by_nothing) (λ s start. by_choose (λ ready. by_on (λ none. by_nothing) (λ given found. joins plain s given (plain.whole s given found))) (λ no. by_nothing))
   placed_why plain bounded (Founds g) at = by_look (by_send (refl, founds_kept g at))
   placed_why plain bounded (Evicts a g) at = by_then (evicts bounded a) (by_look (by_send (refl, subst (λ z. g < length z) (sym (evicted_groups (start_of a now))) (evicts_kept a g at))))
   placed_why plain bounded TooMany at = turn at

@@ -1,20 +1,26 @@
--- Editors are shown all of the result that a start gave.
-use Rattle.std.proofs.Common.{◌≡◌, ℕ, Bool, true, false, List, [], ◌∷◌, ◌++◌, nat_eq, if◌then◌else◌, Option, Some, None, refl, sym, ◌∙◌, subst, codes}
+-- Editors are shown all of the result that a start gave, and one that is ready gave one.
+use Rattle.std.proofs.Common.{◌≡◌, ℕ, Bool, true, false, ◌&&◌, List, [], ◌∷◌, ◌++◌, nat_eq, is_some, if◌then◌else◌, Option, Some, None, refl, sym, ◌∙◌, ap, subst, codes}
+use Rattle.std.proofs.lemmas.Bool.{and_parts}
 use Rattle.std.proofs.lemmas.List.Sums.{fold-append}
 use Rattle.mux_history.specs.declared.cause.Cause.{Cause}
-use Rattle.mux_history.specs.declared.cause.Cause.TheVariants.{FromServer}
+use Rattle.mux_history.specs.declared.cause.Cause.TheVariants.{Started, StartFailed, FromServer, ServerGone}
 use Rattle.mux_history.specs.declared.out.Out.{Out}
-use Rattle.mux_history.specs.declared.out.Out.TheVariants.{ToEditor}
-use Rattle.rpc_message.specs.Message.{integer, message_of}
-use Rattle.event_model.specs.Event.{Event, took, heard, said, with_cause}
+use Rattle.mux_history.specs.declared.out.Out.TheVariants.{ToEditor, ToServer, Spawn, EndServer}
+use Rattle.rpc_message.specs.Message.{Message, integer, message_of}
+use Rattle.event_model.specs.declared.stage.Stage.{Stage}
+use Rattle.event_model.specs.declared.stage.Stage.TheVariants.{Spawning, Initializing, Ready, Ended, Stopping, Ending, Unspawned}
+use Rattle.event_model.specs.Event.{Event, took, did, heard, said, with_cause}
 use Rattle.event_model.specs.Settings.{Settings}
-use Rattle.event_model.specs.Stages.{is_first_result}
+use Rattle.event_model.specs.Stages.{Life, is_first_result, is_ready, life_behind, life_of, stage_ending, stage_hears, stage_started, stage_told}
 use Rattle.event_model.proofs.Frames.{never}
+use Rattle.mux_facts.proofs.Folds.{life_more}
 use Rattle.mux_facts.proofs.Table.{FirstResult, first_result_is}
+use Rattle.mux_facts.proofs.Words.{number_same}
 use Rattle.group_words.specs.Rows.{result_behind, result_of}
-use Rattle.group_facts.specs.Built.{built_behind}
+use Rattle.group_rows.specs.Forwarded.{Forwarded, forwarding_of}
+use Rattle.group_facts.specs.Built.{built_behind, built_early, built_from_server}
 use Rattle.group_facts.specs.Facts.{IsPlain, Plain}
-use Rattle.group_facts.proofs.Table.{first_shown}
+use Rattle.group_facts.proofs.Table.{shown_whole}
 
 result_more : (s : ℕ) (events : List Event) (event : Event) → result_of s (events ++ event ∷ []) ≡ result_behind s (result_of s events) event
 result_more s events event = fold-append (result_behind s) None events (event ∷ [])
@@ -28,37 +34,113 @@ quiet s (Some b) event h = refl
 quiet s None (took (FromServer n body) m) h = never h
 quiet s None other h = refl
 
-still : (events : List Event) (event : Event) → is_heard event ≡ false → Plain events → Plain (events ++ event ∷ [])
-still events event quietly h s b e = h s b (sym (result_more s events event ∙ quiet s (result_of s events) event quietly) ∙ e)
+-- what was given stays
+kept : (s : ℕ) (x : Option (List ℕ)) (event : Event) → is_some x ≡ true → is_some (result_behind s x event) ≡ true
+kept s (Some b) event h = refl
+kept s None event h = never (sym h)
+
+-- One that is ready gave its result
+
+ready_started : (stage : Stage) → is_ready (stage_started stage) ≡ true → is_ready stage ≡ true
+ready_started Spawning h = h
+ready_started other h = h
+
+ready_told : (stage : Stage) (m : Message) → is_ready (stage_told stage m) ≡ true → is_ready stage ≡ true
+ready_told Ready m h = refl
+ready_told other m h = h
+
+ready_ending : (stage : Stage) → is_ready (stage_ending stage) ≡ true → is_ready stage ≡ true
+ready_ending Ended h = h
+ready_ending other h = never (sym h)
+
+back : (b : Bool) (x y : Life) → (is_ready x.stage ≡ true → is_ready y.stage ≡ true) → is_ready (if b then x else y).stage ≡ true → is_ready y.stage ≡ true
+back true x y f h = f h
+back false x y f h = h
+
+-- by an event that is no body of a start, none becomes ready
+was_ready : (s : ℕ) (life : Life) (event : Event) → is_heard event ≡ false → is_ready (life_behind s life event).stage ≡ true → is_ready life.stage ≡ true
+was_ready s life (took (Started n) m) quietly h = back (nat_eq n s) (record { stage = stage_started life.stage; started = true }) life (ready_started life.stage) h
+was_ready s life (took (StartFailed n) m) quietly h = back (nat_eq n s) (record { stage = Ended; started = life.started }) life (λ e. never (sym e)) h
+was_ready s life (took (FromServer n body) m) quietly h = never quietly
+was_ready s life (took (ServerGone n) m) quietly h = back (nat_eq n s) (record { stage = Ended; started = life.started }) life (λ e. never (sym e)) h
+was_ready s life (did (Spawn n g) m) quietly h = back (nat_eq n s) (record { stage = Spawning; started = false }) life (λ e. never (sym e)) h
+was_ready s life (did (ToServer n body) m) quietly h = back (nat_eq n s) (record { stage = stage_told life.stage m; started = life.started }) life (ready_told life.stage m) h
+was_ready s life (did (EndServer n) m) quietly h = back (nat_eq n s) (record { stage = stage_ending life.stage; started = life.started }) life (ready_ending life.stage) h
+was_ready s life other quietly h = h
+
+-- by a body of a start, one becomes ready where that is its first result
+gave : (s n : ℕ) (life : Life) (body : List ℕ) (m : Message) (x : Option (List ℕ)) → (is_ready life.stage ≡ true → is_some x ≡ true) → is_ready (life_behind s life (took (FromServer n body) m)).stage ≡ true
+    → is_some (result_behind s x (took (FromServer n body) m)) ≡ true
+gave s n life body m (Some b) f h = refl
+gave s n life body m None f h = go (nat_eq n s) h
+  where
+    first : (c : Bool) → is_ready (if c then Ready else Initializing) ≡ true → is_some {A = List ℕ} (if c then Some body else None) ≡ true
+    first true h = refl
+    first false h = h
+
+    itself : (stage : Stage) → (is_ready stage ≡ true → false ≡ true) → is_ready (stage_hears stage m) ≡ true → is_some {A = List ℕ} (if is_first_result m then Some body else None) ≡ true
+    itself Initializing f h = first (is_first_result m) h
+    itself other f h = never (sym (f h))
+
+    go : (b : Bool) → is_ready (if b then record { stage = stage_hears life.stage m; started = life.started } else life).stage ≡ true → is_some {A = List ℕ} (if b then (if is_first_result m then Some body else None) else None) ≡ true
+    go true h = itself life.stage f h
+    go false h = f h
+
+by_life : (s : ℕ) (events : List Event) (event : Event) → is_ready (life_of s (events ++ event ∷ [])).stage ≡ true → is_ready (life_behind s (life_of s events) event).stage ≡ true
+by_life s events event h = sym (ap (λ (l : Life). is_ready l.stage) (life_more s events event)) ∙ h
+
+quiet_more : (events : List Event) (event : Event) → is_heard event ≡ false → Plain events → Plain (events ++ event ∷ [])
+quiet_more events event quietly h = record {
+  whole = λ s body e. h.whole s body (sym (result_more s events event ∙ quiet s (result_of s events) event quietly) ∙ e);
+  given = λ s ready. ap is_some (result_more s events event) ∙ kept s (result_of s events) event (h.given s (was_ready s (life_of s events) event quietly (by_life s events event ready)));
+}
 
 the_body : {a b : List ℕ} → ◌≡◌ {A = Option (List ℕ)} (Some a) (Some b) → a ≡ b
 the_body h = cc
 
-from_server : (settings : Settings) (events : List Event) (n : ℕ) (body : List ℕ) → built_behind settings events (FromServer n body) ≡ true → Plain events → Plain (with_cause events (FromServer n body))
-from_server settings events n body built h s b e = go (result_of s events) refl (sym (result_more s events (heard (FromServer n body))) ∙ e)
-  where
-    given : is_first_result (message_of body) ≡ true → IsPlain body
-    given first = let k : FirstResult (message_of body) = first_result_is (message_of body) first in record { id = Some (integer (codes "1")); r = k.r; says = k.is; whole = first_shown events n body built first }
+-- what is built of a start that gave no result: its first result is shown whole
+module _ (settings : Settings) (events : List Event) (n : ℕ) (body : List ℕ) (built : built_behind settings events (FromServer n body) ≡ true) (h : Plain events) where
+  abbrev fs : List Forwarded
+  fs = (forwarding_of n events).open_requests
 
-    first_given : (c d : Bool) → is_first_result (message_of body) ≡ d → (if c then (if d then Some body else None) else None) ≡ Some b → IsPlain b
-    first_given true true first k = subst IsPlain (the_body k) (given first)
-    first_given true false first k = absurd (cc)
-    first_given false d first k = absurd (cc)
+  fresh_first : (stage : Stage) → (life_of n events).stage ≡ stage → built_from_server stage fs body (message_of body) ≡ true → result_of n events ≡ None → is_first_result (message_of body) ≡ true → IsPlain body
+  fresh_first Initializing at fine none first = let k : FirstResult (message_of body) = first_result_is (message_of body) first in record { id = Some (integer (codes "1")); r = k.r; says = k.is; whole = shown_whole (message_of body) body fine first }
+  fresh_first Ready at fine none first = never (sym (sym (ap is_some none) ∙ h.given n (ap is_ready at)))
+  fresh_first Stopping at fine none first = let k : FirstResult (message_of body) = first_result_is (message_of body) first in absurd (let late : built_from_server Stopping fs body (message_of body) ≡ true = fine in let no : false ≡ true = sym (ap (built_from_server Stopping fs body) k.is) ∙ late in cc)
+  fresh_first Ending at fine none first = let k : FirstResult (message_of body) = first_result_is (message_of body) first in absurd (let late : built_from_server Ending fs body (message_of body) ≡ true = fine in let no : false ≡ true = sym (ap (built_from_server Ending fs body) k.is) ∙ late in cc)
+  fresh_first Unspawned at fine none first = let k : FirstResult (message_of body) = first_result_is (message_of body) first in absurd (let no : false ≡ true = sym (ap (built_from_server Unspawned fs body) k.is) ∙ fine in cc)
+  fresh_first Spawning at fine none first = let k : FirstResult (message_of body) = first_result_is (message_of body) first in absurd (let no : false ≡ true = sym (ap (built_from_server Spawning fs body) k.is) ∙ fine in cc)
+  fresh_first Ended at fine none first = let k : FirstResult (message_of body) = first_result_is (message_of body) first in absurd (let no : false ≡ true = sym (ap (built_from_server Ended fs body) k.is) ∙ fine in cc)
 
-    go : (x : Option (List ℕ)) → result_of s events ≡ x → result_behind s x (heard (FromServer n body)) ≡ Some b → IsPlain b
-    go None at k = first_given (nat_eq n s) (is_first_result (message_of body)) refl k
-    go (Some c) at k = h s b (at ∙ k)
+  heard_whole : (s : ℕ) (b : List ℕ) → result_of s (with_cause events (FromServer n body)) ≡ Some b → IsPlain b
+  heard_whole s b e = go (result_of s events) refl (sym (result_more s events (heard (FromServer n body))) ∙ e)
+    where
+      first_given : (c d : Bool) → nat_eq n s ≡ c → is_first_result (message_of body) ≡ d → result_of s events ≡ None → (if c then (if d then Some body else None) else None) ≡ Some b → IsPlain b
+      first_given true true same first none k = subst IsPlain (the_body k) (fresh_first (life_of n events).stage refl built (ap (λ i. result_of i events) (number_same n s same) ∙ none) first)
+      first_given true false same first none k = absurd (cc)
+      first_given false d same first none k = absurd (cc)
+
+      go : (x : Option (List ℕ)) → result_of s events ≡ x → result_behind s x (heard (FromServer n body)) ≡ Some b → IsPlain b
+      go None at k = first_given (nat_eq n s) (is_first_result (message_of body)) refl refl at k
+      go (Some c) at k = h.whole s b (at ∙ k)
+
+  heard_given : (s : ℕ) → is_ready (life_of s (with_cause events (FromServer n body))).stage ≡ true → is_some (result_of s (with_cause events (FromServer n body))) ≡ true
+  heard_given s ready = ap is_some (result_more s events (heard (FromServer n body)))
+      ∙ gave s n (life_of s events) body (message_of body) (result_of s events) (h.given s) (by_life s events (heard (FromServer n body)) ready)
+
+  heard_plain : Plain (with_cause events (FromServer n body))
+  heard_plain = record { whole = heard_whole; given = heard_given }
 
 pub plain_took : (settings : Settings) (events : List Event) (cause : Cause) → built_behind settings events cause ≡ true → Plain events → Plain (with_cause events cause)
-plain_took settings events (FromServer n body) built h = from_server settings events n body built h
-plain_took settings events cause built h = still events (heard cause) refl h
+plain_took settings events (FromServer n body) built h = heard_plain settings events n body built h
+plain_took settings events cause built h = quiet_more events (heard cause) refl h
 
 pub plain_did : (events : List Event) (out : Out) → Plain events → Plain (events ++ said out ∷ [])
-plain_did events out h = still events (said out) (silent out) h
+plain_did events out h = quiet_more events (said out) (silent out) h
   where
     silent : (out : Out) → is_heard (said out) ≡ false
     silent (ToEditor e body) = refl
     silent other = refl
 
 pub plain_none : Plain []
-plain_none s body e = absurd (cc)
+plain_none = record { whole = λ s body e. cc; given = λ s ready. never (sym ready) }

@@ -8,7 +8,7 @@ use Rattle.lsp_method.specs.Class.{editor_request, own_request}
 use Rattle.mux_history.specs.declared.cause.Cause.TheVariants.{FromEditor}
 use Rattle.mux_history.specs.declared.out.Out.{Out}
 use Rattle.rpc_message.specs.Message.{request, Id, integer, message_of, id_bytes}
-use Rattle.rpc_message.specs.Texts.{with_id_text, request_failed, server_not_initialized, error_tree}
+use Rattle.rpc_message.specs.Texts.{Code, with_id_text, request_failed, error_tree}
 use Rattle.rpc_message.proofs.Decimals.{decimal_law}
 use Rattle.rpc_message.proofs.Ids.{request_with_id, request_id_bytes}
 use Rattle.event_model.specs.declared.phase.Phase.TheVariants.{New, Waiting}
@@ -71,26 +71,26 @@ module _ (settings : Settings) (before : List Event) (e : ℕ) (body : List ℕ)
     alone = alone_fewer before asked (asks_fewer before e body) e id (alone_by before open_before e id fresh)
 
     -- E8
-    early : ((desk_of e asked).phase ≡ Waiting → has_id id (message_of (desk_of e asked).initialize) ≡ false) → Because R asked (answer_error e body server_not_initialized)
-    early others = by_send (refuses (record {
+    early : (code : Code) → ((desk_of e asked).phase ≡ Waiting → has_id id (message_of (desk_of e asked).initialize) ≡ false) → Because R asked (answer_error e body code)
+    early code others = by_send (refuses (record {
       id = id;
-      x = error_tree server_not_initialized;
+      x = error_tree code;
       there = there_taken settings before e body there;
       waits = open_taken before e body id method params says;
       others = others;
       alone = alone;
-      says = refusal_says body id method params server_not_initialized says;
+      says = refusal_says body id method params code says;
     }))
 
-    pub early_new : (desk_of e before).phase ≡ New → bytes_eq (codes "initialize") method ≡ false → Because R asked (answer_error e body server_not_initialized)
-    early_new at other = early (λ waits. absurd (let new : (desk_of e asked).phase ≡ New = still in cc))
+    pub early_new : (code : Code) → (desk_of e before).phase ≡ New → bytes_eq (codes "initialize") method ≡ false → Because R asked (answer_error e body code)
+    early_new code at other = early code (λ waits. absurd (let new : (desk_of e asked).phase ≡ New = still in cc))
       where
         still : (desk_of e asked).phase ≡ New
         still = ap (λ (d : Desk). d.phase) (desk_taken ∙ ap₂ (λ p m. desk_hears p (desk_of e before).initialize body m) at says)
             ∙ ap (λ b. (either_desk b (record { phase = Waiting; initialize = body }) (record { phase = New; initialize = (desk_of e before).initialize })).phase) other
 
-    pub early_waiting : (desk_of e before).phase ≡ Waiting → AllWaiting before → Because R asked (answer_error e body server_not_initialized)
-    early_waiting at waiting = early (λ waits. ap (λ (d : Desk). has_id id (message_of d.initialize)) (desk_taken ∙ ap (λ p. desk_hears p (desk_of e before).initialize body (message_of body)) at) ∙ ap (has_id id) w.asks ∙ apart (same_id id w.id) refl)
+    pub early_waiting : (code : Code) → (desk_of e before).phase ≡ Waiting → AllWaiting before → Because R asked (answer_error e body code)
+    early_waiting code at waiting = early code (λ waits. ap (λ (d : Desk). has_id id (message_of d.initialize)) (desk_taken ∙ ap (λ p. desk_hears p (desk_of e before).initialize body (message_of body)) at) ∙ ap (has_id id) w.asks ∙ apart (same_id id w.id) refl)
       where
         w : Waits (desk_of e before).initialize (open_of e before)
         w = waits_at before e at waiting
@@ -99,17 +99,13 @@ module _ (settings : Settings) (before : List Event) (e : ℕ) (body : List ℕ)
         apart true k = absurd (let o : is_open id (open_of e before) ≡ true = subst (λ i. is_open i (open_of e before) ≡ true) (sym (id_same id w.id k)) w.waits in cc)
         apart false k = refl
 
+    -- behind the answer to `initialize`
+    pub late_refused : (code : Code) → is_early (desk_of e before).phase ≡ false → Because R asked (answer_error e body code)
+    late_refused code late = early code (λ at. absurd (late_not (desk_of e asked).phase (late_taken before e body late) at))
+
     module _ (range : InRange settings) (opened : Opened settings before) (late : is_early (desk_of e before).phase ≡ false) (other : is_own method ≡ false) where
       fails : Because R asked (answer_error e body request_failed)
-      fails = by_send (refuses (record {
-        id = id;
-        x = error_tree request_failed;
-        there = there_taken settings before e body there;
-        waits = open_taken before e body id method params says;
-        others = λ at. absurd (late_not (desk_of e asked).phase (late_taken before e body late) at);
-        alone = alone;
-        says = refusal_says body id method params request_failed says;
-      }))
+      fails = late_refused request_failed late
 
       module _ (g s : ℕ) (can : can_ask settings s before ≡ true) where
         abbrev bodies : List (List ℕ)

@@ -4,7 +4,8 @@ use Rattle.std.proofs.lemmas.Bool.{and_parts}
 use Rattle.std.proofs.lemmas.List.Sums.{fold-append}
 use Rattle.std.proofs.lemmas.Slice.Eq.{bytes_eq-Decides}
 use Rattle.json_text.specs.Json.{Json}
-use Rattle.lsp_method.specs.Class.{editor_request, own_request}
+use Rattle.lsp_method.specs.Class.{class_of, editor_request, own_request}
+use Rattle.lsp_method.specs.declared.variants.Origin.TheVariants.{Editor}
 use Rattle.mux_history.specs.declared.cause.Cause.{Cause}
 use Rattle.mux_history.specs.declared.cause.Cause.TheVariants.{Joined, FromEditor}
 use Rattle.mux_history.specs.declared.out.Out.{Out}
@@ -19,8 +20,10 @@ use Rattle.event_model.specs.Phases.{desk_of}
 use Rattle.event_model.specs.Requests.{is_open, open_of}
 use Rattle.event_model.specs.Settings.{Settings}
 use Rattle.document_model.proofs.ScalarTrees.{either_way}
+use Rattle.mux_model.specs.Built.{is_other}
+use Rattle.mux_model.specs.Methods.{is_shutdown, is_wrong}
 use Rattle.group_words.specs.Houses.{Meant, meant_behind, meant_of, server_named, settles}
-use Rattle.group_facts.specs.Built.{built_as, built_behind, built_from_editor, is_plain}
+use Rattle.group_facts.specs.Built.{built_as, built_behind, built_from_editor, is_bare, is_fresh, is_refused}
 
 -- no method that is built is `lspmux/open`
 
@@ -31,25 +34,37 @@ not_named method f = go (bytes_eq (codes "lspmux/open") method) refl
     go true e = absurd (f (sym ((bytes_eq-Decides (codes "lspmux/open") method).0 e)))
     go false e = refl
 
-plain_unnamed : (method : List ℕ) → is_plain method ≡ true → bytes_eq (codes "lspmux/open") method ≡ false
+refused_unnamed : (method : List ℕ) → is_refused (class_of method Editor false) ≡ true → bytes_eq (codes "lspmux/open") method ≡ false
 unfolding editor_request own_request
-plain_unnamed method h = not_named method (λ same. let k : is_plain (codes "lspmux/open") ≡ true = subst (λ m. is_plain m ≡ true) same h in cc)
+refused_unnamed method h = not_named method (λ same. let k : is_refused (class_of (codes "lspmux/open") Editor false) ≡ true = subst (λ m. is_refused (class_of m Editor false) ≡ true) same h in cc)
 
-first_unnamed : (method : List ℕ) → (bytes_eq (codes "initialize") method || is_plain method) ≡ true → bytes_eq (codes "lspmux/open") method ≡ false
+first_unnamed : (method : List ℕ) → (bytes_eq (codes "initialize") method || is_refused (class_of method Editor false)) ≡ true → bytes_eq (codes "lspmux/open") method ≡ false
 first_unnamed method h = go (bytes_eq (codes "initialize") method) refl h
   where
-    go : (b : Bool) → bytes_eq (codes "initialize") method ≡ b → (b || is_plain method) ≡ true → bytes_eq (codes "lspmux/open") method ≡ false
+    go : (b : Bool) → bytes_eq (codes "initialize") method ≡ b → (b || is_refused (class_of method Editor false)) ≡ true → bytes_eq (codes "lspmux/open") method ≡ false
     go true e k = ap (λ m. bytes_eq (codes "lspmux/open") m) (sym ((bytes_eq-Decides (codes "initialize") method).0 e))
-    go false e k = plain_unnamed method k
+    go false e k = refused_unnamed method k
+
+-- of class Wrong or Other, it is one of those that are refused before
+pub served_refused : (method : List ℕ) (params : Option Json) → (is_wrong (class_of method Editor false) || is_bare method params) ≡ true → is_refused (class_of method Editor false) ≡ true
+served_refused method params h = among (is_other (class_of method Editor false)) (is_wrong (class_of method Editor false)) (is_shutdown (class_of method Editor false)) (not (has_token params)) h
+  where
+    among : (other wrong down bare : Bool) → (wrong || (other && bare)) ≡ true → (other || (wrong || down)) ≡ true
+    among true wrong down bare h = refl
+    among false true down bare h = refl
+    among false false down bare h = absurd (cc)
+
+served_unnamed : (method : List ℕ) (params : Option Json) → (is_wrong (class_of method Editor false) || is_bare method params) ≡ true → bytes_eq (codes "lspmux/open") method ≡ false
+served_unnamed method params h = refused_unnamed method (served_refused method params h)
 
 as_unnamed : (phase : Phase) (method : List ℕ) (params : Option Json) → built_as phase method params ≡ true → bytes_eq (codes "lspmux/open") method ≡ false
 as_unnamed New method params h = first_unnamed method h
-as_unnamed Waiting method params h = plain_unnamed method h
-as_unnamed Answered method params h = plain_unnamed method (and_parts (is_plain method) (not (has_token params)) h).0
-as_unnamed Running method params h = plain_unnamed method (and_parts (is_plain method) (not (has_token params)) h).0
+as_unnamed Waiting method params h = refused_unnamed method h
+as_unnamed Answered method params h = served_unnamed method params h
+as_unnamed Running method params h = served_unnamed method params h
+as_unnamed Closed method params h = refused_unnamed method h
 as_unnamed Absent method params h = absurd (cc)
 as_unnamed Down method params h = absurd (cc)
-as_unnamed Closed method params h = absurd (cc)
 as_unnamed Gone method params h = absurd (cc)
 
 abbrev server_in : Meant → Option ℕ
@@ -59,7 +74,7 @@ server_in x = x.server
 settles_none : (servers : List Server) (x : Meant) (phase : Phase) (ids : List Id) (m : Message) → built_from_editor phase ids m ≡ true → x.server ≡ None → (settles servers x m).server ≡ None
 settles_none servers x phase ids (request id method params) built h =
     ap (λ b. server_in (if b then record { settled = true; server = server_named servers (string_of (named_of (codes "server") params)) } else record { settled = bytes_eq (codes "initialize") method; server = None }))
-    (as_unnamed phase method params (and_parts (not (is_open id ids)) (built_as phase method params) built).1)
+    (as_unnamed phase method params (and_parts (is_fresh phase id ids) (built_as phase method params) built).1)
 settles_none servers x phase ids (notification method params) built h = h
 settles_none servers x phase ids (result id r) built h = h
 settles_none servers x phase ids (error id e) built h = h

@@ -1,6 +1,6 @@
 -- Which causes meet only rows of the table over several editors and groups that are built, until all are.
--- Not built: requests under an id that is open (E3), requests of the multiplexer's own (E4 to E6), `initialize` in another phase than New, `shutdown` and `exit` (E9), requests of another class than Other, and behind the answer to `initialize` those with tokens;
--- notifications but `initialized` and those on documents; responses of editors; a server's own requests and notifications; results that read versions; a refused `initialize` (S3); the end of a link or of a program; and ticks.
+-- Not built of an editor that isn't closed: requests under an id that is open (E3), those of the multiplexer's own (E4 to E6), `initialize` in another phase than New, `exit`, and behind the answer to `initialize` requests with tokens (E10), `shutdown` (E9), and the notifications that go on (E11, E16, E17).
+-- Not built of a start: its requests and notifications while it is ready, results that read versions (S5), and before that requests, a refused `initialize` (S3) and responses to nothing; behind its `shutdown` or its end, responses. Nor the end of a link or of a program, and ticks.
 -- Of S2, what is read back must be what was meant: editors are shown all of the result.
 use Rattle.std.specs.Prelude.{ℕ, Bool, true, false, not, ◌&&◌, ◌||◌, List, find, codes, bytes_eq}
 use Rattle.std.specs.Prelude.{Option, Some, None}
@@ -10,45 +10,76 @@ use Rattle.mux_history.specs.declared.entry.Entry.{Entry}
 use Rattle.json_text.specs.Json.{Json}
 use Rattle.document_model.specs.Sayings.{speaks, saying_by}
 use Rattle.lsp_method.specs.Class.{class_of}
+use Rattle.lsp_method.specs.declared.variants.Class.{Class}
 use Rattle.lsp_method.specs.declared.variants.Origin.TheVariants.{Editor}
-use Rattle.rpc_message.specs.Message.{Message, request, notification, result, error, not_json, not_message, Id, message_of, result_bytes}
+use Rattle.rpc_message.specs.Message.{Message, request, notification, result, error, Id, message_of, result_bytes}
 use Rattle.event_model.specs.declared.phase.Phase.{Phase}
-use Rattle.event_model.specs.declared.phase.Phase.TheVariants.{New, Waiting, Answered, Running}
+use Rattle.event_model.specs.declared.phase.Phase.TheVariants.{New, Waiting, Answered, Running, Closed}
 use Rattle.event_model.specs.declared.stage.Stage.{Stage}
-use Rattle.event_model.specs.declared.stage.Stage.TheVariants.{Initializing, Ready}
-use Rattle.event_model.specs.Event.{Event, events_of, notifies}
+use Rattle.event_model.specs.declared.stage.Stage.TheVariants.{Initializing, Ready, Stopping, Ending}
+use Rattle.event_model.specs.Event.{Event, events_of}
 use Rattle.event_model.specs.Members.{has_token, reads_versions}
 use Rattle.event_model.specs.Phases.{desk_of, is_malformed}
 use Rattle.event_model.specs.Requests.{open_of, is_open}
 use Rattle.event_model.specs.Settings.{Settings}
 use Rattle.event_model.specs.Stages.{life_of, is_first_result}
 use Rattle.mux_model.specs.Built.{is_other}
+use Rattle.mux_model.specs.Methods.{is_dropped, is_shutdown, is_wrong}
 use Rattle.group_words.specs.Rows.{shown_of}
 use Rattle.group_rows.specs.Forwarded.{Forwarded, answered_by, forwarding_of}
 
--- E8 and E10: the request is of class Other
+-- E10: the request is of class Other, and has no token
 abbrev pub is_plain : List ℕ → Bool
 is_plain method = is_other (class_of method Editor false)
 
--- in New also E7
+abbrev pub is_bare : List ℕ → Option Json → Bool
+is_bare method params = is_plain method && not (has_token params)
+
+-- E8: a request before the answer to `initialize` is refused, but those of the multiplexer's own
+abbrev pub is_refused : Class → Bool
+is_refused c = is_other c || (is_wrong c || is_shutdown c)
+
+-- in New also E7; behind the answer E8 of class Wrong, and E10; of a closed editor nothing is heard (J2)
 abbrev pub built_as : Phase → List ℕ → Option Json → Bool
-built_as New method params = bytes_eq (codes "initialize") method || is_plain method
-built_as Waiting method params = is_plain method
-built_as Answered method params = is_plain method && not (has_token params)
-built_as Running method params = is_plain method && not (has_token params)
+built_as New method params = bytes_eq (codes "initialize") method || is_refused (class_of method Editor false)
+built_as Waiting method params = is_refused (class_of method Editor false)
+built_as Answered method params = is_wrong (class_of method Editor false) || is_bare method params
+built_as Running method params = is_wrong (class_of method Editor false) || is_bare method params
+built_as Closed method params = is_refused (class_of method Editor false)
 built_as other method params = false
 
+-- E12 to E15: `initialized`, what is on documents, and class Dropped
+abbrev pub is_quiet : List ℕ → Option Json → Bool
+is_quiet method params = bytes_eq (codes "initialized") method || (speaks (saying_by method params) || is_dropped (class_of method Editor true))
+
+-- before the answer and behind `shutdown` only `exit` is more than nothing
+abbrev pub built_notice : Phase → List ℕ → Option Json → Bool
+built_notice Answered method params = is_quiet method params
+built_notice Running method params = is_quiet method params
+built_notice Closed method params = true
+built_notice other method params = not (bytes_eq (codes "exit") method)
+
+-- E3: no request of the editor under this id is open; of a closed one nothing is asked
+abbrev pub is_fresh : Phase → Id → List Id → Bool
+is_fresh Closed id ids = true
+is_fresh phase id ids = not (is_open id ids)
+
+-- E19: a response answers nothing, since nothing is asked of editors yet
 abbrev pub built_from_editor : Phase → List Id → Message → Bool
-built_from_editor phase ids (request id method params) = not (is_open id ids) && built_as phase method params
-built_from_editor phase ids (notification method params) = notifies (codes "initialized") (notification method params) || speaks (saying_by method params)
-built_from_editor phase ids not_json = true
-built_from_editor phase ids not_message = true
-built_from_editor phase ids (result id r) = false
-built_from_editor phase ids (error id e) = false
+built_from_editor phase ids (request id method params) = is_fresh phase id ids && built_as phase method params
+built_from_editor phase ids (notification method params) = built_notice phase method params
+built_from_editor phase ids other = true
 
 -- S2: editors are shown all of the result
 abbrev pub is_shown_whole : List ℕ → Bool
 is_shown_whole body = bytes_eq (shown_of (result_bytes body)) (result_bytes body)
+
+-- S2, and notifications by S4
+abbrev pub built_early : List ℕ → Message → Bool
+built_early body (request id method params) = false
+built_early body (result id r) = is_first_result (result id r) && is_shown_whole body
+built_early body (error id e) = false
+built_early body other = true
 
 -- S5 without versions
 abbrev pub is_passed_plainly : Option Forwarded → Json → Bool
@@ -56,18 +87,24 @@ is_passed_plainly None r = true
 is_passed_plainly (Some f) r = not (reads_versions r)
 
 abbrev pub built_response : List Forwarded → Message → Bool
+built_response fs (request id method params) = false
+built_response fs (notification method params) = false
 built_response fs (result id r) = is_passed_plainly (find (answered_by id) fs) r
-built_response fs (error id e) = true
-built_response fs other = false
+built_response fs other = true
 
-abbrev pub built_answer : Stage → List Forwarded → Message → Bool
-built_answer Initializing fs m = is_first_result m
-built_answer Ready fs m = built_response fs m
-built_answer other fs m = false
+-- S4 of a start that is to end, without responses
+abbrev pub built_late : Message → Bool
+built_late (result id r) = false
+built_late (error id e) = false
+built_late other = true
 
 -- S1 in every stage, and those
 abbrev pub built_from_server : Stage → List Forwarded → List ℕ → Message → Bool
-built_from_server stage fs body m = is_malformed m || (built_answer stage fs m && (not (is_first_result m) || is_shown_whole body))
+built_from_server Initializing fs body m = built_early body m
+built_from_server Ready fs body m = built_response fs m
+built_from_server Stopping fs body m = built_late m
+built_from_server Ending fs body m = built_late m
+built_from_server other fs body m = is_malformed m
 
 abbrev pub built_behind : Settings → List Event → Cause → Bool
 built_behind settings before (Joined e) = true

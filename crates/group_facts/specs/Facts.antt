@@ -1,5 +1,5 @@
 -- What holds of every legal history of several editors and groups, and is no rule of a session.
-use Rattle.std.specs.Prelude.{◌≡◌, ℕ, ◌+◌, ◌<◌, ◌≤◌, Bool, true, false, ◌&&◌, List, length, nat_eq, codes}
+use Rattle.std.specs.Prelude.{◌≡◌, ℕ, ◌+◌, ◌<◌, ◌≤◌, Bool, true, false, ◌&&◌, List, length, nat_eq, codes, is_some}
 use Rattle.std.specs.Prelude.{Option, Some, None}
 use Rattle.std.specs.List.{AllByRecursion}
 use Rattle.json_text.specs.Json.{Json}
@@ -18,7 +18,7 @@ use Rattle.event_model.specs.Phases.{desk_of, editors_of}
 use Rattle.event_model.specs.Requests.{next_number, is_open, open_of}
 use Rattle.event_model.specs.Settings.{Settings}
 use Rattle.event_model.specs.Spawns.{group_of, starts_of}
-use Rattle.event_model.specs.Stages.{life_of, no_life}
+use Rattle.event_model.specs.Stages.{is_ready, life_of, no_life}
 use Rattle.mux_model.specs.Documents.{held_at}
 use Rattle.group_words.specs.declared.kept.Kept.{Kept}
 use Rattle.group_words.specs.declared.placed.Placed.{Placed}
@@ -54,8 +54,10 @@ pub record IsPlain (body : List ℕ) : Type 0 where
   pub says : message_of body ≡ result id r
   pub whole : shown_of (result_bytes body) ≡ result_bytes body
 
-abbrev pub Plain : List Event → Type 0
-Plain events = (s : ℕ) (body : List ℕ) → result_of s events ≡ Some body → IsPlain body
+-- and one that is ready gave one
+pub record Plain (events : List Event) : Type 0 where
+  pub whole : (s : ℕ) (body : List ℕ) → result_of s events ≡ Some body → IsPlain body
+  pub given : (s : ℕ) → is_ready (life_of s events).stage ≡ true → is_some (result_of s events) ≡ true
 
 -- the daemon's own `initialize` to the starts of a group is a request with the number 1
 pub record IsWritten (x : Kept) : Type 0 where

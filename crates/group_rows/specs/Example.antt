@@ -35,6 +35,20 @@ too_early_outs = ToEditor 0 (codes "{\"jsonrpc\":\"2.0\",\"id\":1,\"error\":{\"c
     ∷ ToEditor 0 (codes "{\"jsonrpc\":\"2.0\",\"id\":null,\"error\":{\"code\":-32600,\"message\":\"Invalid Request\"}}")
     ∷ []
 
+-- requests that aren't taken before the answer to `initialize`, and a notification and a response that give nothing
+abbrev pub refused_early : List Cause
+refused_early = Joined 0
+    ∷ FromEditor 0 (codes "{\"jsonrpc\":\"2.0\",\"id\":1,\"method\":\"shutdown\"}")
+    ∷ FromEditor 0 (codes "{\"jsonrpc\":\"2.0\",\"id\":2,\"method\":\"$/setTrace\"}")
+    ∷ FromEditor 0 (codes "{\"jsonrpc\":\"2.0\",\"method\":\"textDocument/didSave\"}")
+    ∷ FromEditor 0 (codes "{\"jsonrpc\":\"2.0\",\"id\":1,\"result\":null}")
+    ∷ []
+
+abbrev pub refused_early_outs : List Out
+refused_early_outs = ToEditor 0 (codes "{\"jsonrpc\":\"2.0\",\"id\":1,\"error\":{\"code\":-32002,\"message\":\"Server not initialized\"}}")
+    ∷ ToEditor 0 (codes "{\"jsonrpc\":\"2.0\",\"id\":2,\"error\":{\"code\":-32601,\"message\":\"Method not found\"}}")
+    ∷ []
+
 -- two editors share a start
 abbrev pub two_editors : List Cause
 two_editors = Joined 0
@@ -71,6 +85,21 @@ both_ask_outs = two_editors_outs
     ∷ ToServer 0 (codes "{\"jsonrpc\":\"2.0\",\"id\":3,\"method\":\"textDocument/hover\",\"params\":{}}")
     ∷ ToEditor 1 (codes "{\"jsonrpc\":\"2.0\",\"id\":1,\"result\":null}")
     ∷ ToEditor 0 (codes "{\"jsonrpc\":\"2.0\",\"id\":1,\"result\":null}")
+    ∷ []
+
+-- requests under the names of notifications, a notification that goes nowhere, and a response: none goes on
+abbrev pub wrong_names : List Cause
+wrong_names = two_editors
+    ++ FromEditor 0 (codes "{\"jsonrpc\":\"2.0\",\"id\":1,\"method\":\"initialized\"}")
+    ∷ FromEditor 0 (codes "{\"jsonrpc\":\"2.0\",\"id\":2,\"method\":\"$/progress\"}")
+    ∷ FromEditor 0 (codes "{\"jsonrpc\":\"2.0\",\"method\":\"$/setTrace\",\"params\":{\"value\":\"off\"}}")
+    ∷ FromEditor 1 (codes "{\"jsonrpc\":\"2.0\",\"id\":1,\"result\":null}")
+    ∷ []
+
+abbrev pub wrong_names_outs : List Out
+wrong_names_outs = two_editors_outs
+    ++ ToEditor 0 (codes "{\"jsonrpc\":\"2.0\",\"id\":1,\"error\":{\"code\":-32600,\"message\":\"Invalid Request\"}}")
+    ∷ ToEditor 0 (codes "{\"jsonrpc\":\"2.0\",\"id\":2,\"error\":{\"code\":-32601,\"message\":\"Method not found\"}}")
     ∷ []
 
 -- both have a document open, in two texts: the start is switched to the text of the one that asks

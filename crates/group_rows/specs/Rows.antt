@@ -1,5 +1,5 @@
--- The routing table over several editors and groups, in part: E2, E7, E8 before an answer, E10, E12 to E15, S2 of a group's first start, S5 without versions, and the start of a server's program.
-use Rattle.std.specs.Prelude.{ℕ, Bool, ◌&&◌, List, [], ◌∷◌, ◌++◌, filter, find, flat_map, codes, nat_eq, nat_lt, decimal, bytes_eq, if◌then◌else◌}
+-- The routing table over several editors and groups, in part: J2, E2, E7, E8, E10, E12 to E15, S2 of a group's first start, S4 where it gives nothing, S5 without versions, and the start of a server's program.
+use Rattle.std.specs.Prelude.{ℕ, Bool, false, ◌&&◌, List, [], ◌∷◌, ◌++◌, filter, find, flat_map, codes, nat_eq, nat_lt, decimal, bytes_eq, if◌then◌else◌}
 use Rattle.std.specs.Prelude.{Option, Some, None, slice_get}
 use Rattle.std.specs.List.{list_any}
 use Rattle.std.specs.Option.{option_map_or}
@@ -8,8 +8,10 @@ use Rattle.mux_history.specs.declared.cause.Cause.TheVariants.{FromEditor, Start
 use Rattle.mux_history.specs.declared.out.Out.{Out}
 use Rattle.mux_history.specs.declared.out.Out.TheVariants.{ToEditor, ToServer}
 use Rattle.position_codec.specs.declared.Encoding.{Encoding}
+use Rattle.lsp_method.specs.Class.{class_of}
+use Rattle.lsp_method.specs.declared.variants.Origin.TheVariants.{Editor}
 use Rattle.rpc_message.specs.Message.{Message, request, notification, message_of, id_bytes, result_bytes}
-use Rattle.rpc_message.specs.Texts.{ok_text, error_text, initialized_text, with_id_text, Code, request_failed, server_not_initialized}
+use Rattle.rpc_message.specs.Texts.{ok_text, error_text, initialized_text, with_id_text, Code, invalid_request, method_not_found, request_failed, server_not_initialized}
 use Rattle.document_model.specs.Bodies.{open_text}
 use Rattle.document_model.specs.Helds.{HeldText}
 use Rattle.document_model.specs.Opens.{Open, holder, holder_beside}
@@ -29,6 +31,7 @@ use Rattle.event_model.specs.Settings.{Settings}
 use Rattle.event_model.specs.Spawns.{group_of, start_of}
 use Rattle.event_model.specs.Stages.{life_of, is_ready, is_first_result}
 use Rattle.mux_model.specs.Documents.{held_at}
+use Rattle.mux_model.specs.Methods.{is_dollar, is_wrong}
 use Rattle.mux_model.specs.Rows.{malformed_row, to_start}
 use Rattle.group_words.specs.Houses.{editors_in, groups_of, home_of}
 use Rattle.group_words.specs.Rows.{initialize_of, initialize_row, shown_of}
@@ -101,15 +104,19 @@ document_at settings before e body x g s =
 abbrev pub document_row : Settings → List Event → ℕ → List ℕ → Saying → Row
 document_row settings before e body x = on (home_of settings e before) nothing (λ g. on (start_of g before) nothing (document_at settings before e body x g))
 
--- E15 gives nothing, as a notification on no document does
+-- E8: what a request that isn't taken is answered with
+abbrev pub wrong_code : List ℕ → Code → Code
+wrong_code method otherwise = if is_dollar method then method_not_found else otherwise
+
+-- E15 gives nothing, as a notification on no document does, and a response: nothing is asked of editors yet (E19)
 abbrev pub served_row : Settings → List Event → ℕ → List ℕ → Message → Row
-served_row settings before e body (request id method params) = request_row settings before e body
+served_row settings before e body (request id method params) = choose (is_wrong (class_of method Editor false)) (answer_error e body (wrong_code method invalid_request)) (request_row settings before e body)
 served_row settings before e body (notification method params) = document_row settings before e body (saying_by method params)
 served_row settings before e body other = nothing
 
 -- E8: a request comes too early
 abbrev pub early_row : ℕ → List ℕ → Message → Row
-early_row e body (request id method params) = answer_error e body server_not_initialized
+early_row e body (request id method params) = answer_error e body (wrong_code method server_not_initialized)
 early_row e body other = nothing
 
 -- J2: a closed editor's messages give nothing

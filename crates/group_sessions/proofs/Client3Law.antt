@@ -1,7 +1,10 @@
 -- An editor hears nothing but responses before its session is open, and one `initialize` of it gets a result.
-use Rattle.std.proofs.Common.{◌≡◌, ℕ, Bool, true, false, not, ◌&&◌, ◌||◌, cond, List, [], ◌∷◌, ◌++◌, nat_eq, codes, if◌then◌else◌, Option, None, Some, refl, sym, ◌∙◌, ap, subst, subst₂}
+use Rattle.std.proofs.Common.{◌≡◌, ℕ, Bool, true, false, not, ◌&&◌, ◌||◌, cond, List, [], ◌∷◌, ◌++◌, nat_eq, codes, bytes_eq, if◌then◌else◌, Option, None, Some, refl, sym, ◌∙◌, ap, subst, subst₂}
 use Rattle.std.proofs.lemmas.Bool.{and_parts}
+use Rattle.std.proofs.lemmas.Slice.Eq.{bytes_eq-Decides}
 use Rattle.json_text.specs.Json.{Json}
+use Rattle.lsp_method.specs.Class.{class_of, editor_request, own_request}
+use Rattle.lsp_method.specs.declared.variants.Origin.TheVariants.{Editor}
 use Rattle.mux_history.specs.declared.cause.Cause.{Cause}
 use Rattle.mux_history.specs.declared.cause.Cause.TheVariants.{FromEditor}
 use Rattle.mux_history.specs.declared.entry.Entry.{Entry}
@@ -11,12 +14,12 @@ use Rattle.event_model.specs.declared.phase.Phase.{Phase}
 use Rattle.event_model.specs.declared.phase.Phase.TheVariants.{Absent, New, Waiting, Answered, Running, Down, Closed, Gone}
 use Rattle.event_model.specs.Event.{Event, requests, said, same_id, with_cause}
 use Rattle.event_model.specs.Always.{Always}
-use Rattle.event_model.specs.Members.{has_token}
 use Rattle.event_model.specs.Parts.{editor_part, is_of_editor}
 use Rattle.event_model.specs.Phases.{Desk, desk_of, desk_behind, is_there, phase_closed, phase_told}
 use Rattle.event_model.specs.Requests.{answered_id, is_open, open_behind, open_of, without}
 use Rattle.event_model.specs.Settings.{Settings}
 use Rattle.event_model.specs.Spawns.{starts_of}
+use Rattle.mux_model.specs.Methods.{is_wrong}
 use Rattle.mux_facts.specs.Ranges.{InRange}
 use Rattle.mux_facts.proofs.Bodies.{IsResponseTo}
 use Rattle.mux_facts.proofs.Folds.{desk_more, opens_more}
@@ -26,8 +29,9 @@ use Rattle.mux_facts.proofs.Why.{is_early}
 use Rattle.mux_facts.proofs.Words.{id_same, number_same}
 use Rattle.session_laws.specs.ClientRules.{ClientRule3, KeepsClient3, Opening, may_hear, opening_behind, opening_told}
 use Rattle.session_laws.proofs.Client3Law as client_3
-use Rattle.session_laws.proofs.Client3Law.{AsksOnce, Expects, Link, LinkAt, closed_link, late_told, may_answer, may_welcome, none_open, opening, other_not, same_request, took_it, welcomed}
-use Rattle.group_facts.specs.Built.{built_behind, built_from_editor, is_plain}
+use Rattle.session_laws.proofs.Client3Law.{AsksOnce, Expects, Link, LinkAt, closed_link, late_told, may_answer, may_welcome, none_open, opening, same_request, took_it, welcomed}
+use Rattle.group_facts.specs.Built.{built_behind, built_from_editor, is_bare, is_refused}
+use Rattle.group_facts.proofs.Unnamed.{served_refused}
 use Rattle.group_facts.specs.Legal.{Legal}
 use Rattle.group_facts.specs.Why.{WhyToEditor, rejects, refuses, turns_away, welcomes, passes}
 use Rattle.group_facts.proofs.RestLaws.{Law, law_holds}
@@ -35,14 +39,25 @@ use Rattle.group_sessions.proofs.Client2Law.{response_to}
 
 -- A request `initialize` is one of a new editor
 
+refused_other : (method : List ℕ) → is_refused (class_of method Editor false) ≡ true → bytes_eq (codes "initialize") method ≡ false
+unfolding editor_request own_request
+refused_other method h = go (bytes_eq (codes "initialize") method) refl
+  where
+    go : (b : Bool) → bytes_eq (codes "initialize") method ≡ b → b ≡ false
+    go true e = absurd (let k : is_refused (class_of (codes "initialize") Editor false) ≡ true = subst (λ m. is_refused (class_of m Editor false) ≡ true) (sym ((bytes_eq-Decides (codes "initialize") method).0 e)) h in cc)
+    go false e = refl
+
+served_other : (method : List ℕ) (params : Option Json) → (is_wrong (class_of method Editor false) || is_bare method params) ≡ true → bytes_eq (codes "initialize") method ≡ false
+served_other method params h = refused_other method (served_refused method params h)
+
 no_initialize : (phase : Phase) (ids : List Id) (m : Message) → (phase ≡ New → ⊥) → built_from_editor phase ids m ≡ true → requests (codes "initialize") m ≡ false
-no_initialize Waiting ids (request id method params) other h = other_not method (and_parts (not (is_open id ids)) (is_plain method) h).1
-no_initialize Answered ids (request id method params) other h = other_not method (and_parts (is_plain method) (not (has_token params)) (and_parts (not (is_open id ids)) (is_plain method && not (has_token params)) h).1).0
-no_initialize Running ids (request id method params) other h = other_not method (and_parts (is_plain method) (not (has_token params)) (and_parts (not (is_open id ids)) (is_plain method && not (has_token params)) h).1).0
+no_initialize Waiting ids (request id method params) other h = refused_other method (and_parts (not (is_open id ids)) (is_refused (class_of method Editor false)) h).1
+no_initialize Answered ids (request id method params) other h = served_other method params (and_parts (not (is_open id ids)) (is_wrong (class_of method Editor false) || is_bare method params) h).1
+no_initialize Running ids (request id method params) other h = served_other method params (and_parts (not (is_open id ids)) (is_wrong (class_of method Editor false) || is_bare method params) h).1
 no_initialize New ids (request id method params) other h = absurd (other refl)
 no_initialize Absent ids (request id method params) other h = absurd (let none = (and_parts (not (is_open id ids)) false h).1 in cc)
 no_initialize Down ids (request id method params) other h = absurd (let none = (and_parts (not (is_open id ids)) false h).1 in cc)
-no_initialize Closed ids (request id method params) other h = absurd (let none = (and_parts (not (is_open id ids)) false h).1 in cc)
+no_initialize Closed ids (request id method params) other h = refused_other method h
 no_initialize Gone ids (request id method params) other h = absurd (let none = (and_parts (not (is_open id ids)) false h).1 in cc)
 no_initialize phase ids (notification method params) other h = refl
 no_initialize phase ids (result id r) other h = refl

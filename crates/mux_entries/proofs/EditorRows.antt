@@ -112,11 +112,15 @@ pub served_one : (p : Phase) → (p ≡ Answered) ⊎ (p ≡ Running) → is_ser
 served_one p (inl h) = ap is_served h
 served_one p (inr h) = ap is_served h
 
-pub rests_one : (p : Phase) → (p ≡ Absent) ⊎ ((p ≡ Down) ⊎ ((p ≡ Closed) ⊎ (p ≡ Gone))) → rests p ≡ true
+pub rests_one : (p : Phase) → (p ≡ Absent) ⊎ ((p ≡ Down) ⊎ (p ≡ Gone)) → rests p ≡ true
 rests_one p (inl h) = ap rests h
 rests_one p (inr (inl h)) = ap rests h
-rests_one p (inr (inr (inl h))) = ap rests h
-rests_one p (inr (inr (inr h))) = ap rests h
+rests_one p (inr (inr h)) = ap rests h
+
+pub rests_open : (p : Phase) → (p ≡ Absent) ⊎ ((p ≡ Down) ⊎ (p ≡ Gone)) → p ≡ Closed → ⊥
+rests_open p (inl h) k = cc
+rests_open p (inr (inl h)) k = cc
+rests_open p (inr (inr h)) k = cc
 
 -- a response is no call
 pub unasking : (m : Message) (x : Sort) → sort_of m ≡ Some x → (x ≡ sort.Result) ⊎ (x ≡ sort.Error) → sort_of m ≡ Some sort.Request → ⊥
@@ -162,8 +166,8 @@ module _ (settings : Settings) (before : List Event) (e : ℕ) (body : List ℕ)
   served : (m : Message) → message_of body ≡ m → is_served (desk_of e before).phase ≡ true → is_malformed (message_of body) ≡ false → Alike row (served_row settings before e body m)
   served m says h well = alike_then (phased (desk_of e before).phase refl well) (alike (served_as (message_of body) (desk_of e before).phase h ∙ ap (served_row settings before e body) says))
 
-  -- E10
-  pub asked : (id : Id) (method : List ℕ) (params : Option Json) → message_of body ≡ request id method params → is_served (desk_of e before).phase ≡ true → is_malformed (message_of body) ≡ false → Alike row (request_row settings before e body)
+  -- E8 and E10
+  pub asked : (id : Id) (method : List ℕ) (params : Option Json) → message_of body ≡ request id method params → is_served (desk_of e before).phase ≡ true → is_malformed (message_of body) ≡ false → Alike row (served_row settings before e body (request id method params))
   asked id method params says h well = served (request id method params) says h well
 
   -- E12 to E15

@@ -1,5 +1,5 @@
 -- What a start says, by where it stands.
-use Rattle.std.proofs.Common.{◌≡◌, ℕ, Bool, true, false, not, ◌&&◌, ◌||◌, List, [], ◌∷◌, map, nat_eq, refl, ap, sym, subst, ◌∙◌, codes, if◌then◌else◌}
+use Rattle.std.proofs.Common.{◌≡◌, ℕ, Bool, true, false, not, ◌&&◌, ◌||◌, List, [], ◌∷◌, map, nat_eq, refl, ap, sym, subst, ◌∙◌, codes, if◌then◌else◌, ◌⊎◌, inl, inr}
 use Rattle.std.specs.Prelude.{Option, Some, None, bytes_eq, find, fold, slice_get}
 use Rattle.std.proofs.lemmas.Bool.{and_parts}
 use Rattle.std.proofs.lemmas.Slice.Eq.{bytes_eq-Decides}
@@ -25,7 +25,7 @@ use Rattle.event_model.specs.Settings.{Settings}
 use Rattle.event_model.specs.Stages.{Life, is_ended, is_first_result, life_behind, life_of, no_life, runs, stage_ending, stage_hears, stage_started, stage_told}
 use Rattle.event_model.proofs.Frames.{never}
 use Rattle.event_model.proofs.Turns.{alike}
-use Rattle.group_facts.specs.Built.{built_answer, built_from_server, is_shown_whole}
+use Rattle.group_facts.specs.Built.{built_early, built_from_server, built_late, is_shown_whole}
 use Rattle.group_facts.specs.Facts.{AllForwarded, IsForwarded, WaitingAsked, is_early}
 use Rattle.group_rows.specs.Forwarded.{Forwarded, answered_by, forwarding_of}
 use Rattle.group_rows.specs.Rows.{first_result, from_server, pass_on, response_row}
@@ -133,23 +133,17 @@ nobody : (fs : List Forwarded) → find (answered_by None) fs ≡ None
 nobody [] = refl
 nobody (f ∷ fs) = nobody fs
 
-pub malformed_first : (m : Message) (b : Bool) → is_malformed m ≡ true → (is_first_result m && b) ≡ false
-malformed_first not_json b h = refl
-malformed_first not_message b h = refl
-malformed_first (request id method params) b h = absurd (cc)
-malformed_first (notification method params) b h = absurd (cc)
-malformed_first (result id r) b h = absurd (cc)
-malformed_first (error id r) b h = absurd (cc)
+pub unanswered_first : (m : Message) (b : Bool) → answered_id m ≡ None → (is_first_result m && b) ≡ false
+unanswered_first (result None r) b h = refl
+unanswered_first (result (Some id) r) b h = absurd (cc)
+unanswered_first other b h = refl
 
-pub malformed_error : (m : Message) (b : Bool) → is_malformed m ≡ true → (is_first_error m && b) ≡ false
-malformed_error not_json b h = refl
-malformed_error not_message b h = refl
-malformed_error (request id method params) b h = absurd (cc)
-malformed_error (notification method params) b h = absurd (cc)
-malformed_error (result id r) b h = absurd (cc)
-malformed_error (error id r) b h = absurd (cc)
+pub unanswered_error : (m : Message) (b : Bool) → answered_id m ≡ None → (is_first_error m && b) ≡ false
+unanswered_error (error None r) b h = refl
+unanswered_error (error (Some id) r) b h = absurd (cc)
+unanswered_error other b h = refl
 
-malformed_names : (m : Message) → is_malformed m ≡ true → answered_id m ≡ None
+pub malformed_names : (m : Message) → is_malformed m ≡ true → answered_id m ≡ None
 malformed_names not_json h = refl
 malformed_names not_message h = refl
 malformed_names (request id method params) h = absurd (cc)
@@ -157,26 +151,23 @@ malformed_names (notification method params) h = absurd (cc)
 malformed_names (result id r) h = absurd (cc)
 malformed_names (error id r) h = absurd (cc)
 
-pub malformed_named : (m : Message) → is_malformed m ≡ true → NamesAt (answered_id m) None
-malformed_named m h = subst (λ id. NamesAt id None) (sym (malformed_names m h)) (λ n l. refl)
+pub unanswered_named : (m : Message) → answered_id m ≡ None → NamesAt (answered_id m) None
+unanswered_named m h = subst (λ id. NamesAt id None) (sym h) (λ n l. refl)
 
 module _ (settings : Settings) (s : ℕ) (before : List Event) (body : List ℕ) (m : Message) where
-  pub malformed_row : (stage : Stage) → is_malformed m ≡ true → Alike (from_server settings s before body m stage) nothing
-  malformed_row Initializing h = is_second refl (first_not m h)
+  pub unanswered_row : (stage : Stage) → answered_id m ≡ None → Alike (from_server settings s before body m stage) nothing
+  unanswered_row Initializing h = is_second refl (first_not m h)
     where
-      first_not : (m : Message) → is_malformed m ≡ true → is_first_result m ≡ false
-      first_not not_json h = refl
-      first_not not_message h = refl
-      first_not (request id method params) h = absurd (cc)
-      first_not (notification method params) h = absurd (cc)
-      first_not (result id r) h = absurd (cc)
-      first_not (error id r) h = absurd (cc)
-  malformed_row Ready h = alike (ap (λ o. on o nothing (pass_on before body)) (ap (λ id. find (answered_by id) (forwarding_of s before).open_requests) (malformed_names m h) ∙ nobody (forwarding_of s before).open_requests))
-  malformed_row Unspawned h = alike refl
-  malformed_row Spawning h = alike refl
-  malformed_row Stopping h = alike refl
-  malformed_row Ending h = alike refl
-  malformed_row Ended h = alike refl
+      first_not : (m : Message) → answered_id m ≡ None → is_first_result m ≡ false
+      first_not (result None r) h = refl
+      first_not (result (Some id) r) h = absurd (cc)
+      first_not other h = refl
+  unanswered_row Ready h = alike (ap (λ o. on o nothing (pass_on before body)) (ap (λ id. find (answered_by id) (forwarding_of s before).open_requests) h ∙ nobody (forwarding_of s before).open_requests))
+  unanswered_row Unspawned h = alike refl
+  unanswered_row Spawning h = alike refl
+  unanswered_row Stopping h = alike refl
+  unanswered_row Ending h = alike refl
+  unanswered_row Ended h = alike refl
 
 -- a body that was read is a message
 tells_one : (doc : Doc) (envelope : Envelope) (m : Message) → Tells doc envelope m → is_malformed m ≡ false
@@ -188,15 +179,35 @@ tells_one doc (Failure id failure) m h = ap is_malformed h.is
 pub read_well : (parsed : Parsed) (body : List ℕ) → IsRead parsed body → is_malformed (message_of body) ≡ false
 read_well parsed body read = tells_one parsed.doc parsed.envelope (message_of body) read.tells
 
--- what is built of the messages of a start
-record IsBuilt (stage : Stage) (fs : List Forwarded) (body : List ℕ) (m : Message) : Type 0 where
-  pub answer : built_answer stage fs m ≡ true
-  pub whole : is_first_result m ≡ true → is_shown_whole body ≡ true
+-- what is built of a start that gave no result yet: that result, shown whole, or what answers nothing
+early_whole : (body : List ℕ) (m : Message) → built_early body m ≡ true → is_first_result m ≡ true → is_shown_whole body ≡ true
+early_whole body (result id r) h first = (and_parts (is_first_result (result id r)) (is_shown_whole body) h).1
+early_whole body (error id r) h first = absurd (cc)
+early_whole body (request id method params) h first = absurd (cc)
+early_whole body (notification method params) h first = absurd (cc)
+early_whole body not_json h first = absurd (cc)
+early_whole body not_message h first = absurd (cc)
 
-built_parts : (stage : Stage) (fs : List Forwarded) (body : List ℕ) (m : Message) → is_malformed m ≡ false → built_from_server stage fs body m ≡ true → IsBuilt stage fs body m
-built_parts stage fs body m well built =
-    let both = and_parts (built_answer stage fs m) (not (is_first_result m) || is_shown_whole body) (ap (λ b. b || (built_answer stage fs m && (not (is_first_result m) || is_shown_whole body))) (sym well) ∙ built) in
-    record { answer = both.0; whole = λ first. ap (λ b. not b || is_shown_whole body) (sym first) ∙ both.1 }
+early_silent : (body : List ℕ) (m : Message) → built_early body m ≡ true → is_first_result m ≡ false → answered_id m ≡ None
+early_silent body (result id r) h other = never (sym (and_parts (is_first_result (result id r)) (is_shown_whole body) h).0 ∙ other)
+early_silent body (error id r) h other = absurd (cc)
+early_silent body (request id method params) h other = absurd (cc)
+early_silent body (notification method params) h other = refl
+early_silent body not_json h other = refl
+early_silent body not_message h other = refl
+
+-- and of one that is to end
+late_silent : (m : Message) → built_late m ≡ true → answered_id m ≡ None
+late_silent (result id r) h = absurd (cc)
+late_silent (error id r) h = absurd (cc)
+late_silent (request id method params) h = refl
+late_silent (notification method params) h = refl
+late_silent not_json h = refl
+late_silent not_message h = refl
+
+pub silent_late : (stage : Stage) (fs : List Forwarded) (body : List ℕ) (m : Message) → (stage ≡ Stopping) ⊎ (stage ≡ Ending) → built_from_server stage fs body m ≡ true → answered_id m ≡ None
+silent_late stage fs body m (inl at) built = late_silent m (ap (λ g. built_from_server g fs body m) (sym at) ∙ built)
+silent_late stage fs body m (inr at) built = late_silent m (ap (λ g. built_from_server g fs body m) (sym at) ∙ built)
 
 -- S2
 first_is : (m : Message) → is_first_result m ≡ true → (id : Option Id) × (r : Json) × (m ≡ result id r)
@@ -219,23 +230,24 @@ pub record IsFirst (settings : Settings) (before : List Event) (s : ℕ) (body :
   pub shown : IsShown body
   pub row : Alike (from_server settings s before body (message_of body) (life_of s before).stage) (first_result settings before s body)
 
-module _ (settings : Settings) (before : List Event) (s : ℕ) (body : List ℕ) (stage : (life_of s before).stage ≡ Initializing) (well : is_malformed (message_of body) ≡ false) (built : built_from_server (life_of s before).stage (forwarding_of s before).open_requests body (message_of body) ≡ true) where
-  now_built : IsBuilt Initializing (forwarding_of s before).open_requests body (message_of body)
-  now_built = built_parts Initializing (forwarding_of s before).open_requests body (message_of body) well (ap (λ g. built_from_server g (forwarding_of s before).open_requests body (message_of body)) (sym stage) ∙ built)
+module _ (settings : Settings) (before : List Event) (s : ℕ) (body : List ℕ) (stage : (life_of s before).stage ≡ Initializing) (built : built_from_server (life_of s before).stage (forwarding_of s before).open_requests body (message_of body) ≡ true) where
+  now_built : built_early body (message_of body) ≡ true
+  now_built = ap (λ g. built_from_server g (forwarding_of s before).open_requests body (message_of body)) (sym stage) ∙ built
 
-  pub first_built : is_first_result (message_of body) ≡ true
-  first_built = now_built.answer
+  -- another message
+  pub other_silent : is_first_result (message_of body) ≡ false → answered_id (message_of body) ≡ None
+  other_silent other = early_silent body (message_of body) now_built other
 
-  pub first_entry : IsFirst settings before s body
-  first_entry =
-      let k = first_is (message_of body) first_built in
+  pub first_entry : is_first_result (message_of body) ≡ true → IsFirst settings before s body
+  first_entry first =
+      let k = first_is (message_of body) first in
       record {
         id = k.0;
         value = k.1;
         says = k.2;
-        first = first_built;
-        shown = record { value = k.1; text = subst (IsShallowText 1023 k.1) (sym ((bytes_eq-Decides (shown_of (result_bytes body)) (result_bytes body)).0 (now_built.whole first_built))) (result_bytes_law body k.0 k.1 k.2) };
-        row = is_first (ap (from_server settings s before body (message_of body)) stage) first_built;
+        first = first;
+        shown = record { value = k.1; text = subst (IsShallowText 1023 k.1) (sym ((bytes_eq-Decides (shown_of (result_bytes body)) (result_bytes body)).0 (early_whole body (message_of body) now_built first))) (result_bytes_law body k.0 k.1 k.2) };
+        row = is_first (ap (from_server settings s before body (message_of body)) stage) first;
       }
 
 -- S5
@@ -249,14 +261,15 @@ pub ready_row : (settings : Settings) (before : List Event) (s : ℕ) (body : Li
 ready_row settings before s body stage = alike (ap (from_server settings s before body (message_of body)) stage)
 
 -- in other stages no message is built
-answers_none : (stage : Stage) (fs : List Forwarded) (m : Message) → (stage ≡ Initializing → ⊥) → (stage ≡ Ready → ⊥) → built_answer stage fs m ≡ false
-answers_none Initializing fs m h k = absurd (h refl)
-answers_none Ready fs m h k = absurd (k refl)
-answers_none Unspawned fs m h k = refl
-answers_none Spawning fs m h k = refl
-answers_none Stopping fs m h k = refl
-answers_none Ending fs m h k = refl
-answers_none Ended fs m h k = refl
+others_none : (stage : Stage) (fs : List Forwarded) (body : List ℕ) (m : Message) → (stage ≡ Initializing → ⊥) → (stage ≡ Ready → ⊥) → (stage ≡ Stopping → ⊥) → (stage ≡ Ending → ⊥) → built_from_server stage fs body m ≡ is_malformed m
+others_none Initializing fs body m i r s e = absurd (i refl)
+others_none Ready fs body m i r s e = absurd (r refl)
+others_none Stopping fs body m i r s e = absurd (s refl)
+others_none Ending fs body m i r s e = absurd (e refl)
+others_none Unspawned fs body m i r s e = refl
+others_none Spawning fs body m i r s e = refl
+others_none Ended fs body m i r s e = refl
 
-pub built_elsewhere : {A : Type 0} (stage kept : Stage) (fs : List Forwarded) (body : List ℕ) (m : Message) → stage ≡ kept → (kept ≡ Initializing → ⊥) → (kept ≡ Ready → ⊥) → is_malformed m ≡ false → built_from_server stage fs body m ≡ true → A
-built_elsewhere stage kept fs body m at h k well built = never (sym (built_parts stage fs body m well built).answer ∙ answers_none stage fs m (λ e. h (sym at ∙ e)) (λ e. k (sym at ∙ e)))
+pub built_elsewhere : {A : Type 0} (stage kept : Stage) (fs : List Forwarded) (body : List ℕ) (m : Message) → stage ≡ kept → (kept ≡ Initializing → ⊥) → (kept ≡ Ready → ⊥) → (kept ≡ Stopping → ⊥) → (kept ≡ Ending → ⊥)
+    → is_malformed m ≡ false → built_from_server stage fs body m ≡ true → A
+built_elsewhere stage kept fs body m at i r s e well built = never (sym built ∙ others_none stage fs body m (λ h. i (sym at ∙ h)) (λ h. r (sym at ∙ h)) (λ h. s (sym at ∙ h)) (λ h. e (sym at ∙ h)) ∙ well)

@@ -1,30 +1,35 @@
 //! What editors do: that one joined, and what one said.
-ghost use Rattle.std.specs.Prelude.{◌≡◌, ◌≤◌, ◌<◌, ℕ, List, [], true, length, OnOk};
+ghost use Rattle.std.specs.Prelude.{◌≡◌, ◌≤◌, ◌<◌, ◌||◌, ℕ, List, [], Option, true, false, length, OnOk};
 ghost use Rattle.event_model.specs.declared.phase.Phase.TheVariants.{New};
 ghost use Rattle.event_model.specs.Does.{Done};
 ghost use Rattle.event_model.specs.Event.{Event, with_cause};
 ghost use Rattle.event_model.specs.Phases.{desk_of, is_served};
 ghost use Rattle.event_model.specs.Settings.{Settings};
-ghost use Rattle.group_facts.specs.Built.{built_behind};
+ghost use Rattle.group_facts.specs.Built.{built_behind, is_bare};
 ghost use Rattle.group_facts.specs.Facts.{Known};
 ghost use Rattle.group_facts.specs.Settled.{Settled};
-ghost use Rattle.group_rows.specs.Rows.{row_of};
+ghost use Rattle.group_rows.specs.Rows.{row_of, served_row};
+ghost use Rattle.json_text.specs.Json.{Json};
+ghost use Rattle.lsp_method.specs.Class.{class_of};
+ghost use Rattle.lsp_method.specs.declared.variants.Origin.TheVariants.{Editor};
 ghost use Rattle.mux_history.specs.declared.cause.Cause.TheVariants.{FromEditor, Joined};
 ghost use Rattle.mux_model.specs.Fits.{fits_behind};
+ghost use Rattle.mux_model.specs.Methods.{is_wrong};
 ghost use Rattle.mux_tables.specs.Documents.{AllStand, DocumentsStand, nothing_owed};
 ghost use Rattle.mux_tables.specs.Stands.{Stands};
 ghost use Rattle.mux_turns.specs.Ceilings.{HaveCeilings};
-ghost use Rattle.rpc_message.specs.Message.{message_of};
+ghost use Rattle.rpc_message.specs.Message.{Id, message_of, request};
 ghost use Rattle.rpc_message.specs.Parsed.{IsRead};
 ghost use Rattle.rpc_message.specs.Sorts.{Refuses};
 
 use event_model::{Phase, Server};
 use message_body::{Body, Memory};
 use mux_history::Outs;
-use mux_members::is_initialize;
+use mux_members::{is_initialize, is_wrong};
 use mux_tables::Tables;
 use mux_turns::{
-    take_early, take_initialize, take_malformed, take_notice, take_quiet, take_request,
+    take_closed, take_early, take_initialize, take_malformed, take_notice, take_quiet, take_request,
+    take_wrong,
 };
 use rpc_message::{Malformed, Message, Sort};
 use std::alloc::Global;
@@ -76,7 +81,34 @@ fn from_new(
     }
 }
 
-// E10, and E12 to E15: a message of an editor that is served.
+// E8 and E10: a request of an editor that is served.
+fn from_asking(
+    tables: &mut Tables,
+    alloc: Global,
+    outs: &mut Outs,
+    e: u64,
+    message: &Message,
+) -> Result<(), Memory>
+    requires { e < length tables.old.editors }
+    ensures same_limit { tables.new.requests ≡ tables.old.requests }
+    ensures same_versions { tables.new.versions ≡ tables.old.versions }
+    ensures does { (settings : Settings) (before : List Event) (body method : List ℕ) (id : Id) (params : Option Json) → IsRead message.now body
+        → message_of body ≡ request id method params → (is_wrong (class_of method Editor false) || is_bare method params) ≡ true
+        → is_served (desk_of e before).phase ≡ true → outs.old ≡ []
+        → Stands settings tables.old before → DocumentsStand settings nothing_owed tables.old before
+        → OnOk result (Done (λ k events. AllStand settings k events) (served_row settings before e body (request id method params))
+        (with_cause before (FromEditor e body)) [] (tables.new, nothing_owed) outs.new) }
+{
+    if is_wrong(message) {
+        take_wrong(tables, alloc, outs, e, message)?;
+        Ok(())
+    } else {
+        take_request(tables, alloc, outs, e, message)?;
+        Ok(())
+    }
+}
+
+// E8, E10, and E12 to E15: a message of an editor that is served.
 fn from_served(
     tables: &mut Tables,
     alloc: Global,
@@ -95,7 +127,7 @@ fn from_served(
 {
     match message.sort() {
         Sort::Request => {
-            take_request(tables, alloc, outs, e, message)?;
+            from_asking(tables, alloc, outs, e, message)?;
             Ok(())
         }
         Sort::Notification => {
@@ -109,7 +141,8 @@ fn from_served(
     }
 }
 
-// A message, by where its editor stands: behind its `shutdown`, and where its link is to be ended (J2), it gives nothing.
+// A message, by where its editor stands: where its link is to be ended (J2) it gives nothing, and behind its `shutdown` what is no
+// request.
 fn from_phase(
     tables: &mut Tables,
     alloc: Global,
@@ -145,7 +178,11 @@ fn from_phase(
             from_served(tables, alloc, outs, e, message)?;
             Ok(())
         }
-        Phase::Absent | Phase::Down | Phase::Closed | Phase::Gone => {
+        Phase::Closed => {
+            take_closed(tables, e);
+            Ok(())
+        }
+        Phase::Absent | Phase::Down | Phase::Gone => {
             take_quiet(tables, e, message);
             Ok(())
         }

@@ -1,8 +1,9 @@
-//! What the program of a start says: S1, S2 and S5.
-ghost use Rattle.std.specs.Prelude.{◌≡◌, ◌<◌, ◌≤◌, ℕ, List, [], map, Some, true, length, OnOk, slice_get};
+//! What the program of a start says: S1, S2, S4 and S5.
+ghost use Rattle.std.specs.Prelude.{◌≡◌, ◌<◌, ◌≤◌, ℕ, List, [], map, None, Some, true, length, OnOk, slice_get};
 ghost use Rattle.event_model.specs.declared.stage.Stage.TheVariants.{Initializing};
 ghost use Rattle.event_model.specs.Does.{Done};
 ghost use Rattle.event_model.specs.Event.{Event, with_cause};
+ghost use Rattle.event_model.specs.Requests.{answered_id};
 ghost use Rattle.event_model.specs.Settings.{Settings};
 ghost use Rattle.event_model.specs.Stages.{life_of, runs};
 ghost use Rattle.group_facts.specs.Built.{built_behind};
@@ -27,6 +28,20 @@ use mux_turns::{stage_at, take_answer, take_result};
 use rpc_message::{Malformed, Message};
 use std::alloc::Global;
 
+// S1 and S4: what answers nothing gives nothing.
+fn hear_quietly(tables: &mut Tables, g: usize)
+    requires { g < length tables.old.lasts.items }
+    ensures same_limit { tables.new.requests ≡ tables.old.requests }
+    ensures same_versions { tables.new.versions ≡ tables.old.versions }
+    ensures does { (settings : Settings) (before : List Event) (body : List ℕ) (s : ℕ) → answered_id (message_of body) ≡ None
+        → slice_get (map number_in tables.old.lasts.items) g ≡ Some s → runs (life_of s before) ≡ true → Stands settings tables.old before
+        → DocumentsStand settings nothing_owed tables.old before
+        → Done (λ k events. AllStand settings k events) (row_of settings before (FromServer s body))
+        (with_cause before (FromServer s body)) [] (tables.new, nothing_owed) [] }
+{
+    tables.hear_answer(g, None);
+}
+
 // S1: a body that is no message gives nothing.
 fn ignore(tables: &mut Tables, g: usize, fault: Malformed) -> Result<(), Memory>
     requires { g < length tables.old.lasts.items }
@@ -41,12 +56,12 @@ fn ignore(tables: &mut Tables, g: usize, fault: Malformed) -> Result<(), Memory>
     if matches!(fault, Malformed::Memory) {
         return Err(Memory);
     }
-    tables.hear_answer(g, None);
+    hear_quietly(tables, g);
     Ok(())
 }
 
-// S2, with the replay X4: a message comes from a start that gave no result of its `initialize` yet. Of these only that result is
-// built.
+// S2, with the replay X4, and S4: a message comes from a start that gave no result of its `initialize` yet. Of these that result
+// is built, and notifications, which give nothing.
 fn take_first(
     tables: &mut Tables,
     alloc: Global,
@@ -59,19 +74,23 @@ fn take_first(
     ensures same_limit { tables.new.requests ≡ tables.old.requests }
     ensures same_versions { tables.new.versions ≡ tables.old.versions }
     ensures does { (settings : Settings) (before : List Event) (body : List ℕ) (s : ℕ) → IsRead message.now body → outs.old ≡ []
-        → slice_get (map number_in tables.old.lasts.items) g ≡ Some s → Known settings before → built_behind settings before (FromServer s body) ≡ true
+        → slice_get (map number_in tables.old.lasts.items) g ≡ Some s → Known settings before → runs (life_of s before) ≡ true
+        → built_behind settings before (FromServer s body) ≡ true
         → Stands settings tables.old before → DocumentsStand settings nothing_owed tables.old before
         → OnOk result (Done (λ k events. AllStand settings k events) (row_of settings before (FromServer s body))
         (with_cause before (FromServer s body)) [] (tables.new, nothing_owed) outs.new) }
 {
-    if !is_first_result(message) {
-        return Ok(());
+    if is_first_result(message) {
+        take_result(tables, alloc, outs, g, message)?;
+        Ok(())
+    } else {
+        hear_quietly(tables, g);
+        Ok(())
     }
-    take_result(tables, alloc, outs, g, message)?;
-    Ok(())
 }
 
-// A message comes from the group's last start. In other stages than these two none is built.
+// A message comes from the group's last start. Behind its `shutdown` or its end what is no response gives nothing (S4); in other
+// stages than these none is built.
 fn take_message(
     tables: &mut Tables,
     alloc: Global,
@@ -83,7 +102,8 @@ fn take_message(
     ensures same_limit { tables.new.requests ≡ tables.old.requests }
     ensures same_versions { tables.new.versions ≡ tables.old.versions }
     ensures does { (settings : Settings) (before : List Event) (body : List ℕ) (s : ℕ) → IsRead message.now body → outs.old ≡ []
-        → slice_get (map number_in tables.old.lasts.items) g ≡ Some s → Known settings before → built_behind settings before (FromServer s body) ≡ true
+        → slice_get (map number_in tables.old.lasts.items) g ≡ Some s → Known settings before → runs (life_of s before) ≡ true
+        → built_behind settings before (FromServer s body) ≡ true
         → Stands settings tables.old before → DocumentsStand settings nothing_owed tables.old before
         → OnOk result (Done (λ k events. AllStand settings k events) (row_of settings before (FromServer s body))
         (with_cause before (FromServer s body)) [] (tables.new, nothing_owed) outs.new) }
@@ -96,6 +116,10 @@ fn take_message(
         }
         Stage::Ready => {
             take_answer(tables, alloc, outs, g, message)?;
+            Ok(())
+        }
+        Stage::Stopping | Stage::Ending => {
+            hear_quietly(tables, g);
             Ok(())
         }
         _ => Ok(()),

@@ -9,8 +9,9 @@ use Rattle.std.specs.List.{All}
 use Rattle.std.proofs.lemmas.List.Sums.{AllPass-from_list_all}
 use lib.Utf8.{encode, encodes}
 use Rattle.json_token.proofs.Encoded.{one, two, three, four}
-use Rattle.lsp_method.specs.Class.{own_request, own_notification, goes_nowhere, editor_request}
-use Rattle.lsp_method.specs.declared.variants.Class.TheVariants.{Wrong, Other}
+use Rattle.lsp_method.specs.Class.{own_request, own_notification, goes_nowhere, editor_request, editor_notification}
+use Rattle.lsp_method.specs.declared.variants.Class.TheVariants.{Wrong, Other, Dropped}
+use Rattle.mux_model.specs.Methods.{is_dollar}
 use Rattle.mux_members.specs.Finds.{is_ascii}
 
 ascii_all : (bs : List ℕ) → is_ascii bs ≡ true → All (λ b. b < 128) bs
@@ -94,6 +95,17 @@ nowhere_same cs = rw (
   ascii_encoded cs (codes "notebookDocument/didSave") refl,
   ascii_encoded cs (codes "notebookDocument/didClose") refl,
   ascii_encoded cs (codes "workspace/didChangeWorkspaceFolders") refl,
+) refl
+
+pub notice_encoded : (cs : List ℕ) → editor_notification (encode_utf8_all cs) ≡ editor_notification cs
+unfolding editor_notification
+notice_encoded cs = ap₂ (λ o w. unwrap_or o w) (notifications_same cs) (ap₂ (λ b o. if b || is_some o then Dropped else Other) (nowhere_same cs) (requests_same cs))
+
+pub dollar_encoded : (cs : List ℕ) → is_dollar (encode_utf8_all cs) ≡ is_dollar cs
+dollar_encoded cs = rw (
+  ascii_encoded cs (codes "$/cancelRequest") refl,
+  ascii_encoded cs (codes "$/setTrace") refl,
+  ascii_encoded cs (codes "$/progress") refl,
 ) refl
 
 pub class_encoded : (cs : List ℕ) → editor_request (encode_utf8_all cs) ≡ editor_request cs

@@ -62,3 +62,9 @@ method_told bytes name id method params is r e h = let same : ◌≡◌ {A = Opt
 
 pub no_method_told : (bytes : List ℕ) (id : Id) (method : List ℕ) (params : Option Json) → message_of bytes ≡ request id method params → (r : Option (List ℕ)) → r ≡ None → r ≡ method_of (message_of bytes) → ⊥
 no_method_told bytes id method params is r e h = let same : ◌≡◌ {A = Option (List ℕ)} None (Some (encode_utf8_all method)) = sym e ∙ h ∙ ap method_of is in cc
+
+pub notice_told : (bytes name : List ℕ) (method : List ℕ) (params : Option Json) → message_of bytes ≡ notification method params → (r : Option (List ℕ)) → r ≡ Some name → r ≡ method_of (message_of bytes) → name ≡ encode_utf8_all method
+notice_told bytes name method params is r e h = let same : ◌≡◌ {A = Option (List ℕ)} (Some name) (Some (encode_utf8_all method)) = sym e ∙ h ∙ ap method_of is in cc
+
+pub no_notice_told : (bytes : List ℕ) (method : List ℕ) (params : Option Json) → message_of bytes ≡ notification method params → (r : Option (List ℕ)) → r ≡ None → r ≡ method_of (message_of bytes) → ⊥
+no_notice_told bytes method params is r e h = let same : ◌≡◌ {A = Option (List ℕ)} None (Some (encode_utf8_all method)) = sym e ∙ h ∙ ap method_of is in cc

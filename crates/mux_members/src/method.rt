@@ -1,9 +1,10 @@
 //! The methods that the routing table knows (LSP 3.17, Lifecycle Messages).
-ghost use Rattle.std.specs.Prelude.{◌≡◌, ℕ, List, false, codes, Option};
+ghost use Rattle.std.specs.Prelude.{◌≡◌, ℕ, List, true, false, codes, Option, bytes_eq};
 ghost use Rattle.json_text.specs.Json.{Json};
 ghost use Rattle.lsp_method.specs.Class.{class_of};
 ghost use Rattle.lsp_method.specs.declared.variants.Origin.TheVariants.{Editor};
-ghost use Rattle.rpc_message.specs.Message.{Id, message_of, request};
+ghost use Rattle.rpc_message.specs.Message.{Id, message_of, notification, request};
+ghost use Rattle.mux_model.specs.Methods.{is_dollar, is_dropped, is_wrong};
 ghost use Rattle.rpc_message.specs.Parsed.{IsRead};
 ghost use Rattle.event_model.specs.Event.{notifies, requests};
 
@@ -20,6 +21,50 @@ pub fn class_in(m: &Message) -> Class
     match m.method() {
         Some(method) => class(method, Origin::Editor, false),
         None => Class::Other,
+    }
+}
+
+/// Whether an editor's request has the name of a notification.
+pub fn is_wrong(m: &Message) -> bool
+    ensures { (bytes method : List ℕ) (id : Id) (params : Option Json) → IsRead m.now bytes → message_of bytes ≡ request id method params
+        → result ≡ is_wrong (class_of method Editor false) }
+{
+    matches!(class_in(m), Class::Wrong)
+}
+
+/// Whether an editor's notification goes nowhere, by its method.
+pub fn is_dropped(m: &Message) -> bool
+    ensures { (bytes method : List ℕ) (params : Option Json) → IsRead m.now bytes → message_of bytes ≡ notification method params
+        → result ≡ is_dropped (class_of method Editor true) }
+{
+    match m.method() {
+        Some(method) => matches!(class(method, Origin::Editor, true), Class::Dropped),
+        None => false,
+    }
+}
+
+// Whether a method has this name.
+fn is(method: &[u8], name: &str) -> bool
+    ensures { result ≡ bytes_eq method.now name.now }
+{
+    method == name.as_bytes()
+}
+
+// Whether it is the name of a notification that begins with `$/`.
+fn names_dollar(method: &[u8]) -> bool
+    ensures { result ≡ is_dollar method.now }
+{
+    is(method, "$/cancelRequest") || is(method, "$/setTrace") || is(method, "$/progress")
+}
+
+/// Whether an editor's request has the name of a notification that begins with `$/` (LSP 3.17, $ Notifications and Requests).
+pub fn is_dollar(m: &Message) -> bool
+    ensures { (bytes method : List ℕ) (id : Id) (params : Option Json) → IsRead m.now bytes → message_of bytes ≡ request id method params
+        → result ≡ is_dollar method }
+{
+    match m.method() {
+        Some(method) => names_dollar(method),
+        None => false,
     }
 }
 

@@ -1,4 +1,5 @@
 pub mod Built
 pub mod Documents
 pub mod Fits
+pub mod Methods
 pub mod Rows

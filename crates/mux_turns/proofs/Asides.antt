@@ -1,5 +1,5 @@
 -- Messages of an editor that place it nowhere, and change no document.
-use Rattle.std.proofs.Common.{◌≡◌, ℕ, Bool, true, false, ◌&&◌, ◌||◌, List, refl, ap, ◌∙◌, codes}
+use Rattle.std.proofs.Common.{◌≡◌, ℕ, Bool, true, false, not, ◌&&◌, ◌||◌, List, refl, ap, ◌∙◌, codes}
 use Rattle.std.specs.Prelude.{Some}
 use Rattle.document_model.specs.Sayings.{saying_of, speaks}
 use Rattle.mux_history.specs.declared.cause.Cause.TheVariants.{FromEditor}
@@ -11,10 +11,10 @@ use Rattle.rpc_message.specs.Sorts.{Refuses, sort_of}
 use Rattle.event_model.specs.declared.phase.Phase.{Phase}
 use Rattle.event_model.specs.declared.phase.Phase.TheVariants.{Absent, New, Waiting, Answered, Running, Down, Closed, Gone}
 use Rattle.event_model.specs.Event.{Event, heard, requests, with_cause}
-use Rattle.event_model.specs.Phases.{Desk, desk_behind, desk_hears, desk_of, is_malformed, is_new, is_served}
+use Rattle.event_model.specs.Phases.{Desk, desk_behind, desk_hears, desk_of, is_malformed, is_new, is_served, is_there}
 use Rattle.event_model.proofs.Frames.{one_more}
 use Rattle.group_facts.specs.Facts.{is_early}
-use Rattle.group_words.specs.Houses.{places, stops}
+use Rattle.group_words.specs.Houses.{is_doubled, places, stops}
 use Rattle.mux_tables.specs.Documents.{changes_documents}
 use Rattle.mux_tables.proofs.Frames.{itself}
 
@@ -110,3 +110,17 @@ early_unserved Gone h = absurd (cc)
 
 pub early_keeps : (before : List Event) (e : ℕ) (m : Message) → is_early (desk_of e before).phase ≡ true → changes_documents before e m ≡ false
 early_keeps before e m h = ap (λ b. b && (requests (codes "shutdown") m || speaks (saying_of m))) (early_unserved (desk_of e before).phase h)
+
+-- where its link is to be ended
+module _ (before : List Event) (e : ℕ) (m : Message) (closed : (desk_of e before).phase ≡ Closed) where
+  pub closed_placed : places (desk_of e before).phase m ≡ false
+  closed_placed = ap (λ p. places p m) closed
+
+  pub closed_stops : stops before e m ≡ false
+  closed_stops = ap (λ p. requests (codes "lspmux/stop") m && (is_there p && not (is_doubled before e m))) closed ∙ and_off (requests (codes "lspmux/stop") m)
+
+  pub closed_keeps : changes_documents before e m ≡ false
+  closed_keeps = ap (λ p. is_served p && (requests (codes "shutdown") m || speaks (saying_of m))) closed
+
+pub closed_stays : (before : List Event) (e : ℕ) (body : List ℕ) → (desk_of e before).phase ≡ Closed → (desk_of e (with_cause before (FromEditor e body))).phase ≡ Closed
+closed_stays before e body closed = desk_now before e body Closed (ap (λ p. (desk_hears p (desk_of e before).initialize body (message_of body)).phase) closed)

@@ -6,6 +6,7 @@ use Rattle.std.proofs.lemmas.Slice.Eq.{bytes_eq-Decides}
 use Rattle.lsp_method.specs.Class.{class_of, own_request, editor_request}
 use Rattle.lsp_method.specs.declared.variants.Origin.TheVariants.{Editor}
 use Rattle.mux_model.specs.Built.{is_other}
+use Rattle.mux_model.specs.Methods.{is_wrong}
 use Rattle.event_model.specs.Requests.{is_own}
 
 pub record NotOwn (m : List ℕ) : Type 0 where
@@ -18,6 +19,17 @@ pub record NotOwn (m : List ℕ) : Type 0 where
 pub not_own : (m : List ℕ) → is_other (class_of m Editor false) ≡ true → NotOwn m
 unfolding editor_request own_request
 not_own m h = record {
+  initialize = grind arith;
+  shutdown = grind arith;
+  opens = grind arith;
+  status = grind arith;
+  stops = grind arith;
+}
+
+-- nor is one of class Wrong
+pub wrong_not_own : (m : List ℕ) → is_wrong (class_of m Editor false) ≡ true → NotOwn m
+unfolding editor_request own_request
+wrong_not_own m h = record {
   initialize = grind arith;
   shutdown = grind arith;
   opens = grind arith;

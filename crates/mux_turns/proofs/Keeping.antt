@@ -19,7 +19,7 @@ use Rattle.event_model.specs.Row.{Row, choose, send}
 use Rattle.event_model.specs.Settings.{Settings}
 use Rattle.event_model.proofs.Frames.{one_more}
 use Rattle.event_model.proofs.Turns.{does_false, does_nothing, does_true}
-use Rattle.group_rows.specs.Rows.{answer_error, early_row}
+use Rattle.group_rows.specs.Rows.{answer_error, early_row, wrong_code}
 use Rattle.mux_tables.specs.declared.tables.Tables.{Tables}
 use Rattle.mux_tables.specs.Stands.{Keeps, Stands}
 use Rattle.mux_tables.proofs.Frames.{itself}
@@ -73,7 +73,7 @@ module _ (settings : Settings) (base : List Event) (t : Tables) (xs ys : List Ou
   abbrev Early : Message → List Out → Type 0
   Early m zs = Does (λ t events. Stands settings t events) (early_row e body m) base t xs t zs
 
-  pub early_does : (m : Message) → sort_of m ≡ Some sort.Request → ((id : Id) (method : List ℕ) (params : Option Json) → m ≡ request id method params → Does (λ t events. Stands settings t events) (answer_error e body server_not_initialized) base t xs t ys) → Early m ys
+  pub early_does : (m : Message) → sort_of m ≡ Some sort.Request → ((id : Id) (method : List ℕ) (params : Option Json) → m ≡ request id method params → Does (λ t events. Stands settings t events) (answer_error e body (wrong_code method server_not_initialized)) base t xs t ys) → Early m ys
   early_does (request id method params) h d = d id method params refl
   early_does (notification method params) h d = absurd (cc)
   early_does (result id x) h d = absurd (cc)

@@ -1,24 +1,29 @@
-//! Causes that change no document, as whole entries: E2, E8, and those that give nothing.
-ghost use Rattle.std.specs.Prelude.{◌≡◌, ◌≢◌, ◌<◌, ◌++◌, ◌∷◌, ℕ, List, [], Some, false, true, length, OnOk};
-ghost use Rattle.event_model.specs.declared.phase.Phase.TheVariants.{Absent};
+//! Causes that change no document, as whole entries: J2, E2, E8, and those that give nothing.
+ghost use Rattle.std.specs.Prelude.{◌≡◌, ◌≢◌, ◌<◌, ◌++◌, ◌∷◌, ℕ, List, [], Option, Some, false, true, length, OnOk};
+ghost use Rattle.event_model.specs.declared.phase.Phase.TheVariants.{Absent, Closed};
 ghost use Rattle.event_model.specs.Does.{Done};
 ghost use Rattle.event_model.specs.Event.{Event, heard, with_cause};
-ghost use Rattle.event_model.specs.Phases.{desk_of};
+ghost use Rattle.event_model.specs.Phases.{desk_of, is_served};
 ghost use Rattle.event_model.specs.Row.{nothing};
 ghost use Rattle.event_model.specs.Settings.{Settings};
 ghost use Rattle.group_facts.specs.Facts.{is_early};
-ghost use Rattle.group_rows.specs.Rows.{early_row};
+ghost use Rattle.group_rows.specs.Rows.{answer_error, early_row, wrong_code};
 ghost use Rattle.group_words.specs.Houses.{places, stops};
+ghost use Rattle.json_text.specs.Json.{Json};
+ghost use Rattle.lsp_method.specs.Class.{class_of};
+ghost use Rattle.lsp_method.specs.declared.variants.Origin.TheVariants.{Editor};
 ghost use Rattle.mux_history.specs.declared.cause.Cause.TheVariants.{FromEditor};
+ghost use Rattle.mux_model.specs.Methods.{is_wrong};
 ghost use Rattle.mux_model.specs.Rows.{malformed_row};
 ghost use Rattle.mux_tables.specs.Documents.{AllStand, DocumentsStand, changes_documents, nothing_owed};
 ghost use Rattle.mux_tables.specs.Stands.{Stands};
 ghost use Rattle.rpc_message.specs.declared.sort.Sort.TheVariants.{Request};
-ghost use Rattle.rpc_message.specs.Message.{message_of};
+ghost use Rattle.rpc_message.specs.Message.{Id, message_of, request};
 ghost use Rattle.rpc_message.specs.Parsed.{IsRead};
 ghost use Rattle.rpc_message.specs.Sorts.{Refuses, sort_of};
+ghost use Rattle.rpc_message.specs.Texts.{invalid_request};
 
-use crate::refusals::{refuse_early, reject};
+use crate::refusals::{refuse_early, refuse_wrong, reject};
 use event_model::Phase;
 use message_body::Memory;
 use mux_history::Outs;
@@ -84,6 +89,42 @@ pub fn take_early(
     tables.hear_editor(e, phase);
     refuse_early(tables, alloc, outs, e, message)?;
     Ok(())
+}
+
+/// E8: a request under the name of a notification comes from an editor that is served: it is answered with an error (LSP 3.17, $
+/// Notifications and Requests; JSON-RPC 2.0, section 5.1: Invalid Request).
+pub fn take_wrong(
+    tables: &mut Tables,
+    alloc: Global,
+    outs: &mut Outs,
+    e: u64,
+    message: &Message,
+) -> Result<(), Memory>
+    requires { e < length tables.old.editors }
+    ensures requests { tables.new.requests ≡ tables.old.requests }
+    ensures versions { tables.new.versions ≡ tables.old.versions }
+    ensures does { (settings : Settings) (before : List Event) (body method : List ℕ) (id : Id) (params : Option Json) → IsRead message.now body
+        → message_of body ≡ request id method params → is_wrong (class_of method Editor false) ≡ true → is_served (desk_of e before).phase ≡ true
+        → outs.old ≡ [] → Stands settings tables.old before → DocumentsStand settings nothing_owed tables.old before
+        → OnOk result (Done (λ k events. AllStand settings k events) (answer_error e body (wrong_code method invalid_request))
+        (with_cause before (FromEditor e body)) [] (tables.new, nothing_owed) outs.new) }
+{
+    tables.hear_editor(e, Phase::Running);
+    refuse_wrong(tables, alloc, outs, e, message)?;
+    Ok(())
+}
+
+/// J2: a message of an editor whose link is to be ended gives nothing.
+pub fn take_closed(tables: &mut Tables, e: u64)
+    requires { e < length tables.old.editors }
+    ensures requests { tables.new.requests ≡ tables.old.requests }
+    ensures versions { tables.new.versions ≡ tables.old.versions }
+    ensures does { (settings : Settings) (before : List Event) (body : List ℕ) → (desk_of e before).phase ≡ Closed
+        → Stands settings tables.old before → DocumentsStand settings nothing_owed tables.old before
+        → Done (λ k events. AllStand settings k events) nothing (with_cause before (FromEditor e body)) [] (tables.new, nothing_owed) [] }
+{
+    let phase = phase_of(tables, e);
+    tables.hear_editor(e, phase);
 }
 
 // Where an editor stands behind a message that is no request.

@@ -5,7 +5,7 @@ ghost use Rattle.event_model.specs.Does.{Alike, Does};
 ghost use Rattle.event_model.specs.Event.{Event, behind};
 ghost use Rattle.event_model.specs.Row.{◌⨾◌};
 ghost use Rattle.event_model.specs.Settings.{Settings};
-ghost use Rattle.group_rows.specs.Rows.{answer_error, early_row, forward, request_row, sync_row};
+ghost use Rattle.group_rows.specs.Rows.{answer_error, early_row, forward, request_row, sync_row, wrong_code};
 ghost use Rattle.json_text.specs.Json.{Json};
 ghost use Rattle.mux_model.specs.Rows.{malformed_code, malformed_row};
 ghost use Rattle.mux_tables.specs.declared.tables.Start.{Start};
@@ -15,11 +15,12 @@ ghost use Rattle.rpc_message.specs.Codes.{code_of};
 ghost use Rattle.rpc_message.specs.Message.{Id, Message as Meaning, message_of, request};
 ghost use Rattle.rpc_message.specs.Parsed.{IsRead};
 ghost use Rattle.rpc_message.specs.Sorts.{Refuses};
-ghost use Rattle.rpc_message.specs.Texts.{request_failed};
+ghost use Rattle.rpc_message.specs.Texts.{invalid_request, request_failed};
 
 use event_model::Phase;
 use message_body::Memory;
 use mux_history::Outs;
+use mux_members::is_dollar;
 use mux_tables::Tables;
 use rpc_message::{ErrorCode, Malformed, Message, Sort, error_answer};
 use std::alloc::Global;
@@ -80,6 +81,39 @@ pub fn refuse(
     Ok(())
 }
 
+// E8: the code of the answer to a request that isn't taken: one under the name of a notification that begins with `$/` has its own
+// (LSP 3.17, $ Notifications and Requests).
+fn wrong_code(message: &Message, otherwise: ErrorCode) -> ErrorCode
+    ensures { (body method : List ℕ) (id : Id) (params : Option Json) → IsRead message.now body → message_of body ≡ request id method params
+        → code_of result ≡ wrong_code method (code_of otherwise) }
+{
+    if is_dollar(message) {
+        ErrorCode::MethodNotFound
+    } else {
+        otherwise
+    }
+}
+
+/// E8: a request that an editor which is served may not send is answered with an error (JSON-RPC 2.0, section 5.1: Invalid Request).
+pub fn refuse_wrong(
+    tables: &Tables,
+    alloc: Global,
+    outs: &mut Outs,
+    e: u64,
+    message: &Message,
+) -> Result<(), Memory>
+    ensures does { (settings : Settings) (base : List Event) (body method : List ℕ) (id : Id) (params : Option Json) → IsRead message.now body
+        → message_of body ≡ request id method params
+        → OnOk result (Does (λ t events. Stands settings t events)
+        (answer_error e body (wrong_code method invalid_request)) base tables.now outs.old tables.now outs.new) }
+    ensures documents { (settings : Settings) (owed : Owed) (base : List Event) → DocumentsStand settings owed tables.now (behind base outs.old)
+        → OnOk result (DocumentsStand settings owed tables.now (behind base outs.new)) }
+{
+    let code = wrong_code(message, ErrorCode::InvalidRequest);
+    refuse(tables, alloc, outs, e, message, code)?;
+    Ok(())
+}
+
 /// E8: a request that comes before the answer to `initialize` gets an error (LSP 3.17, Lifecycle Messages: ServerNotInitialized);
 /// another message gives nothing.
 pub fn refuse_early(
@@ -98,7 +132,7 @@ pub fn refuse_early(
     if message.sort() != Sort::Request {
         return Ok(());
     }
-    let code = ErrorCode::ServerNotInitialized;
+    let code = wrong_code(message, ErrorCode::ServerNotInitialized);
     refuse(tables, alloc, outs, e, message, code)?;
     Ok(())
 }

@@ -51,18 +51,6 @@ LinkAt desk o = Link desk.phase desk.initialize o
 
 -- A message of the editor
 
-initialize_is_own : is_other (class_of (codes "initialize") Editor false) ≡ false
-unfolding own_request own_notification goes_nowhere editor_request editor_notification
-initialize_is_own = refl
-
-pub other_not : (method : List ℕ) → is_other (class_of method Editor false) ≡ true → bytes_eq (codes "initialize") method ≡ false
-other_not method h = go (bytes_eq (codes "initialize") method) refl
-  where
-    go : (b : Bool) → bytes_eq (codes "initialize") method ≡ b → b ≡ false
-    go true e = absurd (let same : codes "initialize" ≡ method = (bytes_eq-Decides (codes "initialize") method).0 e in
-        let own : is_other (class_of method Editor false) ≡ false = ap (λ z. is_other (class_of z Editor false)) (sym same) ∙ initialize_is_own in cc)
-    go false e = refl
-
 same_initializes : (o : Opening) (m : Message) (ids : List Id) → requests (codes "initialize") m ≡ false → o.initializes ≡ ids → (opening_hears o m).initializes ≡ ids
 same_initializes o m ids e h = ap (λ b. if b then with_request m o.initializes else o.initializes) e ∙ h
 

@@ -1,5 +1,6 @@
 -- A message, by where its editor stands.
-use Rattle.std.proofs.Common.{◌≡◌, false, ap, sym, ◌∙◌}
+use Rattle.std.proofs.Common.{◌≡◌, false, ap, refl, sym, ◌∙◌}
+use Rattle.event_model.specs.declared.phase.Phase.TheVariants.{Closed}
 use Rattle.event_model.specs.Phases.{desk_of, is_served}
 use Rattle.event_model.specs.Requests.{open_of}
 use Rattle.group_facts.specs.Built.{built_from_editor}
@@ -8,7 +9,7 @@ use Rattle.group_words.specs.Houses.{places}
 use Rattle.rpc_message.specs.Message.{message_of}
 use Rattle.mux_tables.specs.Documents.{AllStand}
 use Rattle.mux_entries.proofs.EditorBuilt.{rests_keeps, rests_unasked, waiting_stays}
-use Rattle.mux_entries.proofs.EditorRows.{done_alike, done_quietly, early_waiting, read_well, rests_one, served_one, unheard}
+use Rattle.mux_entries.proofs.EditorRows.{done_alike, done_quietly, early_waiting, read_well, rests_one, rests_open, served_one, unheard}
 use Rattle.mux_entries.proofs.editors.from_phase.Goals as goal
 
 pub returns-in_ok-from_new-in-New-clause-does : goal.returns-in_ok-from_new-in-New-clause-does
@@ -40,4 +41,11 @@ returns-in-Absent-clause-does c = λ settings before body read servers default f
     let at = sym (c.phase.ensures settings before st) in
     let rest = rests_one p c.in-Absent.is in
     done_alike (λ k events. AllStand settings k events) (unheard settings before e body p at rest (read_well c.args.message.now body read))
-    (done_quietly (λ k events. AllStand settings k events) first (c.take_quiet.ensures.does settings before body read (rests_unasked ids p m rest (ap (λ q. built_from_editor q ids m) (sym at) ∙ built)) (rests_keeps before e p m at rest) st ds))
+    (done_quietly (λ k events. AllStand settings k events) first (c.take_quiet.ensures.does settings before body read (rests_unasked ids p m rest (rests_open p c.in-Absent.is) (ap (λ q. built_from_editor q ids m) (sym at) ∙ built)) (rests_keeps before e p m at rest) st ds))
+
+pub returns-in-Closed-clause-does : goal.returns-in-Closed-clause-does
+returns-in-Closed-clause-does c = λ settings before body read servers default first known settled built st ds.
+    let e = c.args.e in
+    let at = sym (c.phase.ensures settings before st) ∙ c.in-Closed.is in
+    done_alike (λ k events. AllStand settings k events) (unheard settings before e body Closed at refl (read_well c.args.message.now body read))
+    (done_quietly (λ k events. AllStand settings k events) first (c.take_closed.ensures.does settings before body at st ds))

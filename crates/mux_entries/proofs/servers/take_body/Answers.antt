@@ -12,7 +12,7 @@ use Rattle.mux_entries.proofs.servers.take_body.Goals as goal
 
 pub returns-in_ok-take_message-in-Ok-clause-does : goal.returns-in_ok-take_message-in-Ok-clause-does
 returns-in_ok-take_message-in-Ok-clause-does c = λ settings before s first at known run built st ds.
-    c.in_ok-take_message-in-Ok.ensures.does settings before c.args.body.now s (subst (λ w. IsRead c.in-Ok.message w) c.bytes.ensures c.in-Ok.ensures.ok) first at known built st ds
+    c.in_ok-take_message-in-Ok.ensures.does settings before c.args.body.now s (subst (λ w. IsRead c.in-Ok.message w) c.bytes.ensures c.in-Ok.ensures.ok) first at known run built st ds
 
 pub returns-in_ok-ignore-in-Err-clause-does : goal.returns-in_ok-ignore-in-Err-clause-does
 returns-in_ok-ignore-in-Err-clause-does c = λ settings before s first at known run built st ds.
