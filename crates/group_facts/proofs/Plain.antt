@@ -74,15 +74,15 @@ gave : (s n : ℕ) (life : Life) (body : List ℕ) (m : Message) (x : Option (Li
 gave s n life body m (Some b) f h = refl
 gave s n life body m None f h = go (nat_eq n s) h
   where
-    first : (c : Bool) → is_ready (if c then Ready else Initializing) ≡ true → is_some {A = List ℕ} (if c then Some body else None) ≡ true
+    first : (c : Bool) → is_ready (if c then Ready else Initializing) ≡ true → is_some (if c then Some body else None) ≡ true
     first true h = refl
     first false h = h
 
-    itself : (stage : Stage) → (is_ready stage ≡ true → false ≡ true) → is_ready (stage_hears stage m) ≡ true → is_some {A = List ℕ} (if is_first_result m then Some body else None) ≡ true
+    itself : (stage : Stage) → (is_ready stage ≡ true → false ≡ true) → is_ready (stage_hears stage m) ≡ true → is_some (if is_first_result m then Some body else None) ≡ true
     itself Initializing f h = first (is_first_result m) h
     itself other f h = never (sym (f h))
 
-    go : (b : Bool) → is_ready (if b then record { stage = stage_hears life.stage m; started = life.started } else life).stage ≡ true → is_some {A = List ℕ} (if b then (if is_first_result m then Some body else None) else None) ≡ true
+    go : (b : Bool) → is_ready (if b then record { stage = stage_hears life.stage m; started = life.started } else life).stage ≡ true → is_some (if b then (if is_first_result m then Some body else None) else None) ≡ true
     go true h = itself life.stage f h
     go false h = f h
 

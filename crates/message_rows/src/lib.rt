@@ -1,9 +1,5 @@
-//! Tests of messages, of capabilities and of what the routing table reads in bodies, through the public calls.
+//! Tests of messages, through the public calls of rpc_message.
 #![tactic(auto)]
 
-#[cfg(test)]
-mod capabilities;
-#[cfg(test)]
-mod members;
 #[cfg(test)]
 mod messages;

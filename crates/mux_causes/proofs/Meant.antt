@@ -1,8 +1,11 @@
 -- What is built of a message, by what it is.
-use Rattle.std.proofs.Common.{◌≡◌, ℕ, ◌<◌, Bool, true, false, cond, not, ◌&&◌, ◌||◌, List, [], ◌∷◌, map, length, find, nat_eq, codes, refl, ap, sym, ◌∙◌}
+use Rattle.std.proofs.Common.{◌≡◌, ℕ, ◌<◌, Bool, true, false, cond, not, ◌&&◌, ◌||◌, List, [], ◌∷◌, map, length, find, nat_eq, codes, bytes_eq, refl, ap, ap₂, sym, ◌∙◌, ◌⊎◌, inl, inr}
 use Rattle.std.specs.Prelude.{Option, Some, None, is_some, option_map, slice_get}
 use Rattle.json_text.specs.Json.{Json}
-use Rattle.document_model.specs.Sayings.{saying_of, speaks}
+use Rattle.document_model.specs.Sayings.{saying_by, saying_of, speaks}
+use Rattle.lsp_method.specs.Class.{class_of}
+use Rattle.lsp_method.specs.declared.variants.Origin.TheVariants.{Editor}
+use Rattle.mux_model.specs.Methods.{is_dropped}
 use Rattle.rpc_message.specs.declared.sort.Sort.{Sort}
 use Rattle.rpc_message.specs.declared.sort.Sort.TheVariants as sort
 use Rattle.rpc_message.specs.Message.{Message, request, notification, result, error, not_json, not_message, Id, message_of}
@@ -18,9 +21,10 @@ use Rattle.event_model.specs.declared.stage.Stage.TheVariants.{Unspawned, Spawni
 use Rattle.event_model.specs.Event.{Event, notifies}
 use Rattle.event_model.specs.Members.{reads_versions}
 use Rattle.event_model.specs.Phases.{is_malformed}
+use Rattle.event_model.specs.Requests.{is_open}
 use Rattle.event_model.specs.Settings.{Settings}
 use Rattle.event_model.specs.Stages.{is_first_result}
-use Rattle.group_facts.specs.Built.{built_answer, built_as, built_from_editor, built_from_server, built_response, is_passed_plainly, is_shown_whole}
+use Rattle.group_facts.specs.Built.{built_as, built_early, built_from_editor, built_from_server, built_late, built_notice, built_response, is_fresh, is_passed_plainly, is_quiet, is_shown_whole}
 use Rattle.group_rows.specs.Forwarded.{Forwarded, answered_by, forwarding_of, is_under}
 use Rattle.id_rewrite.specs.declared.pending.Numbered.{Numbered}
 use Rattle.id_rewrite.specs.Tables.{has_number, pending_of}
@@ -50,21 +54,53 @@ is_result not_message h = absurd (cc)
 
 -- of an editor
 
-pub notice_built : (phase : Phase) (ids : List Id) (m : Message) (a b : Bool) → sort_of m ≡ Some sort.Notification → a ≡ notifies (codes "initialized") m → b ≡ speaks (saying_of m) → (a || b) ≡ built_from_editor phase ids m
-notice_built phase ids (notification method params) a b h i s = rw (i, s) refl
-notice_built phase ids (request id method params) a b h i s = absurd (cc)
-notice_built phase ids (result id r) a b h i s = absurd (cc)
-notice_built phase ids (error id e) a b h i s = absurd (cc)
-notice_built phase ids not_json a b h i s = absurd (cc)
-notice_built phase ids not_message a b h i s = absurd (cc)
+pub is_notification : (m : Message) → sort_of m ≡ Some sort.Notification → (method : List ℕ) × ((params : Option Json) × (m ≡ notification method params))
+is_notification (notification method params) h = (method, (params, refl))
+is_notification (request id method params) h = absurd (cc)
+is_notification (result id r) h = absurd (cc)
+is_notification (error id e) h = absurd (cc)
+is_notification not_json h = absurd (cc)
+is_notification not_message h = absurd (cc)
 
-pub no_response_built : (phase : Phase) (ids : List Id) (m : Message) (x : Sort) → sort_of m ≡ Some x → (x ≡ sort.Request → ⊥) → (x ≡ sort.Notification → ⊥) → false ≡ built_from_editor phase ids m
-no_response_built phase ids (request id method params) x h r n = absurd (r (cc))
-no_response_built phase ids (notification method params) x h r n = absurd (n (cc))
-no_response_built phase ids (result id v) x h r n = refl
-no_response_built phase ids (error id e) x h r n = refl
-no_response_built phase ids not_json x h r n = absurd (cc)
-no_response_built phase ids not_message x h r n = absurd (cc)
+pub response_built : (phase : Phase) (ids : List Id) (m : Message) (x : Sort) → sort_of m ≡ Some x → (x ≡ sort.Result) ⊎ (x ≡ sort.Error) → true ≡ built_from_editor phase ids m
+response_built phase ids (result id v) x h k = refl
+response_built phase ids (error id e) x h k = refl
+response_built phase ids not_json x h k = refl
+response_built phase ids not_message x h k = refl
+response_built phase ids (request id method params) x h (inl e) = absurd (cc)
+response_built phase ids (request id method params) x h (inr e) = absurd (cc)
+response_built phase ids (notification method params) x h (inl e) = absurd (cc)
+response_built phase ids (notification method params) x h (inr e) = absurd (cc)
+
+-- where no id of it can be open
+pub fresh_else : (p : Phase) (i : Id) (ids : List Id) (method : List ℕ) (params : Option Json) → built_as p method params ≡ true → (p ≡ Waiting → ⊥) → (p ≡ Answered → ⊥) → (p ≡ Running → ⊥) → (p ≡ New → ids ≡ []) → true ≡ is_fresh p i ids
+fresh_else New i ids method params h w a r none = ap (λ z. not (is_open i z)) (sym (none refl))
+fresh_else Closed i ids method params h w a r none = refl
+fresh_else Waiting i ids method params h w a r none = absurd (w refl)
+fresh_else Answered i ids method params h w a r none = absurd (a refl)
+fresh_else Running i ids method params h w a r none = absurd (r refl)
+fresh_else Absent i ids method params h w a r none = absurd (cc)
+fresh_else Down i ids method params h w a r none = absurd (cc)
+fresh_else Gone i ids method params h w a r none = absurd (cc)
+
+pub notice_else : (p : Phase) (method : List ℕ) (params : Option Json) → (p ≡ Answered → ⊥) → (p ≡ Running → ⊥) → (p ≡ Closed → ⊥) → not (bytes_eq (codes "exit") method) ≡ built_notice p method params
+notice_else Answered method params a r c = absurd (a refl)
+notice_else Running method params a r c = absurd (r refl)
+notice_else Closed method params a r c = absurd (c refl)
+notice_else New method params a r c = refl
+notice_else Waiting method params a r c = refl
+notice_else Absent method params a r c = refl
+notice_else Down method params a r c = refl
+notice_else Gone method params a r c = refl
+
+pub quiet_parts : (method : List ℕ) (params : Option Json) (m : Message) (a b c : Bool) → m ≡ notification method params → a ≡ notifies (codes "initialized") m → b ≡ speaks (saying_of m) → c ≡ is_dropped (class_of method Editor true) → ((a || b) || c) ≡ is_quiet method params
+quiet_parts method params m a b c is x y z =
+    ap₂ (λ p q. (p || q) || c) (x ∙ ap (notifies (codes "initialized")) is) (y ∙ ap (λ k. speaks (saying_of k)) is) ∙ go (bytes_eq (codes "initialized") method) (speaks (saying_by method params)) c (is_dropped (class_of method Editor true)) z
+  where
+    go : (p q c d : Bool) → c ≡ d → ((p || q) || c) ≡ (p || (q || d))
+    go true q c d e = refl
+    go false true c d e = refl
+    go false false c d e = e
 
 -- of a start
 
@@ -103,18 +139,73 @@ no_call_built fs (request id method params) x h r e = refl
 no_call_built fs (notification method params) x h r e = refl
 no_call_built fs (result id v) x h r e = absurd (r (cc))
 no_call_built fs (error id v) x h r e = absurd (e (cc))
-no_call_built fs not_json x h r e = refl
-no_call_built fs not_message x h r e = refl
+no_call_built fs not_json x h r e = absurd (cc)
+no_call_built fs not_message x h r e = absurd (cc)
 
--- a start that is over
-pub over_built : (stage : Stage) (fs : List Forwarded) (m : Message) (b : Bool) → is_over stage ≡ true → false ≡ (built_answer stage fs m && b)
-over_built Unspawned fs m b h = refl
-over_built Spawning fs m b h = refl
-over_built Initializing fs m b h = absurd (cc)
-over_built Ready fs m b h = absurd (cc)
-over_built Stopping fs m b h = refl
-over_built Ending fs m b h = refl
-over_built Ended fs m b h = refl
+-- before its result, and where it is to end
+pub early_notice : (body : List ℕ) (m : Message) → sort_of m ≡ Some sort.Notification → true ≡ built_early body m
+early_notice body (notification method params) h = refl
+early_notice body (request id method params) h = absurd (cc)
+early_notice body (result id r) h = absurd (cc)
+early_notice body (error id e) h = absurd (cc)
+early_notice body not_json h = absurd (cc)
+early_notice body not_message h = absurd (cc)
+
+pub early_refused : (body : List ℕ) (m : Message) (x : Sort) → sort_of m ≡ Some x → (x ≡ sort.Request) ⊎ (x ≡ sort.Error) → false ≡ built_early body m
+early_refused body (request id method params) x h k = refl
+early_refused body (error id e) x h k = refl
+early_refused body (notification method params) x h (inl k) = absurd (cc)
+early_refused body (notification method params) x h (inr k) = absurd (cc)
+early_refused body (result id r) x h (inl k) = absurd (cc)
+early_refused body (result id r) x h (inr k) = absurd (cc)
+early_refused body not_json x h k = absurd (cc)
+early_refused body not_message x h k = absurd (cc)
+
+pub early_first : (body : List ℕ) (m : Message) → is_first_result m ≡ true → is_shown_whole body ≡ built_early body m
+early_first body (result id r) h = ap (λ b. b && is_shown_whole body) (sym h)
+early_first body (request id method params) h = absurd (cc)
+early_first body (notification method params) h = absurd (cc)
+early_first body (error id e) h = absurd (cc)
+early_first body not_json h = absurd (cc)
+early_first body not_message h = absurd (cc)
+
+pub early_other : (body : List ℕ) (m : Message) → sort_of m ≡ Some sort.Result → is_first_result m ≡ false → false ≡ built_early body m
+early_other body (result id r) s h = ap (λ b. b && is_shown_whole body) (sym h)
+early_other body (request id method params) s h = absurd (cc)
+early_other body (notification method params) s h = absurd (cc)
+early_other body (error id e) s h = absurd (cc)
+early_other body not_json s h = absurd (cc)
+early_other body not_message s h = absurd (cc)
+
+pub late_call : (m : Message) (x : Sort) → sort_of m ≡ Some x → (x ≡ sort.Request) ⊎ (x ≡ sort.Notification) → true ≡ built_late m
+late_call (request id method params) x h k = refl
+late_call (notification method params) x h k = refl
+late_call (result id r) x h (inl k) = absurd (cc)
+late_call (result id r) x h (inr k) = absurd (cc)
+late_call (error id e) x h (inl k) = absurd (cc)
+late_call (error id e) x h (inr k) = absurd (cc)
+late_call not_json x h k = absurd (cc)
+late_call not_message x h k = absurd (cc)
+
+pub late_response : (m : Message) (x : Sort) → sort_of m ≡ Some x → (x ≡ sort.Result) ⊎ (x ≡ sort.Error) → false ≡ built_late m
+late_response (result id r) x h k = refl
+late_response (error id e) x h k = refl
+late_response (request id method params) x h (inl k) = absurd (cc)
+late_response (request id method params) x h (inr k) = absurd (cc)
+late_response (notification method params) x h (inl k) = absurd (cc)
+late_response (notification method params) x h (inr k) = absurd (cc)
+late_response not_json x h k = absurd (cc)
+late_response not_message x h k = absurd (cc)
+
+-- of a start that is over no message is built
+pub over_built : (stage : Stage) (fs : List Forwarded) (body : List ℕ) (m : Message) → is_malformed m ≡ false → is_over stage ≡ true → false ≡ built_from_server stage fs body m
+over_built Unspawned fs body m well h = sym well
+over_built Ended fs body m well h = sym well
+over_built Spawning fs body m well h = absurd (cc)
+over_built Initializing fs body m well h = absurd (cc)
+over_built Ready fs body m well h = absurd (cc)
+over_built Stopping fs body m well h = absurd (cc)
+over_built Ending fs body m well h = absurd (cc)
 
 -- a message that was read isn't malformed
 pub read_well : (p : Parsed) (body : List ℕ) → IsRead p body → is_malformed (message_of body) ≡ false
@@ -126,9 +217,6 @@ read_well p body r = go p.envelope r.tells
     go (Outcome id value) t = ap is_malformed t.is
     go (Failure id failure) t = ap is_malformed t.is
 
-pub server_read : (stage : Stage) (fs : List Forwarded) (body : List ℕ) (m : Message) → is_malformed m ≡ false → (built_answer stage fs m && (not (is_first_result m) || is_shown_whole body)) ≡ built_from_server stage fs body m
-server_read stage fs body m h = ap (λ b. b || (built_answer stage fs m && (not (is_first_result m) || is_shown_whole body))) (sym h)
-
 pub and_on : (a b : Bool) → b ≡ true → a ≡ (a && b)
 and_on true true h = refl
 and_on false true h = refl
@@ -139,35 +227,18 @@ and_off true false h = refl
 and_off false false h = refl
 and_off a true h = absurd (cc)
 
-pub not_answered : {a : Bool} (b : Bool) → a ≡ false → false ≡ (a && b)
-not_answered b h = ap (λ x. x && b) (sym h)
-
 -- by where the start stands
-pub first_answer : (x y : Stage) (fs : List Forwarded) (m : Message) (b : Bool) → y ≡ Initializing → y ≡ x → b ≡ is_first_result m → b ≡ built_answer x fs m
-first_answer x y fs m b e same is = is ∙ ap (λ z. built_answer z fs m) (sym e ∙ same)
+pub as_here : (x y : Stage) (fs : List Forwarded) (body : List ℕ) (m : Message) (b : Bool) → y ≡ x → b ≡ built_from_server y fs body m → b ≡ built_from_server x fs body m
+as_here x y fs body m b same is = is ∙ ap (λ z. built_from_server z fs body m) same
 
-pub ready_answer : (x y : Stage) (fs : List Forwarded) (m : Message) (b : Bool) → y ≡ Ready → y ≡ x → b ≡ built_response fs m → b ≡ built_answer x fs m
-ready_answer x y fs m b e same is = is ∙ ap (λ z. built_answer z fs m) (sym e ∙ same)
-
-pub other_answer : (x y : Stage) (fs : List Forwarded) (m : Message) → (y ≡ Initializing → ⊥) → (y ≡ Ready → ⊥) → y ≡ x → false ≡ built_answer x fs m
-other_answer Unspawned y fs m i r same = refl
-other_answer Spawning y fs m i r same = refl
-other_answer Initializing y fs m i r same = absurd (i same)
-other_answer Ready y fs m i r same = absurd (r same)
-other_answer Stopping y fs m i r same = refl
-other_answer Ending y fs m i r same = refl
-other_answer Ended y fs m i r same = refl
-
--- where requests are built
-pub only_new : (p : Phase) (method : List ℕ) (params : Option Json) → built_as p method params ≡ true → (p ≡ Waiting → ⊥) → (p ≡ Answered → ⊥) → (p ≡ Running → ⊥) → p ≡ New
-only_new New method params h w a r = refl
-only_new Waiting method params h w a r = absurd (w refl)
-only_new Answered method params h w a r = absurd (a refl)
-only_new Running method params h w a r = absurd (r refl)
-only_new Absent method params h w a r = absurd (cc)
-only_new Down method params h w a r = absurd (cc)
-only_new Closed method params h w a r = absurd (cc)
-only_new Gone method params h w a r = absurd (cc)
+pub other_built : (y : Stage) (fs : List Forwarded) (body : List ℕ) (m : Message) → (y ≡ Initializing → ⊥) → (y ≡ Ready → ⊥) → (y ≡ Stopping → ⊥) → (y ≡ Ending → ⊥) → is_malformed m ≡ false → false ≡ built_from_server y fs body m
+other_built Unspawned fs body m i r s e well = sym well
+other_built Spawning fs body m i r s e well = sym well
+other_built Ended fs body m i r s e well = sym well
+other_built Initializing fs body m i r s e well = absurd (i refl)
+other_built Ready fs body m i r s e well = absurd (r refl)
+other_built Stopping fs body m i r s e well = absurd (s refl)
+other_built Ending fs body m i r s e well = absurd (e refl)
 
 pub and_first : (a b : Bool) → a ≡ true → b ≡ (a && b)
 and_first a b h = ap (λ x. x && b) (sym h)

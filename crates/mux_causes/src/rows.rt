@@ -1,5 +1,5 @@
 // Which causes meet rows of the routing table that are built.
-ghost use Rattle.std.specs.Prelude.{◌≡◌, ◌≤◌, ◌<◌, ◌&&◌, ◌||◌, ℕ, not, true, length, map, find, is_some, List, Option, Some, IfOk, slice_get};
+ghost use Rattle.std.specs.Prelude.{◌≡◌, ◌≤◌, ◌<◌, ◌&&◌, ◌||◌, ℕ, not, true, false, length, map, find, is_some, List, Option, Some, IfOk, slice_get};
 ghost use Rattle.event_model.specs.declared.phase.Phase.TheVariants.{Waiting};
 ghost use Rattle.event_model.specs.Event.{Event};
 ghost use Rattle.event_model.specs.Members.{has_token, reads_versions};
@@ -7,15 +7,17 @@ ghost use Rattle.event_model.specs.Phases.{desk_of, is_served};
 ghost use Rattle.event_model.specs.Requests.{answered_id, is_open, open_of};
 ghost use Rattle.event_model.specs.Settings.{Settings};
 ghost use Rattle.event_model.specs.Stages.{is_first_result, life_of};
-ghost use Rattle.group_facts.specs.Built.{built_answer, built_as, built_behind, built_from_editor, built_from_server, built_response, is_passed_plainly, is_plain, is_shown_whole};
+ghost use Rattle.group_facts.specs.Built.{built_as, built_behind, built_early, built_from_editor, built_from_server, built_late, built_notice, built_response, is_fresh, is_passed_plainly, is_plain, is_quiet, is_refused, is_shown_whole};
 ghost use Rattle.group_facts.specs.Facts.{Known};
 ghost use Rattle.group_facts.specs.Settled.{Settled};
 ghost use Rattle.group_rows.specs.Forwarded.{answered_by, forwarding_of};
 ghost use Rattle.json_text.specs.Json.{Json};
+ghost use Rattle.lsp_method.specs.Class.{class_of};
+ghost use Rattle.lsp_method.specs.declared.variants.Origin.TheVariants.{Editor};
 ghost use Rattle.mux_history.specs.Cores.{body_length};
 ghost use Rattle.mux_model.specs.Built.{is_other};
 ghost use Rattle.mux_tables.specs.Stands.{Stands, number_in};
-ghost use Rattle.rpc_message.specs.Message.{Id, message_of, request, result as outcome};
+ghost use Rattle.rpc_message.specs.Message.{Id, message_of, notification, request, result as outcome};
 ghost use Rattle.rpc_message.specs.Parsed.{IsRead};
 ghost use Rattle.rpc_message.specs.ValueTexts.{IsIdText};
 
@@ -24,7 +26,8 @@ use lsp_method::Class;
 use message_body::{Body, Memory};
 use mux_history::Cause;
 use mux_members::{
-    class_in, has_token, is_first_result, is_initialize, is_initialized, reads_versions, speaks,
+    class_in, has_token, is_dropped, is_exit, is_first_result, is_initialize, is_initialized,
+    is_wrong, reads_versions, speaks,
 };
 use mux_tables::Tables;
 use mux_turns::{answered_number, shown_of};
@@ -54,17 +57,53 @@ fn is_bare(message: &Message) -> bool
     is_plain(message) && !has_token(message)
 }
 
+// E8: whether a request before the answer to `initialize` is refused, by its class.
+fn is_refused_as(class: Class) -> bool
+    ensures { result ≡ is_refused class }
+{
+    matches!(class, Class::Other | Class::Wrong | Class::Shutdown)
+}
+
+fn is_refused(message: &Message) -> bool
+    ensures { (body method : List ℕ) (id : Id) (params : Option Json) → IsRead message.now body → message_of body ≡ request id method params
+        → result ≡ is_refused (class_of method Editor false) }
+{
+    is_refused_as(class_in(message))
+}
+
 // Whether a request of an editor in this phase is built, whatever its id is.
 fn built_as(phase: Phase, message: &Message) -> bool
     ensures { (body method : List ℕ) (id : Id) (params : Option Json) → IsRead message.now body → message_of body ≡ request id method params
         → result ≡ built_as phase method params }
 {
     match phase {
-        Phase::New => is_initialize(message) || is_plain(message),
-        Phase::Waiting => is_plain(message),
-        Phase::Answered => is_bare(message),
-        Phase::Running => is_bare(message),
+        Phase::New => is_initialize(message) || is_refused(message),
+        Phase::Waiting => is_refused(message),
+        Phase::Answered => is_wrong(message) || is_bare(message),
+        Phase::Running => is_wrong(message) || is_bare(message),
+        Phase::Closed => is_refused(message),
         _ => false,
+    }
+}
+
+// E12 to E15: whether a notification behind the answer to `initialize` is built.
+fn is_quiet(message: &Message) -> bool
+    ensures { (body method : List ℕ) (params : Option Json) → IsRead message.now body → message_of body ≡ notification method params
+        → result ≡ is_quiet method params }
+{
+    is_initialized(message) || speaks(message) || is_dropped(message)
+}
+
+// Whether a notification of an editor in this phase is built.
+fn built_notice(phase: Phase, message: &Message) -> bool
+    ensures { (body method : List ℕ) (params : Option Json) → IsRead message.now body → message_of body ≡ notification method params
+        → result ≡ built_notice phase method params }
+{
+    match phase {
+        Phase::Answered => is_quiet(message),
+        Phase::Running => is_quiet(message),
+        Phase::Closed => true,
+        _ => !is_exit(message),
     }
 }
 
@@ -93,17 +132,17 @@ fn is_sent(tables: &Tables, e: u64, id: &[u8]) -> bool
     }
 }
 
-// E3: whether a request of an editor under this id is open, if requests are built in its phase.
-fn is_open(tables: &Tables, e: u64, phase: Phase, id: &[u8]) -> bool
+// E3: whether no request of an editor under this id is open, if requests are built in its phase.
+fn is_fresh(tables: &Tables, e: u64, phase: Phase, id: &[u8]) -> bool
     ensures { (settings : Settings) (before : List Event) (i : Id) (method : List ℕ) (params : Option Json) → Known settings before
         → Settled settings before → Stands settings tables.now before → IsIdText i id.now → phase ≡ (desk_of e before).phase
-        → built_as phase method params ≡ true → result ≡ is_open i (open_of e before) }
+        → built_as phase method params ≡ true → result ≡ is_fresh phase i (open_of e before) }
 {
     match phase {
-        Phase::Waiting => is_own(tables, e, id),
-        Phase::Answered => is_sent(tables, e, id),
-        Phase::Running => is_sent(tables, e, id),
-        _ => false,
+        Phase::Waiting => !is_own(tables, e, id),
+        Phase::Answered => !is_sent(tables, e, id),
+        Phase::Running => !is_sent(tables, e, id),
+        _ => true,
     }
 }
 
@@ -111,9 +150,9 @@ fn is_open(tables: &Tables, e: u64, phase: Phase, id: &[u8]) -> bool
 fn built_request(tables: &Tables, e: u64, phase: Phase, message: &Message) -> bool
     ensures { (settings : Settings) (before : List Event) (body method : List ℕ) (id : Id) (params : Option Json) → Known settings before
         → Settled settings before → Stands settings tables.now before → IsRead message.now body → message_of body ≡ request id method params
-        → phase ≡ (desk_of e before).phase → result ≡ (not (is_open id (open_of e before)) && built_as phase method params) }
+        → phase ≡ (desk_of e before).phase → result ≡ (is_fresh phase id (open_of e before) && built_as phase method params) }
 {
-    built_as(phase, message) && !is_open(tables, e, phase, message.id_bytes())
+    built_as(phase, message) && is_fresh(tables, e, phase, message.id_bytes())
 }
 
 // A message of an editor.
@@ -124,8 +163,8 @@ fn built_message(tables: &Tables, e: u64, message: &Message) -> bool
 {
     match message.sort() {
         Sort::Request => built_request(tables, e, tables.phase(e), message),
-        Sort::Notification => is_initialized(message) || speaks(message),
-        _ => false,
+        Sort::Notification => built_notice(tables.phase(e), message),
+        Sort::Result | Sort::Error => true,
     }
 }
 
@@ -189,29 +228,51 @@ fn built_response(tables: &Tables, g: usize, message: &Message) -> bool
     }
 }
 
-// A message of a start, by where it stands.
-fn built_answer(tables: &Tables, g: usize, message: &Message) -> bool
-    requires { g < length tables.now.lasts.items }
-    ensures { (settings : Settings) (before : List Event) (body : List ℕ) (s : ℕ) → slice_get (map number_in tables.now.lasts.items) g ≡ Some s
-        → Stands settings tables.now before → IsRead message.now body
-        → result ≡ built_answer (life_of s before).stage (forwarding_of s before).open_requests (message_of body) }
+// S2 and S4: a message of a start that gave no result yet.
+fn built_early(alloc: Global, message: &Message) -> Result<bool, Memory>
+    ensures { (body : List ℕ) → IsRead message.now body → IfOk result (λ answer. answer ≡ built_early body (message_of body)) }
 {
-    match tables.stage(g) {
-        Stage::Initializing => is_first_result(message),
-        Stage::Ready => built_response(tables, g, message),
-        _ => false,
+    match message.sort() {
+        Sort::Notification => Ok(true),
+        Sort::Request | Sort::Error => Ok(false),
+        Sort::Result => {
+            if is_first_result(message) {
+                is_shown_whole(alloc, message)
+            } else {
+                Ok(false)
+            }
+        }
     }
 }
 
-// S2: whether editors are shown all of a result of `initialize`; of another message nothing is asked.
-fn is_plainly_shown(alloc: Global, message: &Message) -> Result<bool, Memory>
-    ensures { (body : List ℕ) → IsRead message.now body
-        → IfOk result (λ answer. answer ≡ (not (is_first_result (message_of body)) || is_shown_whole body)) }
+// S4: a message of a start that is to end.
+fn built_late(message: &Message) -> bool
+    ensures { (body : List ℕ) → IsRead message.now body → result ≡ built_late (message_of body) }
 {
-    if is_first_result(message) {
-        is_shown_whole(alloc, message)
-    } else {
-        Ok(true)
+    match message.sort() {
+        Sort::Request | Sort::Notification => true,
+        Sort::Result | Sort::Error => false,
+    }
+}
+
+// A message of a group's last start, by where it stands.
+fn built_answer(
+    tables: &Tables,
+    alloc: Global,
+    g: usize,
+    message: &Message,
+) -> Result<bool, Memory>
+    requires { g < length tables.now.lasts.items }
+    ensures { (settings : Settings) (before : List Event) (body : List ℕ) (s : ℕ) → slice_get (map number_in tables.now.lasts.items) g ≡ Some s
+        → Stands settings tables.now before → IsRead message.now body
+        → IfOk result (λ answer. answer ≡ built_from_server (life_of s before).stage (forwarding_of s before).open_requests body (message_of body)) }
+{
+    match tables.stage(g) {
+        Stage::Initializing => built_early(alloc, message),
+        Stage::Ready => Ok(built_response(tables, g, message)),
+        Stage::Stopping => Ok(built_late(message)),
+        Stage::Ending => Ok(built_late(message)),
+        _ => Ok(false),
     }
 }
 
@@ -223,18 +284,11 @@ fn built_from_start(
     message: &Message,
 ) -> Result<bool, Memory>
     ensures { (settings : Settings) (before : List Event) (body : List ℕ) → Stands settings tables.now before → IsRead message.now body
-        → IfOk result (λ answer. answer ≡ (built_answer (life_of s before).stage (forwarding_of s before).open_requests (message_of body)
-        && (not (is_first_result (message_of body)) || is_shown_whole body))) }
+        → IfOk result (λ answer. answer ≡ built_from_server (life_of s before).stage (forwarding_of s before).open_requests body (message_of body)) }
 {
     match tables.last(s) {
         None => Ok(false),
-        Some(g) => {
-            if built_answer(tables, g, message) {
-                is_plainly_shown(alloc, message)
-            } else {
-                Ok(false)
-            }
-        }
+        Some(g) => built_answer(tables, alloc, g, message),
     }
 }
 

@@ -32,13 +32,20 @@ pub fn is_wrong(m: &Message) -> bool
     matches!(class_in(m), Class::Wrong)
 }
 
+// Whether this is the class of notifications that go nowhere.
+fn goes_nowhere(class: Class) -> bool
+    ensures { result ≡ is_dropped class }
+{
+    matches!(class, Class::Dropped)
+}
+
 /// Whether an editor's notification goes nowhere, by its method.
 pub fn is_dropped(m: &Message) -> bool
     ensures { (bytes method : List ℕ) (params : Option Json) → IsRead m.now bytes → message_of bytes ≡ notification method params
         → result ≡ is_dropped (class_of method Editor true) }
 {
     match m.method() {
-        Some(method) => matches!(class(method, Origin::Editor, true), Class::Dropped),
+        Some(method) => goes_nowhere(class(method, Origin::Editor, true)),
         None => false,
     }
 }

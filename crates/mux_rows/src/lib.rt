@@ -1,16 +1,9 @@
-//! Tests of settings, of lines and of the program, and worked sessions of the routing table, each the lines of an input and
-//! the lines that they bring, under limits of its own.
+//! Worked sessions of the routing table, each the lines of an input and the lines that they bring, under limits of its own.
 #![tactic(auto)]
 
 #[cfg(test)]
 mod cores;
 #[cfg(test)]
-mod lines;
-#[cfg(test)]
 mod play;
-#[cfg(test)]
-mod program;
-#[cfg(test)]
-mod settings;
 #[cfg(test)]
 mod tests;

@@ -147,6 +147,23 @@ const TWO_EDITORS: [(&str, &str); 8] = [
     ),
 ];
 
+// Requests under the names of notifications, one that goes nowhere, and a response: none goes on.
+const WRONG_NAMES: [(&str, &str); 4] = [
+    (
+        "ed 0 {\"jsonrpc\":\"2.0\",\"id\":1,\"method\":\"initialized\"}\n",
+        ">ed 0 {\"jsonrpc\":\"2.0\",\"id\":1,\"error\":{\"code\":-32600,\"message\":\"Invalid Request\"}}\n",
+    ),
+    (
+        "ed 0 {\"jsonrpc\":\"2.0\",\"id\":2,\"method\":\"$/progress\"}\n",
+        ">ed 0 {\"jsonrpc\":\"2.0\",\"id\":2,\"error\":{\"code\":-32601,\"message\":\"Method not found\"}}\n",
+    ),
+    (
+        "ed 0 {\"jsonrpc\":\"2.0\",\"method\":\"$/setTrace\",\"params\":{\"value\":\"off\"}}\n",
+        "",
+    ),
+    ("ed 1 {\"jsonrpc\":\"2.0\",\"id\":1,\"result\":null}\n", ""),
+];
+
 // Both ask under one id, and are answered out of order.
 const BOTH_ASK: [(&str, &str); 5] = [
     (
@@ -310,7 +327,7 @@ const DRAINED: [(&str, &str); 3] = [
 
 // Lines that fit, and that no row takes yet.
 const UNBUILT: [&str; 5] = [
-    "ed 0 {\"jsonrpc\":\"2.0\",\"id\":1,\"result\":null}\n",
+    "ed 0 {\"jsonrpc\":\"2.0\",\"method\":\"exit\"}\n",
     "ed 0 {\"jsonrpc\":\"2.0\",\"id\":1,\"method\":\"shutdown\"}\n",
     "ed 0 {\"jsonrpc\":\"2.0\",\"id\":1,\"method\":\"x\",\"params\":{\"workDoneToken\":1}}\n",
     "sv 0 {\"jsonrpc\":\"2.0\",\"method\":\"x\"}\n",
@@ -340,8 +357,9 @@ fn sessions_bring_their_lines(rt: HostRuntime) -> Result<(), Fail> {
 #[test]
 fn several_editors_bring_their_lines(rt: HostRuntime) -> Result<(), Fail> {
     let alloc = rt.alloc();
-    let sessions: [&[&[(&str, &str)]]; 5] = [
+    let sessions: [&[&[(&str, &str)]]; 6] = [
         &[&TWO_EDITORS, &A_THIRD],
+        &[&TWO_EDITORS, &WRONG_NAMES],
         &[&TWO_EDITORS, &BOTH_ASK],
         &[&TWO_EDITORS, &SWITCHING, &CHANGING],
         &[&TWO_EDITORS, &CLOSING],

@@ -7,7 +7,7 @@ use Rattle.mux_members.proofs.method.is_dropped.Goals as goal
 
 pub returns-in-Some : goal.returns-in-Some
 returns-in-Some c = λ bytes method params read is.
-    ap is_dropped (c.class.ensures ∙ ap editor_notification (notice_told bytes c.in-Some.method.now method params is (option_map (λ b. b.now) c.method.result) (ap (λ o. option_map (λ b. b.now) o) c.in-Some.is) (c.method.ensures bytes read)) ∙ notice_encoded method)
+    c.goes_nowhere.ensures ∙ ap is_dropped (c.class.ensures ∙ ap editor_notification (notice_told bytes c.in-Some.method.now method params is (option_map (λ b. b.now) c.method.result) (ap (λ o. option_map (λ b. b.now) o) c.in-Some.is) (c.method.ensures bytes read)) ∙ notice_encoded method)
 
 pub returns-in-None : goal.returns-in-None
 returns-in-None c = λ bytes method params read is. absurd (no_notice_told bytes method params is (option_map (λ b. b.now) c.method.result) (ap (λ o. option_map (λ b. b.now) o) c.in-None.is) (c.method.ensures bytes read))

@@ -1,7 +1,7 @@
 use lsp_method::Class;
 use mux_members::{
-    Notice, class_in, encoding, has_token, is_first_result, is_initialize, is_initialized,
-    notice_in, reads_versions, speaks,
+    Notice, class_in, encoding, has_token, is_dollar, is_dropped, is_first_result, is_initialize,
+    is_initialized, is_wrong, notice_in, reads_versions, speaks,
 };
 use position_codec::Encoding;
 use rpc_message::Message;
@@ -22,6 +22,20 @@ fn reads_an_editors_requests(rt: HostRuntime) {
     assert!(rt; !is_initialize(&hover) && has_token(&hover) && !is_initialized(&hover));
     assert!(rt; matches!(class_in(&opening), Class::Initialize));
     assert!(rt; matches!(class_in(&hover), Class::Other));
+}
+
+#[test]
+fn tells_names_of_notifications(rt: HostRuntime) {
+    let asked: &[u8] = b"{\"jsonrpc\":\"2.0\",\"id\":7,\"method\":\"$/setTrace\"}";
+    let told: &[u8] = b"{\"jsonrpc\":\"2.0\",\"method\":\"$/setTrace\"}";
+    let (Ok(asked), Ok(told)) = (
+        Message::read(rt.alloc(), asked),
+        Message::read(rt.alloc(), told),
+    ) else {
+        panic!(rt; "no text");
+    };
+    assert!(rt; is_wrong(&asked) && is_dollar(&asked));
+    assert!(rt; is_dropped(&told) && !speaks(&told));
 }
 
 #[test]
