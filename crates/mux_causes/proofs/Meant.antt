@@ -93,15 +93,6 @@ notice_else Absent method params a r c = refl
 notice_else Down method params a r c = refl
 notice_else Gone method params a r c = refl
 
-pub quiet_parts : (method : List ℕ) (params : Option Json) (m : Message) (a b c : Bool) → m ≡ notification method params → a ≡ notifies (codes "initialized") m → b ≡ speaks (saying_of m) → c ≡ is_dropped (class_of method Editor true) → ((a || b) || c) ≡ is_quiet method params
-quiet_parts method params m a b c is x y z =
-    ap₂ (λ p q. (p || q) || c) (x ∙ ap (notifies (codes "initialized")) is) (y ∙ ap (λ k. speaks (saying_of k)) is) ∙ go (bytes_eq (codes "initialized") method) (speaks (saying_by method params)) c (is_dropped (class_of method Editor true)) z
-  where
-    go : (p q c d : Bool) → c ≡ d → ((p || q) || c) ≡ (p || (q || d))
-    go true q c d e = refl
-    go false true c d e = refl
-    go false false c d e = e
-
 -- of a start
 
 some_mapped : (k : ℕ) (rs : List Numbered) → is_some (pending_of k rs) ≡ is_some (find (is_under k) (map forwarded_of rs))

@@ -292,7 +292,7 @@ module _ (before : List Event) (e : ℕ) (body : List ℕ) (xs : List Out) (firs
 -- what editors are shown of a start's result
 pub shown_by : (before : List Event) → Plain before → (s : ℕ) (given : List ℕ) → result_of s before ≡ Some given → IsShown given
 shown_by before plain s given gave =
-    let p = plain s given gave in
+    let p = plain.whole s given gave in
     record { value = p.r; text = subst (IsShallowText 1023 p.r) (sym p.whole) (result_bytes_law given p.id p.r p.says) }
 
 -- an editor that joins a group waits, where its start isn't ready behind the message

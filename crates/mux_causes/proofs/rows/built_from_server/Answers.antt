@@ -5,12 +5,9 @@ use Rattle.rpc_message.specs.Message.{message_of}
 use Rattle.rpc_message.specs.Parsed.{IsRead}
 use Rattle.event_model.specs.Stages.{life_of}
 use Rattle.group_rows.specs.Forwarded.{forwarding_of}
-use Rattle.mux_causes.proofs.Meant.{read_well, server_read}
 use Rattle.mux_causes.proofs.rows.built_from_server.Goals as goal
 
 pub returns-in-Ok : goal.returns-in-Ok
 returns-in-Ok c = λ settings before st.
     let body = c.args.body.now in
-    let read : IsRead c.in-Ok.message body = subst (λ w. IsRead c.in-Ok.message w) c.bytes.ensures c.in-Ok.ensures.ok in
-    subst (λ b. IfOk c.built_from_start.result (λ answer. answer ≡ b)) (server_read (life_of c.args.s before).stage (forwarding_of c.args.s before).open_requests body (message_of body) (read_well c.in-Ok.message body read))
-    (c.built_from_start.ensures settings before body st read)
+    c.built_from_start.ensures settings before body st (subst (λ w. IsRead c.in-Ok.message w) c.bytes.ensures c.in-Ok.ensures.ok)
