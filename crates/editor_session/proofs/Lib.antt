@@ -1,1 +1,4 @@
-pub mod Numbers
+mod Numbers
+mod Places
+mod Searching
+mod Spreading

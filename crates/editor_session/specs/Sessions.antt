@@ -1,9 +1,9 @@
 -- Editors by their numbers (LSP 3.17, Lifecycle Messages): the first that joined is number 0, the next is number 1.
-use Rattle.std.specs.Prelude.{◌≡◌, ℕ, Bool, true, false, ◌&&◌, nat_eq, List, length, slice_index_or, slice_set}
+use Rattle.std.specs.Prelude.{ℕ, ◌+◌, Bool, true, false, ◌&&◌, nat_eq, List, length, slice_index_or, slice_set, if◌then◌else◌}
 use Rattle.std.specs.Prelude.{Option, Some, None}
-use Rattle.std.specs.List.{All, filter, range_with_len}
+use Rattle.std.specs.List.{filter, range_with_len}
 use Rattle.event_model.specs.declared.phase.Phase.{Phase}
-use Rattle.event_model.specs.declared.phase.Phase.TheVariants.{Absent, New}
+use Rattle.event_model.specs.declared.phase.Phase.TheVariants.{Absent, Gone, New}
 use Rattle.event_model.specs.Phases.{is_begun, is_running, is_there, is_waiting, needs_server}
 use Rattle.editor_session.specs.declared.session.Session.{Session}
 use Rattle.editor_session.specs.declared.session.Wanted.{Wanted}
@@ -11,11 +11,15 @@ use Rattle.editor_session.specs.declared.session.Wanted.TheVariants as wanted
 
 -- an editor as it joins
 abbrev pub joined : Session
-joined = record { phase = New; group = None; id = None; asks = 0; backlog = 0 }
+joined = record { phase = New; group = None; id = None; asks = 0 }
 
 -- one that never joined
 abbrev pub absent : Session
-absent = record { phase = Absent; group = None; id = None; asks = 0; backlog = 0 }
+absent = record { phase = Absent; group = None; id = None; asks = 0 }
+
+-- one whose link ended: nothing of it is kept
+abbrev pub gone : Session
+gone = record { phase = Gone; group = None; id = None; asks = 0 }
 
 -- the editor of a number; one past the end never joined
 abbrev pub session_of : List Session → ℕ → Session
@@ -25,6 +29,30 @@ session_of sessions e = slice_index_or sessions e absent
 abbrev pub with_session : List Session → ℕ → Session → List Session
 with_session sessions e session = slice_set sessions e session
 
+abbrev pub is_gone : Phase → Bool
+is_gone Gone = true
+is_gone _ = false
+
+-- one that is gone stays as it is
+abbrev pub unless_gone : (Session → Session) → Session → Session
+unless_gone change session = if is_gone session.phase then session else change session
+
+-- it stands there from now on
+abbrev pub in_phase : Phase → Session → Session
+in_phase phase session = if is_gone phase then gone else record session { phase = phase }
+
+-- it was placed in this group by an `initialize` of this id
+abbrev pub in_group : ℕ → List ℕ → Session → Session
+in_group group id session = record session { group = Some group; id = Some id }
+
+-- it was asked once more
+abbrev pub asked : Session → Session
+asked session = record session { asks = session.asks + 1 }
+
+-- the number of the next request that it is asked
+abbrev pub next_ask : Session → Option ℕ
+next_ask session = if is_gone session.phase then None else Some (session.asks + 1)
+
 -- the numbers, rising, of the editors that meet a test
 abbrev pub numbers_of : (Session → Bool) → List Session → List ℕ
 numbers_of test sessions = filter (λ e. test (session_of sessions e)) (range_with_len 0 (length sessions))
@@ -33,14 +61,6 @@ numbers_of test sessions = filter (λ e. test (session_of sessions e)) (range_wi
 abbrev pub is_in : ℕ → Option ℕ → Bool
 is_in group None = false
 is_in group (Some placed) = nat_eq placed group
-
--- it joined
-abbrev pub is_joined : Phase → Bool
-is_joined Absent = false
-is_joined _ = true
-
-abbrev pub AllJoined : List Session → Type 0
-AllJoined sessions = All (λ s. is_joined s.phase ≡ true) sessions
 
 abbrev pub runs_in : ℕ → Session → Bool
 runs_in group session = is_running session.phase && is_in group session.group

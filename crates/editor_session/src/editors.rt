@@ -1,20 +1,26 @@
 // The editors, by their numbers.
-ghost use Rattle.std.specs.Prelude.{◌≡◌, ◌≢◌, ◌+◌, ◌-◌, ◌^◌, ◌<◌, ◌≤◌, [], ◌∷◌, ◌++◌, length, true, IfOk, OnOk, OnErr, option_copied, Some};
+ghost use Rattle.std.specs.Prelude.{◌≡◌, ◌≢◌, ◌+◌, ◌^◌, ◌<◌, ◌≤◌, ℕ, [], ◌∷◌, ◌++◌, length, true, None, Some, IfNone, IfOk, IfSome, OnErr, OnOk, option_copied};
+ghost use Rattle.std.specs.List.{remove};
 ghost use Rattle.event_model.specs.declared.phase.Phase.TheVariants.{Absent};
-ghost use Rattle.event_model.specs.Phases.{is_there};
-ghost use Rattle.editor_session.specs.Sessions.{is_joined, is_of, is_wanted, joined, needs_in, numbers_of, runs_in, session_of, waits_in, with_session};
+ghost use Rattle.event_model.specs.Phases.{is_linked, is_there};
+ghost use Rattle.editor_session.specs.Kept.{IsAt, Rise, held};
+ghost use Rattle.editor_session.specs.Sessions.{asked, gone, in_group, in_phase, is_gone, is_of, is_wanted, joined, needs_in, next_ask, numbers_of, runs_in, session_of, unless_gone, waits_in, with_session};
 
-use crate::session::{Session, Wanted};
+use crate::session::{Numbered, Session, Wanted};
 use event_model::Phase;
 use message_body::{Body, Memory};
 use std::alloc::Global;
 use std::marker::Model;
 
 /// The editors that joined (LSP 3.17, Lifecycle Messages), numbered from 0 in the order in which they did.
+///
+/// Of one whose link ended nothing is kept but that its number was given, so the memory is that of the editors that are linked. A
+/// look-up by number takes a bisection of them, and a list of numbers a walk over them.
 #[derive(Debug, Drop)]
 pub struct Editors {
     alloc: Global,
-    sessions: Vec<Session>,
+    count: u64,
+    linked: Vec<Numbered>,
 }
 
 impl Model for Editors {
@@ -23,11 +29,38 @@ impl Model for Editors {
 
     ghost Value = { List Session };
 
-    ghost use Rattle.editor_session.specs.Sessions.{AllJoined};
+    ghost use Rattle.editor_session.specs.Kept.{AreLinked, Rise, spread};
 
-    ghost view = { λ e. e.sessions.items };
+    ghost view = { λ e. spread 0 e.count e.linked.items };
 
-    ghost invariant = { λ e. AllJoined e.sessions.items };
+    ghost invariant = { λ e. Rise 0 e.count e.linked.items × AreLinked e.linked.items };
+}
+
+// The place of a number among those that are kept.
+fn place_of(linked: &[Numbered], e: u64) -> Option<usize>
+    requires { (count : ℕ) × Rise 0 count linked.now }
+    ensures found { IfSome result (λ k. IsAt linked.now e k) }
+    ensures none { IfNone result (held e linked.now ≡ None) }
+{
+    match linked.binary_search_by_key(&e, |kept| kept.number) {
+        Ok(at) => Some(at),
+        Err(_) => None,
+    }
+}
+
+// Whether its link ended.
+fn is_gone(phase: Phase) -> bool
+    ensures { result ≡ is_gone phase }
+{
+    matches!(phase, Phase::Gone)
+}
+
+// What is in a place goes.
+fn forget(linked: &mut Vec<Numbered>, at: usize)
+    requires { at < length linked.old.items }
+    ensures { linked.new.items ≡ remove linked.old.items at }
+{
+    linked.remove(at);
 }
 
 impl Editors {
@@ -37,7 +70,8 @@ impl Editors {
     {
         Editors {
             alloc,
-            sessions: Vec::new(alloc),
+            count: 0,
+            linked: Vec::new(alloc),
         }
     }
 
@@ -45,10 +79,10 @@ impl Editors {
     pub fn count(&self) -> u64
         ensures { result ≡ length self.now }
     {
-        self.sessions.len() as u64
+        self.count
     }
 
-    /// Takes in the editor of the next number, as new, in no group and with nothing asked or sent. Running out of memory leaves the
+    /// Takes in the editor of the next number, as new, in no group and with nothing asked. Running out of memory leaves the
     /// editors as they were.
     pub fn join(&mut self, e: u64) -> Result<(), Memory>
         requires next { e ≡ length self.old }
@@ -56,10 +90,34 @@ impl Editors {
         ensures ok { OnOk result (self.new ≡ self.old ++ joined ∷ []) }
         ensures err { OnErr result (self.new ≡ self.old) }
     {
-        let count = self.sessions.len() as u64;
-        prove!(e == count);
-        self.sessions.push(Session::new())?;
+        self.linked.push(Numbered {
+            number: e,
+            session: Session::new(),
+        })?;
+        self.count = e + 1;
         Ok(())
+    }
+
+    /// The editor's link ended: it is forgotten. Those that joined later and are linked move by one place.
+    pub fn leave(&mut self, e: u64)
+        requires { e < length self.old }
+        ensures { self.new ≡ with_session self.old e gone }
+    {
+        if let Some(at) = place_of(&self.linked, e) {
+            forget(&mut self.linked, at);
+        }
+    }
+
+    // What is kept of an editor.
+    fn find(&self, e: u64) -> Option<&Session>
+        requires { e < length self.now }
+        ensures some { IfSome (option_copied result) (λ s. (s ≡ session_of self.now e) × (is_linked s.phase ≡ true)) }
+        ensures none { IfNone (option_copied result) (session_of self.now e ≡ gone) }
+    {
+        match place_of(&self.linked, e) {
+            Some(at) => Some(&self.linked[at].session),
+            None => None,
+        }
     }
 
     /// Where the editor stands.
@@ -68,83 +126,78 @@ impl Editors {
         ensures phase { result ≡ (session_of self.now e).phase }
         ensures joined { result ≢ Absent }
     {
-        self.sessions[e as usize].phase
+        match self.find(e) {
+            Some(session) => session.phase,
+            None => Phase::Gone,
+        }
     }
 
-    /// Lets it stand there; `Absent` is of those alone that never joined.
+    /// Lets it stand there; `Absent` is of those alone that never joined. One that is gone stays gone, and one that is gone from now
+    /// on is forgotten, as `leave` does it.
     pub fn set(&mut self, e: u64, phase: Phase)
         requires number { e < length self.old }
         requires joined { phase ≢ Absent }
-        ensures { self.new ≡ with_session self.old e (record (session_of self.old e) { phase = phase }) }
+        ensures { self.new ≡ with_session self.old e (unless_gone (in_phase phase) (session_of self.old e)) }
     {
-        let session = &mut self.sessions[e as usize];
-        session.phase = phase;
+        let Some(at) = place_of(&self.linked, e) else {
+            return;
+        };
+        if is_gone(phase) {
+            forget(&mut self.linked, at);
+            return;
+        }
+        let kept = &mut self.linked[at];
+        kept.session.phase = phase;
     }
 
-    /// Places it in a group, and keeps the bytes of the id of its `initialize`.
+    /// Places it in a group, and keeps the bytes of the id of its `initialize`; not where it is gone.
     pub fn place(&mut self, e: u64, group: u64, id: Body)
         requires { e < length self.old }
-        ensures { self.new ≡ with_session self.old e (record (session_of self.old e) { group = Some group; id = Some id }) }
+        ensures { self.new ≡ with_session self.old e (unless_gone (in_group group id) (session_of self.old e)) }
     {
-        let session = &mut self.sessions[e as usize];
-        session.group = Some(group);
-        session.id = Some(id);
+        if let Some(at) = place_of(&self.linked, e) {
+            let kept = &mut self.linked[at];
+            kept.session.place(group, id);
+        }
     }
 
-    /// The group that it was placed in.
+    /// The group that it was placed in; none where it is gone.
     pub fn group(&self, e: u64) -> Option<u64>
         requires { e < length self.now }
         ensures { result ≡ (session_of self.now e).group }
     {
-        self.sessions[e as usize].group
+        match self.find(e) {
+            Some(session) => session.group,
+            None => None,
+        }
     }
 
-    /// The bytes of the id of its `initialize`, where it was placed.
+    /// The bytes of the id of its `initialize`, where it was placed and isn't gone.
     pub fn id(&self, e: u64) -> Option<&Body>
         requires { e < length self.now }
         ensures { option_copied result ≡ (session_of self.now e).id }
     {
-        self.sessions[e as usize].id.as_ref()
+        match self.find(e) {
+            Some(session) => session.id.as_ref(),
+            None => None,
+        }
     }
 
-    /// The number of the next request that it is asked: the first has 1.
-    pub fn ask_number(&mut self, e: u64) -> u128
+    /// The number of the next request that it is asked: the first has 1. None where it is gone.
+    pub fn ask_number(&mut self, e: u64) -> Option<u128>
         requires number { e < length self.old }
         requires room { (session_of self.old e).asks < 2 ^ 127 }
-        ensures number { result ≡ (session_of self.old e).asks + 1 }
-        ensures kept { self.new ≡ with_session self.old e (record (session_of self.old e) { asks = result }) }
+        ensures number { result ≡ next_ask (session_of self.old e) }
+        ensures kept { self.new ≡ with_session self.old e (unless_gone asked (session_of self.old e)) }
     {
-        let session = &mut self.sessions[e as usize];
-        session.asks += 1;
-        session.asks
-    }
-
-    /// So many more bytes are on their way to it.
-    pub fn sent(&mut self, e: u64, bytes: u64)
-        requires number { e < length self.old }
-        requires room { (session_of self.old e).backlog + bytes < 2 ^ 128 }
-        ensures { self.new ≡ with_session self.old e (record (session_of self.old e) { backlog = (session_of self.old e).backlog + bytes }) }
-    {
-        let session = &mut self.sessions[e as usize];
-        session.backlog += bytes as u128;
-    }
-
-    /// So many bytes that were on their way to it were written.
-    pub fn drained(&mut self, e: u64, bytes: u64)
-        requires number { e < length self.old }
-        requires within { bytes ≤ (session_of self.old e).backlog }
-        ensures { self.new ≡ with_session self.old e (record (session_of self.old e) { backlog = (session_of self.old e).backlog - bytes }) }
-    {
-        let session = &mut self.sessions[e as usize];
-        session.backlog -= bytes as u128;
-    }
-
-    /// The bytes that are on their way to it.
-    pub fn backlog(&self, e: u64) -> u128
-        requires { e < length self.now }
-        ensures { result ≡ (session_of self.now e).backlog }
-    {
-        self.sessions[e as usize].backlog
+        match place_of(&self.linked, e) {
+            Some(at) => {
+                let kept = &mut self.linked[at];
+                kept.session.asks += 1;
+                Some(kept.session.asks)
+            }
+            None => None,
+        }
     }
 
     /// The numbers, rising, of the editors of this group that run.
@@ -184,13 +237,14 @@ impl Editors {
     }
 
     // The numbers, rising, of the editors that are looked for.
+    #[tactic(auto, using(crate::proofs::Numbers::found_more, crate::proofs::Numbers::found_same))]
     fn numbers(&self, wanted: Wanted) -> Result<Vec<u64>, Memory>
         ensures { IfOk result (λ numbers. numbers.items ≡ numbers_of (λ s. is_wanted wanted s) self.now) }
     {
         let mut numbers = Vec::new(self.alloc);
-        for number in 0..self.sessions.len() {
-            if self.sessions[number].is_wanted(wanted) {
-                numbers.push(number as u64)?;
+        for kept in &self.linked {
+            if kept.session.is_wanted(wanted) {
+                numbers.push(kept.number)?;
             }
         }
         Ok(numbers)

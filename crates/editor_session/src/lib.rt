@@ -1,4 +1,4 @@
-//! The editors that joined: where each stands, whose it is, and how much is on its way to it.
+//! The editors that joined: where each stands, and whose it is.
 #![tactic(auto)]
 
 mod editors;

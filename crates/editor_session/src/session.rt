@@ -1,7 +1,7 @@
 // One editor.
 ghost use Rattle.std.specs.Prelude.{◌≡◌};
 ghost use Rattle.event_model.specs.Phases.{is_there};
-ghost use Rattle.editor_session.specs.Sessions.{is_in, is_of, is_wanted, joined, needs_in, runs_in, waits_in};
+ghost use Rattle.editor_session.specs.Sessions.{in_group, is_in, is_of, is_wanted, joined, needs_in, runs_in, waits_in};
 
 use event_model::Phase;
 use message_body::Body;
@@ -17,8 +17,13 @@ pub struct Session {
     pub id: Option<Body>,
     /// The number of the last request that it was asked; 0 before the first.
     pub asks: u128,
-    /// The bytes of bodies sent to it that weren't drained yet.
-    pub backlog: u128,
+}
+
+/// An editor that isn't gone, with its number.
+#[derive(Debug, Drop)]
+pub struct Numbered {
+    pub number: u64,
+    pub session: Session,
 }
 
 /// Which editors are looked for.
@@ -46,8 +51,15 @@ impl Session {
             group: None,
             id: None,
             asks: 0,
-            backlog: 0,
         }
+    }
+
+    /// It was placed in this group by an `initialize` of this id.
+    pub fn place(&mut self, group: u64, id: Body)
+        ensures { self.new ≡ in_group group id self.old }
+    {
+        self.group = Some(group);
+        self.id = Some(id);
     }
 
     // Whether it was placed in this group.

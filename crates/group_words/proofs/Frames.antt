@@ -43,6 +43,7 @@ touches_groups other = false
 -- the events that the home of an editor speaks of
 abbrev pub names_home : ℕ → Event → Bool
 names_home n (took (FromEditor e body) m) = nat_eq e n && requests (codes "initialize") m
+names_home n (took (EditorGone e why) m) = nat_eq e n
 names_home n other = false
 
 left_off : (a b : Bool) → (a || b) ≡ false → a ≡ false
@@ -74,6 +75,7 @@ groups_quiet settings before x other h = refl
 
 pub home_quiet : (settings : Settings) (before : List Event) (x : House) (n : ℕ) (ev : Event) → names_home n ev ≡ false → home_next settings before x ev n ≡ x.home n
 home_quiet settings before x n (took (FromEditor e body) m) h = rw (and_swaps (nat_eq e n) _ (requests (codes "initialize") m) h) refl
+home_quiet settings before x n (took (EditorGone e why) m) h = rw h refl
 home_quiet settings before x n other h = refl
 
 -- the word behind one event more

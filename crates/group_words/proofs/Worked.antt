@@ -50,3 +50,7 @@ row_18_initialize = refl
 an_ended_group_takes_none : home_of (with_groups 8) 1 (events_from (with_groups 8) [] after_an_end) ≡ Some 1
 unfolding computes message_of named no_name_twice is_integer member_bytes with_id_text escape_byte digits
 an_ended_group_takes_none = refl
+
+one_that_left_is_in_no_group : home_of (with_groups 1) 0 (events_from (with_groups 1) [] an_end) ≡ None
+unfolding computes message_of named no_name_twice is_integer member_bytes with_id_text escape_byte digits
+one_that_left_is_in_no_group = refl

@@ -109,7 +109,7 @@ ceiling_of (Some server) capabilities = given_or server.ceiling capabilities
 abbrev pub declared_for : Settings → List Event → ℕ → List ℕ → List ℕ
 declared_for settings before e body = given_or (declared_of (offered body) (ceiling_of (slice_get settings.servers (server_for settings e before)) (offered body))) (codes "{}")
 
--- the groups, and the group of each editor
+-- the groups, and the group of each editor: that in which it was placed, until its link ended
 pub record House : Type 0 where
   pub home : ℕ → Option ℕ
   pub groups : List Kept
@@ -186,6 +186,7 @@ groups_next settings before x other = x.groups
 
 abbrev pub home_next : Settings → List Event → House → Event → ℕ → Option ℕ
 home_next settings before x (took (FromEditor e body) m) n = if nat_eq e n && places (desk_of e before).phase m then home_by (placed_for settings before e body x.groups) (x.home n) else x.home n
+home_next settings before x (took (EditorGone e why) m) n = if nat_eq e n then None else x.home n
 home_next settings before x other n = x.home n
 
 abbrev pub house_next : Settings → List Event → House → Event → House

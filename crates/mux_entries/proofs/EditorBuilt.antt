@@ -76,6 +76,7 @@ module _ (ids : List Id) where
 
   -- a notification of one that is served isn't `exit`
   pub stays_there : (p : Phase) (method : List ℕ) (params : Option Json) → is_served p ≡ true → built_from_editor p ids (notification method params) ≡ true → bytes_eq (codes "exit") method ≡ false
+  unfolding editor_notification own_notification
   stays_there p method params served h = go (bytes_eq (codes "exit") method) refl
     where
       quiet : (p : Phase) (name : List ℕ) → is_served p ≡ true → built_from_editor p ids (notification name params) ≡ true → is_quiet name params ≡ true
@@ -89,7 +90,6 @@ module _ (ids : List Id) where
       quiet Gone name s k = absurd (cc)
 
       clash : is_quiet (codes "exit") params ≡ true → ⊥
-      unfolding editor_notification own_notification
       clash k = cc
 
       go : (b : Bool) → bytes_eq (codes "exit") method ≡ b → b ≡ false

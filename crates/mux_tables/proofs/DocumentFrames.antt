@@ -191,8 +191,8 @@ served_old other h = refl
 
 module _ (settings : Settings) (events : List Event) where
   -- the home of an editor that is served
-  home_served : (n : ℕ) (ev : Event) → is_served (desk_of n events).phase ≡ true → home_of settings n (events ++ ev ∷ []) ≡ home_of settings n events
-  home_served n (took (FromEditor e body) m) k = home_more settings n events (took (FromEditor e body) m) ∙ go (nat_eq e n) refl
+  home_served : (n : ℕ) (ev : Event) → parts n ev ≡ false → is_served (desk_of n events).phase ≡ true → home_of settings n (events ++ ev ∷ []) ≡ home_of settings n events
+  home_served n (took (FromEditor e body) m) h k = home_more settings n events (took (FromEditor e body) m) ∙ go (nat_eq e n) refl
     where
       same : nat_eq e n ≡ true → is_new (desk_of e events).phase ≡ false
       same b = let q : e ≡ n = grind (arith, nat_tests) in subst (λ j. is_new (desk_of j events).phase ≡ false) (sym q) (served_old (desk_of n events).phase k)
@@ -200,7 +200,8 @@ module _ (settings : Settings) (events : List Event) where
       go : (b : Bool) → nat_eq e n ≡ b → home_next settings events (house_of settings events) (took (FromEditor e body) m) n ≡ home_of settings n events
       go true b = rw (b, same b) refl
       go false b = rw b refl
-  home_served n other k = home_more settings n events other
+  home_served n (took (EditorGone e why) m) h k = home_more settings n events (took (EditorGone e why) m) ∙ rw h refl
+  home_served n other h k = home_more settings n events other
 
   pub owner_stays : (g : ℕ) (o : Open) (ev : Event) → parts o.editor ev ≡ false → IsOwned settings events g o → IsOwned settings (events ++ ev ∷ []) g o
-  owner_stays g o ev h k = (home_served o.editor ev k.1 ∙ k.0, subst (λ (d : Desk). is_served d.phase ≡ true) (sym (one_more (desk_behind o.editor) _ _ events ev refl)) (served_stays o.editor (desk_of o.editor events) ev h k.1))
+  owner_stays g o ev h k = (home_served o.editor ev h k.1 ∙ k.0, subst (λ (d : Desk). is_served d.phase ≡ true) (sym (one_more (desk_behind o.editor) _ _ events ev refl)) (served_stays o.editor (desk_of o.editor events) ev h k.1))

@@ -10,13 +10,14 @@ use Rattle.event_model.specs.Event.{Event, heard, requests}
 use Rattle.event_model.specs.Phases.{Desk, desk_behind, desk_hears, desk_of, is_served}
 use Rattle.event_model.specs.Settings.{Settings}
 use Rattle.event_model.proofs.Frames.{never, one_more}
-use Rattle.editor_session.specs.Sessions.{session_of, with_session}
+use Rattle.editor_session.specs.Sessions.{with_session}
 use Rattle.group_words.specs.Houses.{places, stops}
 use Rattle.mux_tables.specs.declared.tables.Tables.{Tables}
 use Rattle.mux_tables.specs.Stands.{Stands}
 use Rattle.mux_tables.proofs.DocumentFrames.{served_old}
 use Rattle.mux_tables.proofs.Frames.{itself}
-use Rattle.mux_tables.proofs.Heard.{heard_moves}
+use Rattle.mux_tables.proofs.Heard.{set_moves}
+use Rattle.mux_tables.proofs.Phased.{phased}
 
 hears_down : (p : Phase) (initialize body : List ℕ) (m : Message) → is_served p ≡ true → requests (codes "shutdown") m ≡ true → (desk_hears p initialize body m).phase ≡ Down
 hears_down Answered i body m h k = rw k refl
@@ -32,10 +33,10 @@ no_stop : (m : Message) → requests (codes "shutdown") m ≡ true → requests 
 no_stop (request id method ps) h = subst (λ w. bytes_eq (codes "lspmux/stop") w ≡ false) ((bytes_eq-Decides (codes "shutdown") method).0 h) refl
 no_stop other h = never (sym h)
 
-pub shutdown_moves : (settings : Settings) (t u : Tables) (events : List Event) (e : ℕ) (body : List ℕ) → e < length t.editors → u.editors ≡ with_session t.editors e (record (session_of t.editors e) { phase = Down }) → u.groups ≡ t.groups → u.time ≡ t.time → u.lasts ≡ t.lasts → u.origins ≡ t.origins → u.requests ≡ t.requests
+pub shutdown_moves : (settings : Settings) (t u : Tables) (events : List Event) (e : ℕ) (body : List ℕ) → e < length t.editors → u.editors ≡ with_session t.editors e (phased t.editors e Down) → u.groups ≡ t.groups → u.time ≡ t.time → u.lasts ≡ t.lasts → u.origins ≡ t.origins → u.requests ≡ t.requests
     → is_served (desk_of e events).phase ≡ true → requests (codes "shutdown") (message_of body) ≡ true → Stands settings t events → Stands settings u (events ++ heard (FromEditor e body) ∷ [])
 shutdown_moves settings t u events e body l is gs now ls os r served asks st =
     let stays : places (desk_of e events).phase (message_of body) ≡ false = rw (served_old (desk_of e events).phase served) refl in
     let goes : stops events e (message_of body) ≡ false = rw (no_stop (message_of body) asks) refl in
     let step : (desk_of e (events ++ heard (FromEditor e body) ∷ [])).phase ≡ Down = ap (λ (d : Desk). d.phase) (one_more (desk_behind e) _ _ events (heard (FromEditor e body)) refl) ∙ rw (itself e) (hears_down (desk_of e events).phase (desk_of e events).initialize body (message_of body) served asks) in
-    heard_moves settings t u events e body Down l is now ls os r stays step gs goes st
+    set_moves settings t u events e body Down l is now ls os r stays step gs goes st

@@ -70,6 +70,7 @@ desk_alone e d other h = refl
 
 homeless : (n : ℕ) (ev : Event) → names_editor ev ≡ false → names_home n ev ≡ false
 homeless n (took (FromEditor e body) m) h = never h
+homeless n (took (EditorGone e why) m) h = never h
 homeless n other h = refl
 
 -- the time

@@ -8,15 +8,14 @@ use Rattle.mux_history.specs.declared.cause.Why.{Why}
 use Rattle.mux_history.specs.declared.cause.Cause.TheVariants.{Joined, FromEditor, EditorGone, Drained, Tick}
 use Rattle.rpc_message.specs.Message.{id_bytes, message_of, not_message}
 use Rattle.event_model.specs.declared.phase.Phase.{Phase}
-use Rattle.event_model.specs.declared.phase.Phase.TheVariants.{Absent, New, Waiting}
-use Rattle.event_model.specs.declared.phase.Phase.TheVariants as phase
+use Rattle.event_model.specs.declared.phase.Phase.TheVariants.{New}
 use Rattle.event_model.specs.Event.{Event, heard, took, requests}
 use Rattle.event_model.specs.Phases.{Desk, desk_of, desk_behind, editors_behind, is_begun}
 use Rattle.event_model.specs.Settings.{Settings}
 use Rattle.event_model.proofs.Frames.{one_more}
 use Rattle.event_model.proofs.Places.{Same, same, other, compare, get_set_same, get_set_other, get_push_same, get_push_other}
 use Rattle.editor_session.specs.declared.session.Session.{Session}
-use Rattle.editor_session.specs.Sessions.{absent, joined, session_of, with_session}
+use Rattle.editor_session.specs.Sessions.{absent, gone, joined, session_of, with_session}
 use Rattle.group_table.specs.Tables.{Table, after_place, place_in, with_groups}
 use Rattle.group_words.specs.Keys.{Common}
 use Rattle.group_words.specs.Placing as placing
@@ -33,6 +32,7 @@ use Rattle.mux_tables.proofs.Frames.{itself, groups_stand}
 use Rattle.mux_tables.proofs.Leaves.{gone_by}
 use Rattle.mux_tables.proofs.Moves.{house_moves, quiet_moves}
 use Rattle.mux_tables.proofs.Named.{Goes, goes_heard, goes_so, goes_then, named_by, named_new}
+use Rattle.mux_tables.proofs.Phased.{heard_plain, phased}
 use Rattle.mux_tables.proofs.Seated.{Seated, initialize_heard}
 
 and_off : (a : Bool) → (a && false) ≡ false
@@ -126,12 +126,22 @@ module _ (settings : Settings) (t u : Tables) (events : List Event) (e : ℕ) (b
     now = one_more time_behind _ _ events ev h.now ∙ sym now;
   })
 
-  pub heard_moves : u.groups ≡ t.groups → stops events e (message_of body) ≡ false → Stands settings t events → Stands settings u (events ++ ev ∷ [])
+  heard_moves : u.groups ≡ t.groups → stops events e (message_of body) ≡ false → Stands settings t events → Stands settings u (events ++ ev ∷ [])
   heard_moves gs goes = all_heard (λ h. subst (λ g. GroupsStand settings g (events ++ ev ∷ [])) (sym gs) (record { groups = groups_more settings events ev ∙ (rw (stays, goes) refl ∙ h.groups); limit = h.limit; idle = h.idle }))
 
   -- E6
-  pub stopped_moves : (ns : List ℕ) → ns ≡ all_from 0 is_live t.groups.groups → u.groups ≡ with_groups (ends ns t.groups.groups) t.groups → stops events e (message_of body) ≡ true → Stands settings t events → Stands settings u (events ++ ev ∷ [])
+  stopped_moves : (ns : List ℕ) → ns ≡ all_from 0 is_live t.groups.groups → u.groups ≡ with_groups (ends ns t.groups.groups) t.groups → stops events e (message_of body) ≡ true → Stands settings t events → Stands settings u (events ++ ev ∷ [])
   stopped_moves ns all gs stop = all_heard (λ h. stop_groups settings events e body (message_of body) t.groups u.groups stays stop (ap (λ (w : Table). w.limit) gs) (ap (λ (w : Table). w.idle) gs) (ap (λ (w : Table). w.groups) gs ∙ ap (λ ms. ends ms t.groups.groups) all) h)
+
+-- the same, as the code sets the phase
+module _ (settings : Settings) (t u : Tables) (events : List Event) (e : ℕ) (body : List ℕ) (p : Phase) (l : e < length t.editors) (set : u.editors ≡ with_session t.editors e (phased t.editors e p))
+    (now : u.time ≡ t.time) (ls : u.lasts ≡ t.lasts) (os : u.origins ≡ t.origins) (r : u.requests ≡ t.requests)
+    (stays : places (desk_of e events).phase (message_of body) ≡ false) (step : (desk_of e (events ++ heard (FromEditor e body) ∷ [])).phase ≡ p) where
+  pub set_moves : u.groups ≡ t.groups → stops events e (message_of body) ≡ false → Stands settings t events → Stands settings u (events ++ heard (FromEditor e body) ∷ [])
+  set_moves gs goes s = heard_moves settings t u events e body p l (set ∙ heard_plain settings t.editors events e p l s.house.editors body step) now ls os r stays step gs goes s
+
+  pub stop_moves : (ns : List ℕ) → ns ≡ all_from 0 is_live t.groups.groups → u.groups ≡ with_groups (ends ns t.groups.groups) t.groups → stops events e (message_of body) ≡ true → Stands settings t events → Stands settings u (events ++ heard (FromEditor e body) ∷ [])
+  stop_moves ns all gs stop s = stopped_moves settings t u events e body p l (set ∙ heard_plain settings t.editors events e p l s.house.editors body step) now ls os r stays step ns all gs stop s
 
 -- X6: no table speaks of bytes that were written
 pub drained_moves : (settings : Settings) (t : Tables) (events : List Event) (e k : ℕ) → Stands settings t events → Stands settings t (events ++ heard (Drained e k) ∷ [])
@@ -140,7 +150,7 @@ drained_moves settings t events e k s = quiet_moves settings t events (heard (Dr
 -- X5
 pub gone_heard : (settings : Settings) (t u : Tables) (events : List Event) (e : ℕ) (why : Why) (mid : List Session) (p : Phase) (home : Option ℕ) (was : Bool) → e < length t.editors
     → p ≡ (session_of t.editors e).phase → home ≡ (session_of t.editors e).group → was ≡ is_begun p
-    → mid ≡ with_session t.editors e (record (session_of t.editors e) { phase = phase.Gone }) → u.editors ≡ mid → u.time ≡ t.time → u.lasts ≡ t.lasts → u.origins ≡ t.origins → u.requests ≡ t.requests
+    → mid ≡ with_session t.editors e gone → u.editors ≡ mid → u.time ≡ t.time → u.lasts ≡ t.lasts → u.origins ≡ t.origins → u.requests ≡ t.requests
     → u.groups ≡ with_groups (emptied home was (stays_in mid) t.time t.groups.groups) t.groups
     → Stands settings t events → Stands settings u (events ++ took (EditorGone e why) not_message ∷ [])
 gone_heard settings t u events e why mid p home was l phases homes begun set es now ls os r gs =

@@ -4,6 +4,7 @@ pub mod IdMoves
 pub mod Lasts
 pub mod Seen
 pub mod Moves
+pub mod Phased
 pub mod Lists
 pub mod Named
 pub mod Placing

@@ -25,14 +25,16 @@ test_so g [] e = refl
 test_so g (x ∷ xs) zero = ap (λ b. is_begun x.phase && b) (home_same g x.group)
 test_so g (x ∷ xs) (suc e) = test_so g xs e
 
-pub editors_by : (home : ℕ → Option ℕ) (xs : List Session) (events : List Event) (g : ℕ) → editors_of events ≡ length xs → ((e : ℕ) → (desk_of e events).phase ≡ phase_in (slice_get xs e)) → ((e : ℕ) → home e ≡ group_in (slice_get xs e))
+-- where the home that is looked at is that of the table for each editor that is begun
+pub editors_by : (home : ℕ → Option ℕ) (xs : List Session) (events : List Event) (g : ℕ) → editors_of events ≡ length xs → ((e : ℕ) → (desk_of e events).phase ≡ phase_in (slice_get xs e))
+    → ((e : ℕ) → (is_begun (phase_in (slice_get xs e)) && is_home g (home e)) ≡ (is_begun (phase_in (slice_get xs e)) && is_home g (group_in (slice_get xs e))))
     → editors_in is_begun g home events ≡ numbers_of (λ s. is_of g s) xs
 editors_by home xs events g count phase homes =
-    filter_same _ _ (λ e. ap (λ p. is_begun p && is_home g (home e)) (phase e) ∙ (ap (λ o. is_begun (phase_in (slice_get xs e)) && is_home g o) (homes e) ∙ test_so g xs e)) (range_with_len 0 (editors_of events))
+    filter_same _ _ (λ e. ap (λ p. is_begun p && is_home g (home e)) (phase e) ∙ (homes e ∙ test_so g xs e)) (range_with_len 0 (editors_of events))
     ∙ ap (λ n. filter (λ e. is_of g (session_of xs e)) (range_with_len 0 n)) count
 
 pub editors_so : (settings : Settings) (xs : List Session) (events : List Event) (g : ℕ) → EditorsStand settings xs events → editors_in is_begun g (λ n. home_of settings n events) events ≡ numbers_of (λ s. is_of g s) xs
-editors_so settings xs events g s = editors_by (λ n. home_of settings n events) xs events g s.count s.phase s.home
+editors_so settings xs events g s = editors_by (λ n. home_of settings n events) xs events g s.count s.phase (λ e. ap (λ o. is_begun (phase_in (slice_get xs e)) && is_home g o) (s.home e))
 
 -- the same in other phases
 pub editors_for : (test : Phase → Bool) (home : ℕ → Option ℕ) (xs : List Session) (events : List Event) (g : ℕ) → editors_of events ≡ length xs → ((e : ℕ) → (desk_of e events).phase ≡ phase_in (slice_get xs e)) → ((e : ℕ) → home e ≡ group_in (slice_get xs e))

@@ -17,7 +17,7 @@ use Rattle.event_model.proofs.Frames.{one_more}
 use Rattle.event_model.proofs.Places.{Same, same, other, compare, get_set_same, get_set_other}
 use Rattle.event_model.proofs.Turns.{behind_more}
 use Rattle.editor_session.specs.declared.session.Session.{Session}
-use Rattle.editor_session.specs.Sessions.{absent, session_of, with_session}
+use Rattle.editor_session.specs.Sessions.{absent, is_gone, session_of, with_session}
 use Rattle.group_table.specs.Tables.{with_groups}
 use Rattle.group_words.specs.Houses.{emptied, time_behind}
 use Rattle.group_words.proofs.Frames.{home_stays}
@@ -27,6 +27,7 @@ use Rattle.mux_tables.proofs.Frames.{groups_stand}
 use Rattle.mux_tables.proofs.Leaves.{closed_by}
 use Rattle.mux_tables.proofs.Moves.{house_moves}
 use Rattle.mux_tables.proofs.Named.{Goes, goes_so, goes_then, goes_told, named_by}
+use Rattle.mux_tables.proofs.Phased.{closed_gone, phased, plain, told_plain}
 use Rattle.mux_tables.proofs.Waits.{ids_stay}
 
 -- one out, by what it does to the tables
@@ -95,16 +96,16 @@ pub told_does : (settings : Settings) (t : Tables) (xs ys : List Out) (base : Li
 told_does settings t xs ys base e body k is = does_send settings (ToEditor e body) base t t xs ys is
     (house_moves settings t t (behind base xs) (said (ToEditor e body)) (λ n. refl) refl refl refl refl (λ h. told_house settings (behind base xs) e body t t (kept_editors settings (behind base xs) e body t.editors k h.editors) refl refl h))
 
-pub welcome_does : (settings : Settings) (t u : Tables) (xs ys : List Out) (base : List Event) (e : ℕ) (body : List ℕ) (p : Phase) → e < length t.editors → (desk_of e (behind base xs ++ said (ToEditor e body) ∷ [])).phase ≡ p → u.editors ≡ with_session t.editors e (record (session_of t.editors e) { phase = p })
+pub welcome_does : (settings : Settings) (t u : Tables) (xs ys : List Out) (base : List Event) (e : ℕ) (body : List ℕ) (p : Phase) → e < length t.editors → (desk_of e (behind base xs ++ said (ToEditor e body) ∷ [])).phase ≡ p → u.editors ≡ with_session t.editors e (phased t.editors e p)
     → u.groups ≡ t.groups → u.time ≡ t.time → u.lasts ≡ t.lasts → u.origins ≡ t.origins → u.requests ≡ t.requests → ys ≡ xs ++ ToEditor e body ∷ [] → Does (λ t events. Stands settings t events) (send (ToEditor e body)) base t xs u ys
 welcome_does settings t u xs ys base e body p l k es gs now ls os r is = does_send settings (ToEditor e body) base t u xs ys is
     (house_moves settings t u (behind base xs) (said (ToEditor e body)) (λ n. refl) refl (ap (λ v. v.items) ls) (ap (λ v. v.items) os) r
-    (λ h. told_house settings (behind base xs) e body t u (subst (λ z. EditorsStand settings z (behind base xs ++ said (ToEditor e body) ∷ [])) (sym es) (moved_editors settings (behind base xs) e body t.editors p l k h.editors)) gs now h))
+    (λ h. told_house settings (behind base xs) e body t u (subst (λ z. EditorsStand settings z (behind base xs ++ said (ToEditor e body) ∷ [])) (sym (es ∙ told_plain settings t.editors (behind base xs) e p l h.editors body k)) (moved_editors settings (behind base xs) e body t.editors p l k h.editors)) gs now h))
 
 pub close_does : (settings : Settings) (t u : Tables) (xs ys : List Out) (base : List Event) (e : ℕ) (mid : List Session) (before p : Phase) (home : Option ℕ) (was : Bool) → e < length t.editors
     → before ≡ (session_of t.editors e).phase → home ≡ (session_of t.editors e).group → p ≡ phase_closed before → was ≡ is_begun before
-    → mid ≡ with_session t.editors e (record (session_of t.editors e) { phase = p }) → u.editors ≡ mid → u.time ≡ t.time → u.lasts ≡ t.lasts → u.origins ≡ t.origins → u.requests ≡ t.requests
+    → mid ≡ with_session t.editors e (phased t.editors e p) → u.editors ≡ mid → u.time ≡ t.time → u.lasts ≡ t.lasts → u.origins ≡ t.origins → u.requests ≡ t.requests
     → u.groups ≡ with_groups (emptied home was (stays_in mid) t.time t.groups.groups) t.groups → ys ≡ xs ++ CloseEditor e ∷ [] → Does (λ t events. Stands settings t events) (send (CloseEditor e)) base t xs u ys
 close_does settings t u xs ys base e mid before p home was l phases homes closes begun set es now ls os r gs is = does_send settings (CloseEditor e) base t u xs ys is
     (house_moves settings t u (behind base xs) (said (CloseEditor e)) (λ n. refl) refl (ap (λ v. v.items) ls) (ap (λ v. v.items) os) r
-    (closed_by settings (behind base xs) e not_message t u mid before p home was l phases homes closes begun set es now gs))
+    (closed_by settings (behind base xs) e not_message t u mid before p home was l phases homes closes begun (set ∙ plain t.editors e p (ap is_gone closes ∙ (closed_gone before ∙ ap is_gone phases))) es now gs))

@@ -1,13 +1,14 @@
 -- An editor is placed, as the code has it.
-use Rattle.std.proofs.Common.{◌≡◌, ℕ, zero, suc, ◌<◌, true, List, [], ◌∷◌, ◌++◌, length, refl, ap, sym, subst, ◌∙◌, arith}
+use Rattle.std.proofs.Common.{◌≡◌, ℕ, zero, suc, ◌<◌, true, false, if◌then◌else◌, List, [], ◌∷◌, ◌++◌, length, refl, ap, sym, subst, ◌∙◌, arith}
 use Rattle.std.specs.Prelude.{Option, Some, None, slice_get, slice_set, slice_index_or, codes}
+use Rattle.std.proofs.lemmas.List.{length-set}
 use Rattle.mux_history.specs.declared.cause.Cause.TheVariants.{FromEditor}
 use Rattle.rpc_message.specs.Message.{Message, id_bytes}
 use Rattle.event_model.specs.declared.phase.Phase.TheVariants.{New, Waiting}
 use Rattle.event_model.specs.Event.{Event, took, requests}
 use Rattle.event_model.specs.Settings.{Settings}
 use Rattle.editor_session.specs.declared.session.Session.{Session}
-use Rattle.editor_session.specs.Sessions.{session_of, with_session}
+use Rattle.editor_session.specs.Sessions.{in_group, in_phase, is_gone, session_of, unless_gone, with_session}
 use Rattle.group_words.specs.declared.placed.Placed.{Placed}
 use Rattle.group_words.specs.declared.placed.Placed.TheVariants.{Joins, Evicts, TooMany}
 use Rattle.group_words.proofs.Frames.{changed_length}
@@ -19,6 +20,7 @@ use Rattle.group_words.specs.Houses.{groups_of, key_for, declared_for, placed_fo
 use Rattle.group_table.specs.Tables.{Inside, Table, after_place, place_in, with_groups}
 use Rattle.mux_tables.specs.declared.tables.Tables.{Tables}
 use Rattle.mux_tables.specs.Stands.{HouseStands}
+use Rattle.mux_tables.proofs.Phased.{phased}
 use Rattle.mux_tables.proofs.Placing.{initialize_moves}
 
 set_set : {X : Type 0} (xs : List X) (i : ℕ) (y z : X) → slice_set (slice_set xs i y) i z ≡ slice_set xs i z
@@ -44,24 +46,34 @@ abbrev pub Seated : List Session → List Session → ℕ → Placed → Option 
 Seated t u e p group id = (y : Session) × (u ≡ slice_set t e y) × (y.phase ≡ Waiting) × (y.group ≡ home_by p group) × ((g : ℕ) → home_by p None ≡ Some g → y.id ≡ Some id)
 
 abbrev pub waiting : List Session → ℕ → Session
-waiting t e = record (session_of t e) { phase = Waiting }
+waiting t e = phased t e Waiting
 
-pub seated : (t u v : List Session) (e g : ℕ) (id : List ℕ) (p : Placed) (group : Option ℕ) → e < length t → u ≡ with_session t e (waiting t e) → v ≡ with_session u e (record (session_of u e) { group = Some g; id = Some id }) → ((o : Option ℕ) → home_by p o ≡ Some g)
-    → Seated t v e p group id
-seated t u v e g id p group h one two home = (
-  record (waiting t e) { group = Some g; id = Some id },
-  two ∙ (ap (λ w. with_session w e (record (session_of w e) { group = Some g; id = Some id })) one
-      ∙ (ap (λ (z : Session). slice_set (slice_set t e (waiting t e)) e (record z { group = Some g; id = Some id })) (index_set t e (waiting t e) _ h) ∙ set_set t e (waiting t e) _)),
+waits : (x : Session) → is_gone x.phase ≡ false → unless_gone (in_phase Waiting) x ≡ record x { phase = Waiting }
+waits x h = ap (λ b. if b then x else record x { phase = Waiting }) h
+
+sits : (w x : Session) (g : ℕ) (id : List ℕ) → w ≡ record x { phase = Waiting } → unless_gone (in_group g id) w ≡ record x { phase = Waiting; group = Some g; id = Some id }
+sits w x g id h = ap (unless_gone (in_group g id)) h
+
+pub seated : (t u v : List Session) (e g : ℕ) (id : List ℕ) (p : Placed) (x : Session) → e < length t → slice_get t e ≡ Some x → is_gone x.phase ≡ false → u ≡ with_session t e (waiting t e) → v ≡ with_session u e (unless_gone (in_group g id) (session_of u e)) → ((o : Option ℕ) → home_by p o ≡ Some g)
+    → Seated t v e p x.group id
+seated t u v e g id p x h at there one two home = (
+  record x { phase = Waiting; group = Some g; id = Some id },
+  two ∙ (ap (λ w. with_session w e (unless_gone (in_group g id) (session_of w e))) one
+      ∙ (ap (λ (z : Session). slice_set (slice_set t e (waiting t e)) e (unless_gone (in_group g id) z)) (index_set t e (waiting t e) _ h)
+      ∙ (set_set t e (waiting t e) _ ∙ ap (slice_set t e) (sits (waiting t e) x g id (ap (λ (z : Session). unless_gone (in_phase Waiting) z) (index_get t e x _ at) ∙ waits x there))))),
   refl,
-  sym (home group),
+  sym (home x.group),
   λ n q. refl,
 )
 
-pub unseated : (t u : List Session) (e : ℕ) (x : Session) (id : List ℕ) (p : Placed) → slice_get t e ≡ Some x → u ≡ with_session t e (waiting t e) → ((o : Option ℕ) → home_by p o ≡ o) → Seated t u e p x.group id
-unseated t u e x id p at one home = (waiting t e, one, refl, ap (λ (z : Session). z.group) (index_get t e x _ at) ∙ sym (home x.group), λ g q. none g (sym (home None) ∙ q))
+pub unseated : (t u : List Session) (e : ℕ) (x : Session) (id : List ℕ) (p : Placed) → slice_get t e ≡ Some x → is_gone x.phase ≡ false → u ≡ with_session t e (waiting t e) → ((o : Option ℕ) → home_by p o ≡ o) → Seated t u e p x.group id
+unseated t u e x id p at there one home = (record x { phase = Waiting }, one ∙ ap (slice_set t e) (ap (λ (z : Session). unless_gone (in_phase Waiting) z) (index_get t e x _ at) ∙ waits x there), refl, sym (home x.group), λ g q. none g (sym (home None) ∙ q))
   where
     none : {A : Type 0} (g : ℕ) → ◌≡◌ {A = Option ℕ} None (Some g) → A
     none g q = absurd (cc)
+
+pub twice_length : {X : Type 0} (t u v : List X) (e : ℕ) (y z : X) → u ≡ slice_set t e y → v ≡ slice_set u e z → length v ≡ length t
+twice_length t u v e y z one two = ap length two ∙ (length-set u e z ∙ (ap length one ∙ length-set t e y))
 
 pub initialize_heard : (settings : Settings) (before : List Event) (e : ℕ) (body : List ℕ) (m : Message) (t u : Tables) (mid : Table) (x : Session) (p : Placed) (key : Common) (given id : List ℕ) → requests (codes "initialize") m ≡ true → slice_get t.editors e ≡ Some x → x.phase ≡ New → id ≡ id_bytes body
     → key ≡ key_for settings before e body → given ≡ declared_for settings before e body → p ≡ place_in key given t.groups → mid ≡ after_place key given t.groups → u.groups ≡ with_groups (placing.joined p mid.groups) mid

@@ -1,5 +1,5 @@
 -- The editors of a group that wait, and the ids of their `initialize`, as the code has them.
-use Rattle.std.proofs.Common.{◌≡◌, ℕ, ◌<◌, List, length, ap, sym, subst, ◌∙◌, arith}
+use Rattle.std.proofs.Common.{◌≡◌, ℕ, ◌<◌, List, length, refl, ap, sym, subst, ◌∙◌, arith}
 use Rattle.std.specs.Prelude.{slice_get, slice_set}
 use Rattle.std.specs.List.{All, range_with_len}
 use Rattle.std.proofs.lemmas.List.Elements.{All-filter, All-from_get_or}
@@ -27,13 +27,14 @@ waiting_inside xs g ns is = subst (λ ms. All (λ e. e < length xs) ms) (sym is)
     let k : i < length xs = subst (λ n. i < n) (length-range_with_len 0 (length xs)) l in
     subst (λ m. m < length xs) (sym (get_or-range_with_len 0 (length xs) i 0 k)) (omega (arith, k)))))
 
--- a phase that changes leaves the ids
-pub ids_stay : (xs : List Session) (e : ℕ) (p : Phase) → e < length xs → (n : ℕ) → id_in (slice_get (with_session xs e (record (session_of xs e) { phase = p })) n) ≡ id_in (slice_get xs n)
-ids_stay xs e p l n = go n (compare e n)
+-- a session that is set and keeps its id leaves the ids
+pub ids_kept : (xs : List Session) (e : ℕ) (y : Session) → e < length xs → y.id ≡ (session_of xs e).id → (n : ℕ) → id_in (slice_get (with_session xs e y) n) ≡ id_in (slice_get xs n)
+ids_kept xs e y l same_id n = go n (compare e n)
   where
-    y : Session
-    y = record (session_of xs e) { phase = p }
-
     go : (n : ℕ) → Same e n → id_in (slice_get (slice_set xs e y) n) ≡ id_in (slice_get xs n)
-    go _ same = ap id_in (get_set_same xs e y l) ∙ ap id_in (sym (slice_get-get_or xs e absent l))
+    go _ same = ap id_in (get_set_same xs e y l) ∙ (same_id ∙ ap id_in (sym (slice_get-get_or xs e absent l)))
     go n (other h) = ap id_in (get_set_other xs e n y h)
+
+-- a phase that changes does
+pub ids_stay : (xs : List Session) (e : ℕ) (p : Phase) → e < length xs → (n : ℕ) → id_in (slice_get (with_session xs e (record (session_of xs e) { phase = p })) n) ≡ id_in (slice_get xs n)
+ids_stay xs e p l n = ids_kept xs e (record (session_of xs e) { phase = p }) l refl n

@@ -148,7 +148,7 @@ impl Tables {
     {
         let phase = self.editors.phase(e);
         let home = self.editors.group(e);
-        self.editors.set(e, Phase::Gone);
+        self.editors.leave(e);
         self.empty(home, phase.is_begun())?;
         let owed = leave(alloc, &mut self.documents, home, e)?;
         Ok(owed)

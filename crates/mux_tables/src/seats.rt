@@ -1,6 +1,7 @@
 // Editors and groups, where an editor is placed, and where groups become idle or end.
-ghost use Rattle.std.specs.Prelude.{◌≡◌, ◌<◌, ◌^◌, ◌&&◌, ℕ, None, Some, length, max, nat_le, slice_get, slice_set};
+ghost use Rattle.std.specs.Prelude.{◌≡◌, ◌<◌, ◌^◌, ◌&&◌, false, ℕ, None, Some, length, max, nat_le, slice_get, slice_set};
 ghost use Rattle.editor_session.specs.declared.session.Session.{Session};
+ghost use Rattle.editor_session.specs.Sessions.{is_gone};
 ghost use Rattle.event_model.specs.declared.phase.Phase.TheVariants.{Waiting};
 ghost use Rattle.group_table.specs.Tables.{Inside, with_groups};
 ghost use Rattle.group_words.specs.declared.kept.Kept.{Kept};
@@ -17,7 +18,8 @@ use message_body::Body;
 // An editor waits, in the group in which it is placed, and the id of its `initialize` is kept.
 pub fn seat(editors: &mut Editors, e: u64, id: Body, placed: Placed)
     requires { e < length editors.old }
-    ensures { (x : Session) → slice_get editors.old e ≡ Some x → (y : Session) × (editors.new ≡ slice_set editors.old e y) × (y.phase ≡ Waiting)
+    ensures count { length editors.new ≡ length editors.old }
+    ensures sits { (x : Session) → slice_get editors.old e ≡ Some x → is_gone x.phase ≡ false → (y : Session) × (editors.new ≡ slice_set editors.old e y) × (y.phase ≡ Waiting)
         × (y.group ≡ home_by placed x.group) × ((g : ℕ) → home_by placed None ≡ Some g → y.id ≡ Some id) }
 {
     editors.set(e, Phase::Waiting);

@@ -34,17 +34,33 @@ fn editors_are_kept_by_number(rt: HostRuntime) -> Result<(), Fail> {
 }
 
 #[test]
-fn asks_and_bytes_are_counted(rt: HostRuntime) -> Result<(), Fail> {
+fn asks_are_counted(rt: HostRuntime) -> Result<(), Fail> {
     let mut editors = Editors::new(rt.alloc());
     editors.join(0)?;
     editors.join(1)?;
-    assert_eq!(rt; editors.ask_number(1), 1);
-    assert_eq!(rt; editors.ask_number(1), 2);
-    assert_eq!(rt; editors.ask_number(0), 1);
-    editors.sent(1, u64::MAX);
-    editors.sent(1, 5);
-    editors.drained(1, 4);
-    assert_eq!(rt; editors.backlog(1), 18_446_744_073_709_551_616);
-    assert_eq!(rt; editors.backlog(0), 0);
+    assert_eq!(rt; editors.ask_number(1), Some(1));
+    assert_eq!(rt; editors.ask_number(1), Some(2));
+    assert_eq!(rt; editors.ask_number(0), Some(1));
+    Ok(())
+}
+
+#[test]
+fn one_that_left_is_gone(rt: HostRuntime) -> Result<(), Fail> {
+    let alloc = rt.alloc();
+    let mut editors = Editors::new(alloc);
+    editors.join(0)?;
+    editors.join(1)?;
+    editors.join(2)?;
+    editors.place(1, 7, Body::new(Vec::from_slice(alloc, b"3".as_slice())?));
+    editors.leave(1);
+    editors.join(3)?;
+    editors.set(1, Phase::Running);
+    assert_eq!(rt; editors.count(), 4);
+    assert_eq!(rt; editors.phase(1), Phase::Gone);
+    assert_eq!(rt; editors.group(1), None);
+    assert!(rt; editors.id(1).is_none());
+    assert_eq!(rt; editors.ask_number(1), None);
+    assert_eq!(rt; editors.phase(2), Phase::New);
+    assert_eq!(rt; editors.there()?.as_slice(), [0, 2, 3].as_slice());
     Ok(())
 }

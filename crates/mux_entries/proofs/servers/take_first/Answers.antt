@@ -7,8 +7,8 @@ use Rattle.mux_entries.proofs.EditorRows.{done_alike, done_quietly}
 use Rattle.mux_entries.proofs.Said.{asking, first_entry, other_silent, stage_here}
 use Rattle.mux_entries.proofs.servers.take_first.Goals as goal
 
-pub returns-then-is_first_result-clause-does : goal.returns-then-is_first_result-clause-does
-returns-then-is_first_result-clause-does c = λ settings before body s read first at known run built st ds.
+pub returns-in_ok-take_result-clause-does : goal.returns-in_ok-take_result-clause-does
+returns-in_ok-take_result-clause-does c = λ settings before body s read first at known run built st ds.
     let t = c.args.tables.now in
     let x = item_at t.lasts.items c.args.g c.requires.group in
     let stage = stage_here settings t before c.args.g s x.0 x.1 at st ∙ c.requires.stage x.0 x.1 in

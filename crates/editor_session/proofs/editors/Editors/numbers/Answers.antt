@@ -1,12 +1,9 @@
-use Rattle.std.proofs.Common.{sym, ap, ◌∙◌, ◌∷◌, [], ◌++◌, arith}
-use Rattle.editor_session.proofs.Numbers.{wanted_more, unwanted_more}
+use Rattle.std.proofs.Common.{◌≡◌, subst, length, arith}
+use Rattle.editor_session.proofs.Numbers.{FoundTo, found_all}
 use Rattle.editor_session.proofs.editors.Editors.numbers.Goals as goal
-use Rattle.editor_session.proofs.editors.Editors.numbers.Goals.{then-is_wanted+in_ok-push, else-is_wanted}
 
-pub loop-number-preserved : goal.loop-number-preserved
-loop-number-preserved c = elim c.if-is_wanted.branch [
-  | then-is_wanted+in_ok-push w ↦ ap (λ v. v.items) w.numbers-is ∙ w.in_ok-push.ensures.items ∙ ap (λ ns. ns ++ c.loop-number.number ∷ []) c.loop-number.invariant
-      ∙ sym (wanted_more c.args.wanted c.args.self.now c.loop-number.number (record { items = c.self.inside.sessions.items; session = c.index.result.now; same = c.self.view_is; inside = omega arith; read = c.index.ensures; answer = w.if-is_wanted.ensures }))
-  | else-is_wanted w ↦ ap (λ v. v.items) w.numbers-is ∙ c.loop-number.invariant
-      ∙ sym (unwanted_more c.args.wanted c.args.self.now c.loop-number.number (record { items = c.self.inside.sessions.items; session = c.index.result.now; same = c.self.view_is; inside = omega arith; read = c.index.ensures; answer = w.if-is_wanted.ensures }))
-]
+pub returns : goal.returns
+returns c =
+    let ended : c.loop-kept.kept-index ≡ length c.deref-kept-items.result.now = omega (arith, c.loop-kept-test.false, c.loop-kept.auto.kept-index-end) in
+    let all = subst (λ n. FoundTo c.args.wanted c.deref-kept-items.result.now n c.loop-kept.numbers.items) ended c.loop-kept.invariant in
+    found_all c.args.wanted c.self.inside.count c.self.inside.linked.items c.args.self.now c.loop-kept.numbers.items c.self.invariant.0 c.self.view_is (subst (λ ys. FoundTo c.args.wanted ys (length ys) c.loop-kept.numbers.items) c.deref-kept-items.ensures.value all)

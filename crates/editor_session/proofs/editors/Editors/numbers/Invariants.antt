@@ -1,7 +1,5 @@
-use Rattle.std.proofs.Common.{◌≡◌}
-use Rattle.std.specs.List.{filter, range_with_len}
-use Rattle.editor_session.specs.Sessions.{is_wanted, session_of}
+use Rattle.editor_session.proofs.Numbers.{FoundTo}
 use Rattle.editor_session.proofs.editors.Editors.numbers.Given as goal
 
-abbrev pub invariant-loop-number : goal.invariant-loop-number
-invariant-loop-number l = l.numbers.items ≡ filter (λ e. is_wanted l.wanted (session_of l.self e)) (range_with_len 0 l.number)
+abbrev pub invariant-loop-kept : goal.invariant-loop-kept
+invariant-loop-kept l = FoundTo l.wanted l.kept-items l.kept-index l.numbers.items

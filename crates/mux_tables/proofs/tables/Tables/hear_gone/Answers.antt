@@ -9,10 +9,10 @@ use Rattle.mux_tables.proofs.tables.Tables.hear_gone.Goals as goal
 
 pub returns-clause-stands : goal.returns-clause-stands
 returns-clause-stands c = λ settings events why st.
-    gone_heard settings c.args.self.now _ events c.args.e why c.set.new.self c.phase-phase.result c.group-home.result c.is_begun.result c.requires c.phase-phase.ensures.phase c.group-home.ensures c.is_begun.ensures c.set.ensures
+    gone_heard settings c.args.self.now _ events c.args.e why c.leave.new.self c.phase-phase.result c.group-home.result c.is_begun.result c.requires c.phase-phase.ensures.phase c.group-home.ensures c.is_begun.ensures c.leave.ensures
     c.in_ok-empty.ensures.editors c.in_ok-empty.ensures.time c.in_ok-empty.ensures.lasts c.in_ok-empty.ensures.origins c.in_ok-empty.ensures.requests c.in_ok-empty.ensures.groups st
 
 pub returns-clause-documents : goal.returns-clause-documents
 returns-clause-documents c = λ settings events why st ds.
     gone_documents settings c.args.self.now _ events c.args.e why c.group-home.result c.in_ok-owed.owed c.requires c.group-home.ensures c.in_ok-empty.ensures.lasts c.in_ok-empty.ensures.versions
-    (subst (λ (v : List Documents). StepFrom (leave_row c.args.e) c.group-home.result v c.in_ok-owed.owed c.leave.new.documents.items) (ap (λ v. v.items) c.in_ok-empty.ensures.documents) c.in_ok-owed.ensures) st ds
+    (subst (λ (v : List Documents). StepFrom (leave_row c.args.e) c.group-home.result v c.in_ok-owed.owed c.leave-2.new.documents.items) (ap (λ v. v.items) c.in_ok-empty.ensures.documents) c.in_ok-owed.ensures) st ds

@@ -5,11 +5,11 @@ use Rattle.group_laws.specs.Steps.{document_step}
 use Rattle.rpc_message.specs.Message.{message_of}
 use Rattle.mux_tables.proofs.DocumentLeft.{home_seen}
 use Rattle.mux_tables.proofs.DocumentNoticed.{noticed_from, noticed_documents}
-use Rattle.mux_tables.proofs.Heard.{heard_moves}
+use Rattle.mux_tables.proofs.Heard.{set_moves}
 use Rattle.mux_tables.proofs.tables.Tables.hear_notice.Goals as goal
 
 pub returns-clause-stands : goal.returns-clause-stands
-returns-clause-stands c = λ settings events body st stays goes step. heard_moves settings c.args.self.now _ events c.args.e body c.args.phase c.requires.editor c.set.ensures refl refl refl refl stays step refl goes st
+returns-clause-stands c = λ settings events body st stays goes step. set_moves settings c.args.self.now _ events c.args.e body c.args.phase c.requires.editor c.set.ensures refl refl refl refl stays step refl goes st
 
 pub returns-clause-documents : goal.returns-clause-documents
 returns-clause-documents c = λ settings events body method params g s read reads served home starts st ds.

@@ -3,7 +3,8 @@ use Rattle.std.proofs.Common.{refl, ap, ◌∙◌, length}
 use Rattle.std.specs.Prelude.{slice_get}
 use Rattle.std.proofs.lemmas.List.{length-set}
 use Rattle.mux_tables.specs.Names.{id_in}
-use Rattle.mux_tables.proofs.Waits.{ids_stay}
+use Rattle.mux_tables.proofs.Phased.{phased_id}
+use Rattle.mux_tables.proofs.Waits.{ids_kept}
 use Rattle.event_model.specs.declared.phase.Phase.TheVariants.{Answered}
 use Rattle.mux_tables.proofs.Said.{welcome_does}
 use Rattle.mux_tables.proofs.DocumentSaid.{told_documents}
@@ -19,4 +20,4 @@ pub returns-clause-count : goal.returns-clause-count
 returns-clause-count c = ap length c.set.ensures ∙ length-set c.args.self.now.editors c.args.e _
 
 pub returns-clause-ids : goal.returns-clause-ids
-returns-clause-ids c = λ n. ap (λ xs. id_in (slice_get xs n)) c.set.ensures ∙ ids_stay c.args.self.now.editors c.args.e Answered c.requires n
+returns-clause-ids c = λ n. ap (λ xs. id_in (slice_get xs n)) c.set.ensures ∙ ids_kept c.args.self.now.editors c.args.e _ c.requires (phased_id c.args.self.now.editors c.args.e Answered refl) n
