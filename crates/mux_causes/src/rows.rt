@@ -256,12 +256,7 @@ fn built_late(message: &Message) -> bool
 }
 
 // A message of a group's last start, by where it stands.
-fn built_answer(
-    tables: &Tables,
-    alloc: Global,
-    g: usize,
-    message: &Message,
-) -> Result<bool, Memory>
+fn built_answer(tables: &Tables, alloc: Global, g: usize, message: &Message) -> Result<bool, Memory>
     requires { g < length tables.now.lasts.items }
     ensures { (settings : Settings) (before : List Event) (body : List ℕ) (s : ℕ) → slice_get (map number_in tables.now.lasts.items) g ≡ Some s
         → Stands settings tables.now before → IsRead message.now body

@@ -28,8 +28,8 @@ use mux_history::Outs;
 use mux_members::{is_initialize, is_wrong};
 use mux_tables::Tables;
 use mux_turns::{
-    take_closed, take_early, take_initialize, take_malformed, take_notice, take_quiet, take_request,
-    take_wrong,
+    take_closed, take_early, take_initialize, take_malformed, take_notice, take_quiet,
+    take_request, take_wrong,
 };
 use rpc_message::{Malformed, Message, Sort};
 use std::alloc::Global;
