@@ -98,12 +98,12 @@ module _ (ids : List Id) where
 
   -- an editor that rests sends no request
   pub rests_unasked : (p : Phase) (m : Message) → rests p ≡ true → (p ≡ Closed → ⊥) → built_from_editor p ids m ≡ true → sort_of m ≡ Some sort.Request → ⊥
-  rests_unasked p (notification method params) s open h k = cc
-  rests_unasked p (result id r) s open h k = cc
-  rests_unasked p (error id r) s open h k = cc
-  rests_unasked p not_json s open h k = cc
-  rests_unasked p not_message s open h k = cc
-  rests_unasked p (request id method params) s open h k = never p s open h
+  rests_unasked p (notification method params) s linked h k = cc
+  rests_unasked p (result id r) s linked h k = cc
+  rests_unasked p (error id r) s linked h k = cc
+  rests_unasked p not_json s linked h k = cc
+  rests_unasked p not_message s linked h k = cc
+  rests_unasked p (request id method params) s linked h k = never p s linked h
     where
       off : (a b : Bool) → b ≡ false → (a && b) ≡ true → ⊥
       off true false e h = cc
@@ -112,14 +112,14 @@ module _ (ids : List Id) where
       off false true e h = cc
 
       never : (p : Phase) → rests p ≡ true → (p ≡ Closed → ⊥) → built_from_editor p ids (request id method params) ≡ true → ⊥
-      never Absent s open h = off (not (is_open id ids)) false refl h
-      never Down s open h = off (not (is_open id ids)) false refl h
-      never Closed s open h = open refl
-      never Gone s open h = off (not (is_open id ids)) false refl h
-      never New s open h = cc
-      never Waiting s open h = cc
-      never Answered s open h = cc
-      never Running s open h = cc
+      never Absent s linked h = off (not (is_open id ids)) false refl h
+      never Down s linked h = off (not (is_open id ids)) false refl h
+      never Closed s linked h = linked refl
+      never Gone s linked h = off (not (is_open id ids)) false refl h
+      never New s linked h = cc
+      never Waiting s linked h = cc
+      never Answered s linked h = cc
+      never Running s linked h = cc
 
 pub served_needs : (p : Phase) → is_served p ≡ true → needs_server p ≡ true
 served_needs Answered h = refl
