@@ -14,7 +14,7 @@ use Rattle.doc_text.specs.declared.change.Extent.TheVariants.{Part}
 use Rattle.doc_text.specs.Changes.{both, coordinate, position_of, position_in, range_of, extent_in, extent_of, string_text, change_of, all_changes, changes_of, changed_all, text_behind}
 use Rattle.rpc_message.specs.Message.{Id, Message, not_json, not_message, request, notification, result, error, no_name_twice, is_two, is_null, are_params, given, is_error, result_tree, id_of, request_if, notification_if, called, response_id, error_if, outcome, response_with, answered, by_method, message_in, message_of}
 use Rattle.document_model.specs.Notices.{did_change, did_change_of, integer_text, uri_in, version_in, changes_in}
-use Rattle.document_model.specs.Sayings.{changes, misshapen, nothing, member_of, string_at, integer_at, opening, changing, closing, opening_by, changing_by, closing_by, saying_by, saying_of}
+use Rattle.document_model.specs.Sayings.{changes, nothing, member_of, string_at, integer_at, opening, changing, closing, opening_by, changing_by, closing_by, saying_by, saying_of}
 
 string_bare : (j : Json) → string_text (bare j) ≡ string_text j
 string_bare (word s w) = refl

@@ -1,19 +1,16 @@
 -- Every body that a start is sent of a document speaks of it.
-use Rattle.std.proofs.Common.{◌≡◌, ℕ, ◌+◌, ◌^◌, ◌<◌, Bool, true, false, ◌&&◌, List, [], ◌∷◌, decimal, is_some, refl, sym, ◌∙◌, ap, subst, arith, codes, bytes_eq, if◌then◌else◌, Option, Some, None, IsUtf8}
+use Rattle.std.proofs.Common.{◌≡◌, ℕ, ◌+◌, ◌^◌, ◌<◌, Bool, true, false, ◌&&◌, List, [], ◌∷◌, decimal, refl, ◌∙◌, ap, arith, codes, bytes_eq, if◌then◌else◌, Option, Some, None, IsUtf8}
 use Rattle.std.specs.Prelude.{nat_lt}
 use Rattle.std.specs.List.{AllByRecursion}
-use Rattle.std.specs.Option.{option_map}
 use Rattle.std.proofs.lemmas.Bool.{ltb-true}
-use Rattle.std.proofs.lemmas.Slice.Eq.{bytes_eq-Decides}
 use Rattle.json_text.specs.Json.{Json}
-use Rattle.position_codec.specs.declared.Encoding.{Encoding}
 use Rattle.document_model.specs.Opens.{Open}
 use Rattle.document_model.specs.Bodies.{open_text, full_text, close_text}
 use Rattle.rpc_message.specs.Message.{message_of}
 use Rattle.document_model.specs.Orderly.{IsSpelt}
-use Rattle.document_model.specs.Helds.{HeldText, told}
+use Rattle.document_model.specs.Helds.{HeldText}
 use Rattle.document_model.specs.Rows.{switched, differing, sent_open, versioned, sent_change, sent_close}
-use Rattle.document_model.specs.Sayings.{Saying, opens, changes, closes, misshapen, nothing, saying_of, speaks}
+use Rattle.document_model.specs.Sayings.{Saying, opens, changes, closes, saying_of, speaks}
 use Rattle.document_model.proofs.ScalarTrees.{either_way}
 use Rattle.document_model.proofs.Versioned.{versioned_says}
 use Rattle.document_model.proofs.Written.{FullSays, open_says, close_says, full_says}

@@ -1,5 +1,5 @@
 -- What the routing table reads in the params and results of bodies (LSP 3.17, initialize, ProgressToken, and VersionedTextDocumentIdentifier).
-use Rattle.std.specs.Prelude.{ℕ, Bool, true, false, ◌&&◌, ◌||◌, List, [], ◌∷◌, codes, is_some, if◌then◌else◌}
+use Rattle.std.specs.Prelude.{ℕ, Bool, false, ◌&&◌, ◌||◌, List, [], codes, is_some, if◌then◌else◌}
 use Rattle.std.specs.Prelude.{Option, Some, None}
 use Rattle.std.specs.List.{list_any}
 use Rattle.json_text.specs.Json.{Json, string, array, object}

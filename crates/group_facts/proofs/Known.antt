@@ -17,7 +17,6 @@ use Rattle.mux_model.specs.Documents.{Sent, held_at}
 use Rattle.mux_model.specs.Fits.{fits_behind}
 use Rattle.mux_facts.specs.Ranges.{InRange}
 use Rattle.mux_facts.proofs.Editors as editors
-use Rattle.mux_facts.proofs.Editors.{Editors}
 use Rattle.mux_facts.proofs.FactLaws.{editors_took, starts_spawn, starts_took, there_not}
 use Rattle.mux_facts.proofs.Folds.{number_more}
 use Rattle.mux_facts.proofs.Keeps.{events_more}
@@ -25,7 +24,6 @@ use Rattle.mux_facts.proofs.Known.{is_unbegun}
 use Rattle.mux_facts.proofs.Reasons.{reasons_keep}
 use Rattle.mux_facts.proofs.Rules.{unless}
 use Rattle.mux_facts.proofs.Starts as starts
-use Rattle.mux_facts.proofs.Starts.{Starts}
 use Rattle.mux_facts.proofs.Tellings.{sent_more}
 use Rattle.mux_facts.proofs.Words.{number_same}
 use Rattle.group_words.specs.Houses.{groups_of}

@@ -6,7 +6,7 @@ use Rattle.event_model.specs.declared.phase.Phase.{Phase}
 use Rattle.event_model.specs.declared.phase.Phase.TheVariants.{Absent, New, Waiting, Answered, Running, Down, Closed, Gone}
 use Rattle.event_model.specs.Event.{requests, same_id}
 use Rattle.event_model.specs.Phases.{Desk, desk_hears, has_id, is_served, makes_running, phase_closed, phase_told}
-use Rattle.event_model.specs.Requests.{answered_id, with_request, is_open, without}
+use Rattle.event_model.specs.Requests.{answered_id, is_open, without}
 use Rattle.event_model.proofs.Frames.{never}
 use Rattle.mux_facts.proofs.Why.{is_early}
 use Rattle.mux_facts.proofs.Words.{id_same, same_id_itself}

@@ -1,6 +1,5 @@
 -- Editors are shown all of the result that a start gave, and one that is ready gave one.
-use Rattle.std.proofs.Common.{◌≡◌, ℕ, Bool, true, false, ◌&&◌, List, [], ◌∷◌, ◌++◌, nat_eq, is_some, if◌then◌else◌, Option, Some, None, refl, sym, ◌∙◌, ap, subst, codes}
-use Rattle.std.proofs.lemmas.Bool.{and_parts}
+use Rattle.std.proofs.Common.{◌≡◌, ℕ, Bool, true, false, List, [], ◌∷◌, ◌++◌, nat_eq, is_some, if◌then◌else◌, Option, Some, None, refl, sym, ◌∙◌, ap, subst, codes}
 use Rattle.std.proofs.lemmas.List.Sums.{fold-append}
 use Rattle.mux_history.specs.declared.cause.Cause.{Cause}
 use Rattle.mux_history.specs.declared.cause.Cause.TheVariants.{Started, StartFailed, FromServer, ServerGone}
@@ -18,7 +17,7 @@ use Rattle.mux_facts.proofs.Table.{FirstResult, first_result_is}
 use Rattle.mux_facts.proofs.Words.{number_same}
 use Rattle.group_words.specs.Rows.{result_behind, result_of}
 use Rattle.group_rows.specs.Forwarded.{Forwarded, forwarding_of}
-use Rattle.group_facts.specs.Built.{built_behind, built_early, built_from_server}
+use Rattle.group_facts.specs.Built.{built_behind, built_from_server}
 use Rattle.group_facts.specs.Facts.{IsPlain, Plain}
 use Rattle.group_facts.proofs.Table.{shown_whole}
 

@@ -17,7 +17,7 @@ use Rattle.event_model.specs.declared.settings.Server.{Server}
 use Rattle.event_model.specs.Event.{Event, heard, said, with_cause}
 use Rattle.event_model.specs.Members.{has_token, named_of, string_of}
 use Rattle.event_model.specs.Phases.{desk_of}
-use Rattle.event_model.specs.Requests.{is_open, open_of}
+use Rattle.event_model.specs.Requests.{open_of}
 use Rattle.event_model.specs.Settings.{Settings}
 use Rattle.document_model.proofs.ScalarTrees.{either_way}
 use Rattle.mux_model.specs.Built.{is_other}

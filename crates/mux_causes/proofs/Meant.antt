@@ -1,11 +1,7 @@
 -- What is built of a message, by what it is.
-use Rattle.std.proofs.Common.{◌≡◌, ℕ, ◌<◌, Bool, true, false, cond, not, ◌&&◌, ◌||◌, List, [], ◌∷◌, map, length, find, nat_eq, codes, bytes_eq, refl, ap, ap₂, sym, ◌∙◌, ◌⊎◌, inl, inr}
+use Rattle.std.proofs.Common.{◌≡◌, ℕ, ◌<◌, Bool, true, false, cond, not, ◌&&◌, ◌||◌, List, [], ◌∷◌, map, length, find, nat_eq, codes, bytes_eq, refl, ap, sym, ◌∙◌, ◌⊎◌, inl, inr}
 use Rattle.std.specs.Prelude.{Option, Some, None, is_some, option_map, slice_get}
 use Rattle.json_text.specs.Json.{Json}
-use Rattle.document_model.specs.Sayings.{saying_by, saying_of, speaks}
-use Rattle.lsp_method.specs.Class.{class_of}
-use Rattle.lsp_method.specs.declared.variants.Origin.TheVariants.{Editor}
-use Rattle.mux_model.specs.Methods.{is_dropped}
 use Rattle.rpc_message.specs.declared.sort.Sort.{Sort}
 use Rattle.rpc_message.specs.declared.sort.Sort.TheVariants as sort
 use Rattle.rpc_message.specs.Message.{Message, request, notification, result, error, not_json, not_message, Id, message_of}
@@ -18,13 +14,13 @@ use Rattle.event_model.specs.declared.phase.Phase.{Phase}
 use Rattle.event_model.specs.declared.phase.Phase.TheVariants.{Absent, New, Waiting, Answered, Running, Down, Closed, Gone}
 use Rattle.event_model.specs.declared.stage.Stage.{Stage}
 use Rattle.event_model.specs.declared.stage.Stage.TheVariants.{Unspawned, Spawning, Initializing, Ready, Stopping, Ending, Ended}
-use Rattle.event_model.specs.Event.{Event, notifies}
+use Rattle.event_model.specs.Event.{Event}
 use Rattle.event_model.specs.Members.{reads_versions}
 use Rattle.event_model.specs.Phases.{is_malformed}
 use Rattle.event_model.specs.Requests.{is_open}
 use Rattle.event_model.specs.Settings.{Settings}
 use Rattle.event_model.specs.Stages.{is_first_result}
-use Rattle.group_facts.specs.Built.{built_as, built_early, built_from_editor, built_from_server, built_late, built_notice, built_response, is_fresh, is_passed_plainly, is_quiet, is_shown_whole}
+use Rattle.group_facts.specs.Built.{built_as, built_early, built_from_editor, built_from_server, built_late, built_notice, built_response, is_fresh, is_passed_plainly, is_shown_whole}
 use Rattle.group_rows.specs.Forwarded.{Forwarded, answered_by, forwarding_of, is_under}
 use Rattle.id_rewrite.specs.declared.pending.Numbered.{Numbered}
 use Rattle.id_rewrite.specs.Tables.{has_number, pending_of}

@@ -26,7 +26,7 @@ use Rattle.event_model.specs.Settings.{Settings}
 use Rattle.event_model.proofs.Turns.{alike, alike_then, does_nothing}
 use Rattle.mux_model.specs.Rows.{malformed_row}
 use Rattle.group_words.specs.Rows.{initialize_row}
-use Rattle.group_rows.specs.Rows.{document_row, early_row, from_editor, message_row, request_row, row_of, served_row}
+use Rattle.group_rows.specs.Rows.{document_row, early_row, from_editor, message_row, row_of, served_row}
 use Rattle.mux_tables.specs.declared.tables.Tables.{Tables}
 use Rattle.mux_tables.specs.Documents.{AllStand, DocumentsStand, nothing_owed}
 use Rattle.mux_tables.specs.Stands.{Stands}

@@ -1,10 +1,6 @@
 -- A body of a start.
-use Rattle.std.proofs.Common.{◌≡◌, subst}
-use Rattle.std.specs.Prelude.{IfOk}
-use Rattle.rpc_message.specs.Message.{message_of}
+use Rattle.std.proofs.Common.{subst}
 use Rattle.rpc_message.specs.Parsed.{IsRead}
-use Rattle.event_model.specs.Stages.{life_of}
-use Rattle.group_rows.specs.Forwarded.{forwarding_of}
 use Rattle.mux_causes.proofs.rows.built_from_server.Goals as goal
 
 pub returns-in-Ok : goal.returns-in-Ok

@@ -1,5 +1,5 @@
 -- A request of an editor.
-use Rattle.std.proofs.Common.{◌≡◌, true, ap, sym, subst, ◌∙◌}
+use Rattle.std.proofs.Common.{◌≡◌, true, sym, subst, ◌∙◌}
 use Rattle.rpc_message.specs.ValueTexts.{IsIdText}
 use Rattle.rpc_message.proofs.Ids.{request_id_bytes}
 use Rattle.event_model.specs.Requests.{open_of}

@@ -1,5 +1,5 @@
 -- Whether no request under this id is open.
-use Rattle.std.proofs.Common.{ap, not, refl, sym, ◌∙◌}
+use Rattle.std.proofs.Common.{ap, not, sym, ◌∙◌}
 use Rattle.event_model.specs.Phases.{is_served}
 use Rattle.event_model.specs.Requests.{open_of}
 use Rattle.group_facts.specs.Built.{is_fresh}

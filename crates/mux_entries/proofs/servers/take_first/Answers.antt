@@ -1,6 +1,5 @@
 -- A message of a start that gave no result yet.
-use Rattle.std.proofs.Common.{subst, sym, ◌∙◌}
-use Rattle.event_model.specs.Does.{Done}
+use Rattle.std.proofs.Common.{sym, ◌∙◌}
 use Rattle.event_model.proofs.Places.{item_at}
 use Rattle.mux_tables.specs.Documents.{AllStand}
 use Rattle.mux_entries.proofs.EditorRows.{done_alike, done_quietly}
