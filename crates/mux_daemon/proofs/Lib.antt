@@ -1,0 +1,5 @@
+mod Places
+mod Opening
+mod Settling
+mod Running
+mod Serving

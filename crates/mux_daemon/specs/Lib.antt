@@ -1,0 +1,4 @@
+pub mod Opens
+pub mod Settles
+pub mod Rans
+pub mod Served
