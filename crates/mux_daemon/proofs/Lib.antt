@@ -3,3 +3,7 @@ mod Opening
 mod Settling
 mod Running
 mod Serving
+mod Reading
+mod EndSessions
+mod Writing
+mod Sessions

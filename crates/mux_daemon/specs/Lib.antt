@@ -2,3 +2,4 @@ pub mod Opens
 pub mod Settles
 pub mod Rans
 pub mod Served
+pub mod Sessions

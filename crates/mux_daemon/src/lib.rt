@@ -2,9 +2,11 @@
 //! them, and says how the work ended.
 #![tactic(auto)]
 
+mod law;
 mod open;
 mod serve;
 mod settle;
 
+pub use law::port_law;
 pub use open::Lanes;
 pub use serve::{Answer, Served, serve_core};

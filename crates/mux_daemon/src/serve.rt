@@ -147,7 +147,8 @@ fn run_deck<
     requires over { AreOver lanes }
     ensures ran { LanesRan P.sessions P.links P.faults B.runs B.left B.faults C.given C.left limit lanes result.lanes }
     ensures through { result.closed ≡ true → AllThrough result.lanes.ports.items }
-    ensures kept { LeftAs K.stands K.stops N.editors N.servers result.left.core result.left.ends.items result.left.spent result.left.done result.left.no_editor }
+    ensures kept { LeftAs K.stands K.stops N.editors N.servers result.left.core
+        result.left.ends.items result.left.spent result.left.done result.left.no_editor }
     ensures ready { result.left.spent ≡ false → K.spent result.left.core ≡ false }
     ensures goes { result.left.done ≡ true → result.left.spent ≡ false }
     ensures queues { map ids result.left.ends.items ≡ N.queues }
@@ -273,7 +274,8 @@ fn named<
     requires clock { (e : Ends) × (lanes.clock.ends ≡ Some e) }
     requires queues { map ids hubs.ends.items ≡ N.queues }
     requires counts { (hubs.editors ≡ N.editors) × (hubs.servers ≡ N.servers) × (K.faults core ≡ N.before) }
-    ensures served { ServedAs K.stands K.stops P.sessions P.links P.faults B.runs B.left B.faults C.given C.left limit result.core lanes result.lanes result.answer }
+    ensures served { ServedAs K.stands K.stops P.sessions P.links P.faults B.runs B.left B.faults C.given C.left limit
+        result.core lanes result.lanes result.answer }
     ensures ready { is_end result.answer ≡ true → K.spent result.core ≡ false }
     ensures journal { result.answer ≡ Answer.Journal → Rose (K.faults core) (K.faults result.core) }
     ensures later { K.faults core ≤ K.faults result.core }
@@ -315,7 +317,8 @@ pub fn serve_core<
 ) -> Served<K, P, B, C>
     requires core { K.stands core [] }
     requires ready { K.spent core ≡ false }
-    ensures served { ServedAs K.stands K.stops P.sessions P.links P.faults B.runs B.left B.faults C.given C.left limit result.core lanes result.lanes result.answer }
+    ensures served { ServedAs K.stands K.stops P.sessions P.links P.faults B.runs B.left B.faults C.given C.left limit
+        result.core lanes result.lanes result.answer }
     ensures ready { is_end result.answer ≡ true → K.spent result.core ≡ false }
     ensures journal { result.answer ≡ Answer.Journal → Rose (K.faults core) (K.faults result.core) }
     ensures later { K.faults core ≤ K.faults result.core }

@@ -24,7 +24,8 @@ fn settle_job<P: Drop, R: Wait>(rt: &R, job: &mut LaneJob<P>, hub: HubEnds) -> b
 
 // The same of a lane whose ends are the last ones.
 fn settle_last<P: Drop, R: Wait>(rt: &R, job: &mut LaneJob<P>, hubs: &mut Vec<HubEnds>) -> bool
-    requires { (e : Ends) (hub : HubSide) (i : ℕ) → job.old.ends ≡ Some e → i + 1 ≡ length hubs.old.items → slice_get hubs.old.items i ≡ Some hub → IsPair e hub }
+    requires { (e : Ends) (hub : HubSide) (i : ℕ) → job.old.ends ≡ Some e → i + 1 ≡ length hubs.old.items
+        → slice_get hubs.old.items i ≡ Some hub → IsPair e hub }
     ensures same { job.new.outside ≡ job.old.outside }
     ensures settled { (e : Ends) (hub : HubSide) (i : ℕ) → job.old.ends ≡ Some e → i + 1 ≡ length hubs.old.items
         → slice_get hubs.old.items i ≡ Some hub → IsSettled e hub result }
