@@ -14,10 +14,7 @@ const STOP: &[u8] = b"Content-Length: 0\r\n\r\n";
 fn port(alloc: Global, bytes: &[u8]) -> Result<LaneJob<MemPort>, Fail> {
     let source = MemSource::new(bytes.to_vec(alloc)?, Vec::new(alloc), None);
     let sink = MemSink::new(alloc, Vec::new(alloc), None);
-    Ok(LaneJob::new(MemPort::new(
-        alloc,
-        vec![in alloc; (source, sink)]?,
-    )))
+    Ok(LaneJob::new(MemPort::new(alloc, vec![in alloc; (source, sink)]?)))
 }
 
 // The lanes of these ports, of an own link that asks for a stop, of one berth and of a clock.
