@@ -1,9 +1,11 @@
 //! A small core, and a deck and lanes over it for tests: each body of an editor goes back to it. Tests of the deck, of the
-//! lanes, of the queues of a lane and of a session's reading and writing.
+//! lanes, of the daemon, of the queues of a lane and of a session's reading and writing.
 #![tactic(auto)]
 
 #[cfg(test)]
 mod beside;
+#[cfg(test)]
+mod daemon;
 mod echo;
 #[cfg(test)]
 mod io;

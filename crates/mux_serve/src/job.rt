@@ -1,5 +1,5 @@
 // A lane with what it serves, and the work of one lane or of many side by side.
-ghost use Rattle.std.specs.Prelude.{◌≡◌, ◌<◌, ℕ, Some, length, slice_index_or};
+ghost use Rattle.std.specs.Prelude.{◌≡◌, ◌<◌, ℕ, None, Some, length, slice_index_or};
 ghost use Rattle.mux_lanes.specs.declared.session.Ends.{Ends};
 ghost use Rattle.mux_serve.specs.Jobs.{BerthRan, PortRan};
 
@@ -21,6 +21,20 @@ pub struct LaneJob<P> {
     /// None of a lane that wasn't made yet, or that was settled.
     pub ends: Option<Ends>,
     pub end: LaneEnd,
+}
+
+impl<P> LaneJob<P> {
+    /// A lane that isn't made yet.
+    pub fn new(outside: P) -> LaneJob<P>
+        ensures { result ≡ record { outside = outside; number = 0; ends = None; end = LaneEnd.Over } }
+    {
+        LaneJob {
+            outside,
+            number: 0,
+            ends: None,
+            end: LaneEnd::Over,
+        }
+    }
 }
 
 /// Runs the lane of a port. One without ends makes the core go on no more.

@@ -1,0 +1,9 @@
+mod Places
+mod Opening
+mod Settling
+mod Running
+mod Serving
+mod Reading
+mod EndSessions
+mod Writing
+mod Sessions

@@ -1,0 +1,5 @@
+pub mod Opens
+pub mod Settles
+pub mod Rans
+pub mod Served
+pub mod Sessions
