@@ -1,5 +1,5 @@
 // Lanes beside each other.
-use crate::side::{Sides, run_side};
+use lane_echo::{Sides, run_side};
 use mux_lanes::LaneEnd;
 use outside_io::{Gate, MemBerth, MemPort, MemSink, MemSource, Meter, SetClock};
 use std::alloc::Global;

@@ -1,5 +1,5 @@
 // The daemon's threads, to their answer.
-use crate::echo::Echo;
+use lane_echo::Echo;
 use mux_daemon::{Answer, Lanes, serve_core};
 use mux_serve::LaneJob;
 use outside_io::{MemBerth, MemPort, MemSink, MemSource, SetClock};

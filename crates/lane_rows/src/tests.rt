@@ -1,4 +1,4 @@
-use super::*;
+use lane_echo::{Begin, run, run_lanes, run_starts};
 use lane_lists::{Order, Posted};
 use message_body::Body;
 use mux_history::Why;

@@ -1,6 +1,6 @@
 use Rattle.std.proofs.Common.{◌≡◌, ◌+◌, length}
 use Rattle.lane_desk.specs.Desks.{AllUnused}
-use Rattle.lane_rows.proofs.side.open.Given as goal
+use Rattle.lane_echo.proofs.side.open.Given as goal
 
 abbrev pub invariant-loop-outside : goal.invariant-loop-outside
 invariant-loop-outside g l = record {

@@ -2,7 +2,7 @@
 use Rattle.std.proofs.Common.{◌≡◌, ℕ, ◌+◌, List, [], ◌∷◌, ◌++◌, Bool, true, false, ◌||◌, refl, ap, ◌∙◌, arith}
 use Rattle.mux_history.specs.declared.entry.Entry.{Entry}
 use Rattle.mux_history.specs.Cores.{joined, joins, spawns, spawns_of_outs}
-use Rattle.lane_rows.specs.Stops.{has_stop, is_stop}
+use Rattle.lane_echo.specs.Stops.{has_stop, is_stop}
 
 pub joined_more : (history : List Entry) (entry : Entry) → joined (history ++ entry ∷ []) ≡ joined history + joins entry.cause
 joined_more [] entry = omega arith

@@ -1,7 +1,7 @@
 // A core that answers each body of an editor with that body, and an empty one with its end.
 ghost use Rattle.std.specs.Prelude.{◌≡◌, ◌+◌, [], ℕ, IfOk, IfSome, false};
 ghost use Rattle.mux_history.specs.Cores.{joins, spawns_of_outs};
-ghost use Rattle.lane_rows.specs.Stops.{is_stop};
+ghost use Rattle.lane_echo.specs.Stops.{is_stop};
 
 use message_body::Memory;
 use mux_history::{Cause, Out, Outs, StepFault, Steps};
@@ -78,7 +78,7 @@ fn joined_behind(joined: u64, cause: &Cause) -> Option<u64>
 impl Steps for Echo {
     ghost use Rattle.std.specs.Prelude.{◌≡◌, ℕ, true, false};
     ghost use Rattle.mux_history.specs.Cores.{joined, spawns};
-    ghost use Rattle.lane_rows.specs.Stops.{has_stop, is_stop};
+    ghost use Rattle.lane_echo.specs.Stops.{has_stop, is_stop};
 
     ghost stands = { λ e history. (e.joined ≡ joined history) × (e.stopped ≡ has_stop history) × ((s : ℕ) → spawns s history ≡ 0) };
 
