@@ -73,7 +73,8 @@ impl<K: Steps + Drop, N: Naming> Model for Desk<K, N> {
 
     ghost view = { λ d. record { core = d.core; spent = d.spent; why = d.why; ends = d.ends.items; seats = d.seats } };
 
-    ghost invariant = { λ d. Kept K.stands N.editors N.servers (not d.spent) d.core d.ends.items d.seats × (map ids d.ends.items ≡ N.queues) × Faulted N.before (K.faults d.core) d.why
+    ghost invariant = { λ d. Kept K.stands N.editors N.servers (not d.spent) d.core d.ends.items d.seats × (map ids d.ends.items ≡ N.queues)
+        × Faulted N.before (K.faults d.core) d.why
         × (d.counts.editors ≡ N.editors) × (d.counts.servers ≡ N.servers) × (N.editors + N.servers < 2 ^ 63) × (length d.ends.items ≡ N.editors + N.servers + 1)
         × (d.spent ≡ false → K.spent d.core ≡ false) };
 }

@@ -141,7 +141,8 @@ impl<T: Drop> Model for TakeEnd<T> {
 
     ghost view = { λ e. ((arc_value e.line).queue.web, e.pass.me.view.client.got, e.pass.me.view.client.known) };
 
-    ghost invariant = { λ e. IsSegPassOf (arc_value e.line).queue e.pass × (e.pass.me.view.client ≡ log false true [] e.pass.me.view.client.got e.pass.me.view.client.known) };
+    ghost invariant = { λ e. IsSegPassOf (arc_value e.line).queue e.pass
+        × (e.pass.me.view.client ≡ log false true [] e.pass.me.view.client.got e.pass.me.view.client.known) };
 }
 
 /// The ends of a new queue.

@@ -108,7 +108,7 @@ fn from_asking(
     }
 }
 
-// E8, E10, and E12 to E15: a message of an editor that is served.
+// E8, E10, E12 to E15, and E19: a message of an editor that is served.
 fn from_served(
     tables: &mut Tables,
     alloc: Global,

@@ -141,7 +141,7 @@ fn phase_behind(phase: Phase, message: &Message) -> Phase
     }
 }
 
-/// A message of an editor that is no request, and changes no document, gives nothing.
+/// E15 and E19: a message of an editor that is no request, and changes no document, gives nothing; nothing is asked of editors yet.
 pub fn take_quiet(tables: &mut Tables, e: u64, message: &Message)
     requires { e < length tables.old.editors }
     ensures requests { tables.new.requests ≡ tables.old.requests }
