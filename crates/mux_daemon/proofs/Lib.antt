@@ -7,3 +7,6 @@ mod Reading
 mod EndSessions
 mod Writing
 mod Sessions
+mod ReadStarts
+mod WriteStarts
+mod Starts

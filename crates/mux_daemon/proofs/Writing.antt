@@ -11,7 +11,7 @@ use Rattle.session_io.specs.declared.part.End.{End}
 use Rattle.session_io.specs.declared.part.End.TheVariants as end
 use Rattle.session_io.specs.Writes.{body_orders, end_orders}
 use Rattle.mux_lanes.specs.Runs.{IsRun, IsWholeRun, Run, order_of}
-use Rattle.mux_daemon.specs.Sessions.{WrittenOf}
+use Rattle.mux_daemon.specs.Sessions.{WrittenAs, WrittenOf}
 use Rattle.mux_daemon.proofs.Places.{same_item}
 use Rattle.mux_daemon.proofs.Reading.{FrontWhole}
 use Rattle.mux_daemon.proofs.EndSessions.{AllEnd}
@@ -24,32 +24,40 @@ all_framed_append (x ∷ a) b = ap (λ l. framed x ++ l) (all_framed_append a b)
 abbrev Ended : List Order → Type 0
 Ended ys = (ys ≡ []) ⊎ ((o : End) × ((rest : List Order) × (ys ≡ order_of o ∷ rest)))
 
-end_forms : (ms : List Mark) → (end_until ms ≡ []) ⊎ ((o : End) × (end_until ms ≡ order_of o ∷ []))
+-- nothing, or just an end
+abbrev pub EndForms : List Order → Type 0
+EndForms ends = (ends ≡ []) ⊎ ((o : End) × (ends ≡ order_of o ∷ []))
+
+pub end_forms : (ms : List Mark) → EndForms (end_until ms)
 end_forms [] = inl refl
 end_forms (Enters ∷ ms) = end_forms ms
 end_forms (Told body ∷ ms) = end_forms ms
 end_forms (Closed ∷ ms) = inr (end.Closed, refl)
 end_forms (Leaves ∷ ms) = inr (end.Done, refl)
 
-body_no_end : (b : List ℕ) (xs ys : List Order) → Ended ys → order.Body b ∷ xs ≡ ys → ⊥
-body_no_end b xs ys (inl none) e = let f : order.Body b ∷ xs ≡ [] = e ∙ none in absurd cc
-body_no_end b xs ys (inr (end.Closed, (rest, is))) e = let f : order.Body b ∷ xs ≡ order.Close ∷ rest = e ∙ is in absurd cc
-body_no_end b xs ys (inr (end.Done, (rest, is))) e = let f : order.Body b ∷ xs ≡ order.Done ∷ rest = e ∙ is in absurd cc
+-- no body stands first
+abbrev pub NoBody : List Order → Type 0
+NoBody ys = (b : List ℕ) (xs : List Order) → order.Body b ∷ xs ≡ ys → ⊥
 
--- bodies before anything, of bodies before an end, are the first ones
-record FirstBodies (first all : List (List ℕ)) (xs ys : List Order) : Type 0 where
+no_body : (ys : List Order) → Ended ys → NoBody ys
+no_body ys (inl none) b xs e = let f : order.Body b ∷ xs ≡ [] = e ∙ none in absurd cc
+no_body ys (inr (end.Closed, (rest, is))) b xs e = let f : order.Body b ∷ xs ≡ order.Close ∷ rest = e ∙ is in absurd cc
+no_body ys (inr (end.Done, (rest, is))) b xs e = let f : order.Body b ∷ xs ≡ order.Done ∷ rest = e ∙ is in absurd cc
+
+-- bodies before anything, of bodies before what is no body, are the first ones
+pub record FirstBodies (first all : List (List ℕ)) (xs ys : List Order) : Type 0 where
   pub more : List (List ℕ)
   pub are : all ≡ first ++ more
   pub rest : xs ≡ body_orders more ++ ys
 
-first_bodies : (first all : List (List ℕ)) (xs ys : List Order) → Ended ys → body_orders first ++ xs ≡ body_orders all ++ ys → FirstBodies first all xs ys
+pub first_bodies : (first all : List (List ℕ)) (xs ys : List Order) → NoBody ys → body_orders first ++ xs ≡ body_orders all ++ ys → FirstBodies first all xs ys
 first_bodies [] all xs ys h e = record { more = all; are = refl; rest = e }
-first_bodies (b ∷ first) [] xs ys h e = absurd (body_no_end b (body_orders first ++ xs) ys h e)
+first_bodies (b ∷ first) [] xs ys h e = absurd (h b (body_orders first ++ xs) e)
 first_bodies (b ∷ first) (c ∷ all) xs ys h e =
     let one : c ≡ b = cc in
     let f = first_bodies first all xs ys h cc in record { more = f.more; are = ap (λ x. x ∷ all) one ∙ ap (λ l. b ∷ l) f.are; rest = f.rest }
 
-end_first : (o : End) (xs ys : List Order) (more : List (List ℕ)) → order_of o ∷ xs ≡ body_orders more ++ ys → (more ≡ []) × (ys ≡ order_of o ∷ xs)
+pub end_first : (o : End) (xs ys : List Order) (more : List (List ℕ)) → order_of o ∷ xs ≡ body_orders more ++ ys → (more ≡ []) × (ys ≡ order_of o ∷ xs)
 end_first o xs ys [] e = (refl, sym e)
 end_first end.Closed xs ys (b ∷ more) e = absurd cc
 end_first end.Done xs ys (b ∷ more) e = absurd cc
@@ -74,7 +82,7 @@ ended_next history e (n ∷ ids) next h g = elim (end_forms (entered (marks e hi
   | inr o ↦ inr (o.0, (next, ap (λ l. l ++ next) o.1))
 ]
 
-end_same : (o v : End) (xs next : List Order) → order_of v ∷ next ≡ order_of o ∷ xs → (order_of v ≡ order_of o) × (xs ≡ next)
+pub end_same : (o v : End) (xs next : List Order) → order_of v ∷ next ≡ order_of o ∷ xs → (order_of v ≡ order_of o) × (xs ≡ next)
 end_same o v xs next e = (cc, cc)
 
 ended_so : (history : List Entry) (e : ℕ) (ids : List ℕ) (o : End) (xs next : List Order) → (ids ≢ [] → end_to e history ≢ []) → (ids ≡ [] → next ≡ []) → end_to e history ++ next ≡ order_of o ∷ xs → (end_to e history ≡ order_of o ∷ []) × (xs ≡ next)
@@ -94,7 +102,7 @@ fits limit history e run is rest next part ids all says h g =
     let ends = end_orders run.wrote.end in
     let spread : body_orders mine ++ (ends ++ rest) ≡ body_orders (bodies_to e history) ++ (end_to e history ++ next) =
     sym (append_assoc (body_orders mine) ends rest) ∙ ap (λ l. l ++ rest) (sym is.wrote.took) ∙ all ∙ ap (λ l. l ++ next) says ∙ append_assoc (body_orders (bodies_to e history)) (end_to e history) next in
-    let f = first_bodies mine (bodies_to e history) (ends ++ rest) (end_to e history ++ next) (ended_next history e ids next h g) spread in
+    let f = first_bodies mine (bodies_to e history) (ends ++ rest) (end_to e history ++ next) (no_body (end_to e history ++ next) (ended_next history e ids next h g)) spread in
     record {
       more = f.more;
       bodies = f.are;
@@ -106,10 +114,13 @@ fits limit history e run is rest next part ids all says h g =
     }
 
 -- what follows of one run
-record OneFits (limit : ℕ) (history : List Entry) (e : ℕ) (run : Run) (is : IsRun limit run) : Type 0 where
+pub record OneFits (limit : ℕ) (all : List (List ℕ)) (given : List Order) (run : Run) (is : IsRun limit run) : Type 0 where
   pub more : List (List ℕ)
-  pub bodies : bodies_to e history ≡ bodies_of is ++ more
-  pub ended : (o : End) → run.wrote.end ≡ Some (order_of o) → (more ≡ []) × (end_to e history ≡ order_of o ∷ [])
+  pub are : all ≡ bodies_of is ++ more
+  pub ended : (o : End) → run.wrote.end ≡ Some (order_of o) → (more ≡ []) × (given ≡ order_of o ∷ [])
+
+abbrev FitsAt : ℕ → List Entry → ℕ → (run : Run) → Type 0
+FitsAt limit history e run = (is : IsRun limit run) × OneFits limit (bodies_to e history) (end_to e history) run is
 
 abbrev OrdersOf : List Entry → ℕ → List Order → Type 0
 OrdersOf history e part = part ≡ body_orders (bodies_to e history) ++ end_to e history
@@ -124,7 +135,7 @@ more_runs [] k run at e = absurd cc
 more_runs (r ∷ runs) k run at e = absurd cc
 
 fits_at : (limit : ℕ) (history : List Entry) (runs : List Run) (unheard : List Order) (ids : List ℕ) (made : List (List Order)) (each : (k : ℕ) (run : Run) → slice_get runs k ≡ Some run → IsRun limit run) → FrontWhole runs
-    → AllZip (OrdersOf history) ids made → AllEnd history ids → chain (map (λ (r : Run). r.orders) runs) ++ unheard ≡ chain made → (k e : ℕ) (run : Run) → slice_get ids k ≡ Some e → (at : slice_get runs k ≡ Some run) → (is : IsRun limit run) × OneFits limit history e run is
+    → AllZip (OrdersOf history) ids made → AllEnd history ids → chain (map (λ (r : Run). r.orders) runs) ++ unheard ≡ chain made → (k e : ℕ) (run : Run) → slice_get ids k ≡ Some e → slice_get runs k ≡ Some run → FitsAt limit history e run
 fits_at limit history [] unheard ids made each front z ends all k e run at here = absurd cc
 fits_at limit history (r ∷ runs) unheard [] made each front z ends all k e run at here = absurd cc
 fits_at limit history (r ∷ runs) unheard (n ∷ ids) [] each front z ends all k e run at here = absurd cc
@@ -133,8 +144,7 @@ fits_at limit history (r ∷ runs) unheard (n ∷ ids) (p ∷ made) each front z
     let f = fits limit history n r is (chain (map (λ (r : Run). r.orders) runs) ++ unheard) (chain made) p ids (sym (append_assoc r.orders (chain (map (λ (r : Run). r.orders) runs)) unheard) ∙ all) z.0 ends.0 (none_made history ids made z.1) in
     let same : n ≡ e = same_item n e at in
     let this : r ≡ run = same_item r run here in
-    subst (λ y. (is : IsRun limit y) × OneFits limit history e y is) this
-    (subst (λ x. (is : IsRun limit r) × OneFits limit history x r is) same (is, record { more = f.more; bodies = f.bodies; ended = λ o w. let t = f.ended o w in (t.0, t.1) }))
+    subst (λ y. FitsAt limit history e y) this (subst (λ x. FitsAt limit history x r) same (is, record { more = f.more; are = f.bodies; ended = λ o w. let t = f.ended o w in (t.0, t.1) }))
 fits_at limit history (r ∷ runs) unheard (n ∷ ids) (p ∷ made) each front z ends all (suc k) e run at here =
     let is = each 0 r refl in
     let f = fits limit history n r is (chain (map (λ (r : Run). r.orders) runs) ++ unheard) (chain made) p ids (sym (append_assoc r.orders (chain (map (λ (r : Run). r.orders) runs)) unheard) ∙ all) z.0 ends.0 (none_made history ids made z.1) in
@@ -172,13 +182,13 @@ has_editor limit history (r ∷ runs) unheard (n ∷ ids) (p ∷ made) each fron
     has_editor limit history runs unheard ids made (λ j run at. each (suc j) run at) front.1 z.1 ends.1 t.2 k run here w
 
 -- what was written, by the bodies
-written_by : (limit : ℕ) (history : List Entry) (e : ℕ) (run : Run) (is : IsRun limit run) → OneFits limit history e run is → WrittenOf history e run
-written_by limit history e run is f =
+pub written_by : (limit : ℕ) (all : List (List ℕ)) (given : List Order) (run : Run) (is : IsRun limit run) → OneFits limit all given run is → WrittenAs all given run
+written_by limit all given run is f =
     let w = is.wrote in record {
       sent = all_framed w.whole ++ w.part;
       unsent = w.rest ++ all_framed f.more;
       written = w.wrote;
-      front = ap all_framed f.bodies ∙ all_framed_append (w.whole ++ w.others) f.more ∙ ap (λ l. l ++ all_framed f.more) (all_framed_append w.whole w.others ∙ ap (λ l. all_framed w.whole ++ l) w.front ∙ sym (append_assoc (all_framed w.whole) w.part w.rest))
+      front = ap all_framed f.are ∙ all_framed_append (w.whole ++ w.others) f.more ∙ ap (λ l. l ++ all_framed f.more) (all_framed_append w.whole w.others ∙ ap (λ l. all_framed w.whole ++ l) w.front ∙ sym (append_assoc (all_framed w.whole) w.part w.rest))
           ∙ append_assoc (all_framed w.whole ++ w.part) w.rest (all_framed f.more);
       all = λ whole unbroken.
           let a = w.all whole.written unbroken in
@@ -194,4 +204,4 @@ pub written_at : (limit : ℕ) (history : List Entry) (runs : List Run) (unheard
     → AllZip (OrdersOf history) ids made → AllEnd history ids → chain (map (λ (r : Run). r.orders) runs) ++ unheard ≡ chain made → (k e : ℕ) (run : Run) → slice_get ids k ≡ Some e → slice_get runs k ≡ Some run → WrittenOf history e run
 written_at limit history runs unheard ids made each front z ends all k e run at here =
     let f = fits_at limit history runs unheard ids made each front z ends all k e run at here in
-    written_by limit history e run f.0 f.1
+    written_by limit (bodies_to e history) (end_to e history) run f.0 f.1

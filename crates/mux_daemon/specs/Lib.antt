@@ -3,3 +3,4 @@ pub mod Settles
 pub mod Rans
 pub mod Served
 pub mod Sessions
+pub mod Starts

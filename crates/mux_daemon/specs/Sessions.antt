@@ -9,6 +9,7 @@ use Rattle.mux_history.specs.declared.entry.Entry.{Entry}
 use Rattle.mux_history.specs.declared.cause.Why.{Why}
 use Rattle.mux_history.specs.declared.cause.Why.TheVariants as why
 use Rattle.lane_lists.specs.declared.item.LaneName.TheVariants as lane
+use Rattle.lane_lists.specs.declared.item.Order.{Order}
 use Rattle.lane_lists.specs.declared.item.Order.TheVariants as order
 use Rattle.lane_lists.specs.declared.item.Posted.TheVariants as posted
 use Rattle.lane_lists.specs.Deeds.{Fair, sessions}
@@ -30,15 +31,19 @@ pub record ReadOf (limit : ℕ) (history : List Entry) (e : ℕ) (run : Run) : T
   pub ended : (w : Why) → gone_of e history ≡ w ∷ [] → w ≢ why.WriteFault
       → StoppedBy limit fed (bodies_from e history) run.ended.left run.began.source_faults run.ended.source_faults (stop.Ended w) ⊎ ((w ≡ why.End) × (IsWholeRun run → run.wrote.end ≡ Some order.Close))
 
--- the bytes written to an editor are the frames of the bodies to it in the history, or the first of these bytes: all of them where the session is whole and no write failed, which happens only where the sink's count rose; a whole session ends by the order that the history gives it
-pub record WrittenOf (history : List Entry) (e : ℕ) (run : Run) : Type 0 where
+-- the bytes written are the frames of these bodies, or the first of these bytes: all of them where the session is whole and no write failed, which happens only where the sink's count rose; a whole session ends by the one order that is given behind them
+pub record WrittenAs (bodies : List (List ℕ)) (given : List Order) (run : Run) : Type 0 where
   pub sent : List ℕ
   pub unsent : List ℕ
   pub written : run.ended.written ≡ append_known run.began.written sent
-  pub front : all_framed (bodies_to e history) ≡ sent ++ unsent
+  pub front : all_framed bodies ≡ sent ++ unsent
   pub all : IsWholeRun run → run.wrote.broke ≡ false → unsent ≡ []
   pub fault : run.wrote.broke ≡ true → Rose run.began.sink_faults run.ended.sink_faults
-  pub ends : IsWholeRun run → (o : End) × (run.wrote.end ≡ Some (order_of o)) × (end_to e history ≡ order_of o ∷ [])
+  pub ends : IsWholeRun run → (o : End) × (run.wrote.end ≡ Some (order_of o)) × (given ≡ order_of o ∷ [])
+
+-- what was written to an editor, by the bodies to it and its end in the history
+abbrev pub WrittenOf : List Entry → ℕ → Run → Type 0
+WrittenOf history e run = WrittenAs (bodies_to e history) (end_to e history) run
 
 -- the sessions of a port's lane: each link that came, but a last one that was refused, has a run, and the editors of the lane have the first ones, in their order
 pub record PortSessions {P : Type 0} (limit : ℕ) (s : Story) (went : Bool) (i : ℕ) (back left : P → Option (List Session)) (old new : P) : Type 0 where

@@ -1,0 +1,86 @@
+-- The starts of a berth's lane, by what the lane did and what the deck took of it.
+use Rattle.std.proofs.Common.{◌≡◌, ℕ, zero, suc, ◌<◌, ◌⊎◌, inl, inr, Bool, true, false, ◌||◌, List, [], ◌∷◌, ◌++◌, length, map, slice_get, ap, sym, ◌∙◌, append_assoc, append-nil, subst, refl}
+use Rattle.std.specs.Prelude.{Option, Some}
+use Rattle.outside_io.specs.Sessions.{Session}
+use Rattle.mux_history.specs.declared.entry.Entry.{Entry}
+use Rattle.lane_lists.specs.declared.item.LaneName.TheVariants as lane
+use Rattle.lane_lists.specs.declared.item.Posted.{Posted}
+use Rattle.lane_lists.specs.Deeds.{gather, posts}
+use Rattle.lane_lists.specs.Sessions.{chain}
+use Rattle.lane_lists.specs.StartHistory.{ByStartParts, StartPart, tried_by}
+use Rattle.lane_lists.specs.StartOrders.{ByStartOrders, ByTried, began}
+use Rattle.lane_desk.specs.Desks.{posted_at}
+use Rattle.mux_lanes.specs.Lanes.{Turn, any_rises}
+use Rattle.mux_lanes.specs.Starts.{Begun, CutBegun, WholeStart}
+use Rattle.mux_daemon.specs.Served.{LaneServed, Story, history}
+use Rattle.mux_daemon.specs.Starts.{BerthStarts, StartFailedAs, StartRan, failed_turn, up_turn}
+use Rattle.mux_daemon.proofs.Places.{same_item}
+use Rattle.mux_daemon.proofs.Reading.{zip_at}
+use Rattle.mux_daemon.proofs.ReadStarts.{Shown, all_kept, no_run, turn_at, up_run}
+use Rattle.mux_daemon.proofs.WriteStarts.{ToldAt, all_begun, begun_at, none_start, told_at, written_start}
+
+front_item : (xs ys : List ℕ) (k x : ℕ) → slice_get xs k ≡ Some x → slice_get (xs ++ ys) k ≡ Some x
+front_item [] ys k x at = absurd cc
+front_item (y ∷ xs) ys zero x at = at
+front_item (y ∷ xs) ys (suc k) x at = front_item xs ys k x at
+
+or_true : (b : Bool) → (b || true) ≡ true
+or_true true = refl
+or_true false = refl
+
+rises_at : (turns : List Turn) (k : ℕ) (turn : Turn) → slice_get turns k ≡ Some turn → turn.rises ≡ true → any_rises turns ≡ true
+rises_at [] k turn at is = absurd cc
+rises_at (t ∷ turns) zero turn at is = ap (λ b. b || any_rises turns) (ap (λ (t : Turn). t.rises) (same_item t turn at) ∙ is)
+rises_at (t ∷ turns) (suc k) turn at is = ap (λ b. t.rises || b) (rises_at turns k turn at is) ∙ or_true t.rises
+
+start_served : (Whole : Type 0) (limit servers : ℕ) (history : List Entry) (start : ℕ) (turn : Turn) (part more : List Posted) → StartPart history start part → turn.posts ≡ part ++ more → Shown Whole limit turn → ToldAt servers history start turn
+    → StartFailedAs Whole servers history start turn ⊎ StartRan Whole limit servers history start turn
+start_served Whole limit servers history start turn part more (inl c) e s f =
+    let n = no_run Whole limit history start turn part more c e s in
+    let g = none_start limit servers history start n.start turn n.orders n.is f in
+    inl (record {
+      orders = n.orders;
+      is = subst (λ x. turn ≡ failed_turn x n.orders) g.0 n.is;
+      says = c.says;
+      ends = λ w. let o = n.whole w in let r = g.1 o.0 o.1 in (o.0, o.1, r.0, r.1);
+    })
+start_served Whole limit servers history start turn part more (inr c) e s f =
+    let r = up_run Whole limit history start turn part more c e s in
+    let w = written_start limit servers history start r.0.start turn r.0.run r.0.is_run r.0.is f in
+    inr (record { run = r.0.run; is = subst (λ x. turn ≡ up_turn x r.0.run) w.0 r.0.is; is_run = r.0.is_run; whole = r.0.whole; read = r.1; written = w.1 })
+
+pub berth_starts : {B : Type 0} (limit : ℕ) (s : Story) (went : Bool) (i : ℕ) (runs left : B → Option (List Session)) (misses : B → ℕ) (old new : B) → ByStartParts s.editors s.servers i s.deeds → ByStartOrders s.editors s.servers i s.deeds → ByTried s.editors s.servers i s.deeds
+    → LaneServed s went (lane.Server i) (Begun (WholeStart limit)) (CutBegun limit) runs left misses old new → BerthStarts limit s went i runs left misses old new
+berth_starts limit s went i runs left misses old new cut told tried f =
+    let ran = f.ran in
+    let r = all_kept limit ran.turns ran.last ran.each ran.cut ran.few in
+    let q = f.queues in
+    let ids = gather s.editors s.servers (tried_by (lane.Server i)) s.deeds in
+    let begun = began s.servers i (history s) in
+    let taken = posts s.editors s.servers (lane.Server i) s.deeds in
+    let more = posted_at (lane.Server i) s.more ++ q.unread in
+    let whole : taken ++ more ≡ chain (map (λ (t : Turn). t.posts) r.kept) = sym (append_assoc taken (posted_at (lane.Server i) s.more) q.unread) ∙ sym q.posts_are ∙ ran.adds.posts ∙ r.posts in
+    let ordered : chain (map (λ (t : Turn). t.orders) (ran.turns ++ ran.last)) ++ q.unheard ≡ chain told.made = ap (λ l. l ++ q.unheard) (sym ran.adds.orders) ∙ sym q.orders_are ∙ told.orders in
+    record {
+      turns = ran.turns;
+      last = ran.last;
+      each = ran.each;
+      cut = ran.cut;
+      one = ran.few;
+      whole = λ e. ran.whole (f.whole e);
+      back_are = ran.adds.back;
+      left_are = ran.adds.left;
+      rose = λ k turn at is. ran.adds.rise (rises_at (ran.turns ++ ran.last) k turn at is);
+      start = λ k turn at. begun_at limit s.servers (history s) ran.turns ran.last q.unheard begun told.made ran.each told.each ordered k turn at;
+      all = λ e.
+          let none = ran.whole (f.whole e) in
+          let turns_are : ran.turns ++ ran.last ≡ ran.turns = ap (λ l. ran.turns ++ l) none ∙ append-nil ran.turns in
+          let unheard = q.all e in
+          all_begun limit s.servers (history s) ran.turns begun told.made ran.each told.each (ap (λ l. chain (map (λ (t : Turn). t.orders) l) ++ []) (sym turns_are) ∙ ap (λ l. chain (map (λ (t : Turn). t.orders) (ran.turns ++ ran.last)) ++ l) (sym unheard) ∙ ordered);
+      served = λ k x at.
+          let part = zip_at (StartPart (history s)) ids cut.made cut.each k x at in
+          let t = turn_at limit (length ran.turns) (ran.turns ++ ran.last) r taken more cut.made whole cut.cut k part.0 part.1 in
+          let here : slice_get begun k ≡ Some x = ap (λ l. slice_get l k) tried.is ∙ front_item ids tried.rest k x at in
+          let g = told_at limit s.servers (history s) ran.turns ran.last q.unheard begun told.made ran.each ran.few told.each ordered k x t.turn here t.at in
+          (t.turn, t.at, start_served (k < length ran.turns) limit s.servers (history s) x t.turn part.0 t.more part.2 t.posts t.shown g);
+    }
