@@ -1,4 +1,4 @@
-//! Tests of the outside and of histories, through the public calls of their crates.
+//! Tests of sources and sinks and of histories, through the public calls of their crates.
 #![tactic(auto)]
 
 #[cfg(test)]

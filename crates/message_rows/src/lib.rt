@@ -1,4 +1,4 @@
-//! Tests of messages, through the public calls of rpc_message.
+//! Tests of which body is which message, through the public calls of rpc_message.
 #![tactic(auto)]
 
 #[cfg(test)]
