@@ -15,6 +15,7 @@ kept_new stands n m core ends seats s u e = record {
   deeds = [];
   fair = tt;
   stands_for = s;
+  once = λ x. omega arith;
   more = None;
   none_more = λ _. refl;
   ends_are = λ i x at. let w = u i x at in record { posted = w.posted; sides = w.sides; rest = []; pushed = sym (ap (λ ys. ys ++ []) w.pushed); whole = λ _. refl };

@@ -1,5 +1,5 @@
 -- What one turn leaves: a deed more, or a spent deck.
-use Rattle.std.proofs.Common.{◌≡◌, ◌≢◌, ℕ, ◌+◌, ◌==◌, if◌then◌else◌, List, [], ◌∷◌, ◌++◌, Bool, true, false, not, IsTrue, fold, length, map, refl, sym, ap, ◌∙◌, subst, arith, append-nil, Option, Some, None}
+use Rattle.std.proofs.Common.{◌≡◌, ◌≢◌, ℕ, ◌+◌, ◌≤◌, ◌==◌, if◌then◌else◌, List, [], ◌∷◌, ◌++◌, Bool, true, false, not, IsTrue, fold, length, map, refl, sym, ap, ◌∙◌, subst, arith, append-nil, Option, Some, None}
 use Rattle.std.proofs.lemmas.Option.{slice_get_within}
 use Rattle.std.proofs.lemmas.Bool.Decides.{nat_tests}
 use Rattle.std.proofs.lemmas.List.Sums.{fold-append}
@@ -7,6 +7,7 @@ use Rattle.mux_history.specs.declared.cause.Cause.{Cause}
 use Rattle.mux_history.specs.declared.cause.Cause.TheVariants as cause
 use Rattle.mux_history.specs.declared.entry.Entry.{Entry}
 use Rattle.mux_history.specs.declared.out.Out.{Out}
+use Rattle.mux_history.specs.Cores.{spawns}
 use Rattle.lane_lists.specs.declared.item.LaneName.{LaneName}
 use Rattle.lane_lists.specs.declared.item.Item.{Item}
 use Rattle.lane_lists.specs.declared.item.Item.TheVariants as item
@@ -109,6 +110,7 @@ module _ {K : Type 0} (stands : K → List Entry → Type 0) (n m : ℕ) where
     deeds = k.deeds;
     fair = k.fair;
     stands_for = k.stands_for;
+    once = k.once;
     more = k.more;
     none_more = λ e. absurd cc;
     ends_are = λ i x at. let w = k.ends_are i x at in record { posted = w.posted; sides = w.sides; rest = w.rest; pushed = w.pushed; whole = λ e. absurd cc };
@@ -121,6 +123,7 @@ module _ {K : Type 0} (stands : K → List Entry → Type 0) (n m : ℕ) where
     deeds = k.deeds;
     fair = k.fair;
     stands_for = k.stands_for;
+    once = k.once;
     more = k.more;
     none_more = k.none_more;
     ends_are = through (λ i x. EndsAre n m k.deeds k.more true (name n m i) x) (λ i x. EndsAre n m k.deeds k.more true (name n m i) x) (λ _. Same) old new (all_same place old new b) k.ends_are
@@ -138,6 +141,7 @@ module _ {K : Type 0} (stands : K → List Entry → Type 0) (n m : ℕ) where
       deeds = k.deeds;
       fair = k.fair;
       stands_for = go (entries n m k.deeds) k.stands_for;
+      once = k.once;
       more = Some (l, x);
       none_more = λ e. absurd cc;
       ends_are = through (λ i z. EndsAre n m k.deeds k.more true (name n m i) z) (λ i z. EndsAre n m k.deeds (Some (l, x)) false (name n m i) z) (λ i. TookAt (name n m i) l x) old new each k.ends_are
@@ -173,6 +177,7 @@ module _ {K : Type 0} (stands : K → List Entry → Type 0) (n m : ℕ) where
           deeds = k.deeds ++ deed ∷ [];
           fair = fair_more (start n m) k.deeds deed k.fair (subst (λ (z : Seats). meaning z l x ≡ meant.Silent) was silent);
           stands_for = subst (λ (h : List Entry). stands core h) (sym (gather_more entries_by (start n m) k.deeds deed ∙ append-nil (entries n m k.deeds))) k.stands_for;
+          once = λ s. subst (λ (h : List Entry). spawns s h ≤ 1) (sym (gather_more entries_by (start n m) k.deeds deed ∙ append-nil (entries n m k.deeds))) (k.once s);
           more = None;
           none_more = λ _. refl;
           ends_are = λ i q at. let w = ends_behind core seats None k i q at in record {
@@ -190,7 +195,7 @@ module _ {K : Type 0} (stands : K → List Entry → Type 0) (n m : ℕ) where
         → Kept stands n m true core old seats → Kept stands n m all core' last seats'
     kept_acted c all core core' last seats seats' means (Failed a go same) k =
         subst (λ (b : Bool). Kept stands n m b core' last seats') (sym a) (subst (λ (z : List HubSide). Kept stands n m false core' z seats') (sym same) (kept_stray core core' seats seats' go k))
-    kept_acted c all core core' last seats seats' means (Did outs go dealt lanes) k =
+    kept_acted c all core core' last seats seats' means (Did outs go few dealt lanes) k =
         let entry : Entry = record { cause = c; outs = outs } in
         let deed : Deed = record { lane = l; item = x; entry = Some entry } in
         let was : seats ≡ seats_of n m k.deeds = k.seats_are refl in
@@ -200,6 +205,7 @@ module _ {K : Type 0} (stands : K → List Entry → Type 0) (n m : ℕ) where
           deeds = k.deeds ++ deed ∷ [];
           fair = fair_more (start n m) k.deeds deed k.fair (subst (λ (z : Seats). meaning z l x ≡ meant.Means c) was means);
           stands_for = subst (λ (h : List Entry). stands core' h) (sym (gather_more entries_by (start n m) k.deeds deed)) (go (entries n m k.deeds) k.stands_for);
+          once = λ s. subst (λ (h : List Entry). spawns s h ≤ 1) (sym (gather_more entries_by (start n m) k.deeds deed)) (few (entries n m k.deeds) s k.stands_for);
           more = None;
           none_more = λ _. refl;
           ends_are = through (λ i q. Behind k.deeds (Some entry) (name n m i) q) (λ i q. EndsAre n m (k.deeds ++ deed ∷ []) None all (name n m i) q)
@@ -217,14 +223,15 @@ module _ {K : Type 0} (stands : K → List Entry → Type 0) (n m : ℕ) where
 -- the core gave an entry, and its orders were given
 pub did_give : {K : Type 0} (stands : K → List Entry → Type 0) (n m : ℕ) (l : LaneName) (x : Mark) (c : Cause) (gave spent : Bool) (core core' : K) (old new : List HubSide) (seats mid seats' : Seats) (k : Kind) (outs : List Out)
     → not spent ≡ gave → mid ≡ on_seat l (marked x) seats → k ≡ kind_of c → ((history : List Entry) → stands core history → stands core' (history ++ record { cause = c; outs = outs } ∷ []))
+    → ((history : List Entry) (s : ℕ) → stands core history → spawns s (history ++ record { cause = c; outs = outs } ∷ []) ≤ 1)
     → Pairwise (λ i. Dealt (name n m i) (given_by mid l (is_side x) k outs).orders [] gave) old new → (IsTrue gave → seats' ≡ (given_by mid l (is_side x) k outs).seats)
     → Acted stands n m l x c (not spent) core core' old new seats seats'
-did_give stands n m l x c gave spent core core' old new seats mid seats' k outs s e f go dealt lanes =
+did_give stands n m l x c gave spent core core' old new seats mid seats' k outs s e f go few dealt lanes =
     let d : Pairwise (λ i. Dealt (name n m i) (given_by (on_seat l (marked x) seats) l (is_side x) (kind_of c) outs).orders [] gave) old new =
     subst (λ (z : Seats). Pairwise (λ i. Dealt (name n m i) (given_by z l (is_side x) (kind_of c) outs).orders [] gave) old new) e (subst (λ (y : Kind). Pairwise (λ i. Dealt (name n m i) (given_by mid l (is_side x) y outs).orders [] gave) old new) f dealt) in
     subst (λ (b : Bool). Acted stands n m l x c b core core' old new seats seats') (sym s)
-    (Did outs go d (λ t. lanes t ∙ ap (λ (g : lists.Given). g.seats) (ap (λ z. given_by z l (is_side x) k outs) e ∙ ap (λ y. given_by (on_seat l (marked x) seats) l (is_side x) y outs) f)))
+    (Did outs go few d (λ t. lanes t ∙ ap (λ (g : lists.Given). g.seats) (ap (λ z. given_by z l (is_side x) k outs) e ∙ ap (λ y. given_by (on_seat l (marked x) seats) l (is_side x) y outs) f)))
 
 pub acted_ids : {K : Type 0} (stands : K → List Entry → Type 0) (n m : ℕ) (l : LaneName) (x : Mark) (c : Cause) (all : Bool) (core core' : K) (old new : List HubSide) (seats seats' : Seats) → Acted stands n m l x c all core core' old new seats seats' → map ids new ≡ map ids old
-acted_ids stands n m l x c all core core' old new seats seats' (Did outs go dealt lanes) = same_ids (λ i. Dealt (name n m i) (given_by (on_seat l (marked x) seats) l (is_side x) (kind_of c) outs).orders [] all) old new dealt (λ i p q d. d.ids)
+acted_ids stands n m l x c all core core' old new seats seats' (Did outs go few dealt lanes) = same_ids (λ i. Dealt (name n m i) (given_by (on_seat l (marked x) seats) l (is_side x) (kind_of c) outs).orders [] all) old new dealt (λ i p q d. d.ids)
 acted_ids stands n m l x c all core core' old new seats seats' (Failed a go same) = ap (map ids) same

@@ -4,6 +4,7 @@ use Rattle.outside_io.specs.Faults.{Rose}
 use Rattle.mux_history.specs.declared.entry.Entry.{Entry}
 use Rattle.mux_history.specs.declared.steps.StepFault.{StepFault}
 use Rattle.mux_history.specs.declared.steps.StepFault.TheVariants as fault
+use Rattle.mux_history.specs.Cores.{spawns}
 use Rattle.lane_lists.specs.declared.item.LaneName.{LaneName}
 use Rattle.lane_lists.specs.declared.item.Order.{Order}
 use Rattle.lane_lists.specs.declared.item.Posted.{Posted}
@@ -48,11 +49,12 @@ pub record EndsAre (n m : ℕ) (deeds : List Deed) (more : Option (LaneName × I
   pub pushed : orders n m l deeds ≡ ends.orders.pushed ++ rest
   pub whole : all ≡ true → rest ≡ []
 
--- of a deck that isn't spent: no item more, all orders, and the lanes as the deeds left them
+-- no start was spawned twice. Of a deck that isn't spent: no item more, all orders, and the lanes as the deeds left them
 pub record Kept {K : Type 0} (stands : K → List Entry → Type 0) (n m : ℕ) (all : Bool) (core : K) (ends : List HubSide) (seats : Seats) : Type 0 where
   pub deeds : List Deed
   pub fair : Fair n m deeds
   pub stands_for : stands core (entries n m deeds)
+  pub once : (s : ℕ) → spawns s (entries n m deeds) ≤ 1
   pub more : Option (LaneName × Item)
   pub none_more : all ≡ true → more ≡ None
   pub ends_are : Each (λ i x. EndsAre n m deeds more all (name n m i) x) ends
@@ -122,8 +124,9 @@ pub record DeskView (K : Type 0) : Type 0 where
 
 -- what the core did with a cause that was taken of this lane with this mark, and what came of it
 pub data Acted {K : Type 0} (stands : K → List Entry → Type 0) (n m : ℕ) (l : LaneName) (x : Mark) (c : Cause) (all : Bool) (core core' : K) (old new : List HubSide) (seats seats' : Seats) : Type 0 where
-  -- an entry, whose orders were given, all of them or the first ones
+  -- an entry, behind which no start is spawned twice, and whose orders were given, all of them or the first ones
   Did : (outs : List Out) → ((history : List Entry) → stands core history → stands core' (history ++ record { cause = c; outs = outs } ∷ []))
+      → ((history : List Entry) (s : ℕ) → stands core history → spawns s (history ++ record { cause = c; outs = outs } ∷ []) ≤ 1)
       → Pairwise (λ i. Dealt (name n m i) (given_by (on_seat l (marked x) seats) l (is_side x) (kind_of c) outs).orders [] all) old new
       → (all ≡ true → seats' ≡ (given_by (on_seat l (marked x) seats) l (is_side x) (kind_of c) outs).seats)
       → Acted stands n m l x c all core core' old new seats seats'

@@ -135,7 +135,7 @@ impl<K: Steps + Drop, N: Naming> Desk<K, N> {
 }
 
 /// The core and the ends of all lanes behind a lock. Each time the lock is free, the core stands for the entries of one list of
-/// deeds, and what was taken and pushed at the ends is what that list says.
+/// deeds, which spawn no start twice, and what was taken and pushed at the ends is what that list says.
 pub struct Deck<K: Steps + Drop, N: Naming> {
     desk: Mutex<Desk<K, N>>,
 }

@@ -215,6 +215,7 @@ module _ {P B C : Type 0} (sessions links : P → Option (List Session)) (faults
           servers = s;
           fair = k.1.fair;
           stands_for = k.1.stands_for;
+          once = k.1.once;
           ports_len = lp ∙ pl;
           ports = λ i p q at at'.
               let w = slice_get_within old.ports.items i p at in
@@ -288,6 +289,7 @@ served_none stands stops sessions links faults runs left misses given moments li
       servers = refl;
       fair = tt;
       stands_for = s;
+      once = λ x. omega arith;
       ports_len = refl;
       ports = λ i p q at at'. let e : p ≡ q = same_item p q (sym at ∙ at') in
           subst (λ y. LaneServed story false (lane.Editor i) (WholeLink posted.Link limit) (CutLink posted.Link limit) sessions links faults p.outside y.outside) e
@@ -311,6 +313,7 @@ served_from {K} {P} {B} {C} stands stops sessions links faults runs left misses 
   servers = f.servers ∙ l.berths.len;
   fair = f.fair;
   stands_for = f.stands_for;
+  once = f.once;
   ports_len = f.ports_len ∙ l.ports.len;
   ports = λ i p q at at'.
       let mid = get_there old.ports.items i (let w = slice_get_within before.ports.items i p at in let e = l.ports.len in omega (arith, w, e)) in

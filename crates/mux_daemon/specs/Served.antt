@@ -1,9 +1,10 @@
 -- What a daemon did: one list of deeds, of which the history and all lists of all lanes follow, and what each lane did with its own.
-use Rattle.std.specs.Prelude.{◌≡◌, ◌≢◌, ◌⊎◌, ℕ, ◌+◌, Bool, true, false, List, [], ◌++◌, IfSome, Option, Some, None, length, not, slice_get}
+use Rattle.std.specs.Prelude.{◌≡◌, ◌≢◌, ◌⊎◌, ℕ, ◌+◌, ◌≤◌, Bool, true, false, List, [], ◌++◌, IfSome, Option, Some, None, length, not, slice_get}
 use Rattle.outside_io.specs.Faults.{Rose}
 use Rattle.outside_io.specs.Sessions.{Session}
 use Rattle.outside_io.specs.contracts.memory.port.MemPortPort.TheImpl as port
 use Rattle.mux_history.specs.declared.entry.Entry.{Entry}
+use Rattle.mux_history.specs.Cores.{spawns}
 use Rattle.lane_lists.specs.declared.item.Item.{Item}
 use Rattle.lane_lists.specs.declared.item.LaneName.{LaneName}
 use Rattle.lane_lists.specs.declared.item.LaneName.TheVariants as lane
@@ -96,6 +97,7 @@ module _ {K P B C : Type 0} (stands : K → List Entry → Type 0) (stops : List
     pub servers : story.servers ≡ length old.berths.items
     pub fair : Fair story.editors story.servers story.deeds
     pub stands_for : stands core (history story)
+    pub once : (s : ℕ) → spawns s (history story) ≤ 1
     pub ports_len : length new.ports.items ≡ length old.ports.items
     pub ports : (i : ℕ) (p q : LaneJob P) → slice_get old.ports.items i ≡ Some p → slice_get new.ports.items i ≡ Some q
         → LaneServed story (is_end x) (lane.Editor i) (WholeLink posted.Link limit) (CutLink posted.Link limit) sessions links faults p.outside q.outside

@@ -75,6 +75,7 @@ pub record BerthStarts {B : Type 0} (limit : ℕ) (s : Story) (went : Bool) (i :
   pub served : (k x : ℕ) → slice_get (gather s.editors s.servers (tried_by (lane.Server i)) s.deeds) k ≡ Some x → (turn : Turn) × (slice_get (turns ++ last) k ≡ Some turn)
       × (StartFailedAs (k < length turns) s.servers (history s) x turn ⊎ StartRan (k < length turns) limit s.servers (history s) x turn)
 
+-- what follows of a berth's lane, served by a fair story that spawns no start twice; ServedAs says this of its story (`once`)
 abbrev pub BerthLaw : {B : Type 0} → (B → Option (List Session)) → (B → Option (List Session)) → (B → ℕ) → Type 0
 BerthLaw {B} runs left misses =
     (limit : ℕ) (s : Story) (went : Bool) (i : ℕ) (old new : B) → i < s.servers → Fair s.editors s.servers s.deeds → ((x : ℕ) → spawns x (history s) ≤ 1)

@@ -13,9 +13,9 @@ pub fn port_law<P: Port>()
     sessions_law();
 }
 
-/// Where no start is spawned twice, the starts that were tried in a served berth's lane have its first turns, in their order. Each
-/// failed; or it came up, its bodies are the first frames that were read of its program, and what was written are the frames of
-/// the bodies to it.
+/// Where no start is spawned twice, as is so of what `serve_core` served, the starts that were tried in a served berth's lane have
+/// its first turns, in their order. Each failed; or it came up, its bodies are the first frames that were read of its program, and
+/// what was written are the frames of the bodies to it.
 pub fn berth_law<B: Berth>()
     ensures { BerthLaw B.runs B.left B.faults }
 {
