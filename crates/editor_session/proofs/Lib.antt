@@ -1,4 +1,2 @@
 mod Numbers
 mod Places
-mod Searching
-mod Spreading

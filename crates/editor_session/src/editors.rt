@@ -1,14 +1,13 @@
 // The editors, by their numbers.
 ghost use Rattle.std.specs.Prelude.{◌≡◌, ◌≢◌, ◌+◌, ◌^◌, ◌<◌, ◌≤◌, ℕ, [], ◌∷◌, ◌++◌, length, true, None, Some, IfNone, IfOk, IfSome, OnErr, OnOk, option_copied};
-ghost use Rattle.std.specs.List.{remove};
 ghost use Rattle.event_model.specs.declared.phase.Phase.TheVariants.{Absent};
 ghost use Rattle.event_model.specs.Phases.{is_linked, is_there};
-ghost use Rattle.editor_session.specs.Kept.{IsAt, Rise, held};
 ghost use Rattle.editor_session.specs.Sessions.{asked, gone, in_group, in_phase, is_gone, is_of, is_wanted, joined, needs_in, next_ask, numbers_of, runs_in, session_of, unless_gone, waits_in, with_session};
 
-use crate::session::{Numbered, Session, Wanted};
+use crate::session::{Session, Wanted};
 use event_model::Phase;
 use message_body::{Body, Memory};
+use number_table::{Numbered, forget, place_of};
 use std::alloc::Global;
 use std::marker::Model;
 
@@ -20,7 +19,7 @@ use std::marker::Model;
 pub struct Editors {
     alloc: Global,
     count: u64,
-    linked: Vec<Numbered>,
+    linked: Vec<Numbered<Session>>,
 }
 
 impl Model for Editors {
@@ -29,23 +28,13 @@ impl Model for Editors {
 
     ghost Value = { List Session };
 
-    ghost use Rattle.editor_session.specs.Kept.{AreLinked, Rise, spread};
+    ghost use Rattle.number_table.specs.Numbers.{Rise, spread};
+    ghost use Rattle.editor_session.specs.Kept.{AreLinked};
+    ghost use Rattle.editor_session.specs.Sessions.{gone};
 
-    ghost view = { λ e. spread 0 e.count e.linked.items };
+    ghost view = { λ e. spread gone 0 e.count e.linked.items };
 
     ghost invariant = { λ e. Rise 0 e.count e.linked.items × AreLinked e.linked.items };
-}
-
-// The place of a number among those that are kept.
-fn place_of(linked: &[Numbered], e: u64) -> Option<usize>
-    requires { (count : ℕ) × Rise 0 count linked.now }
-    ensures found { IfSome result (λ k. IsAt linked.now e k) }
-    ensures none { IfNone result (held e linked.now ≡ None) }
-{
-    match linked.binary_search_by_key(&e, |kept| kept.number) {
-        Ok(at) => Some(at),
-        Err(_) => None,
-    }
 }
 
 // Whether its link ended.
@@ -53,14 +42,6 @@ fn is_gone(phase: Phase) -> bool
     ensures { result ≡ is_gone phase }
 {
     matches!(phase, Phase::Gone)
-}
-
-// What is in a place goes.
-fn forget(linked: &mut Vec<Numbered>, at: usize)
-    requires { at < length linked.old.items }
-    ensures { linked.new.items ≡ remove linked.old.items at }
-{
-    linked.remove(at);
 }
 
 impl Editors {
@@ -92,7 +73,7 @@ impl Editors {
     {
         self.linked.push(Numbered {
             number: e,
-            session: Session::new(),
+            item: Session::new(),
         })?;
         self.count = e + 1;
         Ok(())
@@ -115,7 +96,7 @@ impl Editors {
         ensures none { IfNone (option_copied result) (session_of self.now e ≡ gone) }
     {
         match place_of(&self.linked, e) {
-            Some(at) => Some(&self.linked[at].session),
+            Some(at) => Some(&self.linked[at].item),
             None => None,
         }
     }
@@ -147,7 +128,7 @@ impl Editors {
             return;
         }
         let kept = &mut self.linked[at];
-        kept.session.phase = phase;
+        kept.item.phase = phase;
     }
 
     /// Places it in a group, and keeps the bytes of the id of its `initialize`; not where it is gone.
@@ -157,7 +138,7 @@ impl Editors {
     {
         if let Some(at) = place_of(&self.linked, e) {
             let kept = &mut self.linked[at];
-            kept.session.place(group, id);
+            kept.item.place(group, id);
         }
     }
 
@@ -193,8 +174,8 @@ impl Editors {
         match place_of(&self.linked, e) {
             Some(at) => {
                 let kept = &mut self.linked[at];
-                kept.session.asks += 1;
-                Some(kept.session.asks)
+                kept.item.asks += 1;
+                Some(kept.item.asks)
             }
             None => None,
         }
@@ -243,7 +224,7 @@ impl Editors {
     {
         let mut numbers = Vec::new(self.alloc);
         for kept in &self.linked {
-            if kept.session.is_wanted(wanted) {
+            if kept.item.is_wanted(wanted) {
                 numbers.push(kept.number)?;
             }
         }

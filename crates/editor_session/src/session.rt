@@ -19,13 +19,6 @@ pub struct Session {
     pub asks: u128,
 }
 
-/// An editor that isn't gone, with its number.
-#[derive(Debug, Drop)]
-pub struct Numbered {
-    pub number: u64,
-    pub session: Session,
-}
-
 /// Which editors are looked for.
 #[derive(Clone, Copy)]
 pub enum Wanted {

@@ -115,10 +115,11 @@ editors_behind n other = n
 abbrev pub editors_of : List Event → ℕ
 editors_of events = fold editors_behind 0 events
 
--- the bytes of bodies sent to an editor, without those that were drained
+-- the bytes of bodies sent to an editor whose link didn't end, without those that were drained
 abbrev pub backlog_behind : ℕ → ℕ → Event → ℕ
 backlog_behind e n (did (ToEditor k body) m) = if nat_eq k e then n + length body else n
 backlog_behind e n (took (Drained k bytes) m) = if nat_eq k e then n - bytes else n
+backlog_behind e n (took (EditorGone k why) m) = if nat_eq k e then 0 else n
 backlog_behind e n other = n
 
 abbrev pub backlog_of : ℕ → List Event → ℕ

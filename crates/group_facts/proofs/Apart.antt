@@ -5,13 +5,14 @@ use Rattle.json_text.specs.Json.{Json, IsText}
 use Rattle.json_text.proofs.Laws.{one_tree}
 use Rattle.document_model.proofs.Written.{Spoken, spoken}
 use Rattle.mux_history.specs.declared.cause.Cause.{Cause}
-use Rattle.mux_history.specs.declared.cause.Cause.TheVariants.{Joined, FromEditor, Started, FromServer, Drained}
+use Rattle.mux_history.specs.declared.cause.Cause.TheVariants.{Joined, FromEditor, EditorGone, Started, FromServer, Drained}
 use Rattle.mux_history.specs.declared.out.Out.{Out}
 use Rattle.mux_history.specs.declared.out.Out.TheVariants.{ToServer}
 use Rattle.rpc_message.specs.Message.{request, Id, id_of, integer, message_of}
 use Rattle.rpc_message.specs.ValueTexts.{IsIdText}
 use Rattle.rpc_message.proofs.Ids.{id_flat}
 use Rattle.event_model.specs.Event.{Event, heard, said, with_cause}
+use Rattle.event_model.specs.Phases.{desk_of}
 use Rattle.event_model.specs.Requests.{answered_id, next_number, is_open, is_own, open_of}
 use Rattle.event_model.specs.Settings.{Settings}
 use Rattle.event_model.proofs.Frames.{never}
@@ -19,8 +20,8 @@ use Rattle.mux_facts.proofs.Lists.{all_filtered, all_join, all_of, found_is}
 use Rattle.mux_facts.proofs.Words.{same_number}
 use Rattle.group_rows.specs.Forwarded.{Forwarded, Forwarding, answered_by, forwarding_behind, forwarding_of, names, numbered}
 use Rattle.group_facts.specs.Built.{built_behind}
-use Rattle.group_facts.specs.Facts.{AllForwarded, Apart, IsAlone, IsForwarded, OneRequest}
-use Rattle.group_facts.specs.Why.{IsForward, WhyToServer, begins, greets, forwarded, tells, shuts}
+use Rattle.group_facts.specs.Facts.{AllForwarded, Apart, IsAlone, IsForwarded, OneRequest, is_early}
+use Rattle.group_facts.specs.Why.{IsForward, WhyToServer, begins, greets, forwarded, tells, shuts, cancels}
 use Rattle.group_facts.proofs.Forwards.{Fewer, fewer_notified, forwarding_more, more_requests, zip_all}
 use Rattle.group_facts.proofs.Levels.{each_start}
 use Rattle.group_facts.proofs.Numbers.{forwarding_other, forwarding_sent}
@@ -42,6 +43,10 @@ alone_by before asked e id fresh t = all_of (IsForwarded before) (λ (g : Forwar
   where
     clash : (g : Forwarded) (k : IsForwarded before g) → g.editor ≡ e → id ≡ k.id → ⊥
     clash g k same is = never (sym (subst (λ z. is_open z (open_of g.editor before) ≡ true) (sym is) k.waits) ∙ ap (λ z. is_open id (open_of z before)) same ∙ fresh)
+
+-- nor is one of an editor that got no result yet
+pub alone_early : (before : List Event) → AllForwarded before → (e : ℕ) (id : Id) → is_early (desk_of e before).phase ≡ true → IsAlone before e id
+alone_early before asked e id early t = all_of (IsForwarded before) (λ (g : Forwarded). g.editor ≡ e → IsIdText id g.id → ⊥) (λ g k same text. never (sym early ∙ ap (λ z. is_early (desk_of z before).phase) (sym same) ∙ k.late)) (forwarding_of t before).open_requests (asked t)
 
 -- One event more, behind which no request is open that wasn't before
 
@@ -66,6 +71,7 @@ fewer_took settings events (FromEditor e body) built = fewer_by events (heard (F
 fewer_took settings events (Started n) built = fewer_by events (heard (Started n)) (λ t Q h. h)
 fewer_took settings events (FromServer n body) built = fewer_by events (heard (FromServer n body)) (λ t Q h. answered_fewer Q (nat_eq n t) (λ f. not (answered_by (answered_id (message_of body)) f)) (forwarding_of t events).open_requests h)
 fewer_took settings events (Drained e k) built = fewer_by events (heard (Drained e k)) (λ t Q h. h)
+fewer_took settings events (EditorGone e why) built = fewer_by events (heard (EditorGone e why)) (λ t Q h. h)
 fewer_took settings events cause built = absurd (cc)
 
 pub asks_fewer : (events : List Event) (e : ℕ) (body : List ℕ) → Fewer events (with_cause events (FromEditor e body))
@@ -122,6 +128,7 @@ module _ (settings : Settings) (before : List Event) (cause : Cause) (events : L
   apart_sent (greets k) h = apart_fewer events sent (fewer_notified n events body (codes "initialized") k.params k.says) h
   apart_sent (forwarded k) h = forwarded_apart k h
   apart_sent (tells k) h = let m : Spoken (message_of body) = spoken (message_of body) k.spoken in apart_fewer events sent (fewer_notified n events body m.method m.params m.is) h
+  apart_sent (cancels k) h = apart_fewer events sent (fewer_notified n events body (codes "$/cancelRequest") (Some k.params) k.says) h
   apart_sent (shuts k) h = apart_fewer events sent (own_fewer (integer (decimal (next_number n events))) (codes "shutdown") None k.says refl) h
 
 -- A response that is passed on

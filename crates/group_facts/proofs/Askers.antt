@@ -31,7 +31,7 @@ use Rattle.group_facts.specs.Facts.{AllForwarded, IsAlone, IsAsker, IsForwarded}
 use Rattle.group_facts.proofs.Forwards.{forwarding_more, more_requests, notified_all, zip_all}
 use Rattle.group_facts.proofs.Levels.{each_start}
 use Rattle.group_facts.proofs.Numbers.{forwarding_other, forwarding_sent}
-use Rattle.group_facts.specs.Why.{IsForward, WhyToEditor, WhyToServer, begins, greets, forwarded, tells, shuts, rejects, refuses, turns_away, welcomes, passes}
+use Rattle.group_facts.specs.Why.{IsForward, WhyToEditor, WhyToServer, begins, greets, forwarded, tells, shuts, cancels, rejects, refuses, answers, turns_away, welcomes, passes}
 
 -- An editor that got its result stays one that did
 
@@ -99,6 +99,7 @@ asked_took settings events (Started n) built fits none h = asked_still events (h
 asked_took settings events (FromServer n body) built fits none h = λ s. asked_by_list events (heard (FromServer n body)) (asker_heard events (FromServer n body) fits none) s _ refl
     (answered_less events (with_cause events (FromServer n body)) (asker_heard events (FromServer n body) fits none) (nat_eq n s) (λ f. not (answered_by (answered_id (message_of body)) f)) (forwarding_of s events).open_requests (h s))
 asked_took settings events (Drained e k) built fits none h = asked_still events (heard (Drained e k)) (asker_heard events (Drained e k) fits none) (λ s. refl) h
+asked_took settings events (EditorGone e why) built fits none h = asked_still events (heard (EditorGone e why)) (asker_heard events (EditorGone e why) fits none) (λ s. refl) h
 asked_took settings events cause built fits none h = absurd (cc)
 
 -- A body to a start
@@ -139,6 +140,7 @@ module _ (settings : Settings) (before : List Event) (cause : Cause) (events : L
   one_asked (greets k) h = notified (codes "initialized") k.params k.says h
   one_asked (forwarded k) h = asked_on k h
   one_asked (tells k) h = let m : Spoken (message_of body) = spoken (message_of body) k.spoken in notified m.method m.params m.is h
+  one_asked (cancels k) h = notified (codes "$/cancelRequest") (Some k.params) k.says h
   one_asked (shuts k) h = own_request (integer (decimal (next_number n events))) (codes "shutdown") None k.says refl h
 
   pub asked_sent : WhyToServer settings before cause events n body → AllForwarded events → AllForwarded sent
@@ -166,7 +168,7 @@ module _ (settings : Settings) (before : List Event) (cause : Cause) (events : L
 
   -- a response to another request
   by_alone : (id : Id) → answered_id (message_of body) ≡ Some id → (f : Forwarded) → (f.editor ≡ n → IsIdText id f.id → ⊥) → IsForwarded events f → IsForwarded told f
-  by_alone id answers f alone k = by_open f k (λ same. ap (λ o. is_open k.id (without o (open_of f.editor events))) answers ∙ still_open id k.id (open_of f.editor events) k.waits (other (same_id id k.id) refl (sym same)))
+  by_alone id replies f alone k = by_open f k (λ same. ap (λ o. is_open k.id (without o (open_of f.editor events))) replies ∙ still_open id k.id (open_of f.editor events) k.waits (other (same_id id k.id) refl (sym same)))
     where
       other : (b : Bool) → same_id id k.id ≡ b → f.editor ≡ n → b ≡ false
       other true e same = absurd (alone same (subst (λ z. IsIdText z f.id) (sym (id_same id k.id e)) k.text))
@@ -177,12 +179,13 @@ module _ (settings : Settings) (before : List Event) (cause : Cause) (events : L
   by_waiting at f k = by_open f k (λ same. absurd (late_not (desk_of f.editor events).phase k.late (ap (λ z. (desk_of z events).phase) (sym same) ∙ at)))
 
   all_alone : (id : Id) → answered_id (message_of body) ≡ Some id → IsAlone events n id → AllForwarded events → AllForwarded told
-  all_alone id answers alone h s = asked_list events (said (ToEditor n body)) s (forwarding_of s events).open_requests refl
-      (zip_all (IsForwarded events) (λ (f : Forwarded). f.editor ≡ n → IsIdText id f.id → ⊥) (IsForwarded told) (λ f k a. by_alone id answers f a k) (forwarding_of s events).open_requests (h s) (alone s))
+  all_alone id replies alone h s = asked_list events (said (ToEditor n body)) s (forwarding_of s events).open_requests refl
+      (zip_all (IsForwarded events) (λ (f : Forwarded). f.editor ≡ n → IsIdText id f.id → ⊥) (IsForwarded told) (λ f k a. by_alone id replies f a k) (forwarding_of s events).open_requests (h s) (alone s))
 
   pub asked_told : WhyToEditor settings before cause events n body → AllForwarded events → AllForwarded told
   asked_told (rejects k) h = asked_still events (said (ToEditor n body)) (λ f a. by_open f a (λ same. ap (λ m. is_open a.id (without (answered_id m) (open_of f.editor events))) k.says ∙ a.waits)) (λ s. refl) h
   asked_told (refuses k) h = all_alone k.id (ap answered_id k.says) k.alone h
+  asked_told (answers k) h = all_alone k.id (ap answered_id k.says) k.alone h
   asked_told (turns_away k) h = asked_still events (said (ToEditor n body)) (by_waiting (k.waiting).phase) (λ s. refl) h
   asked_told (welcomes k) h = asked_still events (said (ToEditor n body)) (by_waiting (k.waiting).phase) (λ s. refl) h
   asked_told (passes k) h = all_alone k.id k.answers k.alone h

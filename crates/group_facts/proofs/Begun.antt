@@ -6,19 +6,19 @@ use Rattle.std.proofs.lemmas.Bool.{and_parts}
 use Rattle.std.proofs.lemmas.List.{length-append}
 use Rattle.std.proofs.lemmas.List.Sums.{fold-append}
 use Rattle.mux_history.specs.declared.cause.Cause.{Cause}
-use Rattle.mux_history.specs.declared.cause.Cause.TheVariants.{Joined, FromEditor, Started, FromServer, Drained}
+use Rattle.mux_history.specs.declared.cause.Cause.TheVariants.{Joined, FromEditor, EditorGone, Started, FromServer, Drained}
 use Rattle.mux_history.specs.declared.out.Out.{Out}
 use Rattle.mux_history.specs.declared.out.Out.TheVariants.{ToEditor, ToServer, Spawn, CloseEditor, EndServer}
 use Rattle.document_model.specs.Sayings.{Saying, saying_by}
 use Rattle.rpc_message.specs.Message.{Message, request, notification, result, error, not_json, not_message, message_of}
 use Rattle.rpc_message.specs.Texts.{initialized_text, request_failed}
 use Rattle.event_model.specs.declared.phase.Phase.{Phase}
-use Rattle.event_model.specs.declared.phase.Phase.TheVariants.{New, Waiting, Answered, Running}
+use Rattle.event_model.specs.declared.phase.Phase.TheVariants.{New, Waiting, Answered, Running, Down}
 use Rattle.event_model.specs.declared.stage.Stage.{Stage}
 use Rattle.event_model.specs.declared.stage.Stage.TheVariants.{Spawning, Initializing, Ready}
 use Rattle.event_model.specs.Event.{Event, behind, heard, requests, said, with_cause}
 use Rattle.event_model.specs.Phases.{desk_of, is_new}
-use Rattle.event_model.specs.Row.{Row, each, look, nothing, on, outs}
+use Rattle.event_model.specs.Row.{Row, each, look, nothing, on, outs, ◌⨾◌}
 use Rattle.event_model.specs.Settings.{Settings}
 use Rattle.event_model.specs.Spawns.{group_of, start_behind, start_of, starts_of}
 use Rattle.event_model.specs.Stages.{is_initializing, life_of}
@@ -35,8 +35,9 @@ use Rattle.group_words.specs.Houses.{at_group, declared_for, emptied, groups_hea
 use Rattle.group_words.specs.Placing.{busy, changed, end_where, ended, founded, is_live, with_editor}
 use Rattle.group_words.specs.Rows.{end_group, end_start, initialize_row, placed_row}
 use Rattle.group_words.proofs.Frames.{changed_length, groups_more, groups_stay, touches_groups}
-use Rattle.group_rows.specs.Forwarded.{Forwarded}
-use Rattle.group_rows.specs.Rows.{answer_error, begin_in, document_at, document_bodies, document_row, early_row, first_result, from_server, message_row, outs_of, pass_on, replay_bodies, request_at, request_row, response_row, result_in, row_of, served_row, started, sync_bodies, waiting_in, welcome}
+use Rattle.group_rows.specs.Forwarded.{Forwarded, forwarding_of}
+use Rattle.group_rows.specs.Leaves.{cancel, cancel_text, cancels, closings, leave_bodies, leave_row, uncancelled_of}
+use Rattle.group_rows.specs.Rows.{answer_error, begin_in, closing_row, document_at, document_bodies, document_row, down_row, early_row, exit_row, first_result, from_server, gone_row, message_row, outs_of, pass_on, replay_bodies, request_at, request_row, response_row, result_in, row_of, served_request, served_row, started, sync_bodies, taken_row, waiting_in, welcome}
 use Rattle.group_rows.specs.Texts.{encoding_of, texts_of}
 use Rattle.group_facts.specs.Built.{built_behind}
 use Rattle.group_facts.proofs.Housed.{ended_length}
@@ -79,9 +80,34 @@ starts_stay g events (x ∷ xs) h = ap (start_of g) (sym (append_assoc events (s
 
 -- Rows that spawn none
 
+-- what holds of each body to a start holds of those of an editor that leaves (L1)
+module _ (R : List Event → Out → Type 0) (sends : (events : List Event) (s : ℕ) (body : List ℕ) → R events (ToServer s body)) where
+  pub bodies_by : (s : ℕ) (bodies : List (List ℕ)) (events : List Event) → Because R events (to_start s bodies)
+  bodies_by s [] events = by_nothing
+  bodies_by s (b ∷ bodies) events = by_then (by_send (sends events s b)) (bodies_by s bodies (behind events (ToServer s b ∷ [])))
+
+  cancels_by : (s : ℕ) (ns : List ℕ) (events : List Event) → Because R events (each (cancel s) ns)
+  cancels_by s [] events = by_nothing
+  cancels_by s (n ∷ ns) events = by_then (by_send (sends events s (cancel_text n))) (cancels_by s ns (behind events (outs (cancel s n) events)))
+
+  module _ (settings : Settings) (before : List Event) (e : ℕ) where
+    cancelled_by : (s : ℕ) (events : List Event) → Because R events (cancels before s e)
+    cancelled_by s events = by_choose (λ ready. cancels_by s (uncancelled_of e (forwarding_of s before).open_requests) events) (λ off. by_nothing)
+
+    closings_by : (g s : ℕ) (events : List Event) → Because R events (closings settings before g s e)
+    closings_by g s events = by_choose (λ ready. bodies_by s (leave_bodies settings.limits.versions (λ u. held_at s u before) e (texts_of settings g before).opens (texts_of settings g before).opens) events) (λ off. by_nothing)
+
+    leaves_by : (g s : ℕ) (events : List Event) → Because R events (cancels before s e ⨾ closings settings before g s e)
+    leaves_by g s events = by_then (cancelled_by s events) (closings_by g s (behind events (outs (cancels before s e) events)))
+
+    group_by : (g : ℕ) (events : List Event) → Because R events (on (start_of g before) nothing (λ s. cancels before s e ⨾ closings settings before g s e))
+    group_by g events = by_on (λ none. by_nothing) (λ s start. leaves_by g s events)
+
+    pub leave_by : (events : List Event) → Because R events (leave_row settings before e)
+    leave_by events = by_on (λ none. by_nothing) (λ g home. group_by g events)
+
 pub quiet_bodies : (s : ℕ) (bodies : List (List ℕ)) (events : List Event) → Quiet events (to_start s bodies)
-quiet_bodies s [] events = by_nothing
-quiet_bodies s (b ∷ bodies) events = by_then (by_send tt) (quiet_bodies s bodies (behind events (ToServer s b ∷ [])))
+quiet_bodies s bodies events = bodies_by (λ places out. NoSpawn out) (λ places s b. tt) s bodies events
 
 quiet_welcomes : (body : List ℕ) (ns : List ℕ) (events : List Event) → Quiet events (each (welcome body) ns)
 quiet_welcomes body [] events = by_nothing
@@ -89,14 +115,6 @@ quiet_welcomes body (n ∷ ns) events = by_then (by_look (by_send tt)) (quiet_we
 
 quiet_malformed : (e : ℕ) (m : Message) (phase : Phase) (events : List Event) → Quiet events (malformed_row e m phase)
 quiet_malformed e m phase events = by_choose (λ there. by_send tt) (λ gone. by_nothing)
-
-quiet_early : (e : ℕ) (body : List ℕ) (m : Message) (events : List Event) → Quiet events (early_row e body m)
-quiet_early e body (request id method params) events = by_send tt
-quiet_early e body (notification method params) events = by_nothing
-quiet_early e body (result id r) events = by_nothing
-quiet_early e body (error id x) events = by_nothing
-quiet_early e body not_json events = by_nothing
-quiet_early e body not_message events = by_nothing
 
 module _ (settings : Settings) (before : List Event) where
   quiet_at : (e : ℕ) (body : List ℕ) (events : List Event) (g s : ℕ) → Quiet events (request_at settings before e body g s)
@@ -117,20 +135,60 @@ module _ (settings : Settings) (before : List Event) where
   quiet_document : (e : ℕ) (body : List ℕ) (x : Saying) (events : List Event) → Quiet events (document_row settings before e body x)
   quiet_document e body x events = by_on (λ none. by_nothing) (λ g home. quiet_documents e body x events g)
 
+  quiet_leave : (e : ℕ) (events : List Event) → Quiet events (leave_row settings before e)
+  quiet_leave e events = leave_by (λ places out. NoSpawn out) (λ places s b. tt) settings before e events
+
+  quiet_closing : (e : ℕ) (events : List Event) → Quiet events (closing_row settings before e)
+  quiet_closing e events = by_then (by_send tt) (quiet_leave e _)
+
+  quiet_exit : (e : ℕ) (m : Message) (events : List Event) → Quiet events (exit_row settings before e m)
+  quiet_exit e (notification method params) events = by_choose (λ yes. quiet_closing e events) (λ no. by_nothing)
+  quiet_exit e (request id method params) events = by_nothing
+  quiet_exit e (result id r) events = by_nothing
+  quiet_exit e (error id x) events = by_nothing
+  quiet_exit e not_json events = by_nothing
+  quiet_exit e not_message events = by_nothing
+
+  quiet_early : (e : ℕ) (body : List ℕ) (m : Message) (events : List Event) → Quiet events (early_row settings before e body m)
+  quiet_early e body (request id method params) events = by_send tt
+  quiet_early e body (notification method params) events = quiet_exit e (notification method params) events
+  quiet_early e body (result id r) events = by_nothing
+  quiet_early e body (error id x) events = by_nothing
+  quiet_early e body not_json events = by_nothing
+  quiet_early e body not_message events = by_nothing
+
+  quiet_down : (e : ℕ) (body : List ℕ) (m : Message) (events : List Event) → Quiet events (down_row settings before e body m)
+  quiet_down e body (request id method params) events = by_send tt
+  quiet_down e body (notification method params) events = quiet_exit e (notification method params) events
+  quiet_down e body (result id r) events = by_nothing
+  quiet_down e body (error id x) events = by_nothing
+  quiet_down e body not_json events = by_nothing
+  quiet_down e body not_message events = by_nothing
+
+  quiet_asked : (e : ℕ) (body method : List ℕ) (events : List Event) → Quiet events (served_request settings before e body method)
+  quiet_asked e body method events = by_choose (λ misplaced. by_send tt) (λ placed. by_choose (λ down. by_then (by_send tt) (quiet_leave e _)) (λ on. quiet_request e body events))
+
   quiet_served : (e : ℕ) (body : List ℕ) (m : Message) (events : List Event) → Quiet events (served_row settings before e body m)
-  quiet_served e body (request id method params) events = by_choose (λ wrong. by_send tt) (λ right. quiet_request e body events)
-  quiet_served e body (notification method params) events = quiet_document e body (saying_by method params) events
+  quiet_served e body (request id method params) events = quiet_asked e body method events
+  quiet_served e body (notification method params) events = by_choose (λ yes. quiet_closing e events) (λ no. quiet_document e body (saying_by method params) events)
   quiet_served e body (result id r) events = by_nothing
   quiet_served e body (error id x) events = by_nothing
   quiet_served e body not_json events = by_nothing
   quiet_served e body not_message events = by_nothing
 
+  quiet_taken : (e : ℕ) (body : List ℕ) (m : Message) (phase : Phase) (events : List Event) → places phase m ≡ false → Quiet events (taken_row settings before e body m phase)
+  quiet_taken e body m New events h = by_choose (λ yes. never (sym yes ∙ h)) (λ no. quiet_early e body m events)
+  quiet_taken e body m Waiting events h = quiet_early e body m events
+  quiet_taken e body m Answered events h = quiet_served e body m events
+  quiet_taken e body m Running events h = quiet_served e body m events
+  quiet_taken e body m Down events h = quiet_down e body m events
+  quiet_taken e body m other events h = by_nothing
+
   quiet_message : (e : ℕ) (body : List ℕ) (m : Message) (phase : Phase) (events : List Event) → places phase m ≡ false → Quiet events (message_row settings before e body m phase)
-  quiet_message e body m New events h = by_choose (λ yes. never (sym yes ∙ h)) (λ no. quiet_early e body m events)
-  quiet_message e body m Waiting events h = quiet_early e body m events
-  quiet_message e body m Answered events h = quiet_served e body m events
-  quiet_message e body m Running events h = quiet_served e body m events
-  quiet_message e body m other events h = by_nothing
+  quiet_message e body m phase events h = by_choose (λ twice. quiet_closing e events) (λ single. quiet_taken e body m phase events h)
+
+  quiet_gone : (e : ℕ) (phase : Phase) (events : List Event) → Quiet events (gone_row settings before e phase)
+  quiet_gone e phase events = by_choose (λ served. quiet_leave e events) (λ off. by_nothing)
 
   quiet_editor : (e : ℕ) (body : List ℕ) (events : List Event) → places (desk_of e before).phase (message_of body) ≡ false → Quiet events (row_of settings before (FromEditor e body))
   quiet_editor e body events h = by_choose (λ malformed. quiet_malformed e (message_of body) (desk_of e before).phase events) (λ fine. quiet_message e body (message_of body) (desk_of e before).phase events h)
@@ -257,6 +315,8 @@ module _ (settings : Settings) where
   founding_of before (Started s) built = quiet (all_outs NoSpawn _ _ (quiet_started settings before s (life_of s before).stage (with_cause before (Started s))).why) (counts_stay before (heard (Started s)) refl)
   founding_of before (Joined e) built = quiet tt (counts_stay before (heard (Joined e)) refl)
   founding_of before (Drained e k) built = quiet tt (counts_stay before (heard (Drained e k)) refl)
+  founding_of before (EditorGone e why) built = quiet (all_outs NoSpawn _ _ (quiet_gone settings before e (desk_of e before).phase (with_cause before (EditorGone e why))).why)
+      (ap length (groups_more settings before (heard (EditorGone e why))) ∙ emptied_same ((house_of settings before).home e) _ _ _ (groups_of settings before))
   founding_of before cause built = absurd (cc)
 
   -- Each group has a start

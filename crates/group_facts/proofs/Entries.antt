@@ -2,7 +2,8 @@
 use Rattle.std.proofs.Common.{◌≡◌, ℕ, ◌+◌, ◌<◌, ◌≤◌, ◌^◌, Bool, true, false, ◌&&◌, List, [], ◌∷◌, ◌++◌, find, nat_eq, if◌then◌else◌, Some, None, ◌⊎◌, inl, inr, refl, sym, ◌∙◌, ap, ap₂, subst, arith, append-nil}
 use Rattle.std.proofs.lemmas.Bool.{and_parts}
 use Rattle.mux_history.specs.declared.cause.Cause.{Cause}
-use Rattle.mux_history.specs.declared.cause.Cause.TheVariants.{Joined, FromEditor, Started, FromServer, Drained}
+use Rattle.mux_history.specs.declared.cause.Cause.TheVariants.{Joined, FromEditor, EditorGone, Started, FromServer, Drained}
+use Rattle.mux_history.specs.declared.cause.Why as link
 use Rattle.mux_history.specs.declared.out.Out.TheVariants.{ToEditor}
 use Rattle.rpc_message.specs.Message.{Message, request, notification, result, error, not_json, not_message, Id, message_of}
 use Rattle.rpc_message.specs.Texts.{with_id_text}
@@ -11,7 +12,7 @@ use Rattle.event_model.specs.declared.phase.Phase.TheVariants.{Absent, New, Wait
 use Rattle.event_model.specs.declared.stage.Stage.{Stage}
 use Rattle.event_model.specs.declared.stage.Stage.TheVariants.{Unspawned, Spawning, Initializing, Ready, Stopping, Ending, Ended}
 use Rattle.event_model.specs.Event.{Event, behind, heard, said, with_cause}
-use Rattle.event_model.specs.Phases.{Desk, desk_hears, desk_of, editors_of, is_malformed, is_served, is_there}
+use Rattle.event_model.specs.Phases.{Desk, desk_hears, desk_of, editors_of, is_malformed, is_there}
 use Rattle.event_model.specs.Requests.{answered_id, with_request, is_open, open_of, without}
 use Rattle.event_model.specs.Row.{choose, nothing, on, outs, send}
 use Rattle.event_model.specs.Settings.{Settings}
@@ -28,11 +29,12 @@ use Rattle.group_rows.specs.Forwarded.{Forwarded, answered_by, forwarding_of}
 use Rattle.group_rows.specs.Rows.{from_server, outs_of, pass_on, response_row}
 use Rattle.group_facts.specs.Built.{built_behind, built_early, built_from_server, built_late, is_shown_whole}
 use Rattle.group_facts.specs.Facts.{is_too_many, is_up, turned_away}
+use Rattle.group_facts.specs.Settled.{is_answered}
 use Rattle.group_facts.proofs.AnswerRows.{answers_only, response_is}
 use Rattle.group_facts.proofs.Begun.{Begun}
 use Rattle.group_facts.proofs.Facts.{Facts}
 use Rattle.group_facts.proofs.OwnEntry.{Nobody, message_rests, placed_open, turned_rests}
-use Rattle.group_facts.proofs.Sent.{Found, IsOf, OneOf, Passed, SentAt, found_one, none_first, rising_of, sent_answered, sent_drained, sent_heard, sent_joined, sent_started}
+use Rattle.group_facts.proofs.Sent.{Found, IsOf, OneOf, Passed, SentAt, found_one, none_first, rising_of, sent_answered, sent_drained, sent_gone, sent_heard, sent_joined, sent_started}
 use Rattle.group_facts.proofs.OpenByPhase.{OpenDesk, OpenIf, answered_closed, if_other}
 use Rattle.group_facts.proofs.OpenByOut.{OpenAt, S, open_at, open_entry}
 
@@ -60,19 +62,19 @@ module _ (settings : Settings) (range : InRange settings) (before : List Event) 
   other_stays : (n : ℕ) (body : List ℕ) (e : ℕ) → nat_eq n e ≡ false → turned_away settings before (FromEditor n body) e ≡ false
   other_stays n body e other = ap (λ b. b && (places (desk_of n before).phase (message_of body) && is_too_many (placed_for settings before n body (groups_of settings before)))) other
 
-  own_entry : (n : ℕ) (body : List ℕ) → built_behind settings before (FromEditor n body) ≡ true → OpenAt settings n Nobody (later (FromEditor n body))
-  own_entry n body built = go (places (desk_of n before).phase (message_of body)) refl (turned_away settings before (FromEditor n body) n) refl
+  own_entry : (n : ℕ) (body : List ℕ) → fits_behind before (FromEditor n body) ≡ true → built_behind settings before (FromEditor n body) ≡ true → OpenAt settings n Nobody (later (FromEditor n body))
+  own_entry n body fits built = go (places (desk_of n before).phase (message_of body)) refl (turned_away settings before (FromEditor n body) n) refl
     where
       go : (b : Bool) → places (desk_of n before).phase (message_of body) ≡ b → (c : Bool) → turned_away settings before (FromEditor n body) n ≡ c → OpenAt settings n Nobody (later (FromEditor n body))
       go b place true turned = turned_rests settings before n body turned
       go true place false stays = open_entry settings n Nobody before (FromEditor n body) stays range facts begun built (placed_open settings before n body (h n) place)
-      go false place false stays = message_rests settings before n body (h n) range facts built place
+      go false place false stays = message_rests settings before n body (h n) range facts fits place
 
-  editor_entry : (n : ℕ) (body : List ℕ) → built_behind settings before (FromEditor n body) ≡ true → OpenAll settings (later (FromEditor n body))
-  editor_entry n body built e = go (nat_eq n e) refl
+  editor_entry : (n : ℕ) (body : List ℕ) → fits_behind before (FromEditor n body) ≡ true → built_behind settings before (FromEditor n body) ≡ true → OpenAll settings (later (FromEditor n body))
+  editor_entry n body fits built e = go (nat_eq n e) refl
     where
       go : (b : Bool) → nat_eq n e ≡ b → OpenAt settings e Nobody (later (FromEditor n body))
-      go true same = subst (λ k. OpenAt settings k Nobody (later (FromEditor n body))) (number_same n e same) (own_entry n body built)
+      go true same = subst (λ k. OpenAt settings k Nobody (later (FromEditor n body))) (number_same n e same) (own_entry n body fits built)
       go false other = open_entry settings e Nobody before (FromEditor n body) (other_stays n body e other) range facts begun built (other_heard n body e other)
 
   -- an editor that joins
@@ -97,6 +99,18 @@ module _ (settings : Settings) (range : InRange settings) (before : List Event) 
       sent : (id : Id) → SentAt settings before e id ⊎ ⊥ → SentAt settings (with_cause before (Drained n k)) e id ⊎ ⊥
       sent id (inl at) = inl (sent_drained settings e id before n k at)
       sent id (inr at) = inr at
+
+  -- an editor whose link is gone
+  gone_now : (n : ℕ) (why : link.Why) (e : ℕ) → OpenAt settings e Nobody (with_cause before (EditorGone n why))
+  gone_now n why e = open_at settings e Nobody before (heard (EditorGone n why)) (go (nat_eq n e) refl)
+    where
+      sent : nat_eq n e ≡ false → (id : Id) → SentAt settings before e id ⊎ ⊥ → SentAt settings (with_cause before (EditorGone n why)) e id ⊎ ⊥
+      sent other id (inl k) = inl (sent_gone settings e id before n why other k)
+      sent other id (inr k) = inr k
+
+      go : (b : Bool) → nat_eq n e ≡ b → OpenDesk (S settings e Nobody (with_cause before (EditorGone n why))) (if b then record { phase = Gone; initialize = (desk_of e before).initialize } else desk_of e before) (open_of e before)
+      go true same = tt
+      go false other = if_other (S settings e Nobody before) (S settings e Nobody (with_cause before (EditorGone n why))) (desk_of e before).phase (desk_of e before).initialize (open_of e before) (λ answered id is. sent other id) (h e)
 
   -- a program that begins
   started_now : (s e : ℕ) → OpenAt settings e Nobody (with_cause before (Started s))
@@ -157,24 +171,24 @@ module _ (settings : Settings) (range : InRange settings) (before : List Event) 
         closed : is_open id (open_of e (now ++ said (ToEditor f.editor text) ∷ [])) ≡ false
         closed = ap (is_open id) (opens_more e now (said (ToEditor f.editor text)) ∙ ap₂ (λ b o. if b then without o (open_of e now) else open_of e now) (ap (λ k. nat_eq k e) of.0 ∙ same_number e) answers) ∙ answered_closed id (open_of e now)
 
-        gone_not : (phase : Phase) → is_there phase ≡ false → is_served phase ≡ true → ⊥
+        gone_not : (phase : Phase) → is_there phase ≡ false → is_answered phase ≡ true → ⊥
         gone_not Answered gone served = never gone
         gone_not Running gone served = never gone
+        gone_not Down gone served = never gone
         gone_not Absent gone served = never (sym served)
         gone_not New gone served = never (sym served)
         gone_not Waiting gone served = never (sym served)
-        gone_not Down gone served = never (sym served)
         gone_not Closed gone served = never (sym served)
         gone_not Gone gone served = never (sym served)
 
-        answered_not : (there : Bool) → is_there (desk_of f.editor before).phase ≡ there → is_served (desk_of e (behind now (outs (response_row s before body (message_of body)) now))).phase ≡ true
+        answered_not : (there : Bool) → is_there (desk_of f.editor before).phase ≡ there → is_answered (desk_of e (behind now (outs (response_row s before body (message_of body)) now))).phase ≡ true
             → is_open id (open_of e (behind now (outs (response_row s before body (message_of body)) now))) ≡ true → ⊥
         answered_not true is served still = never (sym (subst (λ z. is_open id (open_of e (behind now z)) ≡ true) (response_outs true is) still) ∙ closed)
         answered_not false is served still = gone_not (desk_of e before).phase (ap (λ k. is_there (desk_of k before).phase) (sym of.0) ∙ is)
-            (sym (ap (λ z. is_served (desk_of e z).phase) (ap (behind now) (response_outs false is) ∙ append-nil now) ∙ ap (λ (d : Desk). is_served d.phase) (desk_more e before (heard (FromServer s body)))) ∙ served)
+            (sym (ap (λ z. is_answered (desk_of e z).phase) (ap (behind now) (response_outs false is) ∙ append-nil now) ∙ ap (λ (d : Desk). is_answered d.phase) (desk_more e before (heard (FromServer s body)))) ∙ served)
 
       abbrev Stays : Stage → Id → Type 0
-      Stays stage id = is_served (desk_of e (behind now (outs (from_server settings s before body (message_of body) stage) now))).phase ≡ true → is_open id (open_of e (behind now (outs (from_server settings s before body (message_of body) stage) now))) ≡ true → ⊥
+      Stays stage id = is_answered (desk_of e (behind now (outs (from_server settings s before body (message_of body) stage) now))).phase ≡ true → is_open id (open_of e (behind now (outs (from_server settings s before body (message_of body) stage) now))) ≡ true → ⊥
 
       ready_not : (life_of s before).stage ≡ Ready → (id : Id) → Passed settings e id before s body → Stays Ready id
       ready_not at id k served still =
@@ -227,14 +241,15 @@ module _ (settings : Settings) (range : InRange settings) (before : List Event) 
       server_at = if_other (S settings e Answers (later (FromServer s body))) (S settings e Nobody (later (FromServer s body))) (desk_of e (later (FromServer s body))).phase (desk_of e (later (FromServer s body))).initialize (open_of e (later (FromServer s body)))
           (λ served id still k. go id served still k) (open_entry settings e Answers before (FromServer s body) refl range facts begun built response_now)
         where
-          go : (id : Id) → is_served (desk_of e (later (FromServer s body))).phase ≡ true → is_open id (open_of e (later (FromServer s body))) ≡ true → SentAt settings (later (FromServer s body)) e id ⊎ Answers id → SentAt settings (later (FromServer s body)) e id ⊎ ⊥
+          go : (id : Id) → is_answered (desk_of e (later (FromServer s body))).phase ≡ true → is_open id (open_of e (later (FromServer s body))) ≡ true → SentAt settings (later (FromServer s body)) e id ⊎ Answers id → SentAt settings (later (FromServer s body)) e id ⊎ ⊥
           go id served still (inl k) = inl k
           go id served still (inr k) = inr (passed_not id k served still)
 
   pub open_rests : (cause : Cause) → fits_behind before cause ≡ true → built_behind settings before cause ≡ true → OpenAll settings (later cause)
-  open_rests (FromEditor n body) fits built = editor_entry n body built
+  open_rests (FromEditor n body) fits built = editor_entry n body fits built
   open_rests (FromServer s body) fits built = λ e. server_at s body built e
   open_rests (Joined n) fits built = λ e. open_entry settings e Nobody before (Joined n) refl range facts begun built (joined_now n e fits)
   open_rests (Started s) fits built = λ e. open_entry settings e Nobody before (Started s) refl range facts begun built (started_now s e)
   open_rests (Drained n k) fits built = λ e. open_entry settings e Nobody before (Drained n k) refl range facts begun built (drained_now n k e)
+  open_rests (EditorGone n why) fits built = λ e. open_entry settings e Nobody before (EditorGone n why) refl range facts begun built (gone_now n why e)
   open_rests cause fits built = absurd (cc)

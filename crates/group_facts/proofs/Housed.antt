@@ -3,7 +3,7 @@ use Rattle.std.proofs.Common.{◌≡◌, ℕ, ◌+◌, ◌<◌, ◌≤◌, Bool,
 use Rattle.std.proofs.lemmas.List.{length-append}
 use Rattle.std.proofs.lemmas.List.Sums.{fold-append}
 use Rattle.mux_history.specs.declared.cause.Cause.{Cause}
-use Rattle.mux_history.specs.declared.cause.Cause.TheVariants.{Joined, FromEditor, Started, FromServer, Drained}
+use Rattle.mux_history.specs.declared.cause.Cause.TheVariants.{Joined, FromEditor, EditorGone, Started, FromServer, Drained}
 use Rattle.mux_history.specs.declared.out.Out.{Out}
 use Rattle.mux_history.specs.declared.out.Out.TheVariants.{Spawn, CloseEditor}
 use Rattle.rpc_message.specs.Message.{message_of}
@@ -77,6 +77,7 @@ module _ (settings : Settings) where
   longer_took events (Joined e) built = still_long events (heard (Joined e)) refl
   longer_took events (Started s) built = still_long events (heard (Started s)) refl
   longer_took events (Drained e k) built = still_long events (heard (Drained e k)) refl
+  longer_took events (EditorGone e why) built = subst (λ z. length (groups_of settings events) ≤ length z) (sym (groups_more settings events (heard (EditorGone e why)))) (emptied_length ((house_of settings events).home e) _ _ _ (groups_of settings events))
   longer_took events cause built = absurd (cc)
 
   pub longer_did : (events : List Event) (out : Out) → Longer events (events ++ said out ∷ [])

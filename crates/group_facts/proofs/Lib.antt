@@ -10,6 +10,7 @@ pub mod Forwards
 pub mod Housed
 pub mod Keeping
 pub mod Known
+pub mod LeaveRows
 pub mod Levels
 pub mod Numbered
 pub mod Numbers
@@ -17,6 +18,7 @@ pub mod OpenByOut
 pub mod OpenByPhase
 pub mod Opened
 pub mod OwnEntry
+pub mod PartingRows
 pub mod PlacingRow
 pub mod Plain
 pub mod RequestRow

@@ -5,7 +5,7 @@ use Rattle.std.proofs.lemmas.Bool.{and_parts}
 use Rattle.json_text.specs.Json.{Json}
 use Rattle.document_model.proofs.Written.{Spoken, spoken}
 use Rattle.mux_history.specs.declared.cause.Cause.{Cause}
-use Rattle.mux_history.specs.declared.cause.Cause.TheVariants.{Joined, FromEditor, Started, FromServer, Drained}
+use Rattle.mux_history.specs.declared.cause.Cause.TheVariants.{Joined, FromEditor, EditorGone, Started, FromServer, Drained}
 use Rattle.mux_history.specs.declared.out.Out.{Out}
 use Rattle.mux_history.specs.declared.out.Out.TheVariants.{ToServer}
 use Rattle.rpc_message.specs.Message.{Message, request, notification, integer, message_of}
@@ -30,7 +30,7 @@ use Rattle.group_rows.specs.Forwarded.{Forwarding, forwarding_of, numbered}
 use Rattle.group_rows.specs.Rows.{outs_of, started}
 use Rattle.group_facts.specs.Built.{built_behind}
 use Rattle.group_facts.specs.Facts.{Housed, IsHoused, IsWritten, Unbegun, Written}
-use Rattle.group_facts.specs.Why.{IsForward, WhyToServer, begins, greets, forwarded, tells, shuts}
+use Rattle.group_facts.specs.Why.{IsForward, WhyToServer, begins, greets, forwarded, tells, shuts, cancels}
 use Rattle.group_facts.proofs.AnswerRows.{get_all}
 use Rattle.group_facts.proofs.Facts.{AllTied, OthersTied, Tied, TiedAt, begins_now}
 use Rattle.group_facts.proofs.Forwards.{notified_next}
@@ -63,6 +63,7 @@ tied_took settings events (FromServer n body) built h = λ s rest. tied_by s eve
     (if_life (nat_eq n s) (record { stage = stage_hears (life_of s events).stage (message_of body); started = (life_of s events).started }) (life_of s events) (next_number s events) (forwarding_of s events).next
     (heard_first (life_of s events).stage (message_of body) (next_number s events) (forwarding_of s events).next (h s)) (h s))
 tied_took settings events (Drained e k) built h = λ s rest. tied_by s events (with_cause events (Drained e k)) (life_of s events).stage (ap (λ (l : Life). l.stage) (life_more s events (heard (Drained e k)))) (number_heard s events (Drained e k)) (forwarding_heard settings s events (Drained e k) built) (h s)
+tied_took settings events (EditorGone e why) built h = λ s rest. tied_by s events (with_cause events (EditorGone e why)) (life_of s events).stage (ap (λ (l : Life). l.stage) (life_more s events (heard (EditorGone e why)))) (number_heard s events (EditorGone e why)) (forwarding_heard settings s events (EditorGone e why) built) (h s)
 tied_took settings events cause built h = absurd (cc)
 
 -- A body to a start
@@ -108,6 +109,7 @@ module _ (settings : Settings) (cause : Cause) (events : List Event) (n : ℕ) (
     one_tied (greets k) rest h = notified (codes "initialized") k.params k.says k.ready rest h
     one_tied (forwarded k) rest h = goes k h
     one_tied (tells k) rest h = let m : Spoken (message_of body) = spoken (message_of body) k.spoken in notified m.method m.params m.is k.ready rest h
+    one_tied (cancels k) rest h = notified (codes "$/cancelRequest") (Some k.params) k.says k.ready rest h
     one_tied (shuts k) rest h = subst (λ z. TiedAt z (next_number n sent) (forwarding_of n sent).next)
         (sym (stage_now (request (integer (decimal (next_number n events))) (codes "shutdown") None) k.says ∙ ap (λ z. stage_told z (request (integer (decimal (next_number n events))) (codes "shutdown") None)) k.ready)) tt
 

@@ -1,11 +1,11 @@
 -- What a start was sent of requests and documents, one event further.
-use Rattle.std.proofs.Common.{◌≡◌, ℕ, ◌+◌, ◌≤◌, ◌<◌, Bool, true, false, List, [], ◌∷◌, ◌++◌, nat_eq, codes, decimal, if◌then◌else◌, Option, None, refl, sym, ◌∙◌, ap, ap₂, subst, arith, ltb-true}
+use Rattle.std.proofs.Common.{◌≡◌, ℕ, ◌+◌, ◌≤◌, ◌<◌, Bool, true, false, List, [], ◌∷◌, ◌++◌, nat_eq, codes, decimal, if◌then◌else◌, Option, None, refl, sym, ◌∙◌, ap, ap₂, subst, arith, ltb-true, Some}
 use Rattle.json_text.specs.Json.{Json}
 use Rattle.document_model.specs.Helds.{told}
 use Rattle.document_model.specs.Sayings.{saying_of}
 use Rattle.document_model.proofs.Written.{Spoken, spoken}
 use Rattle.mux_history.specs.declared.cause.Cause.{Cause}
-use Rattle.mux_history.specs.declared.cause.Cause.TheVariants.{Joined, FromEditor, Started, FromServer, Drained}
+use Rattle.mux_history.specs.declared.cause.Cause.TheVariants.{Joined, FromEditor, EditorGone, Started, FromServer, Drained}
 use Rattle.mux_history.specs.declared.out.Out.{Out}
 use Rattle.mux_history.specs.declared.out.Out.TheVariants.{ToServer}
 use Rattle.rpc_message.specs.Message.{Message, request, notification, integer, message_of}
@@ -29,7 +29,7 @@ use Rattle.group_facts.specs.Facts.{Bounded, Unbegun, Untold, is_unready, is_up}
 use Rattle.group_facts.proofs.Facts.{Facts}
 use Rattle.group_facts.proofs.Forwards.{forwarding_more, notified_next}
 use Rattle.group_facts.proofs.Levels.{Fresh, Step, each_start, level_more, unbegun_falls, unready_falls, up_falls}
-use Rattle.group_facts.specs.Why.{IsBeginning, IsForward, WhyToServer, begins, greets, forwarded, tells, shuts}
+use Rattle.group_facts.specs.Why.{IsBeginning, IsForward, WhyToServer, begins, greets, forwarded, tells, shuts, cancels}
 
 -- A cause leaves the numbers and the documents alone
 
@@ -47,6 +47,7 @@ forwarding_heard settings s events (FromEditor e body) built = ap (λ (x : Forwa
 forwarding_heard settings s events (Started n) built = ap (λ (x : Forwarding). x.next) (forwarding_more s events (heard (Started n)))
 forwarding_heard settings s events (FromServer n body) built = ap (λ (x : Forwarding). x.next) (forwarding_more s events (heard (FromServer n body)))
 forwarding_heard settings s events (Drained e k) built = ap (λ (x : Forwarding). x.next) (forwarding_more s events (heard (Drained e k)))
+forwarding_heard settings s events (EditorGone e why) built = ap (λ (x : Forwarding). x.next) (forwarding_more s events (heard (EditorGone e why)))
 forwarding_heard settings s events other built = absurd (cc)
 
 -- Bodies to a start
@@ -93,6 +94,7 @@ ready_or settings before cause events s body P (greets k) f g = g k.ready
 ready_or settings before cause events s body P (forwarded k) f g = g k.ready
 ready_or settings before cause events s body P (tells k) f g = g k.ready
 ready_or settings before cause events s body P (shuts k) f g = g k.ready
+ready_or settings before cause events s body P (cancels k) f g = g k.ready
 
 clash : (test : Stage → Bool) (a b : Stage) {A : Type 0} → a ≡ b → test b ≡ false → test a ≡ true → A
 clash test a b e h k = never (sym k ∙ (ap test e ∙ h))
@@ -180,6 +182,7 @@ module _ (settings : Settings) where
     one_bounded (greets b) was after k = notified (codes "initialized") b.params b.says k
     one_bounded (forwarded b) was after k = asked_on b k
     one_bounded (tells b) was after k = let m : Spoken (message_of body) = spoken (message_of body) b.spoken in notified m.method m.params m.is k
+    one_bounded (cancels b) was after k = notified (codes "$/cancelRequest") (Some b.params) b.says k
     one_bounded (shuts b) was after k = clash is_up (life_behind n (life_of n events) (said (ToServer n body))).stage Stopping
         (stage_sent events n body (request (integer (decimal (next_number n events))) (codes "shutdown") None) b.says ∙ ap (λ z. stage_told z (request (integer (decimal (next_number n events))) (codes "shutdown") None)) b.ready) refl after
 

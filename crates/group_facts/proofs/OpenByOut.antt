@@ -20,7 +20,7 @@ use Rattle.group_words.specs.Houses.{groups_of}
 use Rattle.group_rows.specs.Rows.{outs_of}
 use Rattle.group_facts.specs.Built.{built_behind}
 use Rattle.group_facts.specs.Facts.{turned_away}
-use Rattle.group_facts.specs.Why.{Why, WhyToEditor, rejects, refuses, turns_away, welcomes, passes}
+use Rattle.group_facts.specs.Why.{Why, WhyToEditor, rejects, refuses, answers, turns_away, welcomes, passes}
 use Rattle.group_facts.proofs.Begun.{Begun, Founding, NoSpawn, founding_of, founds, quiet, starts_stay, start_took}
 use Rattle.group_facts.proofs.Facts.{Facts}
 use Rattle.group_facts.proofs.Sent.{SentAt, sent_did, sent_spawn}
@@ -80,6 +80,7 @@ module _ (settings : Settings) (e : ℕ) (E : Id → Type 0) where
         (if_null T (desk_of e events).phase (desk_of e events).initialize (open_of e events) k.x h)
     told_by T events body (refuses k) h = subst (λ m. OpenIf T (phase_told (desk_of e events).phase (desk_of e events).initialize m) (desk_of e events).initialize (without (answered_id m) (open_of e events))) (sym k.says)
         (if_refused T (desk_of e events).phase (desk_of e events).initialize (open_of e events) k.id k.x k.others h)
+    told_by T events body (answers k) h = if_passed T (desk_of e events).phase (desk_of e events).initialize (open_of e events) (message_of body) k.late h
     told_by T events body (turns_away k) h = never (sym k.turned ∙ stays)
     told_by T events body (welcomes k) h = subst (λ m. OpenIf T (phase_told (desk_of e events).phase (desk_of e events).initialize m) (desk_of e events).initialize (without (answered_id m) (open_of e events))) (sym k.says)
         (if_welcomed T (desk_of e events).phase (desk_of e events).initialize (open_of e events) k.id (k.waiting).params k.r (k.waiting).phase (k.waiting).asks h)

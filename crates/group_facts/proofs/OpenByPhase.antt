@@ -1,14 +1,15 @@
--- Which requests of an editor are open, by its phase: none of a new one, the `initialize` of one that waits, and of one that is served those that were sent on.
+-- Which requests of an editor are open, by its phase: none of a new one, the `initialize` of one that waits, and of one that got its result those that were sent on.
 use Rattle.std.proofs.Common.{◌≡◌, ℕ, Bool, true, false, not, ◌||◌, cond, List, [], ◌∷◌, ◌++◌, codes, if◌then◌else◌, Option, Some, None, ◌⊎◌, inl, inr, refl, sym, ◌∙◌, ap, subst}
 use Rattle.json_text.specs.Json.{Json}
 use Rattle.rpc_message.specs.Message.{Message, request, result, error, Id, message_of}
 use Rattle.event_model.specs.declared.phase.Phase.{Phase}
 use Rattle.event_model.specs.declared.phase.Phase.TheVariants.{Absent, New, Waiting, Answered, Running, Down, Closed, Gone}
 use Rattle.event_model.specs.Event.{requests, same_id}
-use Rattle.event_model.specs.Phases.{Desk, desk_hears, has_id, is_served, makes_running, phase_closed, phase_told}
+use Rattle.event_model.specs.Phases.{Desk, desk_hears, has_id, makes_running, phase_closed, phase_told}
 use Rattle.event_model.specs.Requests.{answered_id, is_open, without}
 use Rattle.event_model.proofs.Frames.{never}
 use Rattle.mux_facts.proofs.Why.{is_early}
+use Rattle.group_facts.specs.Settled.{is_answered}
 use Rattle.mux_facts.proofs.Words.{id_same, same_id_itself}
 
 -- Lists of open ids
@@ -86,30 +87,31 @@ OpenIf S New initialize ids = ids ≡ []
 OpenIf S Waiting initialize ids = IsOne initialize ids
 OpenIf S Answered initialize ids = (id : Id) → is_open id ids ≡ true → S id
 OpenIf S Running initialize ids = (id : Id) → is_open id ids ≡ true → S id
+OpenIf S Down initialize ids = (id : Id) → is_open id ids ≡ true → S id
 OpenIf S other initialize ids = Unit {0}
 
--- by what is known of ids that are open at an editor that is served
-pub if_other : (S T : Id → Type 0) (phase : Phase) (initialize : List ℕ) (ids : List Id) → (is_served phase ≡ true → (id : Id) → is_open id ids ≡ true → S id → T id) → OpenIf S phase initialize ids → OpenIf T phase initialize ids
+-- by what is known of ids that are open at an editor that got its result
+pub if_other : (S T : Id → Type 0) (phase : Phase) (initialize : List ℕ) (ids : List Id) → (is_answered phase ≡ true → (id : Id) → is_open id ids ≡ true → S id → T id) → OpenIf S phase initialize ids → OpenIf T phase initialize ids
 if_other S T Absent initialize ids f h = h
 if_other S T New initialize ids f h = h
 if_other S T Waiting initialize ids f h = h
 if_other S T Answered initialize ids f h = λ id k. f refl id k (h id k)
 if_other S T Running initialize ids f h = λ id k. f refl id k (h id k)
-if_other S T Down initialize ids f h = tt
+if_other S T Down initialize ids f h = λ id k. f refl id k (h id k)
 if_other S T Closed initialize ids f h = tt
 if_other S T Gone initialize ids f h = tt
 
 module _ (S : Id → Type 0) where
-  -- of one that is served each was sent on
-  pub if_served : (phase : Phase) (initialize : List ℕ) (ids : List Id) → is_served phase ≡ true → OpenIf S phase initialize ids → (id : Id) → is_open id ids ≡ true → S id
-  if_served Answered initialize ids served h = h
-  if_served Running initialize ids served h = h
-  if_served Absent initialize ids served h = absurd (cc)
-  if_served New initialize ids served h = absurd (cc)
-  if_served Waiting initialize ids served h = absurd (cc)
-  if_served Down initialize ids served h = absurd (cc)
-  if_served Closed initialize ids served h = absurd (cc)
-  if_served Gone initialize ids served h = absurd (cc)
+  -- of one that got its result each was sent on
+  pub if_answered : (phase : Phase) (initialize : List ℕ) (ids : List Id) → is_answered phase ≡ true → OpenIf S phase initialize ids → (id : Id) → is_open id ids ≡ true → S id
+  if_answered Answered initialize ids served h = h
+  if_answered Running initialize ids served h = h
+  if_answered Absent initialize ids served h = absurd (cc)
+  if_answered New initialize ids served h = absurd (cc)
+  if_answered Waiting initialize ids served h = absurd (cc)
+  if_answered Down initialize ids served h = h
+  if_answered Closed initialize ids served h = absurd (cc)
+  if_answered Gone initialize ids served h = absurd (cc)
 
   all_asked : (ids : List Id) (id : Id) → S id → ((i : Id) → is_open i ids ≡ true → S i) → (i : Id) → is_open i (ids ++ id ∷ []) ≡ true → S i
   all_asked ids id s h i k = go (open_either i id ids k)
@@ -128,17 +130,17 @@ module _ (S : Id → Type 0) where
   if_hears Answered initialize body m ids other h = go (requests (codes "shutdown") m) (makes_running m)
     where
       go : (a b : Bool) → OpenIf S (if a then Down else if b then Running else Answered) initialize ids
-      go true b = tt
+      go true b = h
       go false true = h
       go false false = h
   if_hears Running initialize body m ids other h = go (requests (codes "shutdown") m)
     where
       go : (a : Bool) → OpenIf S (if a then Down else Running) initialize ids
-      go true = tt
+      go true = h
       go false = h
   if_hears Absent initialize body m ids other h = h
   if_hears Waiting initialize body m ids other h = h
-  if_hears Down initialize body m ids other h = tt
+  if_hears Down initialize body m ids other h = h
   if_hears Closed initialize body m ids other h = tt
   if_hears Gone initialize body m ids other h = tt
 
@@ -149,7 +151,7 @@ module _ (S : Id → Type 0) where
   if_null Waiting initialize ids x h = h
   if_null Answered initialize ids x h = h
   if_null Running initialize ids x h = h
-  if_null Down initialize ids x h = tt
+  if_null Down initialize ids x h = h
   if_null Closed initialize ids x h = tt
   if_null Gone initialize ids x h = tt
 
@@ -165,7 +167,7 @@ module _ (S : Id → Type 0) where
       apart false e = refl
   if_refused Answered initialize ids id x others h = λ i k. h i (fewer_open i (Some id) ids k)
   if_refused Running initialize ids id x others h = λ i k. h i (fewer_open i (Some id) ids k)
-  if_refused Down initialize ids id x others h = tt
+  if_refused Down initialize ids id x others h = λ i k. h i (fewer_open i (Some id) ids k)
   if_refused Closed initialize ids id x others h = tt
   if_refused Gone initialize ids id x others h = tt
 
@@ -176,7 +178,7 @@ module _ (S : Id → Type 0) where
   if_passed Waiting initialize ids m late h = absurd (cc)
   if_passed Answered initialize ids m late h = λ i k. h i (fewer_open i (answered_id m) ids k)
   if_passed Running initialize ids m late h = λ i k. h i (fewer_open i (answered_id m) ids k)
-  if_passed Down initialize ids m late h = tt
+  if_passed Down initialize ids m late h = λ i k. h i (fewer_open i (answered_id m) ids k)
   if_passed Closed initialize ids m late h = tt
   if_passed Gone initialize ids m late h = tt
 
@@ -187,7 +189,7 @@ module _ (S : Id → Type 0) where
   if_asked Waiting initialize ids id late s h = absurd (cc)
   if_asked Answered initialize ids id late s h = all_asked ids id s h
   if_asked Running initialize ids id late s h = all_asked ids id s h
-  if_asked Down initialize ids id late s h = tt
+  if_asked Down initialize ids id late s h = all_asked ids id s h
   if_asked Closed initialize ids id late s h = tt
   if_asked Gone initialize ids id late s h = tt
 

@@ -1,9 +1,10 @@
 -- What is open at an editor, behind the entry of a message of its own.
-use Rattle.std.proofs.Common.{◌≡◌, ℕ, Bool, true, false, ◌&&◌, List, ◌||◌, [], ◌∷◌, ◌++◌, map, nat_eq, codes, decimal, if◌then◌else◌, Option, Some, None, ◌⊎◌, inl, inr, refl, sym, ◌∙◌, ap, ap₂, subst, subst₂, append-nil, append_assoc}
+use Rattle.std.proofs.Common.{◌≡◌, ℕ, Bool, true, false, ◌&&◌, List, [], ◌∷◌, ◌++◌, map, nat_eq, codes, decimal, if◌then◌else◌, Option, Some, None, ◌⊎◌, inl, inr, refl, sym, ◌∙◌, ap, ap₂, subst, subst₂, append-nil, append_assoc, arith, bytes_eq}
 use Rattle.std.specs.List.{AllByRecursion}
 use Rattle.std.proofs.lemmas.Bool.{and_parts}
 use Rattle.std.proofs.lemmas.Slice.Eq.{bytes_eq-Decides}
-use Rattle.json_text.specs.Json.{Json}
+use Rattle.json_text.specs.declared.kind.Word.TheVariants.{Null}
+use Rattle.json_text.specs.Json.{Json, word}
 use Rattle.document_model.specs.Sayings.{Saying, saying_by}
 use Rattle.lsp_method.specs.Class.{class_of}
 use Rattle.lsp_method.specs.declared.variants.Origin.TheVariants.{Editor}
@@ -11,14 +12,15 @@ use Rattle.mux_history.specs.declared.cause.Cause.TheVariants.{FromEditor}
 use Rattle.mux_history.specs.declared.out.Out.{Out}
 use Rattle.mux_history.specs.declared.out.Out.TheVariants.{ToEditor, ToServer, Spawn, CloseEditor, EndServer}
 use Rattle.rpc_message.specs.Message.{Message, request, notification, result, error, not_json, not_message, Id, id_bytes, integer, message_of}
-use Rattle.rpc_message.specs.Texts.{Code, error_text, error_tree, invalid_request, request_failed, server_not_initialized, with_id_text}
+use Rattle.rpc_message.specs.Texts.{Code, error_text, error_tree, invalid_request, ok_text, request_failed, with_id_text}
+use Rattle.rpc_message.proofs.Fixed.{id_as_response, ok_law}
 use Rattle.rpc_message.proofs.Ids.{request_id_bytes}
 use Rattle.event_model.specs.declared.phase.Phase.{Phase}
 use Rattle.event_model.specs.declared.phase.Phase.TheVariants.{Absent, New, Waiting, Answered, Running, Down, Closed, Gone}
 use Rattle.event_model.specs.Event.{Event, behind, heard, requests, said, with_cause}
-use Rattle.event_model.specs.Phases.{Desk, desk_hears, desk_of, has_id, is_new, is_served, is_there, phase_told}
+use Rattle.event_model.specs.Phases.{Desk, desk_hears, desk_of, has_id, is_begun, is_linked, is_new, is_there, phase_told}
 use Rattle.event_model.specs.Requests.{answered_id, with_request, is_open, is_own, open_of, without}
-use Rattle.event_model.specs.Row.{choose, nothing, on, outs, send, ◌⨾◌}
+use Rattle.event_model.specs.Row.{Row, choose, nothing, on, outs, send, ◌⨾◌}
 use Rattle.event_model.specs.Settings.{Settings}
 use Rattle.event_model.specs.Spawns.{start_of}
 use Rattle.event_model.proofs.Frames.{never}
@@ -29,29 +31,32 @@ use Rattle.mux_facts.specs.Ranges.{InRange}
 use Rattle.mux_facts.proofs.Bodies.{malformed_says, refusal_says}
 use Rattle.mux_facts.proofs.Folds.{opens_more}
 use Rattle.mux_facts.proofs.Keeps.{behind_both}
-use Rattle.mux_facts.proofs.Late.{error_told}
-use Rattle.mux_facts.proofs.Reasons.{Because, by_nothing, by_send, by_then, by_choose, by_on}
+use Rattle.mux_facts.proofs.Late.{error_told, told_late}
+use Rattle.mux_facts.proofs.Reasons.{Because, by_nothing, by_choose, by_on}
 use Rattle.mux_facts.proofs.Table.{late_taken}
 use Rattle.mux_facts.proofs.Why.{is_early}
 use Rattle.mux_facts.proofs.Words.{same_id_itself, same_number}
-use Rattle.group_words.specs.Houses.{home_of, house_of, placed_for, places}
+use Rattle.group_words.specs.Houses.{home_of, house_of, is_doubled, placed_for, places}
 use Rattle.group_words.specs.Placing.{home_by}
 use Rattle.group_words.specs.Rows.{initialize_row}
 use Rattle.group_words.proofs.Frames.{home_more, home_stays}
 use Rattle.group_rows.specs.Forwarded.{Forwarding, forwarding_of, numbered}
-use Rattle.group_rows.specs.Rows.{answer_error, can_ask, document_at, document_bodies, document_row, early_row, forward, from_editor, message_row, outs_of, request_at, request_row, served_row, sync_row, wrong_code}
+use Rattle.group_rows.specs.Leaves.{leave_row}
+use Rattle.group_rows.specs.Rows.{answer_error, can_ask, closing_row, document_at, document_bodies, document_row, early_code, early_row, exit_row, forward, from_editor, is_misplaced, message_row, outs_of, request_at, request_row, served_request, served_row, shutdown_row, sync_row, taken_row, wrong_code}
 use Rattle.group_rows.specs.Texts.{encoding_of, texts_of}
-use Rattle.group_facts.specs.Built.{built_as, built_from_editor, is_bare, is_fresh}
 use Rattle.group_facts.specs.Facts.{turned_away}
 use Rattle.group_facts.specs.Why.{IsForward}
-use Rattle.group_facts.proofs.Begun.{NoSpawn, all_outs, quiet_bodies, start_did, start_took, starts_stay}
+use Rattle.group_facts.specs.Settled.{is_answered}
+use Rattle.group_facts.proofs.Apart.{alone_by}
+use Rattle.group_facts.proofs.Begun.{NoSpawn, all_outs, bodies_by, leave_by, quiet_bodies, start_did, start_took, starts_stay}
 use Rattle.group_facts.proofs.Facts.{Facts}
 use Rattle.group_facts.proofs.Forwards.{more_requests}
 use Rattle.group_facts.proofs.Numbers.{forwarding_sent}
-use Rattle.group_facts.proofs.RequestRow.{desk_taken, goes_on, plain_other, synced_sender}
+use Rattle.group_facts.proofs.PartingRows.{null_value}
+use Rattle.group_facts.proofs.RequestRow.{desk_taken, goes_on, not_own, synced_sender}
 use Rattle.group_facts.proofs.Sent.{IsOf, OneOf, SentAt, one_last, sent_did, sent_heard}
-use Rattle.group_facts.proofs.Table.{bare_plain, not_so}
 use Rattle.group_facts.proofs.OpenByPhase.{OpenDesk, OpenIf, if_asked, if_hears, if_null, if_other, without_last}
+use Rattle.group_facts.proofs.SharedRows.{off_first}
 use Rattle.group_facts.proofs.Waiting.{new_is, turned_outs}
 use Rattle.group_facts.proofs.OpenByOut.{OpenAt, S, open_at, open_closed, open_sent, open_still, or_later, told}
 
@@ -79,8 +84,7 @@ ToStart (ToServer s body) = Unit {0}
 ToStart other = ⊥
 
 starts_bodies : (s : ℕ) (bodies : List (List ℕ)) (events : List Event) → Because (λ places out. ToStart out) events (to_start s bodies)
-starts_bodies s [] events = by_nothing
-starts_bodies s (b ∷ bodies) events = by_then (by_send tt) (starts_bodies s bodies (behind events (ToServer s b ∷ [])))
+starts_bodies s bodies events = bodies_by (λ places out. ToStart out) (λ places s b. tt) s bodies events
 
 open_bodies : (settings : Settings) (e : ℕ) (E : Id → Type 0) (events : List Event) (xs : List Out) → AllByRecursion ToStart xs → OpenAt settings e E events → OpenAt settings e E (behind events xs)
 open_bodies settings e E events [] all h = subst (OpenAt settings e E) (sym (append-nil events)) h
@@ -90,15 +94,15 @@ open_bodies settings e E events (Spawn s g ∷ xs) all h = absurd (all.0)
 open_bodies settings e E events (CloseEditor n ∷ xs) all h = absurd (all.0)
 open_bodies settings e E events (EndServer s ∷ xs) all h = absurd (all.0)
 
-served_old : (phase : Phase) → is_served phase ≡ true → is_new phase ≡ false
-served_old New h = absurd (cc)
-served_old Absent h = refl
-served_old Waiting h = refl
-served_old Answered h = refl
-served_old Running h = refl
-served_old Down h = refl
-served_old Closed h = refl
-served_old Gone h = refl
+answered_old : (phase : Phase) → is_answered phase ≡ true → is_new phase ≡ false
+answered_old New h = absurd (cc)
+answered_old Absent h = refl
+answered_old Waiting h = refl
+answered_old Answered h = refl
+answered_old Running h = refl
+answered_old Down h = refl
+answered_old Closed h = refl
+answered_old Gone h = refl
 
 and_no : (a b c : Bool) → b ≡ false → (a && (b && c)) ≡ false
 and_no true b c h = ap (λ z. z && c) h
@@ -137,8 +141,8 @@ module _ (settings : Settings) (before : List Event) (n : ℕ) (body : List ℕ)
     still_sent : (E : Id → Type 0) → OpenIf (S settings n E now) (desk_of n before).phase (desk_of n before).initialize ids
     still_sent E = if_other (S settings n Nobody before) (S settings n E now) (desk_of n before).phase (desk_of n before).initialize ids (λ served id is k. go id served k) h
       where
-        go : (id : Id) → is_served (desk_of n before).phase ≡ true → SentAt settings before n id ⊎ ⊥ → SentAt settings now n id ⊎ E id
-        go id served (inl k) = inl (sent_heard settings n id before n body (and_no (nat_eq n n) (is_new (desk_of n before).phase) (requests (codes "initialize") (message_of body)) (served_old (desk_of n before).phase served)) k)
+        go : (id : Id) → is_answered (desk_of n before).phase ≡ true → SentAt settings before n id ⊎ ⊥ → SentAt settings now n id ⊎ E id
+        go id served (inl k) = inl (sent_heard settings n id before n body (and_no (nat_eq n n) (is_new (desk_of n before).phase) (requests (codes "initialize") (message_of body)) (answered_old (desk_of n before).phase served)) k)
         go id served (inr k) = absurd k
 
     heard_if : (E : Id → Type 0) → ((desk_of n before).phase ≡ New → requests (codes "initialize") (message_of body) ≡ false) → OpenIf (S settings n E now) here.phase here.initialize ids
@@ -148,6 +152,12 @@ module _ (settings : Settings) (before : List Event) (n : ℕ) (body : List ℕ)
     -- a message that is no request
     no_request : (m : Message) → message_of body ≡ m → with_request m ids ≡ ids → requests (codes "initialize") m ≡ false → OpenAt settings n Nobody now
     no_request m says same none = subst (λ z. OpenIf (S settings n Nobody now) here.phase here.initialize z) (sym (open_now ∙ ap (λ k. with_request k ids) says ∙ same)) (heard_if Nobody (λ new. ap (requests (codes "initialize")) says ∙ none))
+
+    -- behind an out of its own it leaves (L1)
+    left_rests : (out : Out) → OpenAt settings n Nobody (now ++ said out ∷ []) → Rests (out ∷ outs (leave_row settings before n) (now ++ said out ∷ []))
+    left_rests out h = subst (OpenAt settings n Nobody) (sym (behind_both now (out ∷ []) (outs (leave_row settings before n) (now ++ said out ∷ []))))
+        (open_bodies settings n Nobody (now ++ said out ∷ []) (outs (leave_row settings before n) (now ++ said out ∷ []))
+        (all_outs ToStart (now ++ said out ∷ []) (outs (leave_row settings before n) (now ++ said out ∷ [])) (leave_by (λ places out. ToStart out) (λ places s b. tt) settings before n (now ++ said out ∷ [])).why) h)
 
     rests_here : OpenAt settings n Nobody now → Rests []
     rests_here k = subst (OpenAt settings n Nobody) (sym (append-nil now)) k
@@ -207,12 +217,12 @@ module _ (settings : Settings) (before : List Event) (n : ℕ) (body : List ℕ)
           quiet_sync = all_outs NoSpawn now sync (quiet_bodies s _ now).why
 
           forward_is : IsForward settings (FromEditor n body) synced s text
-          forward_is = goes_on settings before n body id method params says there (facts.steady).asked fresh range (facts.base).opened late other g s can
+          forward_is = goes_on settings before n body id method params says there (alone_by before (facts.steady).asked n id fresh) range (facts.base).opened late other g s can
 
           list_now : (forwarding_of s gone).open_requests ≡ (forwarding_of s synced).open_requests ++ numbered (Some (record { editor = n; id = id_bytes body })) (forwarding_of s synced).next
           list_now = ap (λ (x : Forwarding). x.open_requests) (forwarding_sent synced s text (request (integer (decimal (forwarding_of s synced).next)) forward_is.method forward_is.params) forward_is.says
               ∙ ap (λ c. if c then forwarding_of s synced else more_requests (forwarding_of s synced)) forward_is.other)
-              ∙ ap (λ o. (forwarding_of s synced).open_requests ++ numbered o (forwarding_of s synced).next) (synced_sender settings before n body id method params says there (facts.steady).asked fresh range (facts.base).opened late other g s can)
+              ∙ ap (λ o. (forwarding_of s synced).open_requests ++ numbered o (forwarding_of s synced).next) (synced_sender settings before n body id method params says there (alone_by before (facts.steady).asked n id fresh) range (facts.base).opened late other g s can)
 
           sent_now : SentAt settings gone n id
           sent_now = record {
@@ -264,19 +274,55 @@ module _ (settings : Settings) (before : List Event) (n : ℕ) (body : List ℕ)
         request_rests : Rests (outs (request_row settings before n body) now)
         request_rests = by_home (home_of settings n before) refl
 
-    -- a closed editor's request gives nothing
-    asked_closed : (desk_of n before).phase ≡ Closed → OpenAt settings n Nobody now
-    asked_closed at = subst (λ (d : Desk). OpenIf (S settings n Nobody now) d.phase d.initialize (open_of n now)) (sym (desk_taken settings before n body ∙ ap (λ p. desk_hears p (desk_of n before).initialize body (message_of body)) at)) tt
+      -- E9: `shutdown` is answered, and the editor leaves
+      abbrev done : List ℕ
+      done = ok_text (id_bytes body) (codes "null")
+
+      abbrev null_tree : Json
+      null_tree = word (record { from = 0; to = 0 }) Null
+
+      done_rests : is_early (desk_of n before).phase ≡ false → OpenAt settings n Nobody (told_now done)
+      done_rests late = open_told Nobody now done (result (Some id) null_tree) (ok_law (Some id) null_tree (id_bytes body) (codes "null") (id_as_response id (id_bytes body) (request_id_bytes body id method params says)) null_value (omega arith))
+          (subst₂ (λ p z. OpenIf (S settings n Nobody (told_now done)) p here.initialize z) (sym (told_late here.phase here.initialize (result (Some id) null_tree) (late_taken before n body late))) (sym (ap (without (Some id)) asked_now ∙ without_last id ids fresh))
+          (if_other (S settings n Nobody now) (S settings n Nobody (told_now done)) here.phase here.initialize ids (λ sent i is. or_later settings n Nobody now (told_now done) i (sent_did settings n i now (ToEditor n done) tt)) (heard_if Nobody (λ new. never (sym (ap is_early new) ∙ late)))))
+
+      shutdown_rests : is_early (desk_of n before).phase ≡ false → Rests (outs (shutdown_row settings before n body) now)
+      shutdown_rests late = left_rests (ToEditor n done) (done_rests late)
+
+    -- E3 and E9: its link is to be ended
+    closing_rests : Rests (outs (closing_row settings before n) now)
+    closing_rests = left_rests (CloseEditor n) (open_closed settings n Nobody now)
+
+    -- a request of an editor that is closed or gone, or didn't join, gives nothing
+    asked_closed : (phase : Phase) → (desk_of n before).phase ≡ phase → ((initialize : List ℕ) (m : Message) → OpenIf (S settings n Nobody now) (desk_hears phase initialize body m).phase (desk_hears phase initialize body m).initialize (open_of n now)) → OpenAt settings n Nobody now
+    asked_closed phase at free = subst (λ (d : Desk). OpenIf (S settings n Nobody now) d.phase d.initialize (open_of n now)) (sym (desk_taken settings before n body ∙ ap (λ p. desk_hears p (desk_of n before).initialize body (message_of body)) at)) (free (desk_of n before).initialize (message_of body))
 
     -- Responses
 
+    -- it isn't a request, and so under no open id
+    single : (phase : Phase) (m : Message) → is_doubled before n m ≡ false → (is_begun phase && is_doubled before n m) ≡ false
+    single phase m h = go (is_begun phase) h
+      where
+        go : (b : Bool) → is_doubled before n m ≡ false → (b && is_doubled before n m) ≡ false
+        go true h = h
+        go false h = refl
+
+    by_single : (m : Message) (phase : Phase) → is_doubled before n m ≡ false → outs (message_row settings before n body m phase) now ≡ outs (taken_row settings before n body m phase) now
+    by_single m phase h = ap (λ b. outs (choose b (closing_row settings before n) (taken_row settings before n body m phase)) now) (single phase m h)
+
     result_silent : (id : Option Id) (r : Json) (phase : Phase) → outs (from_editor settings before n body (result id r) phase) now ≡ []
-    result_silent id r New = refl
-    result_silent id r other = refl
+    result_silent id r phase = by_single (result id r) phase refl ∙ silent phase
+      where
+        silent : (phase : Phase) → outs (taken_row settings before n body (result id r) phase) now ≡ []
+        silent New = refl
+        silent other = refl
 
     error_silent : (id : Option Id) (x : Json) (phase : Phase) → outs (from_editor settings before n body (error id x) phase) now ≡ []
-    error_silent id x New = refl
-    error_silent id x other = refl
+    error_silent id x phase = by_single (error id x) phase refl ∙ silent phase
+      where
+        silent : (phase : Phase) → outs (taken_row settings before n body (error id x) phase) now ≡ []
+        silent New = refl
+        silent other = refl
 
     response_rests : (m : Message) → message_of body ≡ m → with_request m ids ≡ ids → requests (codes "initialize") m ≡ false → outs (from_editor settings before n body m (desk_of n before).phase) now ≡ []
         → Rests (outs (from_editor settings before n body m (desk_of n before).phase) now)
@@ -296,58 +342,78 @@ module _ (settings : Settings) (before : List Event) (n : ℕ) (body : List ℕ)
         bodies : (x : Saying) → Because (λ places out. ToStart out) now (document_row settings before n body x)
         bodies x = by_on (λ none. by_nothing) (λ g home. told_group x g)
 
+    exit_rests : (method : List ℕ) (params : Option Json) → message_of body ≡ notification method params → Rests (outs (exit_row settings before n (notification method params)) now)
+    exit_rests method params says = go (bytes_eq (codes "exit") method)
+      where
+        go : (b : Bool) → Rests (outs (choose b (closing_row settings before n) nothing) now)
+        go true = closing_rests
+        go false = rests_here (no_request (notification method params) says refl refl)
+
+    served_rests : (method : List ℕ) (params : Option Json) → message_of body ≡ notification method params → Rests (outs (served_row settings before n body (notification method params)) now)
+    served_rests method params says = go (bytes_eq (codes "exit") method)
+      where
+        go : (b : Bool) → Rests (outs (choose b (closing_row settings before n) (document_row settings before n body (saying_by method params))) now)
+        go true = closing_rests
+        go false = document_rests method params says
+
     notified_rests : (method : List ℕ) (params : Option Json) → message_of body ≡ notification method params → (phase : Phase) → Rests (outs (message_row settings before n body (notification method params) phase) now)
-    notified_rests method params says Answered = document_rests method params says
-    notified_rests method params says Running = document_rests method params says
-    notified_rests method params says New = rests_here (no_request (notification method params) says refl refl)
-    notified_rests method params says Waiting = rests_here (no_request (notification method params) says refl refl)
-    notified_rests method params says Absent = rests_here (no_request (notification method params) says refl refl)
-    notified_rests method params says Down = rests_here (no_request (notification method params) says refl refl)
-    notified_rests method params says Closed = rests_here (no_request (notification method params) says refl refl)
-    notified_rests method params says Gone = rests_here (no_request (notification method params) says refl refl)
+    notified_rests method params says phase = subst (λ xs. Rests xs) (sym (by_single (notification method params) phase refl)) (go phase)
+      where
+        go : (phase : Phase) → Rests (outs (taken_row settings before n body (notification method params) phase) now)
+        go Answered = served_rests method params says
+        go Running = served_rests method params says
+        go New = exit_rests method params says
+        go Waiting = exit_rests method params says
+        go Down = exit_rests method params says
+        go Absent = rests_here (no_request (notification method params) says refl refl)
+        go Closed = rests_here (no_request (notification method params) says refl refl)
+        go Gone = rests_here (no_request (notification method params) says refl refl)
 
     -- Any message that doesn't place it
 
-    module _ (range : InRange settings) (facts : Facts settings before) where
-      abbrev BuiltAs : Phase → Message → Type 0
-      BuiltAs phase m = built_from_editor phase ids m ≡ true
-
-      asked_rests : (id : Id) (method : List ℕ) (params : Option Json) → message_of body ≡ request id method params → (phase : Phase) → (desk_of n before).phase ≡ phase → BuiltAs phase (request id method params) → places phase (request id method params) ≡ false
+    module _ (range : InRange settings) (facts : Facts settings before) (linked : is_linked (desk_of n before).phase ≡ true) where
+      asked_rests : (id : Id) (method : List ℕ) (params : Option Json) → message_of body ≡ request id method params → (phase : Phase) → (desk_of n before).phase ≡ phase → places phase (request id method params) ≡ false
           → Rests (outs (message_row settings before n body (request id method params) phase) now)
-      asked_rests id method params says phase at built off = go phase at parts.0 parts.1 off
+      asked_rests id method params says phase at off = go phase at off
         where
-          parts : (is_fresh phase id ids ≡ true) × (built_as phase method params ≡ true)
-          parts = and_parts (is_fresh phase id ids) (built_as phase method params) built
-
-          served : is_open id ids ≡ false → is_there (desk_of n before).phase ≡ true → is_early (desk_of n before).phase ≡ false → (is_wrong (class_of method Editor false) || is_bare method params) ≡ true
-              → Rests (outs (served_row settings before n body (request id method params)) now)
-          served fresh there late sort = by_class (is_wrong (class_of method Editor false)) sort
+          late_request : is_open id ids ≡ false → is_there (desk_of n before).phase ≡ true → is_early (desk_of n before).phase ≡ false → Rests (outs (served_request settings before n body method) now)
+          late_request fresh there late = by_place (is_misplaced method) refl (bytes_eq (codes "shutdown") method) refl
             where
-              by_class : (wrong : Bool) → (wrong || is_bare method params) ≡ true → Rests (outs (choose wrong (answer_error n body (wrong_code method invalid_request)) (request_row settings before n body)) now)
-              by_class true sort = refused id method params says fresh (λ new. never (sym (ap is_early new) ∙ late)) (wrong_code method invalid_request)
-              by_class false sort = request_rests id method params says fresh range facts there late (plain_other method (bare_plain false method params refl sort))
+              by_place : (a : Bool) → is_misplaced method ≡ a → (b : Bool) → bytes_eq (codes "shutdown") method ≡ b
+                  → Rests (outs (choose a (answer_error n body (wrong_code method invalid_request)) (choose b (shutdown_row settings before n body) (request_row settings before n body))) now)
+              by_place true misplaced b down = refused id method params says fresh (λ new. never (sym (ap is_early new) ∙ late)) (wrong_code method invalid_request)
+              by_place false placed true down = shutdown_rests id method params says fresh late
+              by_place false placed false on = request_rests id method params says fresh range facts there late (not_own method (off_first (bytes_eq (codes "initialize") method) (is_wrong (class_of method Editor false)) placed) on)
 
-          go : (phase : Phase) → (desk_of n before).phase ≡ phase → is_fresh phase id ids ≡ true → built_as phase method params ≡ true → places phase (request id method params) ≡ false → Rests (outs (message_row settings before n body (request id method params) phase) now)
-          go New at fresh sort off = subst (λ b. Rests (outs (choose b (initialize_row settings before n body) (early_row n body (request id method params))) now)) (sym off)
-              (refused id method params says (not_so (is_open id ids) fresh) (λ new. ap (requests (codes "initialize")) says ∙ off) (wrong_code method server_not_initialized))
-          go Waiting at fresh sort off = refused id method params says (not_so (is_open id ids) fresh) (λ new. absurd (let clash : ◌≡◌ {A = Phase} Waiting New = sym at ∙ new in cc)) (wrong_code method server_not_initialized)
-          go Answered at fresh sort off = served (not_so (is_open id ids) fresh) (ap is_there at) (ap is_early at) sort
-          go Running at fresh sort off = served (not_so (is_open id ids) fresh) (ap is_there at) (ap is_early at) sort
-          go Absent at fresh sort off = absurd (cc)
-          go Down at fresh sort off = absurd (cc)
-          go Closed at fresh sort off = rests_here (asked_closed at)
-          go Gone at fresh sort off = absurd (cc)
+          -- under an id that is open, or not
+          by_double : (b : Bool) → is_open id ids ≡ b → (row : Row) → (is_open id ids ≡ false → Rests (outs row now)) → Rests (outs (choose b (closing_row settings before n) row) now)
+          by_double true twice row f = closing_rests
+          by_double false fresh row f = f fresh
 
-      own_rests : (m : Message) → message_of body ≡ m → BuiltAs (desk_of n before).phase m → places (desk_of n before).phase m ≡ false → Rests (outs (from_editor settings before n body m (desk_of n before).phase) now)
-      own_rests (request id method params) says built off = asked_rests id method params says (desk_of n before).phase refl built off
-      own_rests (notification method params) says built off = notified_rests method params says (desk_of n before).phase
-      own_rests not_json says built off = malformed_rests not_json (desk_of n before).phase says refl refl
-      own_rests not_message says built off = malformed_rests not_message (desk_of n before).phase says refl refl
-      own_rests (result id r) says built off = response_rests (result id r) says refl refl (result_silent id r (desk_of n before).phase)
-      own_rests (error id x) says built off = response_rests (error id x) says refl refl (error_silent id x (desk_of n before).phase)
+          early_old : (phase : Phase) → (desk_of n before).phase ≡ phase → is_new phase ≡ false → (desk_of n before).phase ≡ New → requests (codes "initialize") (message_of body) ≡ false
+          early_old phase at old new = never (sym (ap is_new (sym at ∙ new)) ∙ old)
 
-      pub message_rests : BuiltAs (desk_of n before).phase (message_of body) → places (desk_of n before).phase (message_of body) ≡ false → OpenAt settings n Nobody (behind now (outs_of settings before (FromEditor n body)))
-      message_rests built off = own_rests (message_of body) refl built off
+          go : (phase : Phase) → (desk_of n before).phase ≡ phase → places phase (request id method params) ≡ false → Rests (outs (message_row settings before n body (request id method params) phase) now)
+          go New at off = subst (λ b. Rests (outs (choose b (initialize_row settings before n body) (early_row settings before n body (request id method params))) now)) (sym off)
+              (refused id method params says (ap (is_open id) (subst (λ p. OpenIf (S settings n Nobody before) p (desk_of n before).initialize ids) at h)) (λ new. ap (requests (codes "initialize")) says ∙ off) (early_code method))
+          go Waiting at off = by_double (is_open id ids) refl (answer_error n body (early_code method)) (λ fresh. refused id method params says fresh (early_old Waiting at refl) (early_code method))
+          go Answered at off = by_double (is_open id ids) refl (served_request settings before n body method) (λ fresh. late_request fresh (ap is_there at) (ap is_early at))
+          go Running at off = by_double (is_open id ids) refl (served_request settings before n body method) (λ fresh. late_request fresh (ap is_there at) (ap is_early at))
+          go Down at off = by_double (is_open id ids) refl (answer_error n body (wrong_code method invalid_request)) (λ fresh. refused id method params says fresh (early_old Down at refl) (wrong_code method invalid_request))
+          go Absent at off = never (sym linked ∙ ap is_linked at)
+          go Closed at off = rests_here (asked_closed Closed at (λ i m. tt))
+          go Gone at off = rests_here (asked_closed Gone at (λ i m. tt))
+
+      own_rests : (m : Message) → message_of body ≡ m → places (desk_of n before).phase m ≡ false → Rests (outs (from_editor settings before n body m (desk_of n before).phase) now)
+      own_rests (request id method params) says off = asked_rests id method params says (desk_of n before).phase refl off
+      own_rests (notification method params) says off = notified_rests method params says (desk_of n before).phase
+      own_rests not_json says off = malformed_rests not_json (desk_of n before).phase says refl refl
+      own_rests not_message says off = malformed_rests not_message (desk_of n before).phase says refl refl
+      own_rests (result id r) says off = response_rests (result id r) says refl refl (result_silent id r (desk_of n before).phase)
+      own_rests (error id x) says off = response_rests (error id x) says refl refl (error_silent id x (desk_of n before).phase)
+
+      pub message_rests : places (desk_of n before).phase (message_of body) ≡ false → OpenAt settings n Nobody (behind now (outs_of settings before (FromEditor n body)))
+      message_rests off = own_rests (message_of body) refl off
 
     -- Its first `initialize`
 

@@ -1,7 +1,7 @@
 -- E7: an editor joins a group, or one is founded for it, perhaps in place of an idle one, or it is turned away.
 use Rattle.std.specs.Str.{chars}
 use Rattle.std.proofs.lemmas.List.{length-append}
-use Rattle.std.proofs.Common.{decimal, ◌≡◌, ℕ, ◌+◌, true, List, [], ◌∷◌, ◌++◌, ◌≤◌, ◌<◌, ◌^◌, codes, Option, Some, None, refl, sym, ◌∙◌, ap, ap₂, arith, length, nat_lt, Bool, false, subst, if◌then◌else◌}
+use Rattle.std.proofs.Common.{decimal, ◌≡◌, ℕ, ◌+◌, true, List, [], ◌∷◌, ◌++◌, ◌≤◌, ◌<◌, ◌^◌, codes, Option, Some, None, refl, sym, ◌∙◌, ap, ap₂, arith, length, nat_lt, Bool, false, subst, if◌then◌else◌, ◌&&◌, ◌||◌, nat_eq}
 use Rattle.json_text.specs.Json.{Json}
 use Rattle.mux_history.specs.declared.cause.Cause.TheVariants.{FromEditor}
 use Rattle.mux_history.specs.declared.out.Out.TheVariants.{ToEditor, ToServer, EndServer}
@@ -18,6 +18,7 @@ use Rattle.event_model.specs.Row.{Row, nothing, on, outs}
 use Rattle.event_model.specs.Settings.{Settings}
 use Rattle.event_model.specs.Spawns.{start_of}
 use Rattle.event_model.specs.Stages.{Life, life_of}
+use Rattle.event_model.proofs.Frames.{never}
 use Rattle.mux_facts.specs.Ranges.{InRange}
 use Rattle.mux_facts.proofs.Bodies.{refusal_says, welcome_says}
 use Rattle.mux_facts.proofs.Folds.{number_more, desk_more, life_more}
@@ -36,7 +37,7 @@ use Rattle.group_words.proofs.Frames.{changed_length, groups_more, groups_stay}
 use Rattle.mux_facts.proofs.Keeps.{behind_nothing}
 use Rattle.group_words.specs.Rows.{answer_with, end_group, end_start, initialize_row, placed_row}
 use Rattle.group_rows.specs.Forwarded.{forwarding_of}
-use Rattle.group_facts.specs.Facts.{Bounded, IsPlain, IsWaiting, Plain, turned_away}
+use Rattle.group_facts.specs.Facts.{Bounded, IsPlain, IsWaiting, Plain, is_parting, turned_away}
 use Rattle.group_facts.proofs.RequestRow.{R, asked, desk_taken, either_desk}
 use Rattle.group_facts.specs.Why.{is_starting, shuts, turns_away, welcomes}
 
@@ -65,6 +66,10 @@ placed_next limit key declared groups = go (first_from 0 (takes key declared) gr
 shutdown_says : (n : ℕ) → n < 2 ^ 128 → message_of (request_text n (codes "shutdown") None) ≡ request (integer (decimal n)) (codes "shutdown") None
 unfolding chars lib.Utf8.encode
 shutdown_says n h = request_law n (codes "shutdown") None None h (codes "shutdown", (refl, refl)) tt refl (omega arith)
+
+or_first : (a b : Bool) → a ≡ true → (a || b) ≡ true
+or_first true b h = refl
+or_first false b h = never (sym h)
 
 module _ (settings : Settings) (range : InRange settings) (before : List Event) (e : ℕ) (body : List ℕ) (id : Id) (params : Option Json) (says : message_of body ≡ request id (codes "initialize") params) (new : (desk_of e before).phase ≡ New) where
   abbrev now : List Event
@@ -174,7 +179,7 @@ module _ (settings : Settings) (range : InRange settings) (before : List Event) 
 
     turn : Mine (placed_row e body before TooMany)
     turn = by_then (by_send (turns_away (record { id = id; x = error_tree request_failed; waiting = waits_now; turned = turned; says = refusal_says body id (codes "initialize") params request_failed says })))
-        (by_send (turned, there_still))
+        (by_send (or_first (turned_away settings before (FromEditor e body) e) (nat_eq e e && is_parting before e (message_of body)) turned, there_still))
 
   placed_why : Plain before → Bounded settings before → (p : Placed) → placed_for settings before e body (groups_of settings before) ≡ p → Mine (placed_row e body before p)
   placed_why plain bounded (Joins g) at = by_on (λ none. by_nothing) (λ s start. by_choose (λ ready. by_on (λ none. by_nothing) (λ given found. joins plain s given (plain.whole s given found))) (λ no. by_nothing))

@@ -4,7 +4,6 @@ use Rattle.std.proofs.lemmas.Bool.{and_parts}
 use Rattle.std.proofs.lemmas.Slice.Eq.{bytes_eq-Decides}
 use Rattle.json_text.specs.Json.{Json}
 use Rattle.document_model.specs.Opens.{Open}
-use Rattle.lsp_method.specs.Class.{editor_request, own_request}
 use Rattle.mux_history.specs.declared.cause.Cause.TheVariants.{FromEditor}
 use Rattle.mux_history.specs.declared.out.Out.{Out}
 use Rattle.rpc_message.specs.Message.{request, Id, integer, message_of, id_bytes}
@@ -19,6 +18,7 @@ use Rattle.event_model.specs.Row.{on, outs, ◌⨾◌}
 use Rattle.event_model.specs.Settings.{Settings}
 use Rattle.event_model.specs.Spawns.{start_of}
 use Rattle.event_model.specs.Stages.{is_ready, life_of}
+use Rattle.event_model.proofs.Frames.{never}
 use Rattle.mux_model.specs.Documents.{held_at}
 use Rattle.mux_model.proofs.DocumentFolds.{outs_to_start}
 use Rattle.mux_facts.specs.Ranges.{InRange}
@@ -32,24 +32,24 @@ use Rattle.mux_facts.proofs.Words.{id_same, same_number}
 use Rattle.group_rows.specs.Forwarded.{Forwarding, forwarding_of, sender_of}
 use Rattle.group_rows.specs.Rows.{answer_error, can_ask, forward, request_at, request_row, sync_bodies, sync_row}
 use Rattle.group_rows.specs.Texts.{texts_of}
-use Rattle.group_facts.specs.Built.{is_plain}
-use Rattle.group_facts.specs.Facts.{AllForwarded, IsAlone, Opened}
-use Rattle.group_facts.proofs.Apart.{alone_by, asks_fewer}
+use Rattle.group_facts.specs.Facts.{IsAlone, Opened}
+use Rattle.group_facts.proofs.Apart.{asks_fewer}
 use Rattle.group_facts.proofs.DocumentRow.{calm_now, held_still}
 use Rattle.group_facts.proofs.Forwards.{alone_fewer, forwarding_more}
 use Rattle.group_facts.proofs.SharedRows.{AllTold, Held, sync_told}
 use Rattle.group_facts.proofs.Tellings.{Calm, tells_row}
 use Rattle.group_facts.specs.Why.{IsForward, Why, forwarded, refuses}
 
--- a request of class Other is neither `initialize` nor `shutdown`
-pub plain_other : (method : List ℕ) → is_plain method ≡ true → is_own method ≡ false
-unfolding editor_request own_request
-plain_other method h = go (bytes_eq method (codes "initialize")) refl (bytes_eq method (codes "shutdown")) refl
+-- a request that is neither `initialize` nor `shutdown` is no one of the daemon's own
+turned_round : (a b : List ℕ) → bytes_eq b a ≡ false → bytes_eq a b ≡ false
+turned_round a b h = go (bytes_eq a b) refl
   where
-    go : (a : Bool) → bytes_eq method (codes "initialize") ≡ a → (b : Bool) → bytes_eq method (codes "shutdown") ≡ b → (a || b) ≡ false
-    go true e b f = absurd (let k : is_plain (codes "initialize") ≡ true = subst (λ m. is_plain m ≡ true) ((bytes_eq-Decides method (codes "initialize")).0 e) h in cc)
-    go false e true f = absurd (let k : is_plain (codes "shutdown") ≡ true = subst (λ m. is_plain m ≡ true) ((bytes_eq-Decides method (codes "shutdown")).0 f) h in cc)
-    go false e false f = refl
+    go : (c : Bool) → bytes_eq a b ≡ c → c ≡ false
+    go true e = never (sym (subst (λ z. bytes_eq z a ≡ true) ((bytes_eq-Decides a b).0 e) ((bytes_eq-Decides a a).1 refl)) ∙ h)
+    go false e = refl
+
+pub not_own : (method : List ℕ) → bytes_eq (codes "initialize") method ≡ false → bytes_eq (codes "shutdown") method ≡ false → is_own method ≡ false
+not_own method a b = ap₂ (λ x y. x || y) (turned_round method (codes "initialize") a) (turned_round method (codes "shutdown") b)
 
 abbrev pub either_desk : Bool → Desk → Desk → Desk
 either_desk b x y = if b then x else y
@@ -65,10 +65,10 @@ module _ (settings : Settings) (before : List Event) (e : ℕ) (body : List ℕ)
   pub desk_taken : desk_of e asked ≡ desk_hears (desk_of e before).phase (desk_of e before).initialize body (message_of body)
   desk_taken = desk_more e before (heard (FromEditor e body)) ∙ ap (λ b. if b then desk_hears (desk_of e before).phase (desk_of e before).initialize body (message_of body) else desk_of e before) (same_number e)
 
-  module _ (id : Id) (method : List ℕ) (params : Option Json) (says : message_of body ≡ request id method params) (there : is_there (desk_of e before).phase ≡ true) (open_before : AllForwarded before) (fresh : is_open id (open_of e before) ≡ false) where
+  module _ (id : Id) (method : List ℕ) (params : Option Json) (says : message_of body ≡ request id method params) (there : is_there (desk_of e before).phase ≡ true) (lonely : IsAlone before e id) where
     -- no request of it under this id is open at a start
     alone : IsAlone asked e id
-    alone = alone_fewer before asked (asks_fewer before e body) e id (alone_by before open_before e id fresh)
+    alone = alone_fewer before asked (asks_fewer before e body) e id lonely
 
     -- E8
     early : (code : Code) → ((desk_of e asked).phase ≡ Waiting → has_id id (message_of (desk_of e asked).initialize) ≡ false) → Because R asked (answer_error e body code)
@@ -89,8 +89,8 @@ module _ (settings : Settings) (before : List Event) (e : ℕ) (body : List ℕ)
         still = ap (λ (d : Desk). d.phase) (desk_taken ∙ ap₂ (λ p m. desk_hears p (desk_of e before).initialize body m) at says)
             ∙ ap (λ b. (either_desk b (record { phase = Waiting; initialize = body }) (record { phase = New; initialize = (desk_of e before).initialize })).phase) other
 
-    pub early_waiting : (code : Code) → (desk_of e before).phase ≡ Waiting → AllWaiting before → Because R asked (answer_error e body code)
-    early_waiting code at waiting = early code (λ waits. ap (λ (d : Desk). has_id id (message_of d.initialize)) (desk_taken ∙ ap (λ p. desk_hears p (desk_of e before).initialize body (message_of body)) at) ∙ ap (has_id id) w.asks ∙ apart (same_id id w.id) refl)
+    pub early_waiting : (code : Code) → (desk_of e before).phase ≡ Waiting → is_open id (open_of e before) ≡ false → AllWaiting before → Because R asked (answer_error e body code)
+    early_waiting code at fresh waiting = early code (λ waits. ap (λ (d : Desk). has_id id (message_of d.initialize)) (desk_taken ∙ ap (λ p. desk_hears p (desk_of e before).initialize body (message_of body)) at) ∙ ap (has_id id) w.asks ∙ apart (same_id id w.id) refl)
       where
         w : Waits (desk_of e before).initialize (open_of e before)
         w = waits_at before e at waiting

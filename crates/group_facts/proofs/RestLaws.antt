@@ -16,7 +16,7 @@ use Rattle.mux_facts.proofs.Reasons.{reasons_keep}
 use Rattle.group_words.specs.Houses.{groups_of}
 use Rattle.group_rows.specs.Rows.{outs_of}
 use Rattle.group_facts.specs.Built.{built_behind}
-use Rattle.group_facts.specs.Facts.{turned_away}
+use Rattle.group_facts.specs.Facts.{ends_link}
 use Rattle.group_facts.specs.Legal.{Legal, LegalFrom}
 use Rattle.group_facts.specs.Why.{Why, WhyToEditor, WhyToServer, is_starting}
 use Rattle.group_facts.proofs.Facts.{Facts, Mid}
@@ -30,7 +30,7 @@ pub record RestLaw (settings : Settings) (I : List Event → Type 0) (M : List E
       → M before cause (events ++ said (ToEditor e body) ∷ [])
   pub to_server : (before : List Event) (cause : Cause) (events : List Event) (s : ℕ) (body : List ℕ) → WhyToServer settings before cause events s body → Facts settings before → Mid settings before cause events → I before → M before cause events
       → M before cause (events ++ said (ToServer s body) ∷ [])
-  pub close : (before : List Event) (cause : Cause) (events : List Event) (e : ℕ) → turned_away settings before cause e ≡ true → is_there (desk_of e events).phase ≡ true → Facts settings before → Mid settings before cause events → I before → M before cause events
+  pub close : (before : List Event) (cause : Cause) (events : List Event) (e : ℕ) → ends_link settings before cause e ≡ true → is_there (desk_of e events).phase ≡ true → Facts settings before → Mid settings before cause events → I before → M before cause events
       → M before cause (events ++ said (CloseEditor e) ∷ [])
   pub end : (before : List Event) (cause : Cause) (events : List Event) (s : ℕ) → is_starting (life_of s events).stage ≡ true → Facts settings before → Mid settings before cause events → I before → M before cause events → M before cause (events ++ said (EndServer s) ∷ [])
   pub spawn : (before : List Event) (cause : Cause) (events : List Event) (g : ℕ) → g < length (groups_of settings events) → Facts settings before → Mid settings before cause events → I before → M before cause events

@@ -3,7 +3,8 @@ use Rattle.std.proofs.Common.{◌≡◌, ℕ, ◌+◌, ◌<◌, ◌≤◌, Bool,
 use Rattle.std.proofs.lemmas.Bool.{and_parts}
 use Rattle.std.proofs.lemmas.List.{length-append}
 use Rattle.mux_history.specs.declared.cause.Cause.{Cause}
-use Rattle.mux_history.specs.declared.cause.Cause.TheVariants.{Joined, FromEditor, Started, FromServer, Drained}
+use Rattle.mux_history.specs.declared.cause.Cause.TheVariants.{Joined, FromEditor, EditorGone, Started, FromServer, Drained}
+use Rattle.mux_history.specs.declared.cause.Why as link
 use Rattle.mux_history.specs.declared.out.Out.{Out}
 use Rattle.mux_history.specs.declared.out.Out.TheVariants.{ToEditor, ToServer, Spawn, CloseEditor, EndServer}
 use Rattle.rpc_message.specs.Message.{Message, id_bytes, message_of}
@@ -223,12 +224,19 @@ module _ (settings : Settings) where
         go false other = stays_placed e before (heard (FromEditor n body)) (home_more settings e before (heard (FromEditor n body)) ∙ rw other refl) longer
             (by_desk e before (heard (FromEditor n body)) (heard_needed e before n body (ap (λ b. b && places (desk_of e before).phase (message_of body)) other))) (h e)
 
+    gone_placed : (n : ℕ) (why : link.Why) (e : ℕ) → count before ≤ count (with_cause before (EditorGone n why)) → (b : Bool) → nat_eq n e ≡ b → PlacedAt settings e (with_cause before (EditorGone n why))
+    gone_placed n why e longer true same = λ needs. never (sym needs ∙ ap (λ (d : Desk). needs_server d.phase) (desk_more e before (heard (EditorGone n why)))
+        ∙ ap (λ b. needs_server (if b then record { phase = Gone; initialize = (desk_of e before).initialize } else desk_of e before).phase) same)
+    gone_placed n why e longer false other = stays_placed e before (heard (EditorGone n why)) (home_more settings e before (heard (EditorGone n why)) ∙ rw other refl) longer
+        (by_desk e before (heard (EditorGone n why)) (λ needs. subst (λ b. needs_server (if b then record { phase = Gone; initialize = (desk_of e before).initialize } else desk_of e before).phase ≡ true) other needs)) (h e)
+
     placed_took : (cause : Cause) → built_behind settings before cause ≡ true → count before ≤ count (with_cause before cause) → (e : ℕ) → turned_away settings before cause e ≡ false → PlacedAt settings e (with_cause before cause)
     placed_took (FromEditor n body) built longer e stays = editor_heard n body e longer stays
     placed_took (Joined n) built longer e stays = stays_placed e before (heard (Joined n)) (home_stays settings e before (heard (Joined n)) refl) longer (by_desk e before (heard (Joined n)) (joined_needed e before n)) (h e)
     placed_took (Started s) built longer e stays = stays_placed e before (heard (Started s)) (home_stays settings e before (heard (Started s)) refl) longer (by_desk e before (heard (Started s)) (λ needs. needs)) (h e)
     placed_took (FromServer s body) built longer e stays = stays_placed e before (heard (FromServer s body)) (home_stays settings e before (heard (FromServer s body)) refl) longer (by_desk e before (heard (FromServer s body)) (λ needs. needs)) (h e)
     placed_took (Drained n k) built longer e stays = stays_placed e before (heard (Drained n k)) (home_stays settings e before (heard (Drained n k)) refl) longer (by_desk e before (heard (Drained n k)) (λ needs. needs)) (h e)
+    placed_took (EditorGone n why) built longer e stays = gone_placed n why e longer (nat_eq n e) refl
     placed_took cause built longer e stays = absurd (cc)
 
     -- one that is turned away is closed

@@ -5,7 +5,8 @@ use Rattle.std.specs.Fmt.{digits}
 use Rattle.std.proofs.lemmas.Fmt.{decimal_injective}
 use Rattle.std.proofs.lemmas.Slice.Eq.{bytes_eq-Decides}
 use Rattle.json_text.specs.Json.{Json}
-use Rattle.mux_history.specs.declared.cause.Cause.TheVariants.{Joined, FromEditor, Started, StartFailed, FromServer, ServerGone, Drained}
+use Rattle.mux_history.specs.declared.cause.Cause.TheVariants.{Joined, FromEditor, EditorGone, Started, StartFailed, FromServer, ServerGone, Drained}
+use Rattle.mux_history.specs.declared.cause.Why as link
 use Rattle.mux_history.specs.declared.out.Out.{Out}
 use Rattle.mux_history.specs.declared.out.Out.TheVariants.{ToEditor, ToServer, Spawn, CloseEditor, EndServer}
 use Rattle.rpc_message.specs.Message.{Message, request, notification, result, error, not_json, not_message, Id, integer, text, message_of}
@@ -153,6 +154,9 @@ module _ (settings : Settings) (e : ℕ) (id : Id) where
   pub sent_drained : (events : List Event) (n bytes : ℕ) → SentAt settings events e id → SentAt settings (with_cause events (Drained n bytes)) e id
   sent_drained events n bytes k = sent_more events (heard (Drained n bytes)) (λ g at. home_stays settings e events (heard (Drained n bytes)) refl ∙ at) (λ g s at. at) (λ s h. h) k
 
+  pub sent_gone : (events : List Event) (n : ℕ) (why : link.Why) → nat_eq n e ≡ false → SentAt settings events e id → SentAt settings (with_cause events (EditorGone n why)) e id
+  sent_gone events n why other k = sent_more events (heard (EditorGone n why)) (λ g at. home_more settings e events (heard (EditorGone n why)) ∙ ap (λ b. if b then None else home_of settings e events) other ∙ at) (λ g s at. at) (λ s h. h) k
+
   pub sent_heard : (events : List Event) (n : ℕ) (body : List ℕ) → (nat_eq n e && places (desk_of n events).phase (message_of body)) ≡ false → SentAt settings events e id → SentAt settings (with_cause events (FromEditor n body)) e id
   sent_heard events n body off k = sent_more events (heard (FromEditor n body)) (λ g at. home_more settings e events (heard (FromEditor n body))
       ∙ ap (λ b. if b then home_by (placed_for settings events n body (house_of settings events).groups) (home_of settings e events) else home_of settings e events) off ∙ at) (λ g s at. at) (λ s h. h) k
@@ -252,7 +256,7 @@ names_one (Some (integer digits)) m n low high h k = decimal_injective m n low h
 names_one (Some (text t)) m n low high h k = absurd (cc)
 names_one None m n low high h k = absurd (cc)
 
-below_next : (low next : ℕ) (fs : List Forwarded) → Rising low next fs → low ≤ next
+pub below_next : (low next : ℕ) (fs : List Forwarded) → Rising low next fs → low ≤ next
 below_next low next [] h = h
 below_next low next (f ∷ fs) h = let rest : f.number + 1 ≤ next = below_next (f.number + 1) next fs h.1 in let le : low ≤ f.number = h.0 in omega (arith, rest, le)
 

@@ -7,7 +7,7 @@ use Rattle.mux_history.specs.declared.out.Out.{Out}
 use Rattle.rpc_message.specs.Message.{Id}
 use Rattle.event_model.specs.declared.phase.Phase.TheVariants.{Waiting}
 use Rattle.event_model.specs.Event.{Event, behind, events_of, said, with_cause}
-use Rattle.event_model.specs.Phases.{desk_of, is_served}
+use Rattle.event_model.specs.Phases.{desk_of}
 use Rattle.event_model.specs.Requests.{is_open, open_of}
 use Rattle.event_model.specs.Row.{outs}
 use Rattle.event_model.specs.Settings.{Settings}
@@ -20,7 +20,7 @@ use Rattle.group_words.proofs.Openings.{folders_utf8}
 use Rattle.group_rows.specs.Rows.{outs_of}
 use Rattle.group_facts.specs.Built.{built_behind}
 use Rattle.group_facts.specs.Legal.{Legal, LegalFrom}
-use Rattle.group_facts.specs.Settled.{AreUtf8, IsOnly, IsSent, Settled}
+use Rattle.group_facts.specs.Settled.{AreUtf8, IsOnly, IsSent, Settled, is_answered}
 use Rattle.group_facts.proofs.Entries.{OpenAll, open_rests}
 use Rattle.group_facts.proofs.Begun.{Begun, begun_rests}
 use Rattle.group_facts.proofs.Facts.{Facts}
@@ -30,7 +30,7 @@ use Rattle.group_facts.proofs.OwnEntry.{Nobody}
 use Rattle.group_facts.proofs.Seated.{AllPlaced, placed_rests, seat}
 use Rattle.group_facts.proofs.Sent.{SentAt, sent_is}
 use Rattle.group_facts.proofs.Unnamed.{Unnamed, unnamed_did, unnamed_took}
-use Rattle.group_facts.proofs.OpenByPhase.{IsOne, OpenIf, if_served}
+use Rattle.group_facts.proofs.OpenByPhase.{IsOne, OpenIf, if_answered}
 use Rattle.group_facts.proofs.OpenByOut.{S}
 
 -- Folders
@@ -42,7 +42,7 @@ abbrev AllSpelt : Settings → List Event → Type 0
 AllSpelt settings events = AllByRecursion Spelt (groups_of settings events)
 
 spelt_keeps : Keeps Spelt
-spelt_keeps = record { ends = λ x h. h; busies = λ x h. h; idles = λ now x h. h }
+spelt_keeps = record { ends = λ x h. tt; busies = λ x h. h; idles = λ now x h. h }
 
 -- A whole history
 
@@ -92,8 +92,8 @@ module _ (settings : Settings) (range : InRange settings) where
   only : (events : List Event) (e : ℕ) → OpenAll settings events → (desk_of e events).phase ≡ Waiting → IsOnly events e
   only events e h at = let k : IsOne (desk_of e events).initialize (open_of e events) = subst (λ p. OpenIf (S settings e Nobody events) p (desk_of e events).initialize (open_of e events)) at (h e) in record { id = k.id; asked = k.asked; ids = k.alone }
 
-  sent_on : (events : List Event) (e : ℕ) (id : Id) → OpenAll settings events → is_served (desk_of e events).phase ≡ true → is_open id (open_of e events) ≡ true → IsSent settings events e id
-  sent_on events e id h served still = sent_is settings events e id (go (if_served (S settings e Nobody events) (desk_of e events).phase (desk_of e events).initialize (open_of e events) served (h e) id still))
+  sent_on : (events : List Event) (e : ℕ) (id : Id) → OpenAll settings events → is_answered (desk_of e events).phase ≡ true → is_open id (open_of e events) ≡ true → IsSent settings events e id
+  sent_on events e id h served still = sent_is settings events e id (go (if_answered (S settings e Nobody events) (desk_of e events).phase (desk_of e events).initialize (open_of e events) served (h e) id still))
     where
       go : SentAt settings events e id ⊎ ⊥ → SentAt settings events e id
       go (inl k) = k

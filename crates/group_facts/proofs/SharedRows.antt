@@ -1,23 +1,25 @@
 -- What a start is told of several documents: before a request goes on, and where it is ready.
-use Rattle.std.proofs.Common.{◌≡◌, ℕ, Bool, true, false, cond, ◌&&◌, List, [], ◌∷◌, ◌++◌, filter, flat_map, nat_eq, bytes_eq, refl, sym, ◌∙◌, subst, Option, Some, None}
+use Rattle.std.proofs.Common.{◌≡◌, ℕ, Bool, true, false, cond, not, ◌&&◌, List, [], ◌∷◌, ◌++◌, filter, flat_map, nat_eq, bytes_eq, refl, sym, ◌∙◌, subst, Option, Some, None}
 use Rattle.std.specs.Prelude.{◌||◌}
 use Rattle.std.specs.List.{AllByRecursion, list_any}
 use Rattle.std.specs.Option.{option_map_or}
 use Rattle.std.proofs.lemmas.Slice.Eq.{bytes_eq-Decides}
 use Rattle.document_model.specs.Bodies.{open_text}
 use Rattle.document_model.specs.Helds.{HeldText}
-use Rattle.document_model.specs.Opens.{Open, holder, is_open_at}
+use Rattle.document_model.specs.Opens.{Open, holder, holder_beside, is_open_at}
 use Rattle.document_model.specs.Orderly.{AllSpelt, IsSpelt, Once}
+use Rattle.document_model.specs.Rows.{differing, sent_close}
 use Rattle.document_model.proofs.Spelt.{latest_spelt}
 use Rattle.mux_history.specs.declared.cause.Cause.{Cause}
 use Rattle.event_model.specs.Event.{Event, behind}
 use Rattle.event_model.specs.Settings.{Settings}
 use Rattle.mux_model.specs.Documents.{held_at}
 use Rattle.mux_facts.specs.Ranges.{InRange}
-use Rattle.mux_facts.proofs.DocumentRow.{latest_passes}
+use Rattle.mux_facts.proofs.DocumentRow.{beside_is, latest_passes}
 use Rattle.mux_facts.proofs.Words.{number_same}
+use Rattle.group_rows.specs.Leaves.{leave_bodies, left}
 use Rattle.group_rows.specs.Rows.{replay_bodies, sync_bodies, synced}
-use Rattle.group_facts.proofs.Tellings.{Calm, Tells, differing_told, open_told, tells_both, tells_fewer, tells_none, to}
+use Rattle.group_facts.proofs.Tellings.{Calm, Tells, close_told, differing_told, open_told, tells_both, tells_fewer, tells_none, to}
 
 -- another document of the same editor
 apart : (e : ℕ) (o p : Open) → is_open_at o.editor o.uri p ≡ false → nat_eq o.editor e ≡ true → nat_eq p.editor e ≡ true → bytes_eq p.uri o.uri ≡ false
@@ -27,7 +29,7 @@ apart e o p h a b = go (bytes_eq p.uri o.uri) (nat_eq p.editor o.editor) (subst 
     go c true q r = r
     go c false q r = absurd (cc)
 
-off_first : (a b : Bool) → (a || b) ≡ false → a ≡ false
+pub off_first : (a b : Bool) → (a || b) ≡ false → a ≡ false
 off_first true b h = absurd (cc)
 off_first false b h = refl
 
@@ -55,25 +57,47 @@ module _ (settings : Settings) (range : InRange settings) (before : List Event) 
     abbrev pub Held : List Event → List Open → Type 0
     Held events os = AllByRecursion (λ (o : Open). nat_eq o.editor e ≡ true → held_at s o.uri events ≡ held o.uri) os
 
-    synced_told : (events : List Event) (o : Open) (h : Option HeldText) → IsSpelt o → Mine events → held_at s o.uri events ≡ h → OneTold o.uri events (synced settings.limits.versions o h)
-    synced_told events o None k calm at = tells_none settings range before cause now s events calm
-    synced_told events o (Some h) k calm at = differing_told settings range before cause now s events o h k calm at
-
     rest_held : (events : List Event) (o : Open) (bodies : List (List ℕ)) → nat_eq o.editor e ≡ true → OneTold o.uri events bodies → (os : List Open) → AllByRecursion (λ (p : Open). is_open_at o.editor o.uri p ≡ false) os → Held events os
         → Held (behind events (to settings range before cause now s bodies)) os
     rest_held events o bodies own one [] once h = tt
     rest_held events o bodies own one (p ∷ ps) once h = (λ k. one.others p.uri (apart e o p once.0 own k) ∙ h.0 k, rest_held events o bodies own one ps once.1 h.1)
 
+    -- of each document of e what is told of it, by what the start has
+    module _ (telling : Open → Option HeldText → List (List ℕ)) (one_told : (events : List Event) (o : Open) (h : Option HeldText) → IsSpelt o → Mine events → held_at s o.uri events ≡ h → OneTold o.uri events (telling o h)) where
+      abbrev all_of_them : List Open → List (List ℕ)
+      all_of_them os = flat_map (λ (o : Open). telling o (held o.uri)) (filter (λ (o : Open). nat_eq o.editor e) os)
+
+      each_told : (os : List Open) → Once os → AllSpelt os → (events : List Event) → Mine events → Held events os → AllTold events (all_of_them os)
+      each_told [] once spelt events calm h = tells_none settings range before cause now s events calm
+      each_told (o ∷ os) once spelt events calm h = go (nat_eq o.editor e) refl (λ later quiet held_so. each_told os once.1 spelt.1 later quiet held_so)
+        where
+          go : (b : Bool) → nat_eq o.editor e ≡ b → ((later : List Event) → Mine later → Held later os → AllTold later (all_of_them os)) → AllTold events (flat_map (λ (p : Open). telling p (held p.uri)) (cond b (o ∷ filter (λ (p : Open). nat_eq p.editor e) os) (filter (λ (p : Open). nat_eq p.editor e) os)))
+          go true own rest =
+              let one : OneTold o.uri events (telling o (held o.uri)) = one_told events o (held o.uri) spelt.0 calm (h.0 own) in
+              both events (telling o (held o.uri)) (all_of_them os) one
+              (rest (behind events (to settings range before cause now s (telling o (held o.uri)))) one.calm (rest_held events o (telling o (held o.uri)) own one os once.0 h.1))
+          go false other rest = rest events calm h.1
+
+    synced_told : (events : List Event) (o : Open) (h : Option HeldText) → IsSpelt o → Mine events → held_at s o.uri events ≡ h → OneTold o.uri events (synced settings.limits.versions o h)
+    synced_told events o None k calm at = tells_none settings range before cause now s events calm
+    synced_told events o (Some h) k calm at = differing_told settings range before cause now s events o h k calm at
+
     pub sync_told : (os : List Open) → Once os → AllSpelt os → (events : List Event) → Mine events → Held events os → AllTold events (sync_bodies settings.limits.versions held e os)
-    sync_told [] once spelt events calm h = tells_none settings range before cause now s events calm
-    sync_told (o ∷ os) once spelt events calm h = go (nat_eq o.editor e) refl (λ later quiet held_so. sync_told os once.1 spelt.1 later quiet held_so)
-      where
-        go : (b : Bool) → nat_eq o.editor e ≡ b → ((later : List Event) → Mine later → Held later os → AllTold later (sync_bodies settings.limits.versions held e os)) → AllTold events (flat_map (λ (p : Open). synced settings.limits.versions p (held p.uri)) (cond b (o ∷ filter (λ (p : Open). nat_eq p.editor e) os) (filter (λ (p : Open). nat_eq p.editor e) os)))
-        go true own rest =
-            let one : OneTold o.uri events (synced settings.limits.versions o (held o.uri)) = synced_told events o (held o.uri) spelt.0 calm (h.0 own) in
-            both events (synced settings.limits.versions o (held o.uri)) (sync_bodies settings.limits.versions held e os) one
-            (rest (behind events (to settings range before cause now s (synced settings.limits.versions o (held o.uri)))) one.calm (rest_held events o (synced settings.limits.versions o (held o.uri)) own one os once.0 h.1))
-        go false other rest = rest events calm h.1
+    sync_told os once spelt events calm h = each_told (synced settings.limits.versions) synced_told os once spelt events calm h
+
+    -- L1: where e leaves, its documents are closed, or the start gets the text of who has them next
+    module _ (all : List Open) (all_spelt : AllSpelt all) where
+      left_told : (events : List Event) (o : Open) (h : Option HeldText) → IsSpelt o → Mine events → held_at s o.uri events ≡ h → OneTold o.uri events (left settings.limits.versions e all h o)
+      left_told events o h k calm at = go h at (holder_beside e o.uri all) refl
+        where
+          go : (h : Option HeldText) → held_at s o.uri events ≡ h → (rest : Option Open) → holder_beside e o.uri all ≡ rest → OneTold o.uri events (sent_close settings.limits.versions o.uri rest h)
+          go None at rest there = tells_none settings range before cause now s events calm
+          go (Some h) at None there = close_told settings range before cause now s events o.uri h k.0 calm at
+          go (Some h) at (Some p) there = subst (λ u. OneTold u events (differing settings.limits.versions p h)) (sym (beside_is e o.uri all p there)) (differing_told settings range before cause now s events p h
+              (latest_spelt (λ q. bytes_eq q.uri o.uri && not (nat_eq q.editor e)) all p all_spelt there) calm (subst (λ u. held_at s u events ≡ Some h) (beside_is e o.uri all p there) at))
+
+      pub leave_told : (os : List Open) → Once os → AllSpelt os → (events : List Event) → Mine events → Held events os → AllTold events (leave_bodies settings.limits.versions held e all os)
+      leave_told os once spelt events calm h = each_told (λ o h. left settings.limits.versions e all h o) left_told os once spelt events calm h
 
   -- X4, where the start has none of the documents that weren't told
 

@@ -1,18 +1,16 @@
 -- The routing table over several editors and groups, walked once: each out of every row has its reason.
-use Rattle.std.proofs.Common.{◌≡◌, ℕ, Bool, true, false, not, ◌||◌, List, codes, Option, refl, sym, ◌∙◌, ap, subst}
+use Rattle.std.proofs.Common.{◌≡◌, ℕ, true, false, ◌&&◌, ◌||◌, List, codes, bytes_eq, Option, refl, sym, ◌∙◌, ap}
 use Rattle.std.proofs.lemmas.Bool.{and_parts}
 use Rattle.std.proofs.lemmas.Slice.Eq.{bytes_eq-Decides}
 use Rattle.json_text.specs.Json.{Json}
 use Rattle.mux_history.specs.declared.cause.Cause.{Cause}
-use Rattle.mux_history.specs.declared.cause.Cause.TheVariants.{FromEditor, Started, FromServer}
+use Rattle.mux_history.specs.declared.cause.Cause.TheVariants.{FromEditor, EditorGone, Started, FromServer}
 use Rattle.rpc_message.specs.Message.{Message, request, notification, result, error, not_json, not_message, Id, message_of, result_bytes}
-use Rattle.rpc_message.specs.Texts.{error_tree, invalid_request, server_not_initialized}
+use Rattle.rpc_message.specs.Texts.{error_tree, invalid_request}
 use Rattle.event_model.specs.declared.phase.Phase.{Phase}
 use Rattle.event_model.specs.declared.phase.Phase.TheVariants.{Absent, New, Waiting, Answered, Running, Down, Closed, Gone}
-use Rattle.event_model.specs.Event.{Event, with_cause}
-use Rattle.event_model.specs.Members.{has_token}
-use Rattle.event_model.specs.Phases.{desk_of, is_malformed, is_there}
-use Rattle.event_model.specs.Requests.{is_open, open_of}
+use Rattle.event_model.specs.Event.{Event, notifies, with_cause}
+use Rattle.event_model.specs.Phases.{desk_of, is_begun, is_malformed, is_there}
 use Rattle.event_model.specs.Row.{Row}
 use Rattle.event_model.specs.Settings.{Settings}
 use Rattle.event_model.specs.Stages.{is_first_result, life_of}
@@ -25,86 +23,111 @@ use Rattle.mux_facts.specs.Ranges.{InRange}
 use Rattle.mux_facts.proofs.Bodies.{malformed_says}
 use Rattle.mux_facts.proofs.Reasons.{Because, by_nothing, by_send, by_choose}
 use Rattle.mux_facts.proofs.Why.{is_early}
+use Rattle.group_words.specs.Houses.{is_doubled}
 use Rattle.group_words.specs.Rows.{shown_of}
 use Rattle.group_rows.specs.Forwarded.{forwarding_of}
-use Rattle.group_rows.specs.Rows.{from_editor, message_row, row_of, served_row, wrong_code}
-use Rattle.group_facts.specs.Built.{built_as, built_behind, built_early, built_from_editor, built_from_server, is_bare, is_fresh, is_plain, is_shown_whole}
+use Rattle.group_rows.specs.Rows.{closing_row, down_row, early_code, early_row, exit_row, from_editor, message_row, row_of, served_request, served_row, taken_row, wrong_code}
+use Rattle.group_facts.specs.Built.{built_behind, built_early, built_from_server, is_shown_whole}
+use Rattle.group_facts.specs.Facts.{IsAlone, is_parting}
 use Rattle.group_facts.proofs.AnswerRows.{server_why, start_why}
+use Rattle.group_facts.proofs.Apart.{alone_by, alone_early}
 use Rattle.group_facts.proofs.DocumentRow.{document_why}
 use Rattle.group_facts.proofs.Facts.{Facts}
+use Rattle.group_facts.proofs.PartingRows.{closing_why, gone_why, or_second, shutdown_why}
 use Rattle.group_facts.proofs.PlacingRow.{initialize_why}
-use Rattle.group_facts.proofs.RequestRow.{R, asked, early_new, early_waiting, late_refused, plain_other, request_why}
+use Rattle.group_facts.proofs.RequestRow.{R, asked, early_new, early_waiting, late_refused, not_own, request_why}
+use Rattle.group_facts.proofs.SharedRows.{off_first}
 use Rattle.group_facts.specs.Why.{Why, rejects}
-
--- of class Other, where it isn't of class Wrong
-pub bare_plain : (wrong : Bool) (method : List ℕ) (params : Option Json) → wrong ≡ false → (wrong || is_bare method params) ≡ true → is_plain method ≡ true
-bare_plain true method params right h = absurd (cc)
-bare_plain false method params right h = (and_parts (is_plain method) (not (has_token params)) h).0
-
-pub not_so : (b : Bool) → not b ≡ true → b ≡ false
-not_so true h = absurd (cc)
-not_so false h = refl
 
 module _ (settings : Settings) (range : InRange settings) (before : List Event) (facts : Facts settings before) (e : ℕ) (body : List ℕ) where
   abbrev Mine : Row → Type 0
   Mine row = Because (R settings before e body) (asked settings before e body) row
 
-  abbrev BuiltAs : Phase → Message → Type 0
-  BuiltAs phase m = built_from_editor phase (open_of e before) m ≡ true
+  parting : is_there (desk_of e before).phase ≡ true → is_parting before e (message_of body) ≡ true → Mine (closing_row settings before e)
+  parting there ends = closing_why settings range before (facts.base).opened (facts.steady).bounded e body there ends
 
-  -- a request that is built: its id isn't open
-  module _ (id : Id) (method : List ℕ) (params : Option Json) (phase : Phase) (built : BuiltAs phase (request id method params)) where
-    parts : (is_fresh phase id (open_of e before) ≡ true) × (built_as phase method params ≡ true)
-    parts = and_parts (is_fresh phase id (open_of e before)) (built_as phase method params) built
+  exit_parts : (method : List ℕ) (params : Option Json) → message_of body ≡ notification method params → bytes_eq (codes "exit") method ≡ true → is_parting before e (message_of body) ≡ true
+  exit_parts method params says is = ap (is_parting before e) says ∙ ap (λ b. b || false) is
 
-  served_why : (m : Message) → message_of body ≡ m → is_early (desk_of e before).phase ≡ false → is_there (desk_of e before).phase ≡ true
-      → ((id : Id) (method : List ℕ) (params : Option Json) → m ≡ request id method params → (is_wrong (class_of method Editor false) || is_bare method params ≡ true) × (is_open id (open_of e before) ≡ false)) → Mine (served_row settings before e body m)
-  served_why (request id method params) says late there plain = by_choose
-      (λ wrong. late_refused settings before e body id method params says there (facts.steady).asked (plain id method params refl).1 (wrong_code method invalid_request) late)
-      (λ right. request_why settings before e body id method params says there (facts.steady).asked (plain id method params refl).1 range (facts.base).opened late (plain_other method (bare_plain (is_wrong (class_of method Editor false)) method params right (plain id method params refl).0)))
-  served_why (notification method params) says late there plain = document_why settings range before e body (facts.base).opened method params says
-  served_why (result id r) says late there plain = by_nothing
-  served_why (error id x) says late there plain = by_nothing
-  served_why not_json says late there plain = by_nothing
-  served_why not_message says late there plain = by_nothing
+  -- E9: `exit`
+  exits : (m : Message) → message_of body ≡ m → is_there (desk_of e before).phase ≡ true → Mine (exit_row settings before e m)
+  exits (notification method params) says there = by_choose (λ yes. parting there (exit_parts method params says yes)) (λ no. by_nothing)
+  exits (request id method params) says there = by_nothing
+  exits (result id r) says there = by_nothing
+  exits (error id x) says there = by_nothing
+  exits not_json says there = by_nothing
+  exits not_message says there = by_nothing
 
-  new_why : (m : Message) → message_of body ≡ m → (desk_of e before).phase ≡ New → BuiltAs New m → Mine (message_row settings before e body m New)
-  new_why (request id method params) says at built = by_choose
+  -- E8 to E10: of an editor that is served
+  asked_why : (id : Id) (method : List ℕ) (params : Option Json) → message_of body ≡ request id method params → is_early (desk_of e before).phase ≡ false → is_there (desk_of e before).phase ≡ true → IsAlone before e id → Mine (served_request settings before e body method)
+  asked_why id method params says late there lonely = by_choose
+      (λ misplaced. late_refused settings before e body id method params says there lonely (wrong_code method invalid_request) late)
+      (λ placed. by_choose
+      (λ down. shutdown_why settings range before (facts.base).opened (facts.steady).bounded e body id method params says there late lonely)
+      (λ on. request_why settings before e body id method params says there lonely range (facts.base).opened late (not_own method (off_first (bytes_eq (codes "initialize") method) (is_wrong (class_of method Editor false)) placed) on)))
+
+  served_why : (m : Message) → message_of body ≡ m → is_early (desk_of e before).phase ≡ false → is_there (desk_of e before).phase ≡ true → is_doubled before e m ≡ false → Mine (served_row settings before e body m)
+  served_why (request id method params) says late there single = asked_why id method params says late there (alone_by before (facts.steady).asked e id single)
+  served_why (notification method params) says late there single = by_choose (λ yes. parting there (exit_parts method params says yes)) (λ no. document_why settings range before e body (facts.base).opened method params says)
+  served_why (result id r) says late there single = by_nothing
+  served_why (error id x) says late there single = by_nothing
+  served_why not_json says late there single = by_nothing
+  served_why not_message says late there single = by_nothing
+
+  -- behind `shutdown`
+  down_why : (m : Message) → message_of body ≡ m → (desk_of e before).phase ≡ Down → is_doubled before e m ≡ false → Mine (down_row settings before e body m)
+  down_why (request id method params) says at single = late_refused settings before e body id method params says (ap is_there at) (alone_by before (facts.steady).asked e id single) (wrong_code method invalid_request) (ap is_early at)
+  down_why (notification method params) says at single = exits (notification method params) says (ap is_there at)
+  down_why (result id r) says at single = by_nothing
+  down_why (error id x) says at single = by_nothing
+  down_why not_json says at single = by_nothing
+  down_why not_message says at single = by_nothing
+
+  new_why : (m : Message) → message_of body ≡ m → (desk_of e before).phase ≡ New → Mine (taken_row settings before e body m New)
+  new_why (request id method params) says at = by_choose
       (λ yes. initialize_why settings range before e body id params (says ∙ ap (λ z. request id z params) (sym ((bytes_eq-Decides (codes "initialize") method).0 yes))) at (facts.base).plain (facts.steady).bounded)
-      (λ no. early_new settings before e body id method params says (ap is_there at) (facts.steady).asked (not_so (is_open id (open_of e before)) (parts id method params New built).0) (wrong_code method server_not_initialized) at no)
-  new_why (notification method params) says at built = by_choose (λ yes. absurd (cc)) (λ no. by_nothing)
-  new_why (result id r) says at built = by_choose (λ yes. absurd (cc)) (λ no. by_nothing)
-  new_why (error id x) says at built = by_choose (λ yes. absurd (cc)) (λ no. by_nothing)
-  new_why not_json says at built = by_choose (λ yes. absurd (cc)) (λ no. by_nothing)
-  new_why not_message says at built = by_choose (λ yes. absurd (cc)) (λ no. by_nothing)
+      (λ no. early_new settings before e body id method params says (ap is_there at) (alone_early before (facts.steady).asked e id (ap is_early at)) (early_code method) at no)
+  new_why (notification method params) says at = by_choose (λ yes. absurd (cc)) (λ no. exits (notification method params) says (ap is_there at))
+  new_why (result id r) says at = by_choose (λ yes. absurd (cc)) (λ no. by_nothing)
+  new_why (error id x) says at = by_choose (λ yes. absurd (cc)) (λ no. by_nothing)
+  new_why not_json says at = by_choose (λ yes. absurd (cc)) (λ no. by_nothing)
+  new_why not_message says at = by_choose (λ yes. absurd (cc)) (λ no. by_nothing)
 
-  waiting_why : (m : Message) → message_of body ≡ m → (desk_of e before).phase ≡ Waiting → BuiltAs Waiting m → Mine (message_row settings before e body m Waiting)
-  waiting_why (request id method params) says at built = early_waiting settings before e body id method params says (ap is_there at) (facts.steady).asked (not_so (is_open id (open_of e before)) (parts id method params Waiting built).0) (wrong_code method server_not_initialized) at facts.waiting
-  waiting_why (notification method params) says at built = by_nothing
-  waiting_why (result id r) says at built = by_nothing
-  waiting_why (error id x) says at built = by_nothing
-  waiting_why not_json says at built = by_nothing
-  waiting_why not_message says at built = by_nothing
+  waiting_why : (m : Message) → message_of body ≡ m → (desk_of e before).phase ≡ Waiting → is_doubled before e m ≡ false → Mine (early_row settings before e body m)
+  waiting_why (request id method params) says at single = early_waiting settings before e body id method params says (ap is_there at) (alone_by before (facts.steady).asked e id single) (early_code method) at single facts.waiting
+  waiting_why (notification method params) says at single = exits (notification method params) says (ap is_there at)
+  waiting_why (result id r) says at single = by_nothing
+  waiting_why (error id x) says at single = by_nothing
+  waiting_why not_json says at single = by_nothing
+  waiting_why not_message says at single = by_nothing
 
-  -- the request of an editor that got its result is of class Wrong, or of class Other without tokens
-  plain_answered : (m : Message) → BuiltAs Answered m → (id : Id) (method : List ℕ) (params : Option Json) → m ≡ request id method params → (is_wrong (class_of method Editor false) || is_bare method params ≡ true) × (is_open id (open_of e before) ≡ false)
-  plain_answered m built id method params is = let p = parts id method params Answered (subst (BuiltAs Answered) is built) in (p.1, not_so (is_open id (open_of e before)) p.0)
+  begun_there : (phase : Phase) → is_begun phase ≡ true → is_there phase ≡ true
+  begun_there Waiting h = refl
+  begun_there Answered h = refl
+  begun_there Running h = refl
+  begun_there Down h = refl
+  begun_there Absent h = absurd (cc)
+  begun_there New h = absurd (cc)
+  begun_there Closed h = absurd (cc)
+  begun_there Gone h = absurd (cc)
 
-  plain_running : (m : Message) → BuiltAs Running m → (id : Id) (method : List ℕ) (params : Option Json) → m ≡ request id method params → (is_wrong (class_of method Editor false) || is_bare method params ≡ true) × (is_open id (open_of e before) ≡ false)
-  plain_running m built id method params is = let p = parts id method params Running (subst (BuiltAs Running) is built) in (p.1, not_so (is_open id (open_of e before)) p.0)
+  taken_why : (phase : Phase) → (desk_of e before).phase ≡ phase → (is_begun phase && is_doubled before e (message_of body)) ≡ false → Mine (taken_row settings before e body (message_of body) phase)
+  taken_why New at single = new_why (message_of body) refl at
+  taken_why Waiting at single = waiting_why (message_of body) refl at single
+  taken_why Answered at single = served_why (message_of body) refl (ap is_early at) (ap is_there at) single
+  taken_why Running at single = served_why (message_of body) refl (ap is_early at) (ap is_there at) single
+  taken_why Down at single = down_why (message_of body) refl at single
+  taken_why Absent at single = by_nothing
+  taken_why Closed at single = by_nothing
+  taken_why Gone at single = by_nothing
 
-  message_why : (phase : Phase) → (desk_of e before).phase ≡ phase → BuiltAs phase (message_of body) → Mine (message_row settings before e body (message_of body) phase)
-  message_why New at built = new_why (message_of body) refl at built
-  message_why Waiting at built = waiting_why (message_of body) refl at built
-  message_why Answered at built = served_why (message_of body) refl (ap is_early at) (ap is_there at) (plain_answered (message_of body) built)
-  message_why Running at built = served_why (message_of body) refl (ap is_early at) (ap is_there at) (plain_running (message_of body) built)
-  message_why Absent at built = by_nothing
-  message_why Down at built = by_nothing
-  message_why Closed at built = by_nothing
-  message_why Gone at built = by_nothing
+  message_why : (phase : Phase) → (desk_of e before).phase ≡ phase → Mine (message_row settings before e body (message_of body) phase)
+  message_why phase at = by_choose
+      (λ twice. let p = and_parts (is_begun phase) (is_doubled before e (message_of body)) twice in parting (ap is_there at ∙ begun_there phase p.0) (or_second (notifies (codes "exit") (message_of body)) (is_doubled before e (message_of body)) p.1))
+      (λ single. taken_why phase at single)
 
-  editor_why : BuiltAs (desk_of e before).phase (message_of body) → Mine (from_editor settings before e body (message_of body) (desk_of e before).phase)
-  editor_why built = by_choose (λ malformed. rejected malformed) (λ fine. message_why (desk_of e before).phase refl built)
+  editor_why : Mine (from_editor settings before e body (message_of body) (desk_of e before).phase)
+  editor_why = by_choose (λ malformed. rejected malformed) (λ fine. message_why (desk_of e before).phase refl)
     where
       rejected : is_malformed (message_of body) ≡ true → Mine (malformed_row e (message_of body) (desk_of e before).phase)
       rejected malformed = by_choose
@@ -127,7 +150,8 @@ first_shown before s body built at first = shown_whole (message_of body) body (a
 module _ (settings : Settings) (range : InRange settings) (before : List Event) (facts : Facts settings before) where
   -- every out of every entry has its reason
   pub reasons : (cause : Cause) → built_behind settings before cause ≡ true → Because (Why settings before cause) (with_cause before cause) (row_of settings before cause)
-  reasons (FromEditor e body) built = editor_why settings range before facts e body built
+  reasons (FromEditor e body) built = editor_why settings range before facts e body
+  reasons (EditorGone e why) built = gone_why settings range before (facts.base).opened (facts.steady).bounded e why (desk_of e before).phase
   reasons (FromServer s body) built = server_why settings range before s body (facts.base).opened (facts.steady).untold facts.waiting (facts.steady).asked (facts.steady).apart (first_shown before s body built) (life_of s before).stage refl
   reasons (Started s) built = start_why settings before s (facts.base).written (life_of s before).stage refl
   reasons cause built = by_nothing

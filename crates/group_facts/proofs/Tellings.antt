@@ -30,7 +30,9 @@ use Rattle.mux_facts.proofs.Reasons.{Because, Reasons, reasons_both}
 use Rattle.mux_facts.proofs.Tellings.{Says, closed_not, sent_more, version_at, versions_at}
 use Rattle.mux_facts.proofs.Words.{same_number}
 use Rattle.group_facts.proofs.Forwards.{Still, still_notified}
-use Rattle.group_facts.specs.Why.{Turn, Why, stays, greeted, tells}
+use Rattle.group_facts.specs.Why.{Turn, Why, stays, greeted, tells, cancels, moves}
+use Rattle.group_rows.specs.Leaves.{cancel_text}
+use Rattle.group_rows.proofs.Cancels.{cancel_says, params_tree}
 
 -- a further event of s
 turn_more : (before : List Event) (cause : Cause) (events : List Event) (s : ℕ) (body : List ℕ) → Turn before cause events s → Turn before cause (events ++ said (ToServer s body) ∷ []) s
@@ -89,6 +91,15 @@ module _ (settings : Settings) (range : InRange settings) (before : List Event) 
             ∙ ap₂ (λ b y. if b then told (sent_of s w events).encoding w (held_at s w events) y else held_at s w events) (same_number s) x.says
             ∙ silent w k (sent_of s w events).encoding (held_at s w events);
       }
+
+  -- that a request is cancelled leaves every document alone
+  pub cancel_told : {K : List ℕ → Type 0} (events : List Event) (n : ℕ) → n < 2 ^ 64 → moves before cause s ≡ false → Calm events → Tells K events (cancel_text n ∷ [])
+  cancel_told events n low rests calm = record {
+    why = (cancels (record { number = n; params = params_tree n; ready = calm.still.ready; stays = rests; bytes = refl; says = cancel_says n low }), tt);
+    calm = record { still = still_notified now s events (cancel_text n) (codes "$/cancelRequest") (Some (params_tree n)) (cancel_says n low) calm.still; turn = turn_more before cause events s (cancel_text n) calm.turn };
+    others = λ w k. ap (λ (z : Sent). z.held) (sent_more s w events (said (ToServer s (cancel_text n))))
+        ∙ ap₂ (λ b m. if b then told (sent_of s w events).encoding w (held_at s w events) (saying_of m) else held_at s w events) (same_number s) (cancel_says n low);
+  }
 
   -- another document
   abbrev pub Beside : List ℕ → List ℕ → Type 0

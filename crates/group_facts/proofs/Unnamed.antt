@@ -12,18 +12,15 @@ use Rattle.mux_history.specs.declared.out.Out.{Out}
 use Rattle.mux_history.specs.declared.out.Out.TheVariants.{ToEditor}
 use Rattle.rpc_message.specs.Message.{Message, request, notification, result, error, not_json, not_message, Id, message_of}
 use Rattle.event_model.specs.declared.phase.Phase.{Phase}
-use Rattle.event_model.specs.declared.phase.Phase.TheVariants.{Absent, New, Waiting, Answered, Running, Down, Closed, Gone}
 use Rattle.event_model.specs.declared.settings.Server.{Server}
 use Rattle.event_model.specs.Event.{Event, heard, said, with_cause}
-use Rattle.event_model.specs.Members.{has_token, named_of, string_of}
-use Rattle.event_model.specs.Phases.{desk_of}
+use Rattle.event_model.specs.Members.{named_of, string_of}
+use Rattle.event_model.specs.Phases.{desk_of, is_new, is_served}
 use Rattle.event_model.specs.Requests.{open_of}
 use Rattle.event_model.specs.Settings.{Settings}
 use Rattle.document_model.proofs.ScalarTrees.{either_way}
-use Rattle.mux_model.specs.Built.{is_other}
-use Rattle.mux_model.specs.Methods.{is_shutdown, is_wrong}
 use Rattle.group_words.specs.Houses.{Meant, meant_behind, meant_of, server_named, settles}
-use Rattle.group_facts.specs.Built.{built_as, built_behind, built_from_editor, is_bare, is_fresh, is_refused}
+use Rattle.group_facts.specs.Built.{built_behind, built_from_editor, built_request, is_fresh, is_marked, is_standard}
 
 -- no method that is built is `lspmux/open`
 
@@ -34,38 +31,16 @@ not_named method f = go (bytes_eq (codes "lspmux/open") method) refl
     go true e = absurd (f (sym ((bytes_eq-Decides (codes "lspmux/open") method).0 e)))
     go false e = refl
 
-refused_unnamed : (method : List ℕ) → is_refused (class_of method Editor false) ≡ true → bytes_eq (codes "lspmux/open") method ≡ false
+standard_unnamed : (method : List ℕ) → is_standard (class_of method Editor false) ≡ true → bytes_eq (codes "lspmux/open") method ≡ false
 unfolding editor_request own_request
-refused_unnamed method h = not_named method (λ same. let k : is_refused (class_of (codes "lspmux/open") Editor false) ≡ true = subst (λ m. is_refused (class_of m Editor false) ≡ true) same h in cc)
+standard_unnamed method h = not_named method (λ same. let k : is_standard (class_of (codes "lspmux/open") Editor false) ≡ true = subst (λ m. is_standard (class_of m Editor false) ≡ true) same h in cc)
 
-first_unnamed : (method : List ℕ) → (bytes_eq (codes "initialize") method || is_refused (class_of method Editor false)) ≡ true → bytes_eq (codes "lspmux/open") method ≡ false
-first_unnamed method h = go (bytes_eq (codes "initialize") method) refl h
+request_unnamed : (phase : Phase) (method : List ℕ) (params : Option Json) → built_request phase method params ≡ true → bytes_eq (codes "lspmux/open") method ≡ false
+request_unnamed phase method params h = go (is_new phase && bytes_eq (codes "initialize") method) refl h
   where
-    go : (b : Bool) → bytes_eq (codes "initialize") method ≡ b → (b || is_refused (class_of method Editor false)) ≡ true → bytes_eq (codes "lspmux/open") method ≡ false
-    go true e k = ap (λ m. bytes_eq (codes "lspmux/open") m) (sym ((bytes_eq-Decides (codes "initialize") method).0 e))
-    go false e k = refused_unnamed method k
-
--- of class Wrong or Other, it is one of those that are refused before
-pub served_refused : (method : List ℕ) (params : Option Json) → (is_wrong (class_of method Editor false) || is_bare method params) ≡ true → is_refused (class_of method Editor false) ≡ true
-served_refused method params h = among (is_other (class_of method Editor false)) (is_wrong (class_of method Editor false)) (is_shutdown (class_of method Editor false)) (not (has_token params)) h
-  where
-    among : (other wrong down bare : Bool) → (wrong || (other && bare)) ≡ true → (other || (wrong || down)) ≡ true
-    among true wrong down bare h = refl
-    among false true down bare h = refl
-    among false false down bare h = absurd (cc)
-
-served_unnamed : (method : List ℕ) (params : Option Json) → (is_wrong (class_of method Editor false) || is_bare method params) ≡ true → bytes_eq (codes "lspmux/open") method ≡ false
-served_unnamed method params h = refused_unnamed method (served_refused method params h)
-
-as_unnamed : (phase : Phase) (method : List ℕ) (params : Option Json) → built_as phase method params ≡ true → bytes_eq (codes "lspmux/open") method ≡ false
-as_unnamed New method params h = first_unnamed method h
-as_unnamed Waiting method params h = refused_unnamed method h
-as_unnamed Answered method params h = served_unnamed method params h
-as_unnamed Running method params h = served_unnamed method params h
-as_unnamed Closed method params h = refused_unnamed method h
-as_unnamed Absent method params h = absurd (cc)
-as_unnamed Down method params h = absurd (cc)
-as_unnamed Gone method params h = absurd (cc)
+    go : (b : Bool) → (is_new phase && bytes_eq (codes "initialize") method) ≡ b → (b || (is_standard (class_of method Editor false) && not (is_served phase && is_marked method params))) ≡ true → bytes_eq (codes "lspmux/open") method ≡ false
+    go true first k = ap (λ m. bytes_eq (codes "lspmux/open") m) (sym ((bytes_eq-Decides (codes "initialize") method).0 (and_parts (is_new phase) (bytes_eq (codes "initialize") method) first).1))
+    go false first k = standard_unnamed method (and_parts (is_standard (class_of method Editor false)) (not (is_served phase && is_marked method params)) k).0
 
 abbrev server_in : Meant → Option ℕ
 server_in x = x.server
@@ -74,7 +49,7 @@ server_in x = x.server
 settles_none : (servers : List Server) (x : Meant) (phase : Phase) (ids : List Id) (m : Message) → built_from_editor phase ids m ≡ true → x.server ≡ None → (settles servers x m).server ≡ None
 settles_none servers x phase ids (request id method params) built h =
     ap (λ b. server_in (if b then record { settled = true; server = server_named servers (string_of (named_of (codes "server") params)) } else record { settled = bytes_eq (codes "initialize") method; server = None }))
-    (as_unnamed phase method params (and_parts (is_fresh phase id ids) (built_as phase method params) built).1)
+    (request_unnamed phase method params (and_parts (is_fresh phase id ids) (built_request phase method params) built).1)
 settles_none servers x phase ids (notification method params) built h = h
 settles_none servers x phase ids (result id r) built h = h
 settles_none servers x phase ids (error id e) built h = h

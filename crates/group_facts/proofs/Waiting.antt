@@ -25,7 +25,7 @@ use Rattle.group_words.specs.Houses.{groups_of, placed_for, places}
 use Rattle.group_rows.specs.Rows.{outs_of}
 use Rattle.group_facts.specs.Facts.{is_too_many, turned_away}
 use Rattle.group_facts.proofs.Facts.{OthersWait}
-use Rattle.group_facts.specs.Why.{IsRefusal, WhyToEditor, rejects, refuses, turns_away, welcomes, passes}
+use Rattle.group_facts.specs.Why.{IsRefusal, WhyToEditor, rejects, refuses, answers, turns_away, welcomes, passes}
 
 -- one event more
 wait_more : (e : ℕ) (events : List Event) (event : Event) → WaitsAt (desk_behind e (desk_of e events) event) (open_behind e (open_of e events) event) → WaitsAt (desk_of e (events ++ event ∷ [])) (open_of e (events ++ event ∷ []))
@@ -72,6 +72,7 @@ module _ (settings : Settings) (before : List Event) (cause : Cause) (events : L
   pub waiting_told : WhyToEditor settings before cause events n body → OthersWait settings before cause events → OthersWait settings before cause told
   waiting_told (rejects k) h e rest = null_told k.x k.says e (h e rest)
   waiting_told (refuses k) h e rest = refusal_told k e (h e rest)
+  waiting_told (answers k) h e rest = result_told (λ at. absurd (late_not (desk_of n events).phase k.late at)) e (h e rest)
   waiting_told (turns_away k) h e rest = by_told e (h e rest) (λ same. never (sym (ap (turned_away settings before cause) (sym same) ∙ k.turned) ∙ rest))
   waiting_told (welcomes k) h e rest = result_told (λ at. ap is_a_result k.says) e (h e rest)
   waiting_told (passes k) h e rest = result_told (λ at. absurd (late_not (desk_of n events).phase k.late at)) e (h e rest)

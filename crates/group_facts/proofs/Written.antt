@@ -9,15 +9,15 @@ use Rattle.event_model.specs.Settings.{Settings}
 use Rattle.group_words.specs.Houses.{declared_for, key_for}
 use Rattle.group_words.specs.Placing.{founded}
 use Rattle.group_words.specs.Rows.{initialize_of}
-use Rattle.group_words.proofs.Openings.{founded_opens}
+use Rattle.group_words.proofs.Openings.{founded_opens, over_opens}
 use Rattle.group_facts.specs.Built.{built_behind}
 use Rattle.group_facts.specs.Facts.{IsWritten, Written}
 use Rattle.group_facts.proofs.Keeping.{Keeps, all_did, all_took}
 
--- a group that only ends, or is idle or busy, keeps its `initialize`
+-- a group that is idle or busy keeps its `initialize`, and one that ended has one too
 written_keeps : Keeps IsWritten
 written_keeps = record {
-  ends = λ x k. record { params = k.params; says = k.says };
+  ends = λ x k. record { params = over_opens.0; says = over_opens.1 };
   busies = λ x k. record { params = k.params; says = k.says };
   idles = λ now x k. record { params = k.params; says = k.says };
 }

@@ -1,72 +1,66 @@
 -- Which causes meet only rows of the table over several editors and groups that are built, until all are.
--- Not built of an editor that isn't closed: requests under an id that is open (E3), those of the multiplexer's own (E4 to E6), `initialize` in another phase than New, `exit`, and behind the answer to `initialize` requests with tokens (E10), `shutdown` (E9), and the notifications that go on (E11, E16, E17).
--- Not built of a start: its requests and notifications while it is ready, results that read versions (S5), and before that requests, a refused `initialize` (S3) and responses to nothing; behind its `shutdown` or its end, responses. Nor the end of a link or of a program, and ticks.
+-- Not built of an editor: requests under an id that is open (E3), those of the multiplexer's own (E4 to E6), `initialize` in another phase than New (E8), and while it is served requests that go on with tokens (E10), and the notifications that go on (E11, E16, E17).
+-- Not built of a start: its requests and notifications while it is ready, results that read versions (S5), and before that requests, a refused `initialize` (S3) and responses to nothing; behind its `shutdown` or its end, responses. Nor the end of a program, and ticks.
 -- Of S2, what is read back must be what was meant: editors are shown all of the result.
 use Rattle.std.specs.Prelude.{ℕ, Bool, true, false, not, ◌&&◌, ◌||◌, List, find, codes, bytes_eq}
 use Rattle.std.specs.Prelude.{Option, Some, None}
 use Rattle.mux_history.specs.declared.cause.Cause.{Cause}
-use Rattle.mux_history.specs.declared.cause.Cause.TheVariants.{Joined, FromEditor, Started, FromServer, Drained}
+use Rattle.mux_history.specs.declared.cause.Cause.TheVariants.{Joined, FromEditor, EditorGone, Started, FromServer, Drained}
 use Rattle.mux_history.specs.declared.entry.Entry.{Entry}
 use Rattle.json_text.specs.Json.{Json}
 use Rattle.document_model.specs.Sayings.{speaks, saying_by}
 use Rattle.lsp_method.specs.Class.{class_of}
 use Rattle.lsp_method.specs.declared.variants.Class.{Class}
+use Rattle.lsp_method.specs.declared.variants.Class.TheVariants.{Shutdown, Wrong, Other}
 use Rattle.lsp_method.specs.declared.variants.Origin.TheVariants.{Editor}
 use Rattle.rpc_message.specs.Message.{Message, request, notification, result, error, Id, message_of, result_bytes}
 use Rattle.event_model.specs.declared.phase.Phase.{Phase}
-use Rattle.event_model.specs.declared.phase.Phase.TheVariants.{New, Waiting, Answered, Running, Closed}
 use Rattle.event_model.specs.declared.stage.Stage.{Stage}
 use Rattle.event_model.specs.declared.stage.Stage.TheVariants.{Initializing, Ready, Stopping, Ending}
 use Rattle.event_model.specs.Event.{Event, events_of}
 use Rattle.event_model.specs.Members.{has_token, reads_versions}
-use Rattle.event_model.specs.Phases.{desk_of, is_malformed}
-use Rattle.event_model.specs.Requests.{open_of, is_open}
+use Rattle.event_model.specs.Phases.{desk_of, is_begun, is_malformed, is_new, is_served}
+use Rattle.event_model.specs.Requests.{is_open, open_of}
 use Rattle.event_model.specs.Settings.{Settings}
 use Rattle.event_model.specs.Stages.{life_of, is_first_result}
 use Rattle.mux_model.specs.Built.{is_other}
-use Rattle.mux_model.specs.Methods.{is_dropped, is_shutdown, is_wrong}
+use Rattle.mux_model.specs.Methods.{is_dropped}
 use Rattle.group_words.specs.Rows.{shown_of}
 use Rattle.group_rows.specs.Forwarded.{Forwarded, answered_by, forwarding_of}
 
--- E10: the request is of class Other, and has no token
+-- E10: the request is of class Other
 abbrev pub is_plain : List ℕ → Bool
 is_plain method = is_other (class_of method Editor false)
 
-abbrev pub is_bare : List ℕ → Option Json → Bool
-is_bare method params = is_plain method && not (has_token params)
+-- a method of the standard, not of the multiplexer, and not `initialize`
+abbrev pub is_standard : Class → Bool
+is_standard Shutdown = true
+is_standard Wrong = true
+is_standard Other = true
+is_standard _ = false
 
--- E8: a request before the answer to `initialize` is refused, but those of the multiplexer's own
-abbrev pub is_refused : Class → Bool
-is_refused c = is_other c || (is_wrong c || is_shutdown c)
+-- it goes on, and has a token
+abbrev pub is_marked : List ℕ → Option Json → Bool
+is_marked method params = is_plain method && has_token params
 
--- in New also E7; behind the answer E8 of class Wrong, and E10; of a closed editor nothing is heard (J2)
-abbrev pub built_as : Phase → List ℕ → Option Json → Bool
-built_as New method params = bytes_eq (codes "initialize") method || is_refused (class_of method Editor false)
-built_as Waiting method params = is_refused (class_of method Editor false)
-built_as Answered method params = is_wrong (class_of method Editor false) || is_bare method params
-built_as Running method params = is_wrong (class_of method Editor false) || is_bare method params
-built_as Closed method params = is_refused (class_of method Editor false)
-built_as other method params = false
-
--- E12 to E15: `initialized`, what is on documents, and class Dropped
-abbrev pub is_quiet : List ℕ → Option Json → Bool
-is_quiet method params = bytes_eq (codes "initialized") method || (speaks (saying_by method params) || is_dropped (class_of method Editor true))
-
--- before the answer and behind `shutdown` only `exit` is more than nothing
-abbrev pub built_notice : Phase → List ℕ → Option Json → Bool
-built_notice Answered method params = is_quiet method params
-built_notice Running method params = is_quiet method params
-built_notice Closed method params = true
-built_notice other method params = not (bytes_eq (codes "exit") method)
-
--- E3: no request of the editor under this id is open; of a closed one nothing is asked
+-- E3: no request of the editor under this id is open
 abbrev pub is_fresh : Phase → Id → List Id → Bool
-is_fresh Closed id ids = true
-is_fresh phase id ids = not (is_open id ids)
+is_fresh phase id ids = not (is_begun phase && is_open id ids)
+
+-- E7, E8 and J2, and behind the answer to `initialize` E9 and E10
+abbrev pub built_request : Phase → List ℕ → Option Json → Bool
+built_request phase method params = (is_new phase && bytes_eq (codes "initialize") method) || (is_standard (class_of method Editor false) && not (is_served phase && is_marked method params))
+
+-- E9, E12 to E15: `exit`, `initialized`, what is on documents, and class Dropped
+abbrev pub is_quiet : List ℕ → Option Json → Bool
+is_quiet method params = bytes_eq (codes "exit") method || (bytes_eq (codes "initialized") method || (speaks (saying_by method params) || is_dropped (class_of method Editor true)))
+
+abbrev pub built_notice : Phase → List ℕ → Option Json → Bool
+built_notice phase method params = not (is_served phase) || is_quiet method params
 
 -- E19: a response answers nothing, since nothing is asked of editors yet
 abbrev pub built_from_editor : Phase → List Id → Message → Bool
-built_from_editor phase ids (request id method params) = is_fresh phase id ids && built_as phase method params
+built_from_editor phase ids (request id method params) = is_fresh phase id ids && built_request phase method params
 built_from_editor phase ids (notification method params) = built_notice phase method params
 built_from_editor phase ids other = true
 
@@ -110,6 +104,7 @@ abbrev pub built_behind : Settings → List Event → Cause → Bool
 built_behind settings before (Joined e) = true
 built_behind settings before (Started s) = true
 built_behind settings before (FromEditor e body) = built_from_editor (desk_of e before).phase (open_of e before) (message_of body)
+built_behind settings before (EditorGone e why) = true
 built_behind settings before (FromServer s body) = built_from_server (life_of s before).stage (forwarding_of s before).open_requests body (message_of body)
 built_behind settings before (Drained e k) = true
 built_behind settings before other = false

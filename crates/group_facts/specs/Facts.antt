@@ -1,5 +1,5 @@
 -- What holds of every legal history of several editors and groups, and is no rule of a session.
-use Rattle.std.specs.Prelude.{◌≡◌, ℕ, ◌+◌, ◌<◌, ◌≤◌, Bool, true, false, ◌&&◌, List, length, nat_eq, codes, is_some}
+use Rattle.std.specs.Prelude.{◌≡◌, ℕ, ◌+◌, ◌<◌, ◌≤◌, Bool, true, false, ◌&&◌, ◌||◌, List, length, nat_eq, codes, is_some}
 use Rattle.std.specs.Prelude.{Option, Some, None}
 use Rattle.std.specs.List.{AllByRecursion}
 use Rattle.json_text.specs.Json.{Json}
@@ -7,13 +7,13 @@ use Rattle.document_model.specs.Orderly.{AllSpelt, Orderly}
 use Rattle.document_model.specs.Texts.{Texts}
 use Rattle.mux_history.specs.declared.cause.Cause.{Cause}
 use Rattle.mux_history.specs.declared.cause.Cause.TheVariants.{FromEditor}
-use Rattle.rpc_message.specs.Message.{Id, integer, request, result, message_of, result_bytes}
+use Rattle.rpc_message.specs.Message.{Id, Message, integer, request, result, message_of, result_bytes}
 use Rattle.rpc_message.specs.ValueTexts.{IsIdText}
 use Rattle.event_model.specs.declared.phase.Phase.{Phase}
 use Rattle.event_model.specs.declared.phase.Phase.TheVariants.{Absent, New, Waiting}
 use Rattle.event_model.specs.declared.stage.Stage.{Stage}
 use Rattle.event_model.specs.declared.stage.Stage.TheVariants.{Unspawned, Spawning, Initializing, Ready}
-use Rattle.event_model.specs.Event.{Event}
+use Rattle.event_model.specs.Event.{Event, notifies}
 use Rattle.event_model.specs.Phases.{desk_of, editors_of}
 use Rattle.event_model.specs.Requests.{next_number, is_open, open_of}
 use Rattle.event_model.specs.Settings.{Settings}
@@ -23,7 +23,7 @@ use Rattle.mux_model.specs.Documents.{held_at}
 use Rattle.group_words.specs.declared.kept.Kept.{Kept}
 use Rattle.group_words.specs.declared.placed.Placed.{Placed}
 use Rattle.group_words.specs.declared.placed.Placed.TheVariants.{TooMany}
-use Rattle.group_words.specs.Houses.{groups_of, places, placed_for}
+use Rattle.group_words.specs.Houses.{groups_of, is_doubled, places, placed_for}
 use Rattle.group_words.specs.Rows.{initialize_of, result_of, shown_of}
 use Rattle.group_rows.specs.Forwarded.{Forwarded, forwarding_of}
 use Rattle.group_rows.specs.Texts.{texts_of}
@@ -163,6 +163,15 @@ is_too_many other = false
 abbrev pub turned_away : Settings → List Event → Cause → ℕ → Bool
 turned_away settings before (FromEditor n body) e = nat_eq n e && (places (desk_of n before).phase (message_of body) && is_too_many (placed_for settings before n body (groups_of settings before)))
 turned_away settings before other e = false
+
+-- the message that is at work ends the link of its editor: `exit` (E9), or a request under an id that is open (E3)
+abbrev pub is_parting : List Event → ℕ → Message → Bool
+is_parting before e m = notifies (codes "exit") m || is_doubled before e m
+
+-- an editor whose link this cause ends
+abbrev pub ends_link : Settings → List Event → Cause → ℕ → Bool
+ends_link settings before (FromEditor n body) e = turned_away settings before (FromEditor n body) e || (nat_eq n e && is_parting before n (message_of body))
+ends_link settings before other e = false
 
 -- All of it
 

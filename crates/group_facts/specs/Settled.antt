@@ -1,12 +1,13 @@
 -- What else holds of every legal history: of the groups, and of which requests are open.
-use Rattle.std.specs.Prelude.{◌≡◌, ◌↔◌, ℕ, ◌≤◌, true, List, [], ◌∷◌, length, IsUtf8}
+use Rattle.std.specs.Prelude.{◌≡◌, ◌↔◌, ℕ, ◌≤◌, Bool, true, false, List, [], ◌∷◌, length, IsUtf8}
 use Rattle.std.specs.Prelude.{None, Some, slice_get}
 use Rattle.std.specs.List.{AllByRecursion}
 use Rattle.rpc_message.specs.Message.{Id, message_of}
 use Rattle.rpc_message.specs.ValueTexts.{IsIdText}
-use Rattle.event_model.specs.declared.phase.Phase.TheVariants.{New, Waiting}
+use Rattle.event_model.specs.declared.phase.Phase.{Phase}
+use Rattle.event_model.specs.declared.phase.Phase.TheVariants.{New, Waiting, Answered, Running, Down}
 use Rattle.event_model.specs.Event.{Event}
-use Rattle.event_model.specs.Phases.{desk_of, has_id, is_served, needs_server}
+use Rattle.event_model.specs.Phases.{desk_of, has_id, needs_server}
 use Rattle.event_model.specs.Requests.{is_open, open_of}
 use Rattle.event_model.specs.Settings.{Settings}
 use Rattle.event_model.specs.Spawns.{start_of}
@@ -43,7 +44,14 @@ pub record IsSeated (settings : Settings) (events : List Event) (e : ℕ) : Type
   pub home : home_of settings e events ≡ Some group
   pub last : start_of group events ≡ Some start
 
--- no editor named a server, each group has a start, each open request of an editor that is served was sent on, and an editor that
+-- it got the result of its `initialize`, and its link isn't to be ended
+abbrev pub is_answered : Phase → Bool
+is_answered Answered = true
+is_answered Running = true
+is_answered Down = true
+is_answered _ = false
+
+-- no editor named a server, each group has a start, each open request of an editor that got its result was sent on, and an editor that
 -- needs a server is in a group that has a start
 pub record Settled (settings : Settings) (events : List Event) : Type 0 where
   pub unnamed : (e : ℕ) → (meant_of settings.servers e events).server ≡ None
@@ -51,5 +59,5 @@ pub record Settled (settings : Settings) (events : List Event) : Type 0 where
   pub begun : (g : ℕ) → (start_of g events ≡ None) ↔ (length (groups_of settings events) ≤ g)
   pub unasked : (e : ℕ) → (desk_of e events).phase ≡ New → open_of e events ≡ []
   pub waiting : (e : ℕ) → (desk_of e events).phase ≡ Waiting → IsOnly events e
-  pub sent : (e : ℕ) (id : Id) → is_served (desk_of e events).phase ≡ true → is_open id (open_of e events) ≡ true → IsSent settings events e id
+  pub sent : (e : ℕ) (id : Id) → is_answered (desk_of e events).phase ≡ true → is_open id (open_of e events) ≡ true → IsSent settings events e id
   pub seated : (e : ℕ) → needs_server (desk_of e events).phase ≡ true → IsSeated settings events e

@@ -27,7 +27,8 @@ use Rattle.mux_model.specs.Documents.{held_at}
 use Rattle.document_model.specs.Helds.{HeldText}
 use Rattle.group_words.specs.Houses.{groups_of}
 use Rattle.group_rows.specs.Forwarded.{Forwarded, Sender, answered_by, forwarding_of}
-use Rattle.group_facts.specs.Facts.{IsAlone, IsWaiting, is_early, turned_away}
+use Rattle.group_rows.specs.Leaves.{cancel_text}
+use Rattle.group_facts.specs.Facts.{IsAlone, IsWaiting, ends_link, is_early, turned_away}
 
 -- Bodies to a start
 
@@ -105,12 +106,22 @@ pub record IsShutting (before : List Event) (cause : Cause) (events : List Event
   pub place : events ≡ with_cause before cause
   pub says : message_of body ≡ request (integer (decimal (next_number s events))) (codes "shutdown") None
 
+-- an open request is cancelled at s, which is ready, by its number (LSP 3.17, Cancellation Support)
+pub record IsCancel (before : List Event) (cause : Cause) (events : List Event) (s : ℕ) (body : List ℕ) : Type 0 where
+  pub number : ℕ
+  pub params : Json
+  pub ready : (life_of s events).stage ≡ Ready
+  pub stays : moves before cause s ≡ false
+  pub bytes : body ≡ cancel_text number
+  pub says : message_of body ≡ notification (codes "$/cancelRequest") (Some params)
+
 pub data WhyToServer (settings : Settings) (before : List Event) (cause : Cause) (events : List Event) (s : ℕ) (body : List ℕ) : Type 0 where
   begins : IsBeginning before cause events s body → WhyToServer settings before cause events s body
   greets : IsGreeting before cause events s body → WhyToServer settings before cause events s body
   forwarded : IsForward settings cause events s body → WhyToServer settings before cause events s body
   tells : IsTelling before cause events s body → WhyToServer settings before cause events s body
   shuts : IsShutting before cause events s body → WhyToServer settings before cause events s body
+  cancels : IsCancel before cause events s body → WhyToServer settings before cause events s body
 
 -- Bodies to an editor
 
@@ -133,6 +144,16 @@ pub record IsRefusal (events : List Event) (e : ℕ) (body : List ℕ) : Type 0 
   pub others : (desk_of e events).phase ≡ Waiting → has_id id (message_of (desk_of e events).initialize) ≡ false
   pub alone : IsAlone events e id
   pub says : message_of body ≡ error (Some id) x
+
+-- the daemon's own result for an open request of an editor that got one for its `initialize`; it isn't open at a start
+pub record IsAnswer (events : List Event) (e : ℕ) (body : List ℕ) : Type 0 where
+  pub id : Id
+  pub r : Json
+  pub there : is_there (desk_of e events).phase ≡ true
+  pub late : is_early (desk_of e events).phase ≡ false
+  pub waits : is_open id (open_of e events) ≡ true
+  pub alone : IsAlone events e id
+  pub says : message_of body ≡ result (Some id) r
 
 -- an error for the `initialize` of an editor that waits: the daemon has too many groups
 pub record IsTurning (settings : Settings) (before : List Event) (cause : Cause) (events : List Event) (e : ℕ) (body : List ℕ) : Type 0 where
@@ -170,6 +191,7 @@ pub record IsPassing (before : List Event) (cause : Cause) (events : List Event)
 pub data WhyToEditor (settings : Settings) (before : List Event) (cause : Cause) (events : List Event) (e : ℕ) (body : List ℕ) : Type 0 where
   rejects : IsRejection before cause events e body → WhyToEditor settings before cause events e body
   refuses : IsRefusal events e body → WhyToEditor settings before cause events e body
+  answers : IsAnswer events e body → WhyToEditor settings before cause events e body
   turns_away : IsTurning settings before cause events e body → WhyToEditor settings before cause events e body
   welcomes : IsWelcome events e body → WhyToEditor settings before cause events e body
   passes : IsPassing before cause events e body → WhyToEditor settings before cause events e body
@@ -184,7 +206,7 @@ abbrev pub Why : Settings → List Event → Cause → List Event → Out → Ty
 Why settings before cause events (ToEditor e body) = WhyToEditor settings before cause events e body
 Why settings before cause events (ToServer s body) = WhyToServer settings before cause events s body
 Why settings before cause events (Spawn s g) = (s ≡ starts_of events) × (g < length (groups_of settings events))
-Why settings before cause events (CloseEditor e) = (turned_away settings before cause e ≡ true) × (is_there (desk_of e events).phase ≡ true)
+Why settings before cause events (CloseEditor e) = (ends_link settings before cause e ≡ true) × (is_there (desk_of e events).phase ≡ true)
 Why settings before cause events (EndServer s) = is_starting (life_of s events).stage ≡ true
 
 -- each of these outs of a cause has its reason, at its place

@@ -23,7 +23,7 @@ use Rattle.document_laws.proofs.Following.{close_held, close_none, close_outs, c
 use Rattle.document_laws.proofs.Sends.{Stays, other_way, send_version_other}
 use Rattle.mux_model.specs.Documents.{without_editor}
 use Rattle.document_model.specs.Rows.{sent_close}
-use Rattle.group_rows.specs.Rows as rows
+use Rattle.group_rows.specs.Leaves as departures
 use Rattle.group_laws.proofs.Syncing.{apart, map_append}
 use Rattle.group_laws.proofs.SyncHeld.{IsFound, all_found}
 
@@ -238,14 +238,14 @@ module _ (n e : ℕ) (code : Encoding) (s : Documents) (held : List ℕ → Opti
         (subst (λ z. Matches z (holder o.uri step.after.opens) (told_outs s.encoding o.uri (held o.uri) step.outs)) x.version (f.follows o.uri))) (follows o.uri)
 
     abbrev bodies : Open → List (List ℕ)
-    bodies o = rows.left s.versions e s.opens (held o.uri) o
+    bodies o = departures.left s.versions e s.opens (held o.uri) o
 
     one_left : (step : Step) (o : Open) → Fine step → Beside step.after → Waits step.after o → (close_row e o.uri step.after).outs ≡ to (bodies o)
     one_left step o f h x = close_outs e o.uri step.after n o (λ w. told_outs s.encoding w (held w) step.outs) (f.stays.start ∙ started) f.follows x.found
         ∙ ap to (ap (λ m. sent_close m o.uri (holder_beside e o.uri step.after.opens) (told_outs s.encoding o.uri (held o.uri) step.outs)) f.stays.versions ∙ ap₂ (λ q k. sent_close s.versions o.uri q k) (h o.uri) (still_held step o f x))
 
     abbrev left : List Open → List (List ℕ)
-    left os = rows.leave_bodies s.versions held e s.opens os
+    left os = departures.leave_bodies s.versions held e s.opens os
 
     abbrev left_if : Bool → Open → List Open → List (List ℕ)
     left_if b o os = flat_map (λ (p : Open). bodies p) (cond b (o ∷ filter (λ (p : Open). nat_eq p.editor e) os) (filter (λ (p : Open). nat_eq p.editor e) os))
@@ -270,7 +270,7 @@ module _ (n e : ℕ) (code : Encoding) (s : Documents) (held : List ℕ → Opti
       leave_held = (all_fine (uris_of e s.opens) (nothing s) first_fine).follows
 
       -- each of its documents is closed, in the order of opening
-      pub leave_outs : (leave_row e s).outs ≡ map (λ b. ToServer n b) (rows.leave_bodies s.versions held e s.opens s.opens)
+      pub leave_outs : (leave_row e s).outs ≡ map (λ b. ToServer n b) (departures.leave_bodies s.versions held e s.opens s.opens)
       leave_outs = all_left (nothing s) s.opens first_fine (λ w. refl) orderly.once (first_wait s.opens (all_found s.opens orderly.once))
 
       left_speaks : (os : List Open) → AllSpelt os → AllSpeak (left os)
@@ -281,5 +281,5 @@ module _ (n e : ℕ) (code : Encoding) (s : Documents) (held : List ℕ → Opti
           go true rest = both_speak (bodies o) (left os) (sent_close_speaks s.versions o.uri (holder_beside e o.uri s.opens) (held o.uri) small h.0.0 (λ q k. latest_spelt _ s.opens q spelt k)) rest
           go false rest = rest
 
-      pub leave_speaks : AllSpeak (rows.leave_bodies s.versions held e s.opens s.opens)
+      pub leave_speaks : AllSpeak (departures.leave_bodies s.versions held e s.opens s.opens)
       leave_speaks = left_speaks s.opens spelt

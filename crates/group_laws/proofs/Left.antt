@@ -24,7 +24,7 @@ use Rattle.mux_model.specs.Documents as starts
 use Rattle.mux_model.specs.Documents.{Sent, held_at, sent_behind, sent_of, without_editor}
 use Rattle.mux_model.proofs.DocumentFolds.{sent_encoding}
 use Rattle.group_words.specs.Houses.{home_of, is_home}
-use Rattle.group_rows.specs.Rows as rows
+use Rattle.group_rows.specs.Leaves as departures
 use Rattle.group_rows.specs.Texts.{encoding_of, is_synced, texts_of}
 use Rattle.group_rows.proofs.Frames.{encoding_stays, texts_more, texts_stay}
 use Rattle.group_laws.specs.Stands.{HeldStands, TextsStand}
@@ -74,7 +74,7 @@ module _ (settings : Settings) (g e : ℕ) (d : Documents) (before mid : List Ev
   module _ (s : ℕ) (code : Encoding) (quiet : List (List ℕ)) (few : d.versions < 2 ^ 32) (still : AreQuiet quiet) (holds : HeldStands s code d before)
       (sent : (u : List ℕ) → sent_of s u mid ≡ record { encoding = Some code; held = held_at s u before }) where
     abbrev bodies : List (List ℕ)
-    bodies = rows.leave_bodies d.versions (λ u. held_at s u before) e d.opens d.opens
+    bodies = departures.leave_bodies d.versions (λ u. held_at s u before) e d.opens d.opens
 
     abbrev row_outs : List Out
     row_outs = to s quiet ++ (leave_row e d).outs
@@ -112,8 +112,8 @@ module _ (settings : Settings) (g e : ℕ) (d : Documents) (before mid : List Ev
     }
 
     -- its outs are the row's
-    pub left_outs : d.versions ≡ settings.limits.versions → (leave_row e d).outs ≡ map (λ b. ToServer s b) (rows.leave_bodies settings.limits.versions (λ u. held_at s u before) e (texts_of settings g before).opens (texts_of settings g before).opens)
-    left_outs same = outs_is ∙ ap₂ (λ m (x : Texts). map (λ b. ToServer s b) (rows.leave_bodies m (λ u. held_at s u before) e x.opens x.opens)) same (sym texts.texts)
+    pub left_outs : d.versions ≡ settings.limits.versions → (leave_row e d).outs ≡ map (λ b. ToServer s b) (departures.leave_bodies settings.limits.versions (λ u. held_at s u before) e (texts_of settings g before).opens (texts_of settings g before).opens)
+    left_outs same = outs_is ∙ ap₂ (λ m (x : Texts). map (λ b. ToServer s b) (departures.leave_bodies m (λ u. held_at s u before) e x.opens x.opens)) same (sym texts.texts)
 
 -- J2: its link is lost
 module _ (settings : Settings) (g e : ℕ) (why : Why) (before : List Event) where

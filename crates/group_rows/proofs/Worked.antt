@@ -11,11 +11,11 @@ use Rattle.position_codec.specs.declared.Encoding.TheVariants.{Utf8, Utf16}
 use Rattle.rpc_message.specs.Message.{message_of, no_name_twice, is_integer, member_bytes}
 use Rattle.rpc_message.specs.Texts.{with_id_text}
 use Rattle.group_words.specs.Example.{with_groups}
-use Rattle.group_rows.specs.Example.{all_outs, events_behind, too_early, too_early_outs, refused_early, refused_early_outs, wrong_names, wrong_names_outs, two_editors, two_editors_outs, both_ask, both_ask_outs, switching, switching_outs, changing, changing_outs, closing, closing_outs, two_groups, an_exit, texts_in, touches_in, one_cancelled, left_outs}
+use Rattle.group_rows.specs.Example.{all_outs, events_behind, too_early, too_early_outs, refused_early, refused_early_outs, wrong_names, wrong_names_outs, two_editors, two_editors_outs, both_ask, both_ask_outs, switching, switching_outs, changing, changing_outs, closing, closing_outs, two_groups, an_exit, texts_in, touches_in, one_cancelled, left_outs, parting, parting_outs, links_end, links_end_outs}
 use Rattle.mux_history.specs.declared.out.Out.TheVariants.{ToServer}
 use Rattle.event_model.specs.Event.{Event}
 use Rattle.mux_model.specs.Documents.{held_at}
-use Rattle.group_rows.specs.Rows.{leave_bodies}
+use Rattle.group_rows.specs.Leaves.{leave_bodies}
 use Rattle.group_rows.specs.Texts.{encoding_of, texts_of}
 
 requests_come_too_early : all_outs too_early ≡ too_early_outs
@@ -92,3 +92,11 @@ its_open_requests_are_cancelled : left_outs 0 one_cancelled
     ∷ []
 unfolding computes message_of named no_name_twice is_integer member_bytes with_id_text escape_byte digits own_request own_notification goes_nowhere editor_request
 its_open_requests_are_cancelled = refl
+
+editors_part : all_outs parting ≡ parting_outs
+unfolding computes message_of named no_name_twice is_integer member_bytes with_id_text escape_byte digits own_request own_notification goes_nowhere editor_request
+editors_part = refl
+
+leaving_where_a_link_ends : all_outs links_end ≡ links_end_outs
+unfolding computes message_of named no_name_twice is_integer member_bytes with_id_text escape_byte digits own_request own_notification goes_nowhere editor_request
+leaving_where_a_link_ends = refl

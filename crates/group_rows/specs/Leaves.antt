@@ -1,7 +1,10 @@
 -- L1: what a start is sent where an editor of its group leaves.
-use Rattle.std.specs.Prelude.{ℕ, not, List, ◌++◌, filter, codes, decimal}
-use Rattle.std.specs.Prelude.{Some}
+use Rattle.std.specs.Prelude.{ℕ, not, List, ◌++◌, filter, flat_map, codes, decimal, nat_eq}
+use Rattle.std.specs.Prelude.{Option, Some}
 use Rattle.mux_history.specs.declared.out.Out.TheVariants.{ToServer}
+use Rattle.document_model.specs.Helds.{HeldText}
+use Rattle.document_model.specs.Opens.{Open, holder_beside}
+use Rattle.document_model.specs.Rows.{sent_close}
 use Rattle.rpc_message.specs.Texts.{notification_text}
 use Rattle.event_model.specs.Event.{Event}
 use Rattle.event_model.specs.Row.{Row, nothing, send, choose, each, on, ◌⨾◌}
@@ -12,7 +15,6 @@ use Rattle.mux_model.specs.Documents.{held_at}
 use Rattle.mux_model.specs.Rows.{to_start}
 use Rattle.group_words.specs.Houses.{home_of}
 use Rattle.group_rows.specs.Forwarded.{Forwarded, forwarding_of, numbers_of}
-use Rattle.group_rows.specs.Rows.{leave_bodies}
 use Rattle.group_rows.specs.Texts.{texts_of}
 
 -- a request is cancelled by its number (LSP 3.17, Cancellation Support)
@@ -23,17 +25,24 @@ abbrev pub cancel_text : ℕ → List ℕ
 cancel_text n = notification_text (codes "$/cancelRequest") (Some (cancel_params n))
 
 -- the numbers, rising, of an editor's open requests that it didn't cancel
-abbrev pub open_of : ℕ → List Forwarded → List ℕ
-open_of e fs = numbers_of e (filter (λ f. not f.cancelled) fs)
+abbrev pub uncancelled_of : ℕ → List Forwarded → List ℕ
+uncancelled_of e fs = numbers_of e (filter (λ f. not f.cancelled) fs)
 
 abbrev pub cancel : ℕ → ℕ → Row
 cancel s n = send (ToServer s (cancel_text n))
 
 -- these are cancelled at a start that is ready
 abbrev pub cancels : List Event → ℕ → ℕ → Row
-cancels before s e = choose (is_ready (life_of s before).stage) (each (cancel s) (open_of e (forwarding_of s before).open_requests)) nothing
+cancels before s e = choose (is_ready (life_of s before).stage) (each (cancel s) (uncancelled_of e (forwarding_of s before).open_requests)) nothing
 
--- and then the editor's documents are closed there, in the order of opening
+-- it closes each of its documents, in the order of opening
+abbrev pub left : ℕ → ℕ → List Open → Option HeldText → Open → List (List ℕ)
+left versions e all held o = sent_close versions o.uri (holder_beside e o.uri all) held
+
+abbrev pub leave_bodies : ℕ → (List ℕ → Option HeldText) → ℕ → List Open → List Open → List (List ℕ)
+leave_bodies versions held e all os = flat_map (λ (o : Open). left versions e all (held o.uri) o) (filter (λ (o : Open). nat_eq o.editor e) os)
+
+-- and then the editor's documents are closed there
 abbrev pub closings : Settings → List Event → ℕ → ℕ → ℕ → Row
 closings settings before g s e = choose (is_ready (life_of s before).stage)
     (to_start s (leave_bodies settings.limits.versions (λ u. held_at s u before) e (texts_of settings g before).opens (texts_of settings g before).opens)) nothing

@@ -1,12 +1,12 @@
--- The routing table over several editors and groups, in part: J2, E2, E7, E8, E10, E12 to E15, S2 of a group's first start, S4 where it gives nothing, S5 without versions, and the start of a server's program.
-use Rattle.std.specs.Prelude.{ℕ, Bool, false, ◌&&◌, List, [], ◌∷◌, ◌++◌, filter, find, flat_map, codes, nat_eq, nat_lt, decimal, bytes_eq, if◌then◌else◌}
+-- The routing table over several editors and groups, in part: J2, E2, E3, E7 to E10, E12 to E15, S2 of a group's first start, S4 where it gives nothing, S5 without versions, X5, and the start of a server's program.
+use Rattle.std.specs.Prelude.{ℕ, Bool, false, ◌&&◌, ◌||◌, List, [], ◌∷◌, ◌++◌, filter, find, flat_map, codes, nat_eq, nat_lt, decimal, bytes_eq, if◌then◌else◌}
 use Rattle.std.specs.Prelude.{Option, Some, None, slice_get}
 use Rattle.std.specs.List.{list_any}
 use Rattle.std.specs.Option.{option_map_or}
 use Rattle.mux_history.specs.declared.cause.Cause.{Cause}
-use Rattle.mux_history.specs.declared.cause.Cause.TheVariants.{FromEditor, Started, FromServer}
+use Rattle.mux_history.specs.declared.cause.Cause.TheVariants.{FromEditor, EditorGone, Started, FromServer}
 use Rattle.mux_history.specs.declared.out.Out.{Out}
-use Rattle.mux_history.specs.declared.out.Out.TheVariants.{ToEditor, ToServer}
+use Rattle.mux_history.specs.declared.out.Out.TheVariants.{ToEditor, ToServer, CloseEditor}
 use Rattle.position_codec.specs.declared.Encoding.{Encoding}
 use Rattle.lsp_method.specs.Class.{class_of}
 use Rattle.lsp_method.specs.declared.variants.Origin.TheVariants.{Editor}
@@ -20,11 +20,11 @@ use Rattle.document_model.specs.Sayings.{Saying, opens, changes, closes, misshap
 use Rattle.document_model.specs.Sayings as saying
 use Rattle.document_model.specs.Texts.{Texts, opened, found, changed}
 use Rattle.event_model.specs.declared.phase.Phase.{Phase}
-use Rattle.event_model.specs.declared.phase.Phase.TheVariants.{New, Waiting, Answered, Running}
+use Rattle.event_model.specs.declared.phase.Phase.TheVariants.{New, Waiting, Answered, Running, Down}
 use Rattle.event_model.specs.declared.stage.Stage.{Stage}
 use Rattle.event_model.specs.declared.stage.Stage.TheVariants.{Spawning, Initializing, Ready}
 use Rattle.event_model.specs.Event.{Event, behind, with_cause, requests}
-use Rattle.event_model.specs.Phases.{desk_of, is_there, is_malformed, is_waiting}
+use Rattle.event_model.specs.Phases.{desk_of, is_begun, is_there, is_malformed, is_served, is_waiting}
 use Rattle.event_model.specs.Requests.{answered_id}
 use Rattle.event_model.specs.Row.{Row, nothing, send, choose, look, outs, each, on, ◌⨾◌}
 use Rattle.event_model.specs.Settings.{Settings}
@@ -33,9 +33,10 @@ use Rattle.event_model.specs.Stages.{life_of, is_ready, is_first_result}
 use Rattle.mux_model.specs.Documents.{held_at}
 use Rattle.mux_model.specs.Methods.{is_dollar, is_wrong}
 use Rattle.mux_model.specs.Rows.{malformed_row, to_start}
-use Rattle.group_words.specs.Houses.{editors_in, groups_of, home_of}
+use Rattle.group_words.specs.Houses.{editors_in, groups_of, home_of, is_doubled}
 use Rattle.group_words.specs.Rows.{initialize_of, initialize_row, shown_of}
 use Rattle.group_rows.specs.Forwarded.{Forwarded, forwarding_of, answered_by}
+use Rattle.group_rows.specs.Leaves.{leave_row}
 use Rattle.group_rows.specs.Texts.{encoding_of, texts_of}
 
 abbrev pub answer_error : ℕ → List ℕ → Code → Row
@@ -65,13 +66,6 @@ synced versions o (Some h) = differing versions o h
 
 abbrev pub sync_bodies : ℕ → (List ℕ → Option HeldText) → ℕ → List Open → List (List ℕ)
 sync_bodies versions held e os = flat_map (λ (o : Open). synced versions o (held o.uri)) (filter (λ (o : Open). nat_eq o.editor e) os)
-
--- L1: an editor that leaves closes each of its documents, in the order of opening
-abbrev pub left : ℕ → ℕ → List Open → Option HeldText → Open → List (List ℕ)
-left versions e all held o = sent_close versions o.uri (holder_beside e o.uri all) held
-
-abbrev pub leave_bodies : ℕ → (List ℕ → Option HeldText) → ℕ → List Open → List Open → List (List ℕ)
-leave_bodies versions held e all os = flat_map (λ (o : Open). left versions e all (held o.uri) o) (filter (λ (o : Open). nat_eq o.editor e) os)
 
 -- X4: each document that is open, in the order of its earliest opening, with the holder's language and text
 abbrev pub replay_bodies : List (List ℕ) → List Open → List Open → List (List ℕ)
@@ -104,28 +98,60 @@ document_at settings before e body x g s =
 abbrev pub document_row : Settings → List Event → ℕ → List ℕ → Saying → Row
 document_row settings before e body x = on (home_of settings e before) nothing (λ g. on (start_of g before) nothing (document_at settings before e body x g))
 
--- E8: what a request that isn't taken is answered with
+-- E3, and `exit` of E9: the editor's link is to be ended, and it leaves
+abbrev pub closing_row : Settings → List Event → ℕ → Row
+closing_row settings before e = send (CloseEditor e) ⨾ leave_row settings before e
+
+-- E9: `shutdown` is answered, and the editor leaves
+abbrev pub shutdown_row : Settings → List Event → ℕ → List ℕ → Row
+shutdown_row settings before e body = send (ToEditor e (ok_text (id_bytes body) (codes "null"))) ⨾ leave_row settings before e
+
+-- E8: what a request that isn't taken is answered with; a second `initialize` is an invalid one
 abbrev pub wrong_code : List ℕ → Code → Code
 wrong_code method otherwise = if is_dollar method then method_not_found else otherwise
 
--- E15 gives nothing, as a notification on no document does, and a response: nothing is asked of editors yet (E19)
-abbrev pub served_row : Settings → List Event → ℕ → List ℕ → Message → Row
-served_row settings before e body (request id method params) = choose (is_wrong (class_of method Editor false)) (answer_error e body (wrong_code method invalid_request)) (request_row settings before e body)
-served_row settings before e body (notification method params) = document_row settings before e body (saying_by method params)
-served_row settings before e body other = nothing
+abbrev pub early_code : List ℕ → Code
+early_code method = if bytes_eq (codes "initialize") method then invalid_request else wrong_code method server_not_initialized
+
+abbrev pub is_misplaced : List ℕ → Bool
+is_misplaced method = bytes_eq (codes "initialize") method || is_wrong (class_of method Editor false)
+
+-- E9: `exit`, in any phase; E8 and E15: another notification gives nothing, nor does a response, since nothing is asked of editors yet (E19)
+abbrev pub exit_row : Settings → List Event → ℕ → Message → Row
+exit_row settings before e (notification method params) = choose (bytes_eq (codes "exit") method) (closing_row settings before e) nothing
+exit_row settings before e other = nothing
 
 -- E8: a request comes too early
-abbrev pub early_row : ℕ → List ℕ → Message → Row
-early_row e body (request id method params) = answer_error e body (wrong_code method server_not_initialized)
-early_row e body other = nothing
+abbrev pub early_row : Settings → List Event → ℕ → List ℕ → Message → Row
+early_row settings before e body (request id method params) = answer_error e body (early_code method)
+early_row settings before e body other = exit_row settings before e other
+
+abbrev pub served_request : Settings → List Event → ℕ → List ℕ → List ℕ → Row
+served_request settings before e body method = choose (is_misplaced method) (answer_error e body (wrong_code method invalid_request))
+    (choose (bytes_eq (codes "shutdown") method) (shutdown_row settings before e body) (request_row settings before e body))
+
+abbrev pub served_row : Settings → List Event → ℕ → List ℕ → Message → Row
+served_row settings before e body (request id method params) = served_request settings before e body method
+served_row settings before e body (notification method params) = choose (bytes_eq (codes "exit") method) (closing_row settings before e) (document_row settings before e body (saying_by method params))
+served_row settings before e body other = nothing
+
+-- E8: behind `shutdown` each request is refused (LSP 3.17, Shutdown Request)
+abbrev pub down_row : Settings → List Event → ℕ → List ℕ → Message → Row
+down_row settings before e body (request id method params) = answer_error e body (wrong_code method invalid_request)
+down_row settings before e body other = exit_row settings before e other
 
 -- J2: a closed editor's messages give nothing
+abbrev pub taken_row : Settings → List Event → ℕ → List ℕ → Message → Phase → Row
+taken_row settings before e body m New = choose (requests (codes "initialize") m) (initialize_row settings before e body) (early_row settings before e body m)
+taken_row settings before e body m Waiting = early_row settings before e body m
+taken_row settings before e body m Answered = served_row settings before e body m
+taken_row settings before e body m Running = served_row settings before e body m
+taken_row settings before e body m Down = down_row settings before e body m
+taken_row settings before e body m other = nothing
+
+-- E3: a request under an id that is open stands before all others; a new editor has none
 abbrev pub message_row : Settings → List Event → ℕ → List ℕ → Message → Phase → Row
-message_row settings before e body m New = choose (requests (codes "initialize") m) (initialize_row settings before e body) (early_row e body m)
-message_row settings before e body m Waiting = early_row e body m
-message_row settings before e body m Answered = served_row settings before e body m
-message_row settings before e body m Running = served_row settings before e body m
-message_row settings before e body m other = nothing
+message_row settings before e body m phase = choose (is_begun phase && is_doubled before e m) (closing_row settings before e) (taken_row settings before e body m phase)
 
 abbrev pub from_editor : Settings → List Event → ℕ → List ℕ → Message → Phase → Row
 from_editor settings before e body m phase = choose (is_malformed m) (malformed_row e m phase) (message_row settings before e body m phase)
@@ -164,9 +190,14 @@ abbrev pub started : Settings → ℕ → List Event → Stage → Row
 started settings s before Spawning = on (group_of s before) nothing (begin_in settings before s)
 started settings s before other = nothing
 
+-- X5: an editor that is served leaves where its link ends
+abbrev pub gone_row : Settings → List Event → ℕ → Phase → Row
+gone_row settings before e phase = choose (is_served phase) (leave_row settings before e) nothing
+
 -- J1 and X6 give nothing, as each cause without a row of its own does
 abbrev pub row_of : Settings → List Event → Cause → Row
 row_of settings before (FromEditor e body) = from_editor settings before e body (message_of body) (desk_of e before).phase
+row_of settings before (EditorGone e why) = gone_row settings before e (desk_of e before).phase
 row_of settings before (FromServer s body) = from_server settings s before body (message_of body) (life_of s before).stage
 row_of settings before (Started s) = started settings s before (life_of s before).stage
 row_of settings before other = nothing

@@ -14,7 +14,7 @@ use Rattle.mux_facts.proofs.Bodies.{IsResponseTo, is_error, is_result}
 use Rattle.session_laws.specs.ClientRules.{KeepsClient2}
 use Rattle.session_laws.proofs.Client2Law.{Everywhere, more, none_yet, refused, to_editor, took_it}
 use Rattle.group_facts.specs.Legal.{Legal}
-use Rattle.group_facts.specs.Why.{WhyToEditor, rejects, refuses, turns_away, welcomes, passes}
+use Rattle.group_facts.specs.Why.{WhyToEditor, rejects, refuses, answers, turns_away, welcomes, passes}
 use Rattle.group_facts.proofs.RestLaws.{Law, law_holds}
 
 -- a response with this id
@@ -30,6 +30,7 @@ module _ (settings : Settings) (before : List Event) (cause : Cause) (events : L
   told_it : WhyToEditor settings before cause events e body → Everywhere before → Everywhere events → Everywhere (events ++ said (ToEditor e body) ∷ [])
   told_it (rejects k) h i = subst (λ z. Everywhere (z ++ said (ToEditor e body) ∷ [])) (sym (k.place ∙ ap (with_cause before) k.from)) (refused before e k.asked body k.x k.malformed k.says h)
   told_it (refuses k) h i = to_editor events e body k.id (is_error k.x k.says) k.waits i
+  told_it (answers k) h i = to_editor events e body k.id (is_result k.r k.says) k.waits i
   told_it (turns_away k) h i = to_editor events e body k.id (is_error k.x k.says) (k.waiting).waits i
   told_it (welcomes k) h i = to_editor events e body k.id (is_result k.r k.says) (k.waiting).waits i
   told_it (passes k) h i = to_editor events e body k.id (response_to k.id (message_of body) k.response k.answers) k.waits i

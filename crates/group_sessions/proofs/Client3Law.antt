@@ -1,5 +1,5 @@
 -- An editor hears nothing but responses before its session is open, and one `initialize` of it gets a result.
-use Rattle.std.proofs.Common.{◌≡◌, ℕ, Bool, true, false, not, ◌||◌, cond, List, [], ◌∷◌, ◌++◌, nat_eq, codes, bytes_eq, if◌then◌else◌, Option, None, Some, refl, sym, ◌∙◌, ap, subst, subst₂}
+use Rattle.std.proofs.Common.{◌≡◌, ℕ, Bool, true, false, not, ◌&&◌, ◌||◌, cond, List, [], ◌∷◌, ◌++◌, nat_eq, codes, bytes_eq, if◌then◌else◌, Option, None, Some, refl, sym, ◌∙◌, ap, subst, subst₂}
 use Rattle.std.proofs.lemmas.Bool.{and_parts}
 use Rattle.std.proofs.lemmas.Slice.Eq.{bytes_eq-Decides}
 use Rattle.json_text.specs.Json.{Json}
@@ -15,13 +15,12 @@ use Rattle.event_model.specs.declared.phase.Phase.TheVariants.{Absent, New, Wait
 use Rattle.event_model.specs.Event.{Event, requests, said, same_id, with_cause}
 use Rattle.event_model.specs.Always.{Always}
 use Rattle.event_model.specs.Parts.{editor_part, is_of_editor}
-use Rattle.event_model.specs.Phases.{Desk, desk_of, desk_behind, is_there, phase_closed, phase_told}
+use Rattle.event_model.specs.Phases.{Desk, desk_of, desk_behind, is_new, is_served, is_there, phase_closed, phase_told}
 use Rattle.event_model.specs.Requests.{answered_id, is_open, open_behind, open_of, without}
 use Rattle.event_model.specs.Settings.{Settings}
 use Rattle.event_model.specs.Spawns.{starts_of}
-use Rattle.mux_model.specs.Methods.{is_wrong}
 use Rattle.mux_facts.specs.Ranges.{InRange}
-use Rattle.mux_facts.proofs.Bodies.{IsResponseTo}
+use Rattle.mux_facts.proofs.Bodies.{IsResponseTo, is_result}
 use Rattle.mux_facts.proofs.Folds.{desk_more, opens_more}
 use Rattle.mux_facts.proofs.Rules.{rule_more, word_more}
 use Rattle.mux_facts.proofs.Waits.{AllWaiting, WaitsAt, WaitsIf}
@@ -30,35 +29,29 @@ use Rattle.mux_facts.proofs.Words.{id_same, number_same}
 use Rattle.session_laws.specs.ClientRules.{ClientRule3, KeepsClient3, Opening, may_hear, opening_behind, opening_told}
 use Rattle.session_laws.proofs.Client3Law as client_3
 use Rattle.session_laws.proofs.Client3Law.{AsksOnce, Expects, Link, LinkAt, closed_link, late_told, may_answer, may_welcome, none_open, opening, same_request, took_it, welcomed}
-use Rattle.group_facts.specs.Built.{built_behind, built_from_editor, is_bare, is_refused}
-use Rattle.group_facts.proofs.Unnamed.{served_refused}
+use Rattle.group_facts.specs.Built.{built_behind, built_from_editor, built_request, is_fresh, is_marked, is_standard}
+use Rattle.group_facts.proofs.Waiting.{new_is}
 use Rattle.group_facts.specs.Legal.{Legal}
-use Rattle.group_facts.specs.Why.{WhyToEditor, rejects, refuses, turns_away, welcomes, passes}
+use Rattle.group_facts.specs.Why.{WhyToEditor, rejects, refuses, answers, turns_away, welcomes, passes}
 use Rattle.group_facts.proofs.RestLaws.{Law, law_holds}
 use Rattle.group_sessions.proofs.Client2Law.{response_to}
 
 -- A request `initialize` is one of a new editor
 
-refused_other : (method : List ℕ) → is_refused (class_of method Editor false) ≡ true → bytes_eq (codes "initialize") method ≡ false
+standard_other : (method : List ℕ) → is_standard (class_of method Editor false) ≡ true → bytes_eq (codes "initialize") method ≡ false
 unfolding editor_request own_request
-refused_other method h = go (bytes_eq (codes "initialize") method) refl
+standard_other method h = go (bytes_eq (codes "initialize") method) refl
   where
     go : (b : Bool) → bytes_eq (codes "initialize") method ≡ b → b ≡ false
-    go true e = absurd (let k : is_refused (class_of (codes "initialize") Editor false) ≡ true = subst (λ m. is_refused (class_of m Editor false) ≡ true) (sym ((bytes_eq-Decides (codes "initialize") method).0 e)) h in cc)
+    go true e = absurd (let k : is_standard (class_of (codes "initialize") Editor false) ≡ true = subst (λ m. is_standard (class_of m Editor false) ≡ true) (sym ((bytes_eq-Decides (codes "initialize") method).0 e)) h in cc)
     go false e = refl
 
-served_other : (method : List ℕ) (params : Option Json) → (is_wrong (class_of method Editor false) || is_bare method params) ≡ true → bytes_eq (codes "initialize") method ≡ false
-served_other method params h = refused_other method (served_refused method params h)
-
 no_initialize : (phase : Phase) (ids : List Id) (m : Message) → (phase ≡ New → ⊥) → built_from_editor phase ids m ≡ true → requests (codes "initialize") m ≡ false
-no_initialize Waiting ids (request id method params) other h = refused_other method (and_parts (not (is_open id ids)) (is_refused (class_of method Editor false)) h).1
-no_initialize Answered ids (request id method params) other h = served_other method params (and_parts (not (is_open id ids)) (is_wrong (class_of method Editor false) || is_bare method params) h).1
-no_initialize Running ids (request id method params) other h = served_other method params (and_parts (not (is_open id ids)) (is_wrong (class_of method Editor false) || is_bare method params) h).1
-no_initialize New ids (request id method params) other h = absurd (other refl)
-no_initialize Absent ids (request id method params) other h = absurd (let none = (and_parts (not (is_open id ids)) false h).1 in cc)
-no_initialize Down ids (request id method params) other h = absurd (let none = (and_parts (not (is_open id ids)) false h).1 in cc)
-no_initialize Closed ids (request id method params) other h = refused_other method h
-no_initialize Gone ids (request id method params) other h = absurd (let none = (and_parts (not (is_open id ids)) false h).1 in cc)
+no_initialize phase ids (request id method params) other h = go (is_new phase && bytes_eq (codes "initialize") method) refl (and_parts (is_fresh phase id ids) (built_request phase method params) h).1
+  where
+    go : (b : Bool) → (is_new phase && bytes_eq (codes "initialize") method) ≡ b → (b || (is_standard (class_of method Editor false) && not (is_served phase && is_marked method params))) ≡ true → bytes_eq (codes "initialize") method ≡ false
+    go true first k = absurd (other (new_is phase (and_parts (is_new phase) (bytes_eq (codes "initialize") method) first).0))
+    go false first k = standard_other method (and_parts (is_standard (class_of method Editor false)) (not (is_served phase && is_marked method params)) k).0
 no_initialize phase ids (notification method params) other h = refl
 no_initialize phase ids (result id r) other h = refl
 no_initialize phase ids (error id x) other h = refl
@@ -200,6 +193,7 @@ module _ (events : List Event) (n : ℕ) (body : List ℕ) where
   told_it : (settings : Settings) (before : List Event) (cause : Cause) → WhyToEditor settings before cause events n body → Everywhere events → Everywhere (events ++ said (ToEditor n body) ∷ [])
   told_it settings before cause (rejects k) h = error_told None k.x k.says h
   told_it settings before cause (refuses k) h = error_told (Some k.id) k.x k.says h
+  told_it settings before cause (answers k) h = answer_told k.id k.there k.late (is_result k.r k.says) h
   told_it settings before cause (turns_away k) h = error_told (Some k.id) k.x k.says h
   told_it settings before cause (welcomes k) h = welcome_told k.id (k.waiting).params k.r (k.waiting).phase (k.waiting).asks (k.waiting).waits k.says h
   told_it settings before cause (passes k) h = answer_told k.id k.there k.late (response_to k.id (message_of body) k.response k.answers) h

@@ -13,7 +13,7 @@ use Rattle.session_laws.proofs.Server3Law.{begun_numbered, free, known, told_num
 use Rattle.group_rows.specs.Forwarded.{forwarding_of}
 use Rattle.group_facts.specs.Facts.{is_unbegun}
 use Rattle.group_facts.specs.Legal.{Legal}
-use Rattle.group_facts.specs.Why.{WhyToServer, begins, greets, forwarded, tells, shuts}
+use Rattle.group_facts.specs.Why.{WhyToServer, begins, greets, forwarded, tells, shuts, cancels}
 use Rattle.group_facts.proofs.Facts.{Facts, Mid, TiedAt, begins_now}
 use Rattle.group_facts.proofs.RestLaws.{Inside}
 use Rattle.group_sessions.proofs.PartLaws.{ServerRule, no_law, server_history}
@@ -27,6 +27,7 @@ module _ (settings : Settings) (before : List Event) (cause : Cause) (events : L
       let tied : next_number s events ≡ (forwarding_of s events).next = subst (λ z. TiedAt z (next_number s events) (forwarding_of s events).next) k.ready (here.tied s (ap (λ c. begins_now c s) k.from)) in
       subst (HasNumber (next_number s events)) (sym k.says) (ap (λ n. integer (decimal n)) (sym tied))
   numbered (tells k) h here = told_numbered (next_number s events) (message_of body) k.spoken
+  numbered (cancels k) h here = subst (HasNumber (next_number s events)) (sym k.says) tt
   numbered (shuts k) h here = subst (HasNumber (next_number s events)) (sym k.says) refl
 
 rule : (settings : Settings) → ServerRule settings No (Inside No) ServerRule3

@@ -12,7 +12,7 @@ use Rattle.session_laws.specs.ServerRules.{KeepsServer4, ServerRule4}
 use Rattle.session_laws.proofs.PartLaws.{No}
 use Rattle.session_laws.proofs.Server4Law.{by_part, free}
 use Rattle.group_facts.specs.Legal.{Legal}
-use Rattle.group_facts.specs.Why.{WhyToServer, begins, greets, forwarded, tells, shuts, versions_at}
+use Rattle.group_facts.specs.Why.{WhyToServer, begins, greets, forwarded, tells, shuts, cancels, versions_at}
 use Rattle.group_facts.proofs.RestLaws.{Inside}
 use Rattle.group_sessions.proofs.PartLaws.{ServerRule, no_law, server_history}
 
@@ -22,6 +22,7 @@ module _ (settings : Settings) (before : List Event) (cause : Cause) (events : L
   allowed (greets k) = subst (λ m. AllowsSaying (versions_at s events) (saying_of m)) (sym k.says) tt
   allowed (forwarded k) = subst (λ m. AllowsSaying (versions_at s events) (saying_of m)) (sym k.says) tt
   allowed (tells k) = k.allowed
+  allowed (cancels k) = subst (λ m. AllowsSaying (versions_at s events) (saying_of m)) (sym k.says) tt
   allowed (shuts k) = subst (λ m. AllowsSaying (versions_at s events) (saying_of m)) (sym k.says) tt
 
 rule : (settings : Settings) → ServerRule settings No (Inside No) ServerRule4

@@ -16,13 +16,10 @@ changed_set f [] i x h e = absurd (omega arith)
 changed_set f (w ∷ xs) zero x h e = ap (λ z. f z ∷ xs) e
 changed_set f (w ∷ xs) (suc i) x h e = ap (λ zs. w ∷ zs) (changed_set f xs i x (omega arith) e)
 
-pub changed_in : (f : Kept → Kept) (limit idle : ℕ) (xs : List Kept) (t : Table) (i : ℕ) (x : Kept) → ◌≡◌ {A = Table} (record { limit = limit; idle = idle; groups = xs }) t → i < length t.groups → x ≡ get_or xs i x
-    → ◌≡◌ {A = Table} (record { limit = limit; idle = idle; groups = slice_set xs i (f x) }) (with_groups (changed i f t.groups) t)
-changed_in f limit idle xs t i x e h r =
-    ap (λ zs. ◌the◌ (record { limit = limit; idle = idle; groups = zs })) (changed_set f xs i x (subst (λ (u : Table). i < length u.groups) (sym e) h) r) ∙ ap (λ (u : Table). with_groups (changed i f u.groups) u) e
-  where
-    ◌the◌ : Table → Table
-    ◌the◌ t = t
+pub past_end : (f : Kept → Kept) (xs : List Kept) (i : ℕ) → length xs ≤ i → changed i f xs ≡ xs
+past_end f [] i h = refl
+past_end f (x ∷ xs) zero h = absurd (omega (arith, h))
+past_end f (x ∷ xs) (suc i) h = ap (λ ys. x ∷ ys) (past_end f xs i (omega (arith, h)))
 
 changed_left : (f : Kept → Kept) (xs ys : List Kept) (i : ℕ) → i < length xs → changed i f (xs ++ ys) ≡ changed i f xs ++ ys
 changed_left f [] ys i h = absurd (omega arith)
@@ -50,12 +47,6 @@ idlest_under i best (x ∷ xs) h = subst (λ n. Under n (idlest_from (i + 1) (lo
 
 pub idlest_within : (xs : List Kept) (x : Idle) → Some x ≡ idlest_from 0 None xs → x.group < length xs
 idlest_within xs x e = let h : x.group < 0 + length xs = subst (λ (o : Option Idle). Under (0 + length xs) o) (sym e) (idlest_under 0 None xs tt) in omega arith
-
-pub within_more : (t u : Table) (y : Kept) (i : ℕ) → u ≡ with_groups (t.groups ++ y ∷ []) t → i < length t.groups → i < length u.groups
-within_more t u y i e h = subst (λ (v : Table). i < length v.groups) (sym e) (longer_list t.groups h)
-  where
-    longer_list : (xs : List Kept) → i < length xs → i < length (xs ++ y ∷ [])
-    longer_list xs h = let l = length-append xs (y ∷ []) in omega arith
 
 pub evicted : (key : Common) (declared : List ℕ) (t u v : Table) (x : Idle) → t.limit ≤ live_count t.groups → Some x ≡ idlest_from 0 None t.groups
     → u ≡ with_groups (t.groups ++ founded key declared ∷ []) t → v ≡ with_groups (changed x.group ended u.groups) u

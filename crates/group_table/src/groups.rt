@@ -1,29 +1,36 @@
 // The groups, by their numbers.
-ghost use Rattle.std.specs.Prelude.{◌≡◌, ◌+◌, ◌^◌, None, IsErr, IsErrOf, ◌<◌, ◌≤◌, ℕ, List, length, IfOk, OnOk, OnErr, MatchOption, option_map, option_copied, ◌++◌, ◌∷◌, [], Some};
-ghost use Rattle.group_words.specs.Placing.{all_from, changed, ended, exited, busy, idle_from, is_due, is_live, first_from, founded, idlest_from, founding, live_count, takes, placed_in, with_placed};
+ghost use Rattle.std.specs.Prelude.{◌≡◌, ◌+◌, ◌^◌, None, IsErr, IsErrOf, ◌<◌, ◌≤◌, ℕ, List, length, map, true, false, IfNone, IfOk, IfSome, OnOk, OnErr, MatchOption, option_map, option_copied, ◌++◌, ◌∷◌, [], Some};
+ghost use Rattle.group_words.specs.Houses.{idle_if_live};
+ghost use Rattle.group_words.specs.Placing.{all_from, changed, ended, exited, busy, is_due, is_live, first_from, founded, idlest_from, founding, live_count, takes, placed_in, with_placed};
 ghost use Rattle.std.specs.List.{slice_get};
 ghost use Rattle.capability_meet.specs.declared.fault.CapFault.TheVariants.{NotJson};
 ghost use Rattle.group_words.specs.declared.kept.Kept.{Kept};
 ghost use Rattle.group_words.specs.Placing as placing;
+ghost use Rattle.number_table.specs.Numbers.{numbers_in};
+ghost use Rattle.group_table.specs.Live.{first_in, idlest_in, number_of};
 ghost use Rattle.group_table.specs.Tables.{Inside, after_place, declared_text, place_in, with_groups};
 
 use crate::compare::takes;
 use capability_meet::{CapFault, declared};
 use group_words::{Idle, Kept, Key, Placed};
 use message_body::{Body, Memory};
+use number_table::{Numbered, forget, place_of};
 use std::alloc::Global;
 use std::marker::Model;
 
 /// The groups of editors, numbered from 0 in the order in which they were founded.
 ///
-/// At most `limit` of them live at once. One that has no editor for `idle` seconds is due to end. A group that ended keeps its
-/// place.
+/// At most `limit` of them live at once. One that has no editor for `idle` seconds is due to end. Of a group that ended nothing is
+/// kept but that its number was given, so the memory is that of the groups that live. A look-up by number takes a bisection of them,
+/// and a list of numbers a walk over them.
 #[derive(Drop)]
 pub struct Groups {
     alloc: Global,
     limit: u32,
     idle: u64,
-    groups: Vec<Kept>,
+    count: u64,
+    live: Vec<Numbered<Kept>>,
+    ended: Kept,
 }
 
 impl Model for Groups {
@@ -31,7 +38,14 @@ impl Model for Groups {
 
     ghost Value = { Table };
 
-    ghost view = { λ g. record { limit = g.limit; idle = g.idle; groups = g.groups.items } };
+    ghost use Rattle.std.specs.Prelude.{◌≡◌};
+    ghost use Rattle.group_words.specs.Placing.{over};
+    ghost use Rattle.number_table.specs.Numbers.{Rise, spread};
+    ghost use Rattle.group_table.specs.Live.{AreLive};
+
+    ghost view = { λ g. record { limit = g.limit; idle = g.idle; groups = spread over 0 g.count g.live.items } };
+
+    ghost invariant = { λ g. Rise 0 g.count g.live.items × AreLive g.live.items × (g.ended ≡ over) };
 }
 
 // The moment since which a live group is idle.
@@ -70,17 +84,89 @@ fn is_due(limit: u64, now: u64, group: &Kept) -> bool
     }
 }
 
+// What is kept of a group that ended.
+fn over(alloc: Global) -> Result<Kept, Memory>
+    ensures { IfOk result (λ kept. kept ≡ placing.over) }
+{
+    Ok(Kept {
+        key: Key {
+            server: 0,
+            folders: Vec::new(alloc),
+            normal: Vec::new(alloc),
+            options: None,
+        },
+        declared: Body::new(Vec::from_slice(alloc, b"{}")?),
+        live: false,
+        idle: None,
+        exits: 0,
+    })
+}
+
+// The lowest that takes the editor.
+fn first_taking(
+    alloc: Global,
+    live: &[Numbered<Kept>],
+    key: &Key,
+    declared: &[u8],
+) -> Result<Option<u64>, Memory>
+    ensures { IfOk result (λ g. g ≡ first_in (takes key.now declared.now) live.now) }
+{
+    for i in 0..live.len() {
+        if takes(alloc, &live[i].item, key, declared)? {
+            return Ok(Some(live[i].number));
+        }
+    }
+    Ok(None)
+}
+
+// The one that is idle for longest.
+fn idlest_of(live: &[Numbered<Kept>]) -> Option<Idle>
+    ensures { result ≡ idlest_in None live.now }
+{
+    let mut best = None;
+    for i in 0..live.len() {
+        best = longer(best, live[i].number, idle_since(&live[i].item));
+    }
+    best
+}
+
+// The numbers of those that are due.
+fn due_of(alloc: Global, live: &[Numbered<Kept>], limit: u64, now: u64) -> Result<Vec<u64>, Memory>
+    ensures { IfOk result (λ due. due.items ≡ numbers_in (placing.is_due limit now) live.now) }
+{
+    let mut due = Vec::new(alloc);
+    for i in 0..live.len() {
+        if is_due(limit, now, &live[i].item) {
+            due.push(live[i].number)?;
+        }
+    }
+    Ok(due)
+}
+
+// The numbers of all.
+fn numbers_of(alloc: Global, live: &[Numbered<Kept>]) -> Result<Vec<u64>, Memory>
+    ensures { IfOk result (λ numbers. numbers.items ≡ map number_of live.now) }
+{
+    let mut numbers = Vec::new(alloc);
+    for i in 0..live.len() {
+        numbers.push(live[i].number)?;
+    }
+    Ok(numbers)
+}
+
 impl Groups {
     /// No groups.
-    pub fn new(alloc: Global, limit: u32, idle: u64) -> Groups
-        ensures { result ≡ record { limit = limit; idle = idle; groups = [] } }
+    pub fn new(alloc: Global, limit: u32, idle: u64) -> Result<Groups, Memory>
+        ensures { IfOk result (λ groups. groups ≡ record { limit = limit; idle = idle; groups = [] }) }
     {
-        Groups {
+        Ok(Groups {
             alloc,
             limit,
             idle,
-            groups: Vec::new(alloc),
-        }
+            count: 0,
+            live: Vec::new(alloc),
+            ended: over(alloc)?,
+        })
     }
 
     // The lowest that takes the editor.
@@ -88,36 +174,22 @@ impl Groups {
         ensures first { IfOk result (λ g. g ≡ first_from 0 (takes key.now declared.now) self.now.groups) }
         ensures inside { IfOk result (λ o. MatchOption o (Unit {0}) (λ g. g < length self.now.groups)) }
     {
-        for i in 0..self.groups.len() {
-            if takes(self.alloc, &self.groups[i], key, declared)? {
-                return Ok(Some(i as u64));
-            }
-        }
-        Ok(None)
+        let first = first_taking(self.alloc, self.live.as_slice(), key, declared)?;
+        Ok(first)
     }
 
     // How many live.
     fn live(&self) -> usize
         ensures { result ≡ live_count self.now.groups }
     {
-        let mut live = 0;
-        for i in 0..self.groups.len() {
-            if self.groups[i].live {
-                live += 1;
-            }
-        }
-        live
+        self.live.len()
     }
 
     // The one that is idle for longest.
     fn idlest(&self) -> Option<Idle>
         ensures { result ≡ idlest_from 0 None self.now.groups }
     {
-        let mut best = None;
-        for i in 0..self.groups.len() {
-            best = longer(best, i as u64, idle_since(&self.groups[i]));
-        }
-        best
+        idlest_of(self.live.as_slice())
     }
 
     // One more.
@@ -126,21 +198,27 @@ impl Groups {
         ensures ok { OnOk result (self.new ≡ with_groups (self.old.groups ++ founded key declared ∷ []) self.old) }
         ensures err { OnErr result (self.new ≡ self.old) }
     {
-        let number = self.groups.len() as u64;
-        self.groups.push(Kept {
-            key,
-            declared,
-            live: true,
-            idle: None,
-            exits: 0,
+        let number = self.count;
+        let next = number.checked_add(1).ok_or(Memory)?;
+        self.live.push(Numbered {
+            number,
+            item: Kept {
+                key,
+                declared,
+                live: true,
+                idle: None,
+                exits: 0,
+            },
         })?;
+        self.count = next;
         Ok(number)
     }
 
     /// E7: an editor with this key, which offers these capabilities, is placed; `ceiling` is that of its server. The lowest live
     /// group of the same key that declares no more than is declared for the editor takes it; else a new one, while fewer live
     /// than the limit; else a new one in place of the one that is idle for longest, the lowest of equals. `NotJson` comes just
-    /// where the capabilities or the ceiling are no JSON text that nests at most 1,024 deep. It compares with each group.
+    /// where the capabilities or the ceiling are no JSON text that nests at most 1,024 deep. It compares with each live group. A group of
+    /// the number 2^64 - 1 or above is answered as a want of memory.
     pub fn place(
         &mut self,
         key: Key,
@@ -196,55 +274,57 @@ impl Groups {
         }
     }
 
-    /// The group takes no editor any more.
+    /// The group takes no editor any more, and is forgotten. Those that were founded later and live move by one place.
     pub fn end(&mut self, group: u64)
-        requires { group < length self.old.groups }
         ensures { self.new ≡ with_groups (changed group ended self.old.groups) self.old }
     {
-        let kept = &mut self.groups[group as usize];
-        kept.live = false;
+        if let Some(at) = place_of(&self.live, group) {
+            forget(&mut self.live, at);
+        }
     }
 
-    /// The group has no editor since this moment.
+    /// The group has no editor since this moment, if it lives.
     pub fn idle(&mut self, group: u64, now: u64)
-        requires { group < length self.old.groups }
-        ensures { self.new ≡ with_groups (changed group (idle_from now) self.old.groups) self.old }
+        ensures { self.new ≡ with_groups (changed group (idle_if_live now) self.old.groups) self.old }
     {
-        let kept = &mut self.groups[group as usize];
-        kept.idle = Some(now);
+        if let Some(at) = place_of(&self.live, group) {
+            let kept = &mut self.live[at];
+            kept.item.idle = Some(now);
+        }
     }
 
     /// The group has an editor.
     pub fn busy(&mut self, group: u64)
-        requires { group < length self.old.groups }
         ensures { self.new ≡ with_groups (changed group busy self.old.groups) self.old }
     {
-        let kept = &mut self.groups[group as usize];
-        kept.idle = None;
+        if let Some(at) = place_of(&self.live, group) {
+            let kept = &mut self.live[at];
+            kept.item.idle = None;
+        }
     }
 
-    /// One of the group's starts ended: how many did, this one among them.
-    pub fn exits(&mut self, group: u64) -> u64
-        requires group { group < length self.old.groups }
+    /// One of the group's starts ended: how many did, this one among them; none where the group doesn't live, and then nothing changes.
+    pub fn exits(&mut self, group: u64) -> Option<u64>
         requires room { (x : Kept) → slice_get self.old.groups group ≡ Some x → x.exits < 2 ^ 63 }
-        ensures count { (x : Kept) → slice_get self.old.groups group ≡ Some x → result ≡ x.exits + 1 }
-        ensures kept { self.new ≡ with_groups (changed group exited self.old.groups) self.old }
+        ensures count { IfSome result (λ n. (x : Kept) → slice_get self.old.groups group ≡ Some x → (x.live ≡ true) × (n ≡ x.exits + 1)) }
+        ensures ended { IfNone result ((x : Kept) → slice_get self.old.groups group ≡ Some x → x.live ≡ false) }
+        ensures kept { MatchOption result (self.new ≡ self.old) (λ n. self.new ≡ with_groups (changed group exited self.old.groups) self.old) }
     {
-        let kept = &mut self.groups[group as usize];
-        kept.exits += 1;
-        kept.exits
+        match place_of(&self.live, group) {
+            Some(at) => {
+                let kept = &mut self.live[at];
+                kept.item.exits += 1;
+                Some(kept.item.exits)
+            }
+            None => None,
+        }
     }
 
     /// The numbers, rising, of the live groups that are idle for `idle` seconds or more.
     pub fn due(&self, now: u64) -> Result<Vec<u64>, Memory>
         ensures { IfOk result (λ due. due.items ≡ all_from 0 (is_due self.now.idle now) self.now.groups) }
     {
-        let mut due = Vec::new(self.alloc);
-        for i in 0..self.groups.len() {
-            if is_due(self.idle, now, &self.groups[i]) {
-                due.push(i as u64)?;
-            }
-        }
+        let due = due_of(self.alloc, self.live.as_slice(), self.idle, now)?;
         Ok(due)
     }
 
@@ -252,34 +332,27 @@ impl Groups {
     pub fn live_groups(&self) -> Result<Vec<u64>, Memory>
         ensures { IfOk result (λ live. live.items ≡ all_from 0 is_live self.now.groups) }
     {
-        let mut live = Vec::new(self.alloc);
-        for i in 0..self.groups.len() {
-            if self.groups[i].live {
-                live.push(i as u64)?;
-            }
-        }
+        let live = numbers_of(self.alloc, self.live.as_slice())?;
         Ok(live)
     }
 
-    /// Whether the group takes editors.
-    pub fn is_live(&self, group: u64) -> bool
-        requires { group < length self.now.groups }
-        ensures { (x : Kept) → slice_get self.now.groups group ≡ Some x → result ≡ x.live }
-    {
-        self.groups[group as usize].live
-    }
-
-    /// What is kept of a group; none past the last one.
+    /// What is kept of a group: the same of each that ended; none past the last one.
     pub fn get(&self, group: u64) -> Option<&Kept>
         ensures { option_copied result ≡ slice_get self.now.groups group }
     {
-        self.groups.as_slice().get(group as usize)
+        if group >= self.count {
+            return None;
+        }
+        match place_of(&self.live, group) {
+            Some(at) => Some(&self.live[at].item),
+            None => Some(&self.ended),
+        }
     }
 
     /// How many groups were founded.
     pub fn count(&self) -> u64
         ensures { result ≡ length self.now.groups }
     {
-        self.groups.len() as u64
+        self.count
     }
 }

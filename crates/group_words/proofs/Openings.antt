@@ -32,10 +32,11 @@ use Rattle.capability_meet.specs.MeetTree.{whole_text}
 use Rattle.capability_meet.specs.Parts.{listed as joined}
 use Rattle.capability_meet.proofs.MeetSays.{array_says, declared_stands, first_item, one_more_item}
 use Rattle.event_model.specs.Event.{Event}
-use Rattle.event_model.specs.Members.{named_of, params_of, string_of, listed, bytes_if, options_of}
+use Rattle.event_model.specs.Members.{named_of, params_of, string_of, listed, bytes_if}
 use Rattle.event_model.specs.Settings.{Settings}
 use Rattle.group_words.specs.Houses.{ceiling_of, declared_for, folder_of, folders_in, folders_of, given_or, is_object, key_for, offered, or_root, server_for}
-use Rattle.group_words.specs.Placing.{founded}
+use Rattle.group_words.specs.declared.kept.Kept.{Kept}
+use Rattle.group_words.specs.Placing.{founded, over}
 use Rattle.group_words.specs.Rows.{folder_text, folders_text, initialize_of, root_of, wants_folders}
 use lib.Utf8.{scalars}
 
@@ -270,36 +271,31 @@ declared_written a b h = under (tree_of b) refl
     under None e = subst (λ o. Written (given_or o (codes "{}"))) (sym (none e)) empty_written
     under (Some k) e = subst (λ o. Written (given_or o (codes "{}"))) (sym (one k e)) (met k e (meets p.tree k) refl)
 
--- what the starts of a founded group are sent
-pub founded_opens : (settings : Settings) (before : List Event) (e : ℕ) (body : List ℕ)
-    → (params : Option Json) × (message_of (initialize_of (founded (key_for settings before e body) (declared_for settings before e body))) ≡ request (integer (codes "1")) (codes "initialize") params)
-founded_opens settings before e body = (
+-- what the starts of a group are sent, where what is kept of it is written
+opens_as : (x : Kept) → FoldersUtf8 x.key.folders → Written x.declared → OptionWritten x.key.options → (params : Option Json) × (message_of (initialize_of x) ≡ request (integer (codes "1")) (codes "initialize") params)
+opens_as x h d o = (
   Some (initialize_params u.tree o.tree d.tree f.tree),
-  initialize_law u.tree d.tree o.tree f.tree (root_of folders) declared (options_of body) (if wants_folders declared then Some (folders_text folders) else None)
+  initialize_law u.tree d.tree o.tree f.tree (root_of x.key.folders) x.declared x.key.options (if wants_folders x.declared then Some (folders_text x.key.folders) else None)
       u.text o.text d.text f.text u.shallow o.shallow d.shallow f.shallow,
 )
   where
-    folders : List (List ℕ × List ℕ)
-    folders = folders_of (params_of body)
+    u : Written (root_of x.key.folders)
+    u = root_written x.key.folders h
 
-    ceiling : List ℕ
-    ceiling = ceiling_of (slice_get settings.servers (server_for settings e before)) (offered body)
-
-    declared : List ℕ
-    declared = given_or (declared_of (offered body) ceiling) (codes "{}")
-
-    u : Written (root_of folders)
-    u = root_written folders (folders_utf8 body)
-
-    o : OptionWritten (options_of body)
-    o = params_written body (codes "initializationOptions")
-
-    d : Written declared
-    d = declared_written (offered body) ceiling (offered_written body)
-
-    wanted : (b : Bool) → OptionWritten (if b then Some (folders_text folders) else None)
-    wanted true = some_written (folders_text folders) (folders_written folders (folders_utf8 body))
+    wanted : (b : Bool) → OptionWritten (if b then Some (folders_text x.key.folders) else None)
+    wanted true = some_written (folders_text x.key.folders) (folders_written x.key.folders h)
     wanted false = none_written
 
-    f : OptionWritten (if wants_folders declared then Some (folders_text folders) else None)
-    f = wanted (wants_folders declared)
+    f : OptionWritten (if wants_folders x.declared then Some (folders_text x.key.folders) else None)
+    f = wanted (wants_folders x.declared)
+
+-- of one that was founded
+pub founded_opens : (settings : Settings) (before : List Event) (e : ℕ) (body : List ℕ)
+    → (params : Option Json) × (message_of (initialize_of (founded (key_for settings before e body) (declared_for settings before e body))) ≡ request (integer (codes "1")) (codes "initialize") params)
+founded_opens settings before e body = opens_as (founded (key_for settings before e body) (declared_for settings before e body)) (folders_utf8 body)
+    (declared_written (offered body) (ceiling_of (slice_get settings.servers (server_for settings e before)) (offered body)) (offered_written body))
+    (params_written body (codes "initializationOptions"))
+
+-- of one that ended
+pub over_opens : (params : Option Json) × (message_of (initialize_of over) ≡ request (integer (codes "1")) (codes "initialize") params)
+over_opens = opens_as over tt empty_written none_written

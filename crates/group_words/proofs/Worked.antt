@@ -1,6 +1,6 @@
 -- Three editors and their groups, an eviction, a return and an end, worked out by the checker.
-use Rattle.std.proofs.Common.{◌≡◌, [], ◌∷◌, map, true, false, refl}
-use Rattle.std.specs.Prelude.{Some, None}
+use Rattle.std.proofs.Common.{◌≡◌, [], ◌∷◌, map, take, true, false, refl}
+use Rattle.std.specs.Prelude.{Some, None, slice_get}
 use Rattle.std.specs.Fmt.{digits}
 use Rattle.json.specs.Print.{escape_byte}
 use Rattle.json_text.specs.Computes.{computes}
@@ -8,6 +8,7 @@ use Rattle.json_text.specs.Named.{named}
 use Rattle.rpc_message.specs.Message.{message_of, no_name_twice, is_integer, member_bytes}
 use Rattle.rpc_message.specs.Texts.{with_id_text}
 use Rattle.group_words.specs.Houses.{home_of, groups_of}
+use Rattle.group_words.specs.Placing.{over}
 use Rattle.group_words.specs.Rows.{outs_from, events_from, initialize_of}
 use Rattle.group_words.specs.Example.{with_groups, three_editors, with_eight, with_one, an_eviction, an_eviction_outs, a_return, an_end, after_an_end, with_folders, with_folders_text}
 
@@ -31,9 +32,13 @@ it_ended : map (λ g. g.live) (groups_of (with_groups 1) (events_from (with_grou
 unfolding computes message_of named no_name_twice is_integer member_bytes with_id_text escape_byte digits
 it_ended = refl
 
-it_was_idle : map (λ g. g.idle) (groups_of (with_groups 1) (events_from (with_groups 1) [] an_eviction)) ≡ Some 7 ∷ None ∷ []
+it_was_idle : map (λ g. g.idle) (groups_of (with_groups 1) (events_from (with_groups 1) [] (take 4 an_eviction))) ≡ Some 7 ∷ []
 unfolding computes message_of named no_name_twice is_integer member_bytes with_id_text escape_byte digits
 it_was_idle = refl
+
+nothing_of_it_is_kept : slice_get (groups_of (with_groups 1) (events_from (with_groups 1) [] an_eviction)) 0 ≡ Some over
+unfolding computes message_of named no_name_twice is_integer member_bytes with_id_text escape_byte digits
+nothing_of_it_is_kept = refl
 
 it_is_busy_again : map (λ g. g.idle) (groups_of (with_groups 1) (events_from (with_groups 1) [] a_return)) ≡ None ∷ []
 unfolding computes message_of named no_name_twice is_integer member_bytes with_id_text escape_byte digits

@@ -10,10 +10,12 @@ use Rattle.lane_queue.specs.Ends.{HubSide}
 use Rattle.lane_desk.specs.Desks.{AllUnused, Faulted, Kept}
 use Rattle.lane_desk.proofs.Turns.{kept_over}
 
-pub kept_new : {K : Type 0} (stands : K → List Entry → Type 0) (n m : ℕ) (core : K) (ends : List HubSide) (seats : Seats) → stands core [] → AllUnused ends → seats ≡ start n m → Kept stands n m true core ends seats
+pub kept_new : {K : Type 0} (stands : K → List Entry → Type 0) (n m : ℕ) (core : K) (ends : List HubSide) (seats : Seats) → stands core [] → AllUnused ends → seats ≡ start n m → Kept stands n m true false core ends seats
 kept_new stands n m core ends seats s u e = record {
   deeds = [];
   fair = tt;
+  lanes = tt;
+  own_last = λ e. absurd cc;
   stands_for = s;
   once = λ x. omega arith;
   more = None;
@@ -22,13 +24,13 @@ kept_new stands n m core ends seats s u e = record {
   seats_are = λ _. e;
 }
 
-pub kept_fail : {K : Type 0} (stands : K → List Entry → Type 0) (n m : ℕ) (spent : Bool) (core : K) (ends : List HubSide) (seats : Seats) → Kept stands n m (not spent) core ends seats → Kept stands n m false core ends seats
-kept_fail stands n m true core ends seats k = k
-kept_fail stands n m false core ends seats k = kept_over stands n m core ends seats seats k
+pub kept_fail : {K : Type 0} (stands : K → List Entry → Type 0) (n m : ℕ) (spent last : Bool) (core : K) (ends : List HubSide) (seats : Seats) → Kept stands n m (not spent) last core ends seats → Kept stands n m false last core ends seats
+kept_fail stands n m true last core ends seats k = k
+kept_fail stands n m false last core ends seats k = kept_over stands n m last core ends seats seats k
 
 pub rose_from : (before now last : ℕ) → before ≤ now → Rose now last → Rose before last
 rose_from before now last h r = omega arith
 
 -- a step more
-pub faulted_more : (before now last : ℕ) (was why : Option StepFault) → Faulted before now was → now ≤ last → (why ≡ Some fault.Journal → Rose now last) → Faulted before last why
-faulted_more before now last was why f l j = record { later = (let a = f.later in omega arith); journal = λ e. rose_from before now last f.later (j e) }
+pub faulted_more : (before now last : ℕ) (had spent : Bool) (was why : Option StepFault) → Faulted before now had was → now ≤ last → (why ≡ Some fault.Journal → Rose now last) → ((f : StepFault) → why ≡ Some f → spent ≡ true) → Faulted before last spent why
+faulted_more before now last had spent was why f l j o = record { later = (let a = f.later in omega arith); journal = λ e. rose_from before now last f.later (j e); over = o }

@@ -8,7 +8,8 @@ use Rattle.lane_lists.specs.declared.item.Order.{Order}
 use Rattle.lane_lists.specs.Deeds.{only, same_lane}
 use Rattle.lane_queue.specs.Ends.{HubSide}
 use Rattle.lane_desk.specs.Desks.{Became, Dealt, Each, FoundNothing, IsEmptied, Pairwise, Pushed, Same, ids}
-use Rattle.lane_desk.specs.Places.{IsIn, name, place}
+use Rattle.lane_lists.specs.Origins.{IsIn}
+use Rattle.lane_desk.specs.Places.{name, place}
 
 module _ {X : Type 0} where
   pub get_set : (l : List X) (i j : ℕ) (a b : X) → slice_get (slice_set l i a) j ≡ Some b → ((j ≡ i) × (a ≡ b)) ⊎ ((j ≢ i) × (slice_get l j ≡ Some b))

@@ -1,22 +1,27 @@
 -- What one turn leaves: a deed more, or a spent deck.
-use Rattle.std.proofs.Common.{◌≡◌, ◌≢◌, ℕ, ◌+◌, ◌≤◌, ◌==◌, if◌then◌else◌, List, [], ◌∷◌, ◌++◌, Bool, true, false, not, IsTrue, fold, length, map, refl, sym, ap, ◌∙◌, subst, arith, append-nil, Option, Some, None}
+use Rattle.std.proofs.Common.{◌≡◌, ◌≢◌, ℕ, zero, suc, ◌+◌, ◌<◌, ◌≤◌, ◌==◌, ◌⊎◌, inl, inr, ⊎_elim, if◌then◌else◌, List, [], ◌∷◌, ◌++◌, Bool, true, false, not, IsTrue, fold, length, map, refl, sym, ap, ◌∙◌, subst, arith, append-nil, Option, Some, None}
 use Rattle.std.proofs.lemmas.Option.{slice_get_within}
+use Rattle.std.proofs.lemmas.Bool.{and_parts}
 use Rattle.std.proofs.lemmas.Bool.Decides.{nat_tests}
+use Rattle.std.specs.List.{position_or_len}
+use Rattle.std.proofs.lemmas.Grind.{common_steps}
+use Rattle.std.proofs.lemmas.List.Sums.{fails_before_first}
 use Rattle.std.proofs.lemmas.List.Sums.{fold-append}
 use Rattle.mux_history.specs.declared.cause.Cause.{Cause}
 use Rattle.mux_history.specs.declared.cause.Cause.TheVariants as cause
 use Rattle.mux_history.specs.declared.entry.Entry.{Entry}
 use Rattle.mux_history.specs.declared.out.Out.{Out}
-use Rattle.mux_history.specs.Cores.{spawns}
+use Rattle.mux_history.specs.Cores.{joined, spawns}
 use Rattle.lane_lists.specs.declared.item.LaneName.{LaneName}
+use Rattle.lane_lists.specs.declared.item.LaneName.TheVariants as lane
 use Rattle.lane_lists.specs.declared.item.Item.{Item}
 use Rattle.lane_lists.specs.declared.item.Item.TheVariants as item
 use Rattle.lane_lists.specs.declared.item.Posted.TheVariants as posted
 use Rattle.lane_lists.specs.declared.item.Side.TheVariants as side
 use Rattle.lane_lists.specs.declared.item.Meaning.TheVariants as meant
 use Rattle.lane_lists.specs.Seats as lists
-use Rattle.lane_lists.specs.Seats.{Seats, give_out, meaning, on_seat, seat_item, seat_of}
-use Rattle.lane_lists.specs.Deeds.{Deed, behind, begin_all, entries, entries_by, given, given_entry, only, orders, orders_by, posted_in, posts, posts_by, same_lane, seats_of, side_in, sides, sides_by, start, with_done}
+use Rattle.lane_lists.specs.Seats.{Seat, Seats, free_seat, give_out, meaning, on_seat, seat_at, seat_item, seat_of}
+use Rattle.lane_lists.specs.Deeds.{Deed, Fair, behind, begin_all, entries, entries_by, entries_in, given, given_entry, only, orders, orders_by, posted_in, posts, posts_by, same_lane, seats_of, side_in, sides, sides_by, start, with_done}
 use Rattle.lane_lists.proofs.Gathers.{fair_more, gather_more}
 use Rattle.lane_queue.specs.Ends.{HubSide}
 use Rattle.lane_desk.specs.declared.kinds.Kind.{Kind}
@@ -24,8 +29,11 @@ use Rattle.lane_desk.specs.declared.kinds.Kind.TheVariants as kind
 use Rattle.lane_desk.specs.declared.kinds.Mark.{Mark}
 use Rattle.lane_desk.specs.Kinds.{done_if, is_side, kind_of, mark_of, marked, moved}
 use Rattle.lane_desk.specs.Givens.{given_by}
-use Rattle.lane_desk.specs.Places.{IsIn, name, place}
-use Rattle.lane_desk.specs.Desks.{Acted, Became, Dealt, Did, Each, EndsAre, Failed, Kept, Pairwise, Same, Took, ids, posted_at, side_at}
+use Rattle.lane_lists.specs.Origins.{AllIn, IsIn}
+use Rattle.lane_lists.proofs.LastJoined.{last_more, last_new}
+use Rattle.lane_desk.specs.Places.{name, place}
+use Rattle.lane_desk.specs.Stops.{has_no_editor, is_last, last_behind, taken_place}
+use Rattle.lane_desk.specs.Desks.{Acted, Became, Dealt, Did, Each, EndsAre, Failed, Kept, OwnLast, Pairwise, Same, Took, ids, posted_at, side_at}
 use Rattle.lane_desk.proofs.Ends.{all_same, became, same_ids, tells, through}
 
 -- an item and a cause by what they leave
@@ -103,12 +111,81 @@ module _ (n m : ℕ) (deeds : List Deed) (l : LaneName) (x : Item) (entry : Opti
   more_seats : seats_of n m (deeds ++ deed ∷ []) ≡ (given (seats_of n m deeds) deed).seats
   more_seats = fold-append behind (start n m) deeds (deed ∷ [])
 
+-- each deed is of a lane that is there
+pub all_in_more : (n m : ℕ) (deeds : List Deed) (deed : Deed) → AllIn n m deeds → IsIn n m deed.lane → AllIn n m (deeds ++ deed ∷ [])
+all_in_more n m [] deed all here = (here, tt)
+all_in_more n m (d ∷ deeds) deed all here = (all.0, all_in_more n m deeds deed all.1 here)
+
+-- the last editor that joined, a deed on
+pub own_more : (n m : ℕ) (deeds : List Deed) (deed : Deed) → joined (entries_in deed.entry) ≡ 0 → OwnLast n m deeds → OwnLast n m (deeds ++ deed ∷ [])
+own_more n m deeds deed none o = record { number = o.number; is_last = o.is_last; joined = last_more n m o.number deeds deed none o.joined }
+
+-- no lane has an editor
+seat_or : (l : List Seat) (k : ℕ) → (k < length l) ⊎ (seat_at k l ≡ free_seat)
+seat_or [] k = inr refl
+seat_or (x ∷ xs) zero = inl (omega arith)
+seat_or (x ∷ xs) (suc k) = ⊎_elim (λ w. inl (omega arith)) (λ e. inr e) (seat_or xs k)
+
+is_none_is : (o : Option ℕ) → lists.is_none o ≡ true → o ≡ None
+is_none_is None h = refl
+is_none_is (Some n) h = absurd cc
+
+not_taken : (o : Option ℕ) → not (lists.is_none o) ≡ false → o ≡ None
+not_taken None h = refl
+not_taken (Some n) h = absurd cc
+
+none_there : (l : List Seat) (k : ℕ) → lists.is_none (taken_place l) ≡ true → (seat_at k l).now ≡ None
+none_there l k h =
+    let free : taken_place l ≡ None = is_none_is (taken_place l) h in
+    let none : length l ≤ position_or_len (λ (seat : Seat). not (lists.is_none seat.now)) l = grind (arith, common_steps) in
+    ⊎_elim
+    (λ w. not_taken (seat_at k l).now (fails_before_first (λ (seat : Seat). not (lists.is_none seat.now)) l k free_seat (omega arith)))
+    (λ e. ap (λ (s : Seat). s.now) e)
+    (seat_or l k)
+
+own_behind : (n m : ℕ) (deeds : List Deed) (l : LaneName) (x : Item) (c : Cause) (outs : List Out) (was_last : Bool) → Fair n m deeds → AllIn n m deeds → meaning (seats_of n m deeds) l x ≡ meant.Means c
+    → last_behind n (seats_of n m deeds) l (kind_of c) was_last ≡ true → (was_last ≡ true → OwnLast n m deeds) → OwnLast n m (deeds ++ record { lane = l; item = x; entry = Some record { cause = c; outs = outs } } ∷ [])
+own_behind n m deeds (lane.Editor i) x (cause.Joined e) outs was_last fair lanes means h own =
+    let p = and_parts (is_last n (lane.Editor i)) (has_no_editor (seats_of n m deeds)) h in
+    record {
+      number = i;
+      is_last = (let t = p.0 in grind (arith, nat_tests));
+      joined = last_new n m i deeds x (Some record { cause = cause.Joined e; outs = outs }) fair lanes means (λ k. none_there (seats_of n m deeds).editors k p.1) refl;
+    }
+own_behind n m deeds (lane.Server i) x (cause.Joined e) outs was_last fair lanes means h own = absurd cc
+own_behind n m deeds lane.Ticker x (cause.Joined e) outs was_last fair lanes means h own = absurd cc
+own_behind n m deeds l x (cause.FromEditor e body) outs was_last fair lanes means h own = own_more n m deeds (record { lane = l; item = x; entry = Some record { cause = cause.FromEditor e body; outs = outs } }) refl (own h)
+own_behind n m deeds l x (cause.EditorGone e w) outs was_last fair lanes means h own = own_more n m deeds (record { lane = l; item = x; entry = Some record { cause = cause.EditorGone e w; outs = outs } }) refl (own h)
+own_behind n m deeds l x (cause.Started s) outs was_last fair lanes means h own = own_more n m deeds (record { lane = l; item = x; entry = Some record { cause = cause.Started s; outs = outs } }) refl (own h)
+own_behind n m deeds l x (cause.StartFailed s) outs was_last fair lanes means h own = own_more n m deeds (record { lane = l; item = x; entry = Some record { cause = cause.StartFailed s; outs = outs } }) refl (own h)
+own_behind n m deeds l x (cause.FromServer s body) outs was_last fair lanes means h own = own_more n m deeds (record { lane = l; item = x; entry = Some record { cause = cause.FromServer s body; outs = outs } }) refl (own h)
+own_behind n m deeds l x (cause.ServerGone s) outs was_last fair lanes means h own = own_more n m deeds (record { lane = l; item = x; entry = Some record { cause = cause.ServerGone s; outs = outs } }) refl (own h)
+own_behind n m deeds l x (cause.Drained e k) outs was_last fair lanes means h own = own_more n m deeds (record { lane = l; item = x; entry = Some record { cause = cause.Drained e k; outs = outs } }) refl (own h)
+own_behind n m deeds l x (cause.Tick t) outs was_last fair lanes means h own = own_more n m deeds (record { lane = l; item = x; entry = Some record { cause = cause.Tick t; outs = outs } }) refl (own h)
+
 module _ {K : Type 0} (stands : K → List Entry → Type 0) (n m : ℕ) where
-  -- a deck that goes on no more
-  pub kept_over : (core : K) (ends : List HubSide) (seats seats' : Seats) → Kept stands n m true core ends seats → Kept stands n m false core ends seats'
-  kept_over core ends seats seats' k = record {
+  -- a deck of which it isn't known whether the last editor is of the last lane
+  none_last : {all : Bool} {last last' : Bool} (core : K) (ends : List HubSide) (seats : Seats) → (last' ≡ true → ⊥) → Kept stands n m all last core ends seats → Kept stands n m all last' core ends seats
+  none_last core ends seats no_last k = record {
     deeds = k.deeds;
     fair = k.fair;
+    lanes = k.lanes;
+    own_last = λ e. absurd (no_last e);
+    stands_for = k.stands_for;
+    once = k.once;
+    more = k.more;
+    none_more = k.none_more;
+    ends_are = k.ends_are;
+    seats_are = k.seats_are;
+  }
+
+  -- a deck that goes on no more
+  pub kept_over : (last : Bool) (core : K) (ends : List HubSide) (seats seats' : Seats) → Kept stands n m true last core ends seats → Kept stands n m false last core ends seats'
+  kept_over last core ends seats seats' k = record {
+    deeds = k.deeds;
+    fair = k.fair;
+    lanes = k.lanes;
+    own_last = k.own_last;
     stands_for = k.stands_for;
     once = k.once;
     more = k.more;
@@ -118,10 +195,12 @@ module _ {K : Type 0} (stands : K → List Entry → Type 0) (n m : ℕ) where
   }
 
   -- nothing was there
-  pub kept_same : (core : K) (place : ℕ) (old new : List HubSide) (seats : Seats) → Became place Same old new → Kept stands n m true core old seats → Kept stands n m true core new seats
-  kept_same core place old new seats b k = record {
+  pub kept_same : (last : Bool) (core : K) (place : ℕ) (old new : List HubSide) (seats : Seats) → Became place Same old new → Kept stands n m true last core old seats → Kept stands n m true last core new seats
+  kept_same last core place old new seats b k = record {
     deeds = k.deeds;
     fair = k.fair;
+    lanes = k.lanes;
+    own_last = k.own_last;
     stands_for = k.stands_for;
     once = k.once;
     more = k.more;
@@ -136,10 +215,12 @@ module _ {K : Type 0} (stands : K → List Entry → Type 0) (n m : ℕ) where
     each = took_each n m l x is_in old new size b
 
     -- an item that gave nothing
-    pub kept_stray : (core core' : K) (seats seats' : Seats) → ((history : List Entry) → stands core history → stands core' history) → Kept stands n m true core old seats → Kept stands n m false core' new seats'
-    kept_stray core core' seats seats' go k = record {
+    pub kept_stray : (last : Bool) (core core' : K) (seats seats' : Seats) → ((history : List Entry) → stands core history → stands core' history) → Kept stands n m true last core old seats → Kept stands n m false last core' new seats'
+    kept_stray last core core' seats seats' go k = record {
       deeds = k.deeds;
       fair = k.fair;
+      lanes = k.lanes;
+      own_last = k.own_last;
       stands_for = go (entries n m k.deeds) k.stands_for;
       once = k.once;
       more = Some (l, x);
@@ -161,8 +242,8 @@ module _ {K : Type 0} (stands : K → List Entry → Type 0) (n m : ℕ) where
       pub sides : q.sides.taken ≡ sides n m k (deeds ++ record { lane = l; item = x; entry = entry } ∷ [])
       pub pushed : q.orders.pushed ++ only k (given (seats_of n m deeds) record { lane = l; item = x; entry = entry }).orders ≡ orders n m k (deeds ++ record { lane = l; item = x; entry = entry } ∷ [])
 
-    pub ends_behind : (core : K) (seats : Seats) (entry : Option Entry) (k : Kept stands n m true core old seats) → Each (λ i q. Behind k.deeds entry (name n m i) q) new
-    ends_behind core seats entry k = through (λ i z. EndsAre n m k.deeds k.more true (name n m i) z) (λ i q. Behind k.deeds entry (name n m i) q) (λ i. TookAt (name n m i) l x) old new each k.ends_are
+    pub ends_behind : (last : Bool) (core : K) (seats : Seats) (entry : Option Entry) (k : Kept stands n m true last core old seats) → Each (λ i q. Behind k.deeds entry (name n m i) q) new
+    ends_behind last core seats entry k = through (λ i z. EndsAre n m k.deeds k.more true (name n m i) z) (λ i q. Behind k.deeds entry (name n m i) q) (λ i. TookAt (name n m i) l x) old new each k.ends_are
         (λ i p q within t w. record {
           posted = t.posted ∙ ap (λ ys. ys ++ (if same_lane (name n m i) l then posted_in x else [])) (w.posted ∙ ap (λ o. posts n m (name n m i) k.deeds ++ posted_at (name n m i) o) (k.none_more refl) ∙ append-nil (posts n m (name n m i) k.deeds)) ∙ sym (more_posts n m k.deeds l x entry (name n m i));
           sides = t.sides ∙ ap (λ ys. ys ++ (if same_lane (name n m i) l then side_in x else [])) (w.sides ∙ ap (λ o. sides n m (name n m i) k.deeds ++ side_at (name n m i) o) (k.none_more refl) ∙ append-nil (sides n m (name n m i) k.deeds)) ∙ sym (more_sides n m k.deeds l x entry (name n m i));
@@ -170,17 +251,19 @@ module _ {K : Type 0} (stands : K → List Entry → Type 0) (n m : ℕ) where
         })
 
     -- a late item
-    pub kept_silent : (core : K) (seats seats' : Seats) → meaning seats l x ≡ meant.Silent → seats' ≡ on_seat l (marked (mark_of x)) seats → Kept stands n m true core old seats → Kept stands n m true core new seats'
-    kept_silent core seats seats' silent s k =
+    pub kept_silent : (last : Bool) (core : K) (seats seats' : Seats) → meaning seats l x ≡ meant.Silent → seats' ≡ on_seat l (marked (mark_of x)) seats → Kept stands n m true last core old seats → Kept stands n m true last core new seats'
+    kept_silent last core seats seats' silent s k =
         let deed : Deed = record { lane = l; item = x; entry = None } in
         let was : seats ≡ seats_of n m k.deeds = k.seats_are refl in record {
           deeds = k.deeds ++ deed ∷ [];
           fair = fair_more (start n m) k.deeds deed k.fair (subst (λ (z : Seats). meaning z l x ≡ meant.Silent) was silent);
+          lanes = all_in_more n m k.deeds deed k.lanes is_in;
+          own_last = λ e. own_more n m k.deeds deed refl (k.own_last e);
           stands_for = subst (λ (h : List Entry). stands core h) (sym (gather_more entries_by (start n m) k.deeds deed ∙ append-nil (entries n m k.deeds))) k.stands_for;
           once = λ s. subst (λ (h : List Entry). spawns s h ≤ 1) (sym (gather_more entries_by (start n m) k.deeds deed ∙ append-nil (entries n m k.deeds))) (k.once s);
           more = None;
           none_more = λ _. refl;
-          ends_are = λ i q at. let w = ends_behind core seats None k i q at in record {
+          ends_are = λ i q at. let w = ends_behind last core seats None k i q at in record {
             posted = w.posted ∙ sym (append-nil (posts n m (name n m i) (k.deeds ++ deed ∷ [])));
             sides = w.sides ∙ sym (append-nil (sides n m (name n m i) (k.deeds ++ deed ∷ [])));
             rest = [];
@@ -191,25 +274,29 @@ module _ {K : Type 0} (stands : K → List Entry → Type 0) (n m : ℕ) where
         }
 
     -- what the core did
-    pub kept_acted : (c : Cause) (all : Bool) (core core' : K) (last : List HubSide) (seats seats' : Seats) → meaning seats l x ≡ meant.Means c → Acted stands n m l (mark_of x) c all core core' new last seats seats'
-        → Kept stands n m true core old seats → Kept stands n m all core' last seats'
-    kept_acted c all core core' last seats seats' means (Failed a go same) k =
-        subst (λ (b : Bool). Kept stands n m b core' last seats') (sym a) (subst (λ (z : List HubSide). Kept stands n m false core' z seats') (sym same) (kept_stray core core' seats seats' go k))
-    kept_acted c all core core' last seats seats' means (Did outs go few dealt lanes) k =
+    pub kept_acted : (c : Cause) (all was_last last : Bool) (core core' : K) (given_ends : List HubSide) (seats seats' : Seats) → meaning seats l x ≡ meant.Means c → (last ≡ true → (all ≡ true) × (last_behind n seats l (kind_of c) was_last ≡ true))
+        → Acted stands n m l (mark_of x) c all core core' new given_ends seats seats' → Kept stands n m true was_last core old seats → Kept stands n m all last core' given_ends seats'
+    kept_acted c all was_last last core core' given_ends seats seats' means own (Failed a go same) k =
+        subst (λ (b : Bool). Kept stands n m b last core' given_ends seats') (sym a)
+        (subst (λ (z : List HubSide). Kept stands n m false last core' z seats') (sym same) (none_last core' new seats' (λ e. let f : true ≡ false = sym (own e).0 ∙ a in absurd cc) (kept_stray was_last core core' seats seats' go k)))
+    kept_acted c all was_last last core core' given_ends seats seats' means own (Did outs go few dealt lanes) k =
         let entry : Entry = record { cause = c; outs = outs } in
         let deed : Deed = record { lane = l; item = x; entry = Some entry } in
         let was : seats ≡ seats_of n m k.deeds = k.seats_are refl in
         let gives : given_by (on_seat l (marked (mark_of x)) seats) l (is_side (mark_of x)) (kind_of c) outs ≡ given (seats_of n m k.deeds) deed =
         ap (λ z. given_by z l (is_side (mark_of x)) (kind_of c) outs) (sym (item_marked x l seats)) ∙ sym (given_is x l (on_seat l (λ y. seat_item y x) seats) outs c) ∙ ap (λ z. given z deed) was in
+        let meant_so : meaning (seats_of n m k.deeds) l x ≡ meant.Means c = subst (λ (z : Seats). meaning z l x ≡ meant.Means c) was means in
         record {
           deeds = k.deeds ++ deed ∷ [];
-          fair = fair_more (start n m) k.deeds deed k.fair (subst (λ (z : Seats). meaning z l x ≡ meant.Means c) was means);
+          fair = fair_more (start n m) k.deeds deed k.fair meant_so;
+          lanes = all_in_more n m k.deeds deed k.lanes is_in;
+          own_last = λ e. own_behind n m k.deeds l x c outs was_last k.fair k.lanes meant_so (subst (λ (z : Seats). last_behind n z l (kind_of c) was_last ≡ true) was (own e).1) k.own_last;
           stands_for = subst (λ (h : List Entry). stands core' h) (sym (gather_more entries_by (start n m) k.deeds deed)) (go (entries n m k.deeds) k.stands_for);
           once = λ s. subst (λ (h : List Entry). spawns s h ≤ 1) (sym (gather_more entries_by (start n m) k.deeds deed)) (few (entries n m k.deeds) s k.stands_for);
           more = None;
           none_more = λ _. refl;
           ends_are = through (λ i q. Behind k.deeds (Some entry) (name n m i) q) (λ i q. EndsAre n m (k.deeds ++ deed ∷ []) None all (name n m i) q)
-              (λ i. Dealt (name n m i) (given_by (on_seat l (marked (mark_of x)) seats) l (is_side (mark_of x)) (kind_of c) outs).orders [] all) new last dealt (ends_behind core seats (Some entry) k)
+              (λ i. Dealt (name n m i) (given_by (on_seat l (marked (mark_of x)) seats) l (is_side (mark_of x)) (kind_of c) outs).orders [] all) new given_ends dealt (ends_behind was_last core seats (Some entry) k)
               (λ i q r within d w. record {
                 posted = d.posted ∙ w.posted ∙ sym (append-nil (posts n m (name n m i) (k.deeds ++ deed ∷ [])));
                 sides = d.sides ∙ w.sides ∙ sym (append-nil (sides n m (name n m i) (k.deeds ++ deed ∷ [])));

@@ -1,5 +1,5 @@
 -- What the deck keeps: that it did some deeds, and that the core, the ends and the lanes are what they left.
-use Rattle.std.specs.Prelude.{◌≡◌, ℕ, ◌≤◌, Bool, true, false, List, [], ◌++◌, ◌∷◌, if◌then◌else◌, length, slice_get, slice_set, Option, Some, None}
+use Rattle.std.specs.Prelude.{◌≡◌, ℕ, ◌+◌, ◌≤◌, Bool, true, false, List, [], ◌++◌, ◌∷◌, if◌then◌else◌, length, slice_get, slice_set, Option, Some, None}
 use Rattle.outside_io.specs.Faults.{Rose}
 use Rattle.mux_history.specs.declared.entry.Entry.{Entry}
 use Rattle.mux_history.specs.declared.steps.StepFault.{StepFault}
@@ -11,6 +11,7 @@ use Rattle.lane_lists.specs.declared.item.Posted.{Posted}
 use Rattle.lane_lists.specs.declared.item.Side.{Side}
 use Rattle.lane_lists.specs.declared.item.Item.{Item}
 use Rattle.lane_lists.specs.Seats.{Seats}
+use Rattle.lane_lists.specs.Origins.{AllIn, JoinedLast}
 use Rattle.lane_lists.specs.Deeds.{Deed, Fair, entries, only, orders, posted_in, posts, same_lane, seats_of, side_in, sides}
 use Rattle.lane_queue.specs.Ends.{HubSide}
 use Rattle.lane_queue.specs.Relay.{Begins}
@@ -49,10 +50,18 @@ pub record EndsAre (n m : ℕ) (deeds : List Deed) (more : Option (LaneName × I
   pub pushed : orders n m l deeds ≡ ends.orders.pushed ++ rest
   pub whole : all ≡ true → rest ≡ []
 
--- no start was spawned twice. Of a deck that isn't spent: no item more, all orders, and the lanes as the deeds left them
-pub record Kept {K : Type 0} (stands : K → List Entry → Type 0) (n m : ℕ) (all : Bool) (core : K) (ends : List HubSide) (seats : Seats) : Type 0 where
+-- the last editor that joined is of the last lane of editors, and each other one went before it joined
+pub record OwnLast (n m : ℕ) (deeds : List Deed) : Type 0 where
+  pub number : ℕ
+  pub is_last : number + 1 ≡ n
+  pub joined : JoinedLast n m number deeds
+
+-- no start was spawned twice. Of a deck that isn't spent: no item more, all orders, and the lanes as the deeds left them; `last`: that the last editor that joined is of the last lane
+pub record Kept {K : Type 0} (stands : K → List Entry → Type 0) (n m : ℕ) (all last : Bool) (core : K) (ends : List HubSide) (seats : Seats) : Type 0 where
   pub deeds : List Deed
   pub fair : Fair n m deeds
+  pub lanes : AllIn n m deeds
+  pub own_last : last ≡ true → OwnLast n m deeds
   pub stands_for : stands core (entries n m deeds)
   pub once : (s : ℕ) → spawns s (entries n m deeds) ≤ 1
   pub more : Option (LaneName × Item)
@@ -60,10 +69,11 @@ pub record Kept {K : Type 0} (stands : K → List Entry → Type 0) (n m : ℕ) 
   pub ends_are : Each (λ i x. EndsAre n m deeds more all (name n m i) x) ends
   pub seats_are : all ≡ true → seats ≡ seats_of n m deeds
 
--- the journal's count didn't fall, and rose where a step had its fault
-pub record Faulted (before now : ℕ) (why : Option StepFault) : Type 0 where
+-- the journal's count didn't fall, and rose where a step had its fault; where a step had a fault the core is spent
+pub record Faulted (before now : ℕ) (spent : Bool) (why : Option StepFault) : Type 0 where
   pub later : before ≤ now
   pub journal : why ≡ Some fault.Journal → Rose before now
+  pub over : (f : StepFault) → why ≡ Some f → spent ≡ true
 
 -- what one place became
 pub record Became (i : ℕ) (R : HubSide → HubSide → Type 0) (old new : List HubSide) : Type 0 where
@@ -121,6 +131,7 @@ pub record DeskView (K : Type 0) : Type 0 where
   pub why : Option StepFault
   pub ends : List HubSide
   pub seats : Seats
+  pub last : Bool
 
 -- what the core did with a cause that was taken of this lane with this mark, and what came of it
 pub data Acted {K : Type 0} (stands : K → List Entry → Type 0) (n m : ℕ) (l : LaneName) (x : Mark) (c : Cause) (all : Bool) (core core' : K) (old new : List HubSide) (seats seats' : Seats) : Type 0 where

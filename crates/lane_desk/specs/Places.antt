@@ -1,14 +1,9 @@
 -- Which lanes there are, and at which place each has its ends: the editors' lanes, the servers', and the ticker's.
-use Rattle.std.specs.Prelude.{ℕ, ◌+◌, ◌-◌, ◌<◌, nat_lt, if◌then◌else◌, length, ⊤}
+use Rattle.std.specs.Prelude.{ℕ, ◌+◌, ◌-◌, nat_lt, if◌then◌else◌, length}
 use Rattle.lane_lists.specs.declared.item.LaneName.{LaneName}
 use Rattle.lane_lists.specs.declared.item.LaneName.TheVariants as lane
 use Rattle.lane_lists.specs.Seats.{Seats}
-
--- the lane is one of these
-abbrev pub IsIn : ℕ → ℕ → LaneName → Type 0
-IsIn n m (lane.Editor i) = i < n
-IsIn n m (lane.Server i) = i < m
-IsIn n m lane.Ticker = ⊤
+use Rattle.lane_lists.specs.Origins.{IsIn}
 
 abbrev pub IsLane : LaneName → Seats → Type 0
 IsLane l seats = IsIn (length seats.editors) (length seats.servers) l

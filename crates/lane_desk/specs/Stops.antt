@@ -1,8 +1,12 @@
 -- A stop that is done: it was answered, no server's lane has a start, and no start waits for one.
-use Rattle.std.specs.Prelude.{◌≡◌, ◌==◌, ℕ, Bool, true, ◌&&◌, List, length, not, position, Option}
+use Rattle.std.specs.Prelude.{◌≡◌, ◌==◌, ℕ, ◌+◌, Bool, true, false, ◌&&◌, List, length, not, position, Option}
 use Rattle.mux_history.specs.declared.entry.Entry.{Entry}
+use Rattle.lane_lists.specs.declared.item.LaneName.{LaneName}
+use Rattle.lane_lists.specs.declared.item.LaneName.TheVariants as lane
 use Rattle.lane_lists.specs.Seats.{Seat, Seats, is_none}
 use Rattle.lane_lists.specs.Deeds.{Deed, Fair, entries, seats_of}
+use Rattle.lane_desk.specs.declared.kinds.Kind.{Kind}
+use Rattle.lane_desk.specs.declared.kinds.Kind.TheVariants as kind
 
 -- the place of the first lane with a session
 abbrev pub taken_place : List Seat → Option ℕ
@@ -14,6 +18,19 @@ is_idle seats = is_none (taken_place seats.servers) && (length seats.waiting == 
 -- no editor's lane has a session
 abbrev pub has_no_editor : Seats → Bool
 has_no_editor seats = is_none (taken_place seats.editors)
+
+-- whether it is the last lane of editors
+abbrev pub is_last : ℕ → LaneName → Bool
+is_last n (lane.Editor i) = (i + 1) == n
+is_last n (lane.Server i) = false
+is_last n lane.Ticker = false
+
+-- whether, behind a cause of this kind from this lane, the last editor that joined is of the last lane, and found no other there; `last`: whether it was so before
+abbrev pub last_behind : ℕ → Seats → LaneName → Kind → Bool → Bool
+last_behind n seats l (kind.Joins e) last = is_last n l && has_no_editor seats
+last_behind n seats l kind.Starts last = last
+last_behind n seats l kind.Goes last = last
+last_behind n seats l kind.Stays last = last
 
 -- the servers' lanes stand so, and the history has a stop that was answered
 abbrev pub is_done : (List Entry → Bool) → List Entry → Seats → Bool

@@ -62,6 +62,8 @@ pub struct Desk<K: Steps + Drop, N: Naming> {
     seats: Seats,
     spent: bool,
     why: Option<StepFault>,
+    // The last editor that joined is of the last lane, and found no other there.
+    last: bool,
     of: PhantomData<N>,
 }
 
@@ -71,10 +73,10 @@ impl<K: Steps + Drop, N: Naming> Model for Desk<K, N> {
 
     ghost Value = { DeskView K };
 
-    ghost view = { λ d. record { core = d.core; spent = d.spent; why = d.why; ends = d.ends.items; seats = d.seats } };
+    ghost view = { λ d. record { core = d.core; spent = d.spent; why = d.why; ends = d.ends.items; seats = d.seats; last = d.last } };
 
-    ghost invariant = { λ d. Kept K.stands N.editors N.servers (not d.spent) d.core d.ends.items d.seats × (map ids d.ends.items ≡ N.queues)
-        × Faulted N.before (K.faults d.core) d.why
+    ghost invariant = { λ d. Kept K.stands N.editors N.servers (not d.spent) d.last d.core d.ends.items d.seats × (map ids d.ends.items ≡ N.queues)
+        × Faulted N.before (K.faults d.core) (K.spent d.core) d.why
         × (d.counts.editors ≡ N.editors) × (d.counts.servers ≡ N.servers) × (N.editors + N.servers < 2 ^ 63) × (length d.ends.items ≡ N.editors + N.servers + 1)
         × (d.spent ≡ false → K.spent d.core ≡ false) };
 }
@@ -97,6 +99,7 @@ impl<K: Steps + Drop, N: Naming> Desk<K, N> {
             &mut self.core,
             &mut self.ends,
             &mut self.seats,
+            &mut self.last,
             lane,
         );
         self.spent = turned.spent;
@@ -154,6 +157,9 @@ pub struct Closed<K: Steps + Drop> {
     pub done: bool,
     /// No lane of an editor has a session. This is said of a core that went on.
     pub no_editor: bool,
+    /// The last editor that joined is of the last lane of editors, and each other one had gone before. This is said of a core
+    /// that went on.
+    pub own_last: bool,
 }
 
 impl<K: Steps + Drop, N: Naming> Deck<K, N> {
@@ -189,6 +195,7 @@ impl<K: Steps + Drop, N: Naming> Deck<K, N> {
             seats,
             spent: false,
             why: None,
+            last: false,
             of: PhantomData,
         };
         Ok(Deck {
@@ -231,12 +238,12 @@ impl<K: Steps + Drop, N: Naming> Deck<K, N> {
 
     /// The core and the ends. It waits for nobody.
     pub fn close(self) -> Closed<K>
-        ensures kept { (seats : lists.Seats) × Kept K.stands N.editors N.servers (not result.spent) result.core result.ends.items seats
+        ensures kept { (seats : lists.Seats) × Kept K.stands N.editors N.servers (not result.spent) result.own_last result.core result.ends.items seats
             × Tells K.stands K.stops result.core seats result.done result.no_editor }
         ensures goes { result.done ≡ true → result.spent ≡ false }
         ensures ready { result.spent ≡ false → K.spent result.core ≡ false }
         ensures queues { map ids result.ends.items ≡ N.queues }
-        ensures faults { Faulted N.before (K.faults result.core) result.why }
+        ensures faults { Faulted N.before (K.faults result.core) (K.spent result.core) result.why }
     {
         let Deck { desk } = self;
         let Desk {
@@ -246,6 +253,7 @@ impl<K: Steps + Drop, N: Naming> Deck<K, N> {
             seats,
             spent,
             why,
+            last,
             of: _,
         } = desk.into_inner();
         let done = !spent && core.stopped() && seats.is_idle();
@@ -257,6 +265,7 @@ impl<K: Steps + Drop, N: Naming> Deck<K, N> {
             why,
             done,
             no_editor,
+            own_last: last,
         }
     }
 }

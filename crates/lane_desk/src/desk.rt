@@ -6,7 +6,9 @@ ghost use Rattle.lane_queue.specs.Ends.{HubSide};
 ghost use Rattle.lane_desk.specs.Desks.{Acted, Became, Dealt, FoundNothing, IsEmptied, Kept, Pairwise, Pushed, Same, Took, ids};
 ghost use Rattle.lane_desk.specs.Givens.{given_by};
 ghost use Rattle.lane_desk.specs.Kinds.{is_side};
-ghost use Rattle.lane_desk.specs.Places.{IsIn, IsLane, name, place};
+ghost use Rattle.lane_desk.specs.Places.{IsLane, name, place};
+ghost use Rattle.lane_desk.specs.Stops.{is_last, last_behind};
+ghost use Rattle.lane_lists.specs.Origins.{IsIn};
 
 use crate::given::Orders;
 use crate::kinds::{Kind, Mark, is_side, kind_of, mark_of};
@@ -197,6 +199,7 @@ fn act<K: Steps, R: Wait>(
     ensures later { K.faults core.old ≤ K.faults core.new }
     ensures journal { result.why ≡ Some StepFault.Journal → Rose (K.faults core.old) (K.faults core.new) }
     ensures ready { result.spent ≡ false → K.spent core.old ≡ false → K.spent core.new ≡ false }
+    ensures over { (f : StepFault) → result.why ≡ Some f → K.spent core.new ≡ true }
 {
     if !core.fits(&cause) {
         return Turned::over(None);
@@ -214,19 +217,41 @@ fn act<K: Steps, R: Wait>(
     }
 }
 
-/// Takes one item of a lane, and does what it means.
+// Whether it is the last lane of editors.
+fn is_last(counts: Counts, lane: LaneName) -> bool
+    ensures { result ≡ is_last counts.editors lane }
+{
+    match lane {
+        LaneName::Editor(i) => i as usize + 1 == counts.editors,
+        _ => false,
+    }
+}
+
+// Whether, behind a cause of this kind, the last editor that joined is of the last lane, and found no other there.
+fn last_behind(counts: Counts, seats: &Seats, lane: LaneName, kind: Kind, last: bool) -> bool
+    ensures { result ≡ last_behind counts.editors seats.now lane kind last }
+{
+    match kind {
+        Kind::Joins(_) => is_last(counts, lane) && seats.has_no_editor(),
+        _ => last,
+    }
+}
+
+/// Takes one item of a lane, and does what it means. `last` says whether the last editor that joined is of the last lane, and
+/// found no other there.
 pub fn take_turn<K: Steps, R: Wait>(
     rt: &R,
     counts: Counts,
     core: &mut K,
     ends: &mut Vec<HubEnds>,
     seats: &mut Seats,
+    last: &mut bool,
     lane: LaneName,
 ) -> Turned
     requires counts { counts.editors + counts.servers < 2 ^ 63 }
     requires ends { length ends.old.items ≡ counts.editors + counts.servers + 1 }
-    requires kept { Kept K.stands counts.editors counts.servers true core.old ends.old.items seats.old }
-    ensures kept { Kept K.stands counts.editors counts.servers (not result.spent) core.new ends.new.items seats.new }
+    requires kept { Kept K.stands counts.editors counts.servers true last.old core.old ends.old.items seats.old }
+    ensures kept { Kept K.stands counts.editors counts.servers (not result.spent) last.new core.new ends.new.items seats.new }
     ensures goes { result.took ≡ true → result.spent ≡ false }
     ensures nothing { result.took ≡ false → result.spent ≡ false → (x : HubSide)
         → slice_get ends.old.items (place counts.editors counts.servers lane) ≡ Some x → IsEmptied x }
@@ -234,6 +259,7 @@ pub fn take_turn<K: Steps, R: Wait>(
     ensures later { K.faults core.old ≤ K.faults core.new }
     ensures journal { result.why ≡ Some StepFault.Journal → Rose (K.faults core.old) (K.faults core.new) }
     ensures ready { result.spent ≡ false → K.spent core.old ≡ false → K.spent core.new ≡ false }
+    ensures over { (f : StepFault) → result.why ≡ Some f → K.spent core.new ≡ true }
 {
     let Some(place) = place_of(counts, lane) else {
         return Turned::over(None);
@@ -251,6 +277,11 @@ pub fn take_turn<K: Steps, R: Wait>(
             Turned::on()
         }
         Meaning::Stray => Turned::over(None),
-        Meaning::Means(cause) => { act(rt, counts, core, ends, seats, Taken { lane, mark }, cause) }
+        Meaning::Means(cause) => {
+            let is_last = last_behind(counts, seats, lane, kind_of(&cause), *last);
+            let turned = act(rt, counts, core, ends, seats, Taken { lane, mark }, cause);
+            *last = turned.took && is_last;
+            turned
+        }
     }
 }

@@ -10,13 +10,13 @@ use Rattle.rpc_message.specs.ValueTexts.{IsIdText}
 use Rattle.rpc_message.proofs.Ids.{request_id_bytes}
 use Rattle.event_model.specs.declared.phase.Phase.TheVariants.{Absent, Waiting}
 use Rattle.event_model.specs.Event.{Event}
-use Rattle.event_model.specs.Phases.{desk_of, has_id, is_served, needs_server}
+use Rattle.event_model.specs.Phases.{desk_of, has_id, needs_server}
 use Rattle.event_model.specs.Requests.{is_open, open_of}
 use Rattle.event_model.specs.Settings.{Settings}
 use Rattle.event_model.specs.Spawns.{start_of}
 use Rattle.event_model.proofs.Places.{same_item}
 use Rattle.group_facts.specs.Facts.{AllForwarded, IsForwarded}
-use Rattle.group_facts.specs.Settled.{Settled}
+use Rattle.group_facts.specs.Settled.{Settled, is_answered}
 use Rattle.group_rows.specs.Forwarded.{Forwarded, forwarding_of}
 use Rattle.group_words.specs.Houses.{home_of}
 use Rattle.id_rewrite.specs.declared.pending.Numbered.{Numbered}
@@ -77,8 +77,8 @@ module _ (settings : Settings) (t : Tables) (before : List Event) (e : ℕ) (i :
       clash : Absent ≡ Waiting → ⊥
       clash q = cc
 
--- of one that is served
-module _ (settings : Settings) (t : Tables) (before : List Event) (e : ℕ) (i : Id) (known : Settled settings before) (served : is_served (desk_of e before).phase ≡ true) where
+-- of one that got its result
+module _ (settings : Settings) (t : Tables) (before : List Event) (e : ℕ) (i : Id) (known : Settled settings before) (served : is_answered (desk_of e before).phase ≡ true) where
   pub sent_nowhere : start_for settings e before ≡ None → false ≡ is_open i (open_of e before)
   sent_nowhere none = go (is_open i (open_of e before)) refl
     where

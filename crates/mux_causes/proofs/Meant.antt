@@ -1,5 +1,5 @@
 -- What is built of a message, by what it is.
-use Rattle.std.proofs.Common.{◌≡◌, ℕ, ◌<◌, Bool, true, false, cond, not, ◌&&◌, ◌||◌, List, [], ◌∷◌, map, length, find, nat_eq, codes, bytes_eq, refl, ap, sym, ◌∙◌, ◌⊎◌, inl, inr}
+use Rattle.std.proofs.Common.{◌≡◌, ℕ, ◌<◌, Bool, true, false, cond, not, ◌&&◌, ◌||◌, List, [], ◌∷◌, map, length, find, nat_eq, refl, ap, sym, ◌∙◌, ◌⊎◌, inl, inr}
 use Rattle.std.specs.Prelude.{Option, Some, None, is_some, option_map, slice_get}
 use Rattle.json_text.specs.Json.{Json}
 use Rattle.rpc_message.specs.declared.sort.Sort.{Sort}
@@ -17,10 +17,9 @@ use Rattle.event_model.specs.declared.stage.Stage.TheVariants.{Unspawned, Spawni
 use Rattle.event_model.specs.Event.{Event}
 use Rattle.event_model.specs.Members.{reads_versions}
 use Rattle.event_model.specs.Phases.{is_malformed}
-use Rattle.event_model.specs.Requests.{is_open}
 use Rattle.event_model.specs.Settings.{Settings}
 use Rattle.event_model.specs.Stages.{is_first_result}
-use Rattle.group_facts.specs.Built.{built_as, built_early, built_from_editor, built_from_server, built_late, built_notice, built_response, is_fresh, is_passed_plainly, is_shown_whole}
+use Rattle.group_facts.specs.Built.{built_early, built_from_editor, built_from_server, built_late, built_response, is_fresh, is_passed_plainly, is_shown_whole}
 use Rattle.group_rows.specs.Forwarded.{Forwarded, answered_by, forwarding_of, is_under}
 use Rattle.id_rewrite.specs.declared.pending.Numbered.{Numbered}
 use Rattle.id_rewrite.specs.Tables.{has_number, pending_of}
@@ -68,26 +67,16 @@ response_built phase ids (request id method params) x h (inr e) = absurd (cc)
 response_built phase ids (notification method params) x h (inl e) = absurd (cc)
 response_built phase ids (notification method params) x h (inr e) = absurd (cc)
 
--- where no id of it can be open
-pub fresh_else : (p : Phase) (i : Id) (ids : List Id) (method : List ℕ) (params : Option Json) → built_as p method params ≡ true → (p ≡ Waiting → ⊥) → (p ≡ Answered → ⊥) → (p ≡ Running → ⊥) → (p ≡ New → ids ≡ []) → true ≡ is_fresh p i ids
-fresh_else New i ids method params h w a r none = ap (λ z. not (is_open i z)) (sym (none refl))
-fresh_else Closed i ids method params h w a r none = refl
-fresh_else Waiting i ids method params h w a r none = absurd (w refl)
-fresh_else Answered i ids method params h w a r none = absurd (a refl)
-fresh_else Running i ids method params h w a r none = absurd (r refl)
-fresh_else Absent i ids method params h w a r none = absurd (cc)
-fresh_else Down i ids method params h w a r none = absurd (cc)
-fresh_else Gone i ids method params h w a r none = absurd (cc)
-
-pub notice_else : (p : Phase) (method : List ℕ) (params : Option Json) → (p ≡ Answered → ⊥) → (p ≡ Running → ⊥) → (p ≡ Closed → ⊥) → not (bytes_eq (codes "exit") method) ≡ built_notice p method params
-notice_else Answered method params a r c = absurd (a refl)
-notice_else Running method params a r c = absurd (r refl)
-notice_else Closed method params a r c = absurd (c refl)
-notice_else New method params a r c = refl
-notice_else Waiting method params a r c = refl
-notice_else Absent method params a r c = refl
-notice_else Down method params a r c = refl
-notice_else Gone method params a r c = refl
+-- where none can be open under it
+pub fresh_else : (p : Phase) (i : Id) (ids : List Id) → (p ≡ Waiting → ⊥) → (p ≡ Answered → ⊥) → (p ≡ Running → ⊥) → (p ≡ Down → ⊥) → true ≡ is_fresh p i ids
+fresh_else New i ids w a r d = refl
+fresh_else Closed i ids w a r d = refl
+fresh_else Absent i ids w a r d = refl
+fresh_else Gone i ids w a r d = refl
+fresh_else Waiting i ids w a r d = absurd (w refl)
+fresh_else Answered i ids w a r d = absurd (a refl)
+fresh_else Running i ids w a r d = absurd (r refl)
+fresh_else Down i ids w a r d = absurd (d refl)
 
 -- of a start
 

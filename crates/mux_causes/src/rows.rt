@@ -1,15 +1,15 @@
 // Which causes meet rows of the routing table that are built.
-ghost use Rattle.std.specs.Prelude.{◌≡◌, ◌≤◌, ◌<◌, ◌&&◌, ◌||◌, ℕ, not, true, false, length, map, find, is_some, List, Option, Some, IfOk, slice_get};
+ghost use Rattle.std.specs.Prelude.{◌≡◌, ◌≤◌, ◌<◌, ◌&&◌, ◌||◌, ℕ, not, true, false, bytes_eq, codes, length, map, find, is_some, List, Option, Some, IfOk, slice_get};
 ghost use Rattle.event_model.specs.declared.phase.Phase.TheVariants.{Waiting};
 ghost use Rattle.event_model.specs.Event.{Event};
 ghost use Rattle.event_model.specs.Members.{has_token, reads_versions};
-ghost use Rattle.event_model.specs.Phases.{desk_of, is_served};
+ghost use Rattle.event_model.specs.Phases.{desk_of, is_new, is_served};
 ghost use Rattle.event_model.specs.Requests.{answered_id, is_open, open_of};
 ghost use Rattle.event_model.specs.Settings.{Settings};
 ghost use Rattle.event_model.specs.Stages.{is_first_result, life_of};
-ghost use Rattle.group_facts.specs.Built.{built_as, built_behind, built_early, built_from_editor, built_from_server, built_late, built_notice, built_response, is_fresh, is_passed_plainly, is_plain, is_quiet, is_refused, is_shown_whole};
+ghost use Rattle.group_facts.specs.Built.{built_behind, built_early, built_from_editor, built_from_server, built_late, built_notice, built_request, built_response, is_fresh, is_marked, is_passed_plainly, is_plain, is_quiet, is_shown_whole, is_standard};
 ghost use Rattle.group_facts.specs.Facts.{Known};
-ghost use Rattle.group_facts.specs.Settled.{Settled};
+ghost use Rattle.group_facts.specs.Settled.{Settled, is_answered};
 ghost use Rattle.group_rows.specs.Forwarded.{answered_by, forwarding_of};
 ghost use Rattle.json_text.specs.Json.{Json};
 ghost use Rattle.lsp_method.specs.Class.{class_of};
@@ -49,49 +49,69 @@ fn is_plain(message: &Message) -> bool
     is_other(class_in(message))
 }
 
-// Behind the answer to `initialize`: whether it is, and has no tokens.
-fn is_bare(message: &Message) -> bool
+// E10: whether it is, and has a token.
+fn is_marked(message: &Message) -> bool
     ensures { (body method : List ℕ) (id : Id) (params : Option Json) → IsRead message.now body → message_of body ≡ request id method params
-        → result ≡ (is_plain method && not (has_token params)) }
+        → result ≡ is_marked method params }
 {
-    is_plain(message) && !has_token(message)
+    is_plain(message) && has_token(message)
 }
 
-// E8: whether a request before the answer to `initialize` is refused, by its class.
-fn is_refused_as(class: Class) -> bool
-    ensures { result ≡ is_refused class }
+// Whether this is a class of methods of the standard, other than `initialize`.
+fn is_standard_class(class: Class) -> bool
+    ensures { result ≡ is_standard class }
 {
-    matches!(class, Class::Other | Class::Wrong | Class::Shutdown)
+    matches!(class, Class::Shutdown | Class::Wrong | Class::Other)
 }
 
-fn is_refused(message: &Message) -> bool
+fn is_standard(message: &Message) -> bool
     ensures { (body method : List ℕ) (id : Id) (params : Option Json) → IsRead message.now body → message_of body ≡ request id method params
-        → result ≡ is_refused (class_of method Editor false) }
+        → result ≡ is_standard (class_of method Editor false) }
 {
-    is_refused_as(class_in(message))
+    is_standard_class(class_in(message))
 }
 
-// Whether a request of an editor in this phase is built, whatever its id is.
-fn built_as(phase: Phase, message: &Message) -> bool
+// E7: whether a request places a new editor.
+fn is_first(phase: Phase, message: &Message) -> bool
     ensures { (body method : List ℕ) (id : Id) (params : Option Json) → IsRead message.now body → message_of body ≡ request id method params
-        → result ≡ built_as phase method params }
+        → result ≡ (is_new phase && bytes_eq (codes "initialize") method) }
 {
     match phase {
-        Phase::New => is_initialize(message) || is_refused(message),
-        Phase::Waiting => is_refused(message),
-        Phase::Answered => is_wrong(message) || is_bare(message),
-        Phase::Running => is_wrong(message) || is_bare(message),
-        Phase::Closed => is_refused(message),
+        Phase::New => is_initialize(message),
         _ => false,
     }
 }
 
-// E12 to E15: whether a notification behind the answer to `initialize` is built.
+// E10: whether a request of an editor that is served has a token.
+fn is_marked_here(phase: Phase, message: &Message) -> bool
+    ensures { (body method : List ℕ) (id : Id) (params : Option Json) → IsRead message.now body → message_of body ≡ request id method params
+        → result ≡ (is_served phase && is_marked method params) }
+{
+    phase.is_served() && is_marked(message)
+}
+
+// E8 to E10: whether a request of the standard is built, which doesn't place its editor.
+fn is_taken(phase: Phase, message: &Message) -> bool
+    ensures { (body method : List ℕ) (id : Id) (params : Option Json) → IsRead message.now body → message_of body ≡ request id method params
+        → result ≡ (is_standard (class_of method Editor false) && not (is_served phase && is_marked method params)) }
+{
+    is_standard(message) && !is_marked_here(phase, message)
+}
+
+// Whether a request of an editor in this phase is built, whatever its id is.
+fn built_request(phase: Phase, message: &Message) -> bool
+    ensures { (body method : List ℕ) (id : Id) (params : Option Json) → IsRead message.now body → message_of body ≡ request id method params
+        → result ≡ built_request phase method params }
+{
+    is_first(phase, message) || is_taken(phase, message)
+}
+
+// E9, E12 to E15: whether a notification behind the answer to `initialize` is built.
 fn is_quiet(message: &Message) -> bool
     ensures { (body method : List ℕ) (params : Option Json) → IsRead message.now body → message_of body ≡ notification method params
         → result ≡ is_quiet method params }
 {
-    is_initialized(message) || speaks(message) || is_dropped(message)
+    is_exit(message) || is_initialized(message) || speaks(message) || is_dropped(message)
 }
 
 // Whether a notification of an editor in this phase is built.
@@ -99,12 +119,7 @@ fn built_notice(phase: Phase, message: &Message) -> bool
     ensures { (body method : List ℕ) (params : Option Json) → IsRead message.now body → message_of body ≡ notification method params
         → result ≡ built_notice phase method params }
 {
-    match phase {
-        Phase::Answered => is_quiet(message),
-        Phase::Running => is_quiet(message),
-        Phase::Closed => true,
-        _ => !is_exit(message),
-    }
+    !phase.is_served() || is_quiet(message)
 }
 
 // Of an editor that waits: whether this is the id of its `initialize`.
@@ -121,10 +136,10 @@ fn is_own(tables: &Tables, e: u64, id: &[u8]) -> bool
     }
 }
 
-// Of an editor that is served: whether a request of it under this id is open at the last start of its group.
+// Of an editor that got its result: whether a request of it under this id is open at the last start of its group.
 fn is_sent(tables: &Tables, e: u64, id: &[u8]) -> bool
     ensures { (settings : Settings) (before : List Event) (i : Id) → Known settings before → Settled settings before
-        → Stands settings tables.now before → IsIdText i id.now → is_served (desk_of e before).phase ≡ true → result ≡ is_open i (open_of e before) }
+        → Stands settings tables.now before → IsIdText i id.now → is_answered (desk_of e before).phase ≡ true → result ≡ is_open i (open_of e before) }
 {
     match tables.place(e) {
         Some(g) => tables.lasts[g].ids.find(e, id).is_some(),
@@ -132,27 +147,27 @@ fn is_sent(tables: &Tables, e: u64, id: &[u8]) -> bool
     }
 }
 
-// E3: whether no request of an editor under this id is open, if requests are built in its phase.
+// E3: whether no request of an editor under this id is open.
 fn is_fresh(tables: &Tables, e: u64, phase: Phase, id: &[u8]) -> bool
-    ensures { (settings : Settings) (before : List Event) (i : Id) (method : List ℕ) (params : Option Json) → Known settings before
-        → Settled settings before → Stands settings tables.now before → IsIdText i id.now → phase ≡ (desk_of e before).phase
-        → built_as phase method params ≡ true → result ≡ is_fresh phase i (open_of e before) }
+    ensures { (settings : Settings) (before : List Event) (i : Id) → Known settings before → Settled settings before
+        → Stands settings tables.now before → IsIdText i id.now → phase ≡ (desk_of e before).phase → result ≡ is_fresh phase i (open_of e before) }
 {
     match phase {
         Phase::Waiting => !is_own(tables, e, id),
         Phase::Answered => !is_sent(tables, e, id),
         Phase::Running => !is_sent(tables, e, id),
+        Phase::Down => !is_sent(tables, e, id),
         _ => true,
     }
 }
 
 // A request of an editor.
-fn built_request(tables: &Tables, e: u64, phase: Phase, message: &Message) -> bool
+fn built_asking(tables: &Tables, e: u64, phase: Phase, message: &Message) -> bool
     ensures { (settings : Settings) (before : List Event) (body method : List ℕ) (id : Id) (params : Option Json) → Known settings before
         → Settled settings before → Stands settings tables.now before → IsRead message.now body → message_of body ≡ request id method params
-        → phase ≡ (desk_of e before).phase → result ≡ (is_fresh phase id (open_of e before) && built_as phase method params) }
+        → phase ≡ (desk_of e before).phase → result ≡ (is_fresh phase id (open_of e before) && built_request phase method params) }
 {
-    built_as(phase, message) && is_fresh(tables, e, phase, message.id_bytes())
+    is_fresh(tables, e, phase, message.id_bytes()) && built_request(phase, message)
 }
 
 // A message of an editor.
@@ -162,7 +177,7 @@ fn built_message(tables: &Tables, e: u64, message: &Message) -> bool
         → result ≡ built_from_editor (desk_of e before).phase (open_of e before) (message_of body) }
 {
     match message.sort() {
-        Sort::Request => built_request(tables, e, tables.phase(e), message),
+        Sort::Request => built_asking(tables, e, tables.phase(e), message),
         Sort::Notification => built_notice(tables.phase(e), message),
         Sort::Result | Sort::Error => true,
     }
@@ -309,6 +324,7 @@ pub fn built(tables: &Tables, alloc: Global, cause: &Cause) -> Result<bool, Memo
 {
     match cause {
         Cause::Joined(_) => Ok(true),
+        Cause::EditorGone(_, _) => Ok(true),
         Cause::Started(_) => Ok(true),
         Cause::Drained(_, _) => Ok(true),
         Cause::FromEditor(e, body) => built_from_editor(tables, alloc, *e, body),

@@ -1,4 +1,5 @@
 mod Places
+mod Own
 mod Opening
 mod Settling
 mod Running
@@ -10,3 +11,4 @@ mod Sessions
 mod ReadStarts
 mod WriteStarts
 mod Starts
+mod Events

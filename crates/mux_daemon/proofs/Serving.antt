@@ -11,6 +11,7 @@ use Rattle.lane_lists.specs.declared.item.LaneName.{LaneName}
 use Rattle.lane_lists.specs.declared.item.LaneName.TheVariants as lane
 use Rattle.lane_lists.specs.declared.item.Posted.TheVariants as posted
 use Rattle.lane_lists.specs.Deeds.{entries, seats_of}
+use Rattle.lane_lists.specs.Origins.{JoinedLast}
 use Rattle.lane_queue.specs.Ends.{HubSide}
 use Rattle.lane_desk.specs.Desks.{EndsAre, Ids, ids}
 use Rattle.lane_desk.specs.Places.{name}
@@ -182,8 +183,8 @@ module _ {P B C : Type 0} (sessions links : P → Option (List Session)) (faults
         };
       }
 
-  module _ {K : Type 0} (stands : K → List Entry → Type 0) (stops : List Entry → Bool) (core : K) (spent done no_editor closed : Bool) (last : Lanes P B C) (x : Answer)
-      (k : LeftAs stands stops hubs.editors hubs.servers core back spent done no_editor) (goes : done ≡ true → spent ≡ false) (through : closed ≡ true → AllThrough new.ports.items) (f : FinishedAs new back done no_editor closed last x) (l : SameLanes new last) where
+  module _ {K : Type 0} (stands : K → List Entry → Type 0) (stops : List Entry → Bool) (core : K) (spent done no_editor closed own_last : Bool) (last : Lanes P B C) (x : Answer)
+      (k : LeftAs stands stops hubs.editors hubs.servers core back spent done no_editor own_last) (goes : done ≡ true → spent ≡ false) (through : closed ≡ true → AllThrough new.ports.items) (f : FinishedAs new back done no_editor closed own_last last x) (l : SameLanes new last) where
     abbrev story : Story
     story = record { editors = hubs.editors; servers = hubs.servers; deeds = k.1.deeds; more = k.1.more }
 
@@ -214,6 +215,7 @@ module _ {P B C : Type 0} (sessions links : P → Option (List Session)) (faults
           editors = e;
           servers = s;
           fair = k.1.fair;
+          lanes = k.1.lanes;
           stands_for = k.1.stands_for;
           once = k.1.once;
           ports_len = lp ∙ pl;
@@ -273,8 +275,11 @@ module _ {P B C : Type 0} (sessions links : P → Option (List Session)) (faults
                     let came : mid.0.end ≡ lane_end.Through = ap (λ (j : LaneJob P). j.end) (sym (index_of new.ports.items i mid.0 mid.0 mid.1)) ∙ through c.0 i mid.0 (slice_get_within new.ports.items i mid.0 mid.1) in
                     let ran = r.ports.each i p mid.0 at mid.1 opened.ends opened.has in
                     subst (λ y. IfSome (links y) (λ none. none ≡ []) ⊎ Rose (faults p.outside) (faults y)) (sym (l.ports.each i mid.0 q mid.1 at')) (ran.closed came)),
-                c.1,
+                c.2,
+                (let own = k.1.own_last c.1 in let is_last = own.is_last in let number : own.number ≡ length old.ports.items = omega arith in
+                    subst (λ (i : ℕ). JoinedLast hubs.editors hubs.servers i k.1.deeds) number own.joined),
               );
+          stopped = f.stopped;
         }
 
 -- nothing was run
@@ -288,6 +293,7 @@ served_none stands stops sessions links faults runs left misses given moments li
       editors = refl;
       servers = refl;
       fair = tt;
+      lanes = tt;
       stands_for = s;
       once = λ x. omega arith;
       ports_len = refl;
@@ -302,6 +308,7 @@ served_none stands stops sessions links faults runs left misses given moments li
       clock = record { posted = []; end = lane_end.Over; ticked = ticked_none (given lanes.clock.outside) (moments lanes.clock.outside); queues = queues lane.Ticker; whole = λ w. absurd cc };
       over = λ g. absurd cc;
       closed = λ g. absurd cc;
+      stopped = λ g. absurd cc;
     }
 
 -- from what the lanes served before they were opened
@@ -312,6 +319,7 @@ served_from {K} {P} {B} {C} stands stops sessions links faults runs left misses 
   editors = f.editors ∙ ap (λ k. k + 1) l.ports.len;
   servers = f.servers ∙ l.berths.len;
   fair = f.fair;
+  lanes = f.lanes;
   stands_for = f.stands_for;
   once = f.once;
   ports_len = f.ports_len ∙ l.ports.len;
@@ -331,15 +339,19 @@ served_from {K} {P} {B} {C} stands stops sessions links faults runs left misses 
         let mid = get_there old.ports.items i (let w = slice_get_within before.ports.items i p at in let e = l.ports.len in omega (arith, w, e)) in
         subst (λ y. IfSome (links q.outside) (λ none. none ≡ []) ⊎ Rose (faults y) (faults q.outside)) (l.ports.each i p mid.0 at mid.1) (c.0 i mid.0 q mid.1 at')),
     c.1,
+    subst (λ (k : ℕ). JoinedLast f.story.editors f.story.servers k f.story.deeds) l.ports.len c.2,
   );
+  stopped = f.stopped;
 }
 
 -- from what was looked up at the end
-pub finished : {P B C : Type 0} (lanes new : Lanes P B C) (hubs : List HubSide) (done no_editor ports_closed none_left is_whole is_done is_closed : Bool) (x : Answer) → LanesSettled lanes hubs none_left → (is_whole ≡ true → LanesWhole lanes) → (is_end x ≡ true → is_done ≡ true)
-    → (is_done ≡ true → (done ≡ true) × (no_editor ≡ true) × (none_left ≡ true) × (is_whole ≡ true)) → (x ≡ answer.PortsClosed → is_closed ≡ true) → (is_closed ≡ true → (ports_closed ≡ true) × HasSession new.own.outside) → FinishedAs lanes hubs done no_editor ports_closed new x
-finished lanes new hubs done no_editor ports_closed none_left is_whole is_done is_closed x settled whole end all closed both = record {
+pub finished : {P B C : Type 0} (lanes new : Lanes P B C) (hubs : List HubSide) (done no_editor ports_closed own_last none_left is_whole is_done is_closed has_own : Bool) (x : Answer) → LanesSettled lanes hubs none_left → (is_whole ≡ true → LanesWhole lanes) → (is_end x ≡ true → is_done ≡ true)
+    → (is_done ≡ true → (done ≡ true) × (no_editor ≡ true) × (none_left ≡ true) × (is_whole ≡ true)) → (x ≡ answer.PortsClosed → is_closed ≡ true) → (is_closed ≡ true → (ports_closed ≡ true) × (own_last ≡ true) × HasSession new.own.outside)
+    → (x ≡ answer.Stopped → has_own ≡ false) → (has_own ≡ false → port.ghosts.sessions new.own.outside ≡ Some []) → FinishedAs lanes hubs done no_editor ports_closed own_last new x
+finished lanes new hubs done no_editor ports_closed own_last none_left is_whole is_done is_closed has_own x settled whole end all closed both stopped none = record {
   none_left = none_left;
   settled = settled;
   over = λ e. let a = all (end e) in (a.0, a.1, a.2, whole a.3);
   closed = λ e. both (closed e);
+  stopped = λ e. none (stopped e);
 }

@@ -4,3 +4,4 @@ pub mod Rans
 pub mod Served
 pub mod Sessions
 pub mod Starts
+pub mod Events

@@ -15,6 +15,7 @@ use Rattle.lane_lists.specs.declared.item.Side.{Side}
 use Rattle.lane_lists.specs.Deeds.{Deed, Fair, entries, orders, posts, seats_of, sides}
 use Rattle.lane_queue.specs.Ends.{HubSide}
 use Rattle.lane_lists.specs.Seats.{Seats}
+use Rattle.lane_lists.specs.Origins.{AllIn, JoinedLast}
 use Rattle.lane_desk.specs.Desks.{Kept, posted_at, side_at}
 use Rattle.lane_desk.specs.Stops.{Tells, has_no_editor, is_done}
 use Rattle.mux_lanes.specs.declared.lane_end.LaneEnd.{LaneEnd}
@@ -79,16 +80,17 @@ is_end answer.Journal = false
 is_end answer.Numbers = false
 
 -- what a deck left
-abbrev pub LeftAs : {K : Type 0} → (K → List Entry → Type 0) → (List Entry → Bool) → ℕ → ℕ → K → List HubSide → Bool → Bool → Bool → Type 0
-LeftAs {K} stands stops n m core ends spent done no_editor = (seats : Seats) × Kept stands n m (not spent) core ends seats × Tells stands stops core seats done no_editor
+abbrev pub LeftAs : {K : Type 0} → (K → List Entry → Type 0) → (List Entry → Bool) → ℕ → ℕ → K → List HubSide → Bool → Bool → Bool → Bool → Type 0
+LeftAs {K} stands stops n m core ends spent done no_editor own_last = (seats : Seats) × Kept stands n m (not spent) own_last core ends seats × Tells stands stops core seats done no_editor
 
--- behind the joined queues: the work was done only where a stop was done, no editor's lane has a session, no order is left and no lane was cut off; and the ports were closed only where the own link was handed back
+-- behind the joined queues: the work was done only where a stop was done, no editor's lane has a session, no order is left and no lane was cut off; the ports were closed only where the own link was the last to join and was handed back, and not where it wasn't handed back
 module _ {P B C : Type 0} where
-  pub record FinishedAs (lanes : Lanes P B C) (hubs : List HubSide) (done no_editor ports_closed : Bool) (new : Lanes P B C) (x : Answer) : Type 0 where
+  pub record FinishedAs (lanes : Lanes P B C) (hubs : List HubSide) (done no_editor ports_closed own_last : Bool) (new : Lanes P B C) (x : Answer) : Type 0 where
     pub none_left : Bool
     pub settled : LanesSettled lanes hubs none_left
     pub over : is_end x ≡ true → (done ≡ true) × (no_editor ≡ true) × (none_left ≡ true) × LanesWhole lanes
-    pub closed : x ≡ answer.PortsClosed → (ports_closed ≡ true) × HasSession new.own.outside
+    pub closed : x ≡ answer.PortsClosed → (ports_closed ≡ true) × (own_last ≡ true) × HasSession new.own.outside
+    pub stopped : x ≡ answer.Stopped → port.ghosts.sessions new.own.outside ≡ Some []
 
 module _ {K P B C : Type 0} (stands : K → List Entry → Type 0) (stops : List Entry → Bool) (sessions links : P → Option (List Session)) (faults : P → ℕ) (runs left : B → Option (List Session)) (misses : B → ℕ) (given moments : C → Option (List ℕ)) (limit : ℕ) where
   pub record ServedAs (core : K) (old new : Lanes P B C) (x : Answer) : Type 0 where
@@ -96,6 +98,7 @@ module _ {K P B C : Type 0} (stands : K → List Entry → Type 0) (stops : List
     pub editors : story.editors ≡ length old.ports.items + 1
     pub servers : story.servers ≡ length old.berths.items
     pub fair : Fair story.editors story.servers story.deeds
+    pub lanes : AllIn story.editors story.servers story.deeds
     pub stands_for : stands core (history story)
     pub once : (s : ℕ) → spawns s (history story) ≤ 1
     pub ports_len : length new.ports.items ≡ length old.ports.items
@@ -108,3 +111,5 @@ module _ {K P B C : Type 0} (stands : K → List Entry → Type 0) (stops : List
     pub clock : ClockServed story (is_end x) given moments old.clock.outside new.clock.outside
     pub over : is_end x ≡ true → (story.more ≡ None) × (is_done stops (history story) (seats_of story.editors story.servers story.deeds) ≡ true) × (has_no_editor (seats_of story.editors story.servers story.deeds) ≡ true)
     pub closed : x ≡ answer.PortsClosed → ((i : ℕ) (p q : LaneJob P) → slice_get old.ports.items i ≡ Some p → slice_get new.ports.items i ≡ Some q → IfSome (links q.outside) (λ none. none ≡ []) ⊎ Rose (faults p.outside) (faults q.outside)) × HasSession new.own.outside
+        × JoinedLast story.editors story.servers (length old.ports.items) story.deeds
+    pub stopped : x ≡ answer.Stopped → port.ghosts.sessions new.own.outside ≡ Some []

@@ -8,7 +8,7 @@ ghost use Rattle.mux_daemon.specs.Opens.{OpenedLanes, SameLanes};
 ghost use Rattle.mux_daemon.specs.Settles.{LanesPaired, LanesSettled};
 ghost use Rattle.mux_daemon.specs.Rans.{HasSession, LanesRan, LanesWhole, NoneCut, AreOver};
 ghost use Rattle.mux_daemon.specs.Served.{FinishedAs, LeftAs, ServedAs, is_end};
-ghost use Rattle.outside_io.specs.contracts.memory.port.MemPortPort.TheImpl as port;
+ghost use Rattle.outside_io.specs.contracts.memory.port.MemPortPort.TheImpl as mem;
 
 use crate::open::{Hubs, Lanes, open_lanes};
 use crate::settle::settle_lanes;
@@ -25,9 +25,10 @@ use std::thread::Threads;
 /// How a daemon's work ended.
 #[derive(Clone, Copy, Debug, PartialEq, Eq)]
 pub enum Answer {
-    /// A request to stop was answered, and the stop is done.
+    /// A stop is done: an editor of a port asked for it, since the own link didn't join, and its request was answered.
     Stopped,
-    /// Each port was closed, and then the daemon's own link asked for the stop that is done.
+    /// Each port was closed. Then, each of their editors having gone, the daemon's own link joined, the last of all, and a stop
+    /// is done.
     PortsClosed,
     /// Memory ran out, or something was cut off.
     Memory,
@@ -148,11 +149,11 @@ fn run_deck<
     ensures ran { LanesRan P.sessions P.links P.faults B.runs B.left B.faults C.given C.left limit lanes result.lanes }
     ensures through { result.closed ≡ true → AllThrough result.lanes.ports.items }
     ensures kept { LeftAs K.stands K.stops N.editors N.servers result.left.core
-        result.left.ends.items result.left.spent result.left.done result.left.no_editor }
+        result.left.ends.items result.left.spent result.left.done result.left.no_editor result.left.own_last }
     ensures ready { result.left.spent ≡ false → K.spent result.left.core ≡ false }
     ensures goes { result.left.done ≡ true → result.left.spent ≡ false }
     ensures queues { map ids result.left.ends.items ≡ N.queues }
-    ensures faults { Faulted N.before (K.faults result.left.core) result.left.why }
+    ensures faults { Faulted N.before (K.faults result.left.core) (K.spent result.left.core) result.left.why }
 {
     match Switchboard::new(alloc, deck, editors, servers) {
         Ok(board) => {
@@ -184,8 +185,10 @@ fn none_cut<P>(jobs: &[LaneJob<P>]) -> bool
 }
 
 // Whether a port in memory got a link back.
+#[tactic(auto, using(crate::proofs::Own::has_one))]
 fn has_session(port: &MemPort) -> bool
-    ensures { result ≡ true → HasSession port.now }
+    ensures some { result ≡ true → HasSession port.now }
+    ensures none { result ≡ false → mem.ghosts.sessions port.now ≡ Some [] }
 {
     port.session(0).is_some()
 }
@@ -200,18 +203,21 @@ fn are_whole<P, B, C>(lanes: &Lanes<P, B, C>) -> bool
         && lanes.clock.end != LaneEnd::Cut
 }
 
-// How the work ended, by the fault of the last step, and by whether the work was done and behind closed ports.
-fn answer_of(why: Option<StepFault>, is_done: bool, is_closed: bool) -> Answer
+// How the work ended, by the fault of the last step, and by whether the work was done, whether behind closed ports, and whether the
+// own port got a link back.
+fn answer_of(why: Option<StepFault>, is_done: bool, is_closed: bool, has_own: bool) -> Answer
     ensures journal { result ≡ Answer.Journal → why ≡ Some StepFault.Journal }
     ensures numbers { result ≡ Answer.Numbers → why ≡ Some StepFault.Numbers }
     ensures done { is_end result ≡ true → is_done ≡ true }
     ensures closed { result ≡ Answer.PortsClosed → is_closed ≡ true }
+    ensures stopped { result ≡ Answer.Stopped → has_own ≡ false }
 {
     match why {
         Some(StepFault::Journal) => Answer::Journal,
         Some(StepFault::Numbers) => Answer::Numbers,
         _ if !is_done => Answer::Memory,
         _ if is_closed => Answer::PortsClosed,
+        _ if has_own => Answer::Memory,
         _ => Answer::Stopped,
     }
 }
@@ -226,7 +232,7 @@ fn finish<K: Steps + Drop, P: Drop, B: Drop, C: Drop, R: Wait>(
     requires { LanesPaired lanes left.ends.items }
     ensures core { result.core ≡ left.core }
     ensures same { SameLanes lanes result.lanes }
-    ensures finished { FinishedAs lanes left.ends.items left.done left.no_editor closed result.lanes result.answer }
+    ensures finished { FinishedAs lanes left.ends.items left.done left.no_editor closed left.own_last result.lanes result.answer }
     ensures journal { result.answer ≡ Answer.Journal → left.why ≡ Some StepFault.Journal }
     ensures numbers { result.answer ≡ Answer.Numbers → left.why ≡ Some StepFault.Numbers }
 {
@@ -238,11 +244,13 @@ fn finish<K: Steps + Drop, P: Drop, B: Drop, C: Drop, R: Wait>(
         why,
         done,
         no_editor,
+        own_last,
     } = left;
     let is_whole = are_whole(&lanes);
     let none_left = settle_lanes(rt, &mut lanes, ends);
     let is_done = done && no_editor && none_left && is_whole;
-    let answer = answer_of(why, is_done, closed && has_session(&lanes.own.outside));
+    let has_own = has_session(&lanes.own.outside);
+    let answer = answer_of(why, is_done, closed && own_last && has_own, has_own);
     Served {
         answer,
         core,
@@ -278,6 +286,7 @@ fn named<
         result.core lanes result.lanes result.answer }
     ensures ready { is_end result.answer ≡ true → K.spent result.core ≡ false }
     ensures journal { result.answer ≡ Answer.Journal → Rose (K.faults core) (K.faults result.core) }
+    ensures numbers { result.answer ≡ Answer.Numbers → K.spent result.core ≡ true }
     ensures later { K.faults core ≤ K.faults result.core }
 {
     let Hubs {
@@ -300,7 +309,14 @@ fn named<
 }
 
 /// Runs the daemon's threads over a core: the lanes of these ports and berths and of a clock, and behind the ports, where each
-/// was closed, the own link, which asks the core to stop. A start gets the words of its server's command.
+/// was closed, the own link, which asks the core to stop. A start gets the words of its server's command, and none where its
+/// server has no place in `commands`. A content of a frame that is read has at most `limit` bytes; a longer one is a fault of
+/// its link, and above 268,435,456 bytes the core takes no body.
+///
+/// It returns when each lane has ended, which is where a stop is done or the core goes on no more. It answers `Stopped` where a
+/// stop is done for which an editor of a port asked; `PortsClosed` where each port was closed, and the own link, the last to
+/// join, found no editor there, and a stop is done; `Journal` and `Numbers` where a step of the core had this fault; and
+/// `Memory` in every other case.
 pub fn serve_core<
     K: Steps + Drop + Send,
     P: Port + Send + Drop,
@@ -321,6 +337,7 @@ pub fn serve_core<
         result.core lanes result.lanes result.answer }
     ensures ready { is_end result.answer ≡ true → K.spent result.core ≡ false }
     ensures journal { result.answer ≡ Answer.Journal → Rose (K.faults core) (K.faults result.core) }
+    ensures numbers { result.answer ≡ Answer.Numbers → K.spent result.core ≡ true }
     ensures later { K.faults core ≤ K.faults result.core }
 {
     let mut lanes = lanes;

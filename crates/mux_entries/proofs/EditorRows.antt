@@ -1,5 +1,5 @@
 -- Which row a message of an editor meets.
-use Rattle.std.proofs.Common.{◌≡◌, ℕ, Bool, true, false, List, [], ◌++◌, refl, ap, sym, subst, ◌∙◌, ◌⊎◌, inl, inr, codes}
+use Rattle.std.proofs.Common.{◌≡◌, ℕ, Bool, true, false, ◌&&◌, ◌||◌, List, [], ◌++◌, refl, ap, sym, subst, ◌∙◌, ◌⊎◌, inl, inr, codes}
 use Rattle.std.specs.Prelude.{Option, Some}
 use Rattle.json_text.specs.Json.{Json}
 use Rattle.json_nodes.specs.Doc.{Doc}
@@ -15,18 +15,18 @@ use Rattle.rpc_message.specs.Envelopes.{Tells}
 use Rattle.rpc_message.specs.Message.{Message, Id, message_of, request, notification, result, error, not_json, not_message}
 use Rattle.rpc_message.specs.Parsed.{Parsed, IsRead}
 use Rattle.rpc_message.specs.Sorts.{Refuses, sort_of}
-use Rattle.document_model.specs.Sayings.{saying_by}
 use Rattle.event_model.specs.declared.phase.Phase.{Phase}
 use Rattle.event_model.specs.declared.phase.Phase.TheVariants.{Absent, New, Waiting, Answered, Running, Down, Closed, Gone}
 use Rattle.event_model.specs.Does.{Alike, Done}
-use Rattle.event_model.specs.Event.{Event, behind, requests, with_cause}
-use Rattle.event_model.specs.Phases.{desk_of, is_linked, is_malformed, is_served}
+use Rattle.event_model.specs.Event.{Event, behind, notifies, requests, with_cause}
+use Rattle.event_model.specs.Phases.{desk_of, is_begun, is_linked, is_malformed, is_served}
 use Rattle.event_model.specs.Row.{Row, nothing}
 use Rattle.event_model.specs.Settings.{Settings}
 use Rattle.event_model.proofs.Turns.{alike, alike_then, does_nothing}
 use Rattle.mux_model.specs.Rows.{malformed_row}
 use Rattle.group_words.specs.Rows.{initialize_row}
-use Rattle.group_rows.specs.Rows.{document_row, early_row, from_editor, message_row, row_of, served_row}
+use Rattle.group_words.specs.Houses.{is_doubled}
+use Rattle.group_rows.specs.Rows.{closing_row, down_row, early_row, exit_row, from_editor, row_of, served_row, taken_row}
 use Rattle.mux_tables.specs.declared.tables.Tables.{Tables}
 use Rattle.mux_tables.specs.Documents.{AllStand, DocumentsStand, nothing_owed}
 use Rattle.mux_tables.specs.Stands.{Stands}
@@ -90,14 +90,6 @@ notes_by_sort (error id r) h = absurd (cc)
 notes_by_sort not_json h = absurd (cc)
 notes_by_sort not_message h = absurd (cc)
 
--- a message of an editor that is neither early nor served gives nothing
-abbrev pub rests : Phase → Bool
-rests Absent = true
-rests Down = true
-rests Closed = true
-rests Gone = true
-rests other = false
-
 -- what was refused is none
 pub refused_malformed : (f : Malformed) (m : Message) → (f ≡ fault.NotJson) ⊎ (f ≡ fault.NotMessage) → Refuses f m → is_malformed m ≡ true
 refused_malformed f m (inl h) r = ap is_malformed (subst (λ z. Refuses z m) h r)
@@ -112,15 +104,11 @@ pub served_one : (p : Phase) → (p ≡ Answered) ⊎ (p ≡ Running) → is_ser
 served_one p (inl h) = ap is_served h
 served_one p (inr h) = ap is_served h
 
-pub rests_one : (p : Phase) → (p ≡ Absent) ⊎ ((p ≡ Down) ⊎ (p ≡ Gone)) → rests p ≡ true
-rests_one p (inl h) = ap rests h
-rests_one p (inr (inl h)) = ap rests h
-rests_one p (inr (inr h)) = ap rests h
-
-pub rests_open : (p : Phase) → (p ≡ Absent) ⊎ ((p ≡ Down) ⊎ (p ≡ Gone)) → p ≡ Closed → ⊥
-rests_open p (inl h) k = cc
-rests_open p (inr (inl h)) k = cc
-rests_open p (inr (inr h)) k = cc
+-- one whose link isn't gone, and that has nothing more to say
+pub closed_one : (p : Phase) → (p ≡ Closed) ⊎ ((p ≡ Absent) ⊎ (p ≡ Gone)) → is_linked p ≡ true → p ≡ Closed
+closed_one p (inl h) linked = h
+closed_one p (inr (inl h)) linked = absurd (let off = ap is_linked h in cc)
+closed_one p (inr (inr h)) linked = absurd (let off = ap is_linked h in cc)
 
 -- a response is no call
 pub unasking : (m : Message) (x : Sort) → sort_of m ≡ Some x → (x ≡ sort.Result) ⊎ (x ≡ sort.Error) → sort_of m ≡ Some sort.Request → ⊥
@@ -139,21 +127,19 @@ module _ (settings : Settings) (before : List Event) (e : ℕ) (body : List ℕ)
   pub malformed : is_malformed (message_of body) ≡ true → Alike row (malformed_row e (message_of body) (desk_of e before).phase)
   malformed h = is_first refl h
 
-  phased : (p : Phase) → (desk_of e before).phase ≡ p → is_malformed (message_of body) ≡ false → Alike row (message_row settings before e body (message_of body) p)
-  phased p at well = alike_then (alike (ap (from_editor settings before e body (message_of body)) at)) (is_second refl well)
+  -- one that is under no open id
+  pub taken : (p : Phase) → (desk_of e before).phase ≡ p → is_malformed (message_of body) ≡ false → (is_begun p && is_doubled before e (message_of body)) ≡ false → Alike row (taken_row settings before e body (message_of body) p)
+  taken p at well single = alike_then (alike (ap (from_editor settings before e body (message_of body)) at)) (alike_then (is_second refl well) (is_second refl single))
 
   -- E7
   pub begins : (desk_of e before).phase ≡ New → is_malformed (message_of body) ≡ false → requests (codes "initialize") (message_of body) ≡ true → Alike row (initialize_row settings before e body)
-  begins at well h = alike_then (phased New at well) (is_first refl h)
+  begins at well h = alike_then (taken New at well refl) (is_first refl h)
 
   -- E8
-  pub early_new : (desk_of e before).phase ≡ New → is_malformed (message_of body) ≡ false → requests (codes "initialize") (message_of body) ≡ false → Alike row (early_row e body (message_of body))
-  early_new at well h = alike_then (phased New at well) (is_second refl h)
+  pub early_new : (desk_of e before).phase ≡ New → is_malformed (message_of body) ≡ false → requests (codes "initialize") (message_of body) ≡ false → Alike row (early_row settings before e body (message_of body))
+  early_new at well h = alike_then (taken New at well refl) (is_second refl h)
 
-  pub early_waiting : (desk_of e before).phase ≡ Waiting → is_malformed (message_of body) ≡ false → Alike row (early_row e body (message_of body))
-  early_waiting at well = phased Waiting at well
-
-  served_as : (m : Message) (p : Phase) → is_served p ≡ true → message_row settings before e body m p ≡ served_row settings before e body m
+  served_as : (m : Message) (p : Phase) → is_served p ≡ true → taken_row settings before e body m p ≡ served_row settings before e body m
   served_as m Answered h = refl
   served_as m Running h = refl
   served_as m Absent h = absurd (cc)
@@ -163,29 +149,8 @@ module _ (settings : Settings) (before : List Event) (e : ℕ) (body : List ℕ)
   served_as m Closed h = absurd (cc)
   served_as m Gone h = absurd (cc)
 
-  served : (m : Message) → message_of body ≡ m → is_served (desk_of e before).phase ≡ true → is_malformed (message_of body) ≡ false → Alike row (served_row settings before e body m)
-  served m says h well = alike_then (phased (desk_of e before).phase refl well) (alike (served_as (message_of body) (desk_of e before).phase h ∙ ap (served_row settings before e body) says))
-
-  -- E8 and E10
-  pub asked : (id : Id) (method : List ℕ) (params : Option Json) → message_of body ≡ request id method params → is_served (desk_of e before).phase ≡ true → is_malformed (message_of body) ≡ false → Alike row (served_row settings before e body (request id method params))
-  asked id method params says h well = served (request id method params) says h well
-
-  -- E12 to E15
-  pub noted : (method : List ℕ) (params : Option Json) → message_of body ≡ notification method params → is_served (desk_of e before).phase ≡ true → is_malformed (message_of body) ≡ false → Alike row (document_row settings before e body (saying_by method params))
-  noted method params says h well = served (notification method params) says h well
-
-  rests_as : (m : Message) (p : Phase) → rests p ≡ true → message_row settings before e body m p ≡ nothing
-  rests_as m Absent h = refl
-  rests_as m Down h = refl
-  rests_as m Closed h = refl
-  rests_as m Gone h = refl
-  rests_as m New h = absurd (cc)
-  rests_as m Waiting h = absurd (cc)
-  rests_as m Answered h = absurd (cc)
-  rests_as m Running h = absurd (cc)
-
-  pub unheard : (p : Phase) → (desk_of e before).phase ≡ p → rests p ≡ true → is_malformed (message_of body) ≡ false → Alike row nothing
-  unheard p at h well = alike_then (phased p at well) (alike (rests_as (message_of body) p h))
+  pub served : (m : Message) → message_of body ≡ m → is_served (desk_of e before).phase ≡ true → is_malformed (message_of body) ≡ false → (is_begun (desk_of e before).phase && is_doubled before e (message_of body)) ≡ false → Alike row (served_row settings before e body m)
+  served m says h well single = alike_then (taken (desk_of e before).phase refl well single) (alike (served_as (message_of body) (desk_of e before).phase h ∙ ap (served_row settings before e body) says))
 
   answers_as : (m : Message) → (sort_of m ≡ Some sort.Request → ⊥) → (sort_of m ≡ Some sort.Notification → ⊥) → served_row settings before e body m ≡ nothing
   answers_as (request id method params) h k = absurd (h refl)
@@ -195,8 +160,49 @@ module _ (settings : Settings) (before : List Event) (e : ℕ) (body : List ℕ)
   answers_as not_json h k = refl
   answers_as not_message h k = refl
 
-  pub answered : (sort_of (message_of body) ≡ Some sort.Request → ⊥) → (sort_of (message_of body) ≡ Some sort.Notification → ⊥) → is_served (desk_of e before).phase ≡ true → is_malformed (message_of body) ≡ false → Alike row nothing
-  answered h k p well = alike_then (served (message_of body) refl p well) (alike (answers_as (message_of body) h k))
+  pub answered : (sort_of (message_of body) ≡ Some sort.Request → ⊥) → (sort_of (message_of body) ≡ Some sort.Notification → ⊥) → is_served (desk_of e before).phase ≡ true → is_malformed (message_of body) ≡ false → (is_begun (desk_of e before).phase && is_doubled before e (message_of body)) ≡ false → Alike row nothing
+  answered h k p well single = alike_then (served (message_of body) refl p well single) (alike (answers_as (message_of body) h k))
+
+-- what is no request, by its row
+pub exit_named : (settings : Settings) (before : List Event) (e : ℕ) (m : Message) → notifies (codes "exit") m ≡ true → Alike (exit_row settings before e m) (closing_row settings before e)
+exit_named settings before e (notification method params) h = is_first refl h
+exit_named settings before e (request id method params) h = absurd (cc)
+exit_named settings before e (result id r) h = absurd (cc)
+exit_named settings before e (error id r) h = absurd (cc)
+exit_named settings before e not_json h = absurd (cc)
+exit_named settings before e not_message h = absurd (cc)
+
+pub exit_silent : (settings : Settings) (before : List Event) (e : ℕ) (m : Message) → notifies (codes "exit") m ≡ false → Alike (exit_row settings before e m) nothing
+exit_silent settings before e (notification method params) h = is_second refl h
+exit_silent settings before e (request id method params) h = alike refl
+exit_silent settings before e (result id r) h = alike refl
+exit_silent settings before e (error id r) h = alike refl
+exit_silent settings before e not_json h = alike refl
+exit_silent settings before e not_message h = alike refl
+
+pub aside_early : (settings : Settings) (before : List Event) (e : ℕ) (body : List ℕ) (m : Message) → (sort_of m ≡ Some sort.Request → ⊥) → early_row settings before e body m ≡ exit_row settings before e m
+aside_early settings before e body (request id method params) h = absurd (h refl)
+aside_early settings before e body (notification method params) h = refl
+aside_early settings before e body (result id r) h = refl
+aside_early settings before e body (error id r) h = refl
+aside_early settings before e body not_json h = refl
+aside_early settings before e body not_message h = refl
+
+pub aside_down : (settings : Settings) (before : List Event) (e : ℕ) (body : List ℕ) (m : Message) → (sort_of m ≡ Some sort.Request → ⊥) → down_row settings before e body m ≡ exit_row settings before e m
+aside_down settings before e body (request id method params) h = absurd (h refl)
+aside_down settings before e body (notification method params) h = refl
+aside_down settings before e body (result id r) h = refl
+aside_down settings before e body (error id r) h = refl
+aside_down settings before e body not_json h = refl
+aside_down settings before e body not_message h = refl
+
+pub or_later : (a b : Bool) → b ≡ true → (a || b) ≡ true
+or_later true b h = refl
+or_later false b h = h
+
+-- of another sort it is no request
+pub not_request : (m : Message) (x : Sort) → sort_of m ≡ Some x → (x ≡ sort.Request → ⊥) → sort_of m ≡ Some sort.Request → ⊥
+not_request m x at other h = other (cc)
 
 -- X6: bytes were written, and the tables stay
 pub drained_entry : (settings : Settings) (before : List Event) (e k : ℕ) (t : Tables) → Stands settings t before → DocumentsStand settings nothing_owed t before

@@ -1,35 +1,38 @@
-//! What editors do: that one joined, and what one said.
-ghost use Rattle.std.specs.Prelude.{◌≡◌, ◌≤◌, ◌<◌, ◌||◌, ℕ, List, [], Option, true, false, length, OnOk};
-ghost use Rattle.event_model.specs.declared.phase.Phase.TheVariants.{New};
+//! What editors do: that one joined, what one said, and that a link is gone.
+ghost use Rattle.std.specs.Prelude.{◌≡◌, ◌≤◌, ◌<◌, ℕ, List, [], Option, Some, true, false, length, OnOk};
+ghost use Rattle.event_model.specs.declared.phase.Phase.TheVariants.{Down, New};
 ghost use Rattle.event_model.specs.Does.{Done};
 ghost use Rattle.event_model.specs.Event.{Event, with_cause};
 ghost use Rattle.event_model.specs.Phases.{desk_of, is_served};
 ghost use Rattle.event_model.specs.Settings.{Settings};
-ghost use Rattle.group_facts.specs.Built.{built_behind, is_bare};
-ghost use Rattle.group_facts.specs.Facts.{Known};
+ghost use Rattle.group_facts.specs.Built.{built_behind, is_standard};
+ghost use Rattle.group_facts.specs.Facts.{Known, is_early};
 ghost use Rattle.group_facts.specs.Settled.{Settled};
-ghost use Rattle.group_rows.specs.Rows.{row_of, served_row};
+ghost use Rattle.group_rows.specs.Rows.{down_row, early_row, exit_row, row_of, served_request, served_row};
+ghost use Rattle.group_words.specs.Houses.{places, stops};
 ghost use Rattle.json_text.specs.Json.{Json};
 ghost use Rattle.lsp_method.specs.Class.{class_of};
 ghost use Rattle.lsp_method.specs.declared.variants.Origin.TheVariants.{Editor};
-ghost use Rattle.mux_history.specs.declared.cause.Cause.TheVariants.{FromEditor, Joined};
+ghost use Rattle.mux_history.specs.declared.cause.Cause.TheVariants.{EditorGone, FromEditor, Joined};
+ghost use Rattle.mux_history.specs.declared.cause.Why.{Why};
 ghost use Rattle.mux_model.specs.Fits.{fits_behind};
-ghost use Rattle.mux_model.specs.Methods.{is_wrong};
 ghost use Rattle.mux_tables.specs.Documents.{AllStand, DocumentsStand, nothing_owed};
 ghost use Rattle.mux_tables.specs.Stands.{Stands};
 ghost use Rattle.mux_turns.specs.Ceilings.{HaveCeilings};
-ghost use Rattle.rpc_message.specs.Message.{Id, message_of, request};
+ghost use Rattle.rpc_message.specs.declared.sort.Sort.TheVariants.{Request};
+ghost use Rattle.rpc_message.specs.Message.{Id, message_of, notification, request};
 ghost use Rattle.rpc_message.specs.Parsed.{IsRead};
-ghost use Rattle.rpc_message.specs.Sorts.{Refuses};
+ghost use Rattle.rpc_message.specs.Sorts.{Refuses, sort_of};
 
 use event_model::{Phase, Server};
+use lsp_method::Class;
 use message_body::{Body, Memory};
 use mux_history::Outs;
-use mux_members::{is_initialize, is_wrong};
+use mux_members::{class_in, is_exit, is_initialize};
 use mux_tables::Tables;
 use mux_turns::{
-    take_closed, take_early, take_initialize, take_malformed, take_notice, take_quiet,
-    take_request, take_wrong,
+    take_closed, take_down, take_early, take_exit, take_gone, take_initialize, take_malformed,
+    take_notice, take_quiet, take_request, take_shutdown, take_wrong,
 };
 use rpc_message::{Malformed, Message, Sort};
 use std::alloc::Global;
@@ -49,7 +52,108 @@ pub fn joined(tables: &mut Tables, e: u64) -> Result<(), Memory>
     Ok(())
 }
 
-// E7 and E8: the first messages of an editor.
+/// X5: an editor's link is gone.
+pub fn gone(tables: &mut Tables, alloc: Global, outs: &mut Outs, e: u64) -> Result<(), Memory>
+    ensures same_limit { tables.new.requests ≡ tables.old.requests }
+    ensures same_versions { tables.new.versions ≡ tables.old.versions }
+    ensures does { (settings : Settings) (before : List Event) (why : Why) → outs.old ≡ [] → Known settings before
+        → fits_behind before (EditorGone e why) ≡ true
+        → Stands settings tables.old before → DocumentsStand settings nothing_owed tables.old before
+        → OnOk result (Done (λ k events. AllStand settings k events) (row_of settings before (EditorGone e why))
+        (with_cause before (EditorGone e why)) [] (tables.new, nothing_owed) outs.new) }
+{
+    if e >= tables.editors.count() {
+        return Ok(());
+    }
+    take_gone(tables, alloc, outs, e)?;
+    Ok(())
+}
+
+// E9 and E15: a message that is no request comes from an editor that isn't served: `exit` ends its link, another one gives nothing.
+fn from_aside(
+    tables: &mut Tables,
+    alloc: Global,
+    outs: &mut Outs,
+    e: u64,
+    message: &Message,
+) -> Result<(), Memory>
+    requires { e < length tables.old.editors }
+    ensures same_limit { tables.new.requests ≡ tables.old.requests }
+    ensures same_versions { tables.new.versions ≡ tables.old.versions }
+    ensures does { (settings : Settings) (before : List Event) (body : List ℕ) → IsRead message.now body
+        → (sort_of (message_of body) ≡ Some Request → ⊥) → is_served (desk_of e before).phase ≡ false → outs.old ≡ []
+        → Stands settings tables.old before → DocumentsStand settings nothing_owed tables.old before
+        → OnOk result (Done (λ k events. AllStand settings k events) (exit_row settings before e (message_of body))
+        (with_cause before (FromEditor e body)) [] (tables.new, nothing_owed) outs.new) }
+{
+    if is_exit(message) {
+        take_exit(tables, alloc, outs, e)?;
+        Ok(())
+    } else {
+        take_quiet(tables, e, message);
+        Ok(())
+    }
+}
+
+// E8: a message that places its editor nowhere, before the answer to `initialize`.
+fn from_early(
+    tables: &mut Tables,
+    alloc: Global,
+    outs: &mut Outs,
+    e: u64,
+    message: &Message,
+) -> Result<(), Memory>
+    requires { e < length tables.old.editors }
+    ensures same_limit { tables.new.requests ≡ tables.old.requests }
+    ensures same_versions { tables.new.versions ≡ tables.old.versions }
+    ensures does { (settings : Settings) (before : List Event) (body : List ℕ) → IsRead message.now body → is_early (desk_of e before).phase ≡ true
+        → places (desk_of e before).phase (message_of body) ≡ false → stops before e (message_of body) ≡ false → outs.old ≡ []
+        → Stands settings tables.old before → DocumentsStand settings nothing_owed tables.old before
+        → OnOk result (Done (λ k events. AllStand settings k events) (early_row settings before e body (message_of body))
+        (with_cause before (FromEditor e body)) [] (tables.new, nothing_owed) outs.new) }
+{
+    match message.sort() {
+        Sort::Request => {
+            take_early(tables, alloc, outs, e, message)?;
+            Ok(())
+        }
+        _ => {
+            from_aside(tables, alloc, outs, e, message)?;
+            Ok(())
+        }
+    }
+}
+
+// E8: a message behind `shutdown`.
+fn from_down(
+    tables: &mut Tables,
+    alloc: Global,
+    outs: &mut Outs,
+    e: u64,
+    message: &Message,
+) -> Result<(), Memory>
+    requires { e < length tables.old.editors }
+    ensures same_limit { tables.new.requests ≡ tables.old.requests }
+    ensures same_versions { tables.new.versions ≡ tables.old.versions }
+    ensures does { (settings : Settings) (before : List Event) (body : List ℕ) → IsRead message.now body → (desk_of e before).phase ≡ Down
+        → stops before e (message_of body) ≡ false → outs.old ≡ []
+        → Stands settings tables.old before → DocumentsStand settings nothing_owed tables.old before
+        → OnOk result (Done (λ k events. AllStand settings k events) (down_row settings before e body (message_of body))
+        (with_cause before (FromEditor e body)) [] (tables.new, nothing_owed) outs.new) }
+{
+    match message.sort() {
+        Sort::Request => {
+            take_down(tables, alloc, outs, e, message)?;
+            Ok(())
+        }
+        _ => {
+            from_aside(tables, alloc, outs, e, message)?;
+            Ok(())
+        }
+    }
+}
+
+// E7 to E9: the first messages of an editor.
 fn from_new(
     tables: &mut Tables,
     alloc: Global,
@@ -76,12 +180,12 @@ fn from_new(
         take_initialize(tables, alloc, servers, default, outs, e, message)?;
         Ok(())
     } else {
-        take_early(tables, alloc, outs, e, message)?;
+        from_early(tables, alloc, outs, e, message)?;
         Ok(())
     }
 }
 
-// E8 and E10: a request of an editor that is served.
+// E8 to E10: a request of an editor that is served.
 fn from_asking(
     tables: &mut Tables,
     alloc: Global,
@@ -93,22 +197,55 @@ fn from_asking(
     ensures same_limit { tables.new.requests ≡ tables.old.requests }
     ensures same_versions { tables.new.versions ≡ tables.old.versions }
     ensures does { (settings : Settings) (before : List Event) (body method : List ℕ) (id : Id) (params : Option Json) → IsRead message.now body
-        → message_of body ≡ request id method params → (is_wrong (class_of method Editor false) || is_bare method params) ≡ true
+        → message_of body ≡ request id method params → is_standard (class_of method Editor false) ≡ true
         → is_served (desk_of e before).phase ≡ true → outs.old ≡ []
         → Stands settings tables.old before → DocumentsStand settings nothing_owed tables.old before
-        → OnOk result (Done (λ k events. AllStand settings k events) (served_row settings before e body (request id method params))
+        → OnOk result (Done (λ k events. AllStand settings k events) (served_request settings before e body method)
         (with_cause before (FromEditor e body)) [] (tables.new, nothing_owed) outs.new) }
 {
-    if is_wrong(message) {
-        take_wrong(tables, alloc, outs, e, message)?;
+    match class_in(message) {
+        Class::Wrong => {
+            take_wrong(tables, alloc, outs, e, message)?;
+            Ok(())
+        }
+        Class::Shutdown => {
+            take_shutdown(tables, alloc, outs, e, message)?;
+            Ok(())
+        }
+        _ => {
+            take_request(tables, alloc, outs, e, message)?;
+            Ok(())
+        }
+    }
+}
+
+// E9, E12 to E15: a notification of an editor that is served.
+fn from_noting(
+    tables: &mut Tables,
+    alloc: Global,
+    outs: &mut Outs,
+    e: u64,
+    message: &Message,
+) -> Result<(), Memory>
+    requires { e < length tables.old.editors }
+    ensures same_limit { tables.new.requests ≡ tables.old.requests }
+    ensures same_versions { tables.new.versions ≡ tables.old.versions }
+    ensures does { (settings : Settings) (before : List Event) (body method : List ℕ) (params : Option Json) → IsRead message.now body
+        → message_of body ≡ notification method params → is_served (desk_of e before).phase ≡ true → outs.old ≡ [] → Settled settings before
+        → Stands settings tables.old before → DocumentsStand settings nothing_owed tables.old before
+        → OnOk result (Done (λ k events. AllStand settings k events) (served_row settings before e body (notification method params))
+        (with_cause before (FromEditor e body)) [] (tables.new, nothing_owed) outs.new) }
+{
+    if is_exit(message) {
+        take_exit(tables, alloc, outs, e)?;
         Ok(())
     } else {
-        take_request(tables, alloc, outs, e, message)?;
+        take_notice(tables, alloc, outs, e, message)?;
         Ok(())
     }
 }
 
-// E8, E10, E12 to E15, and E19: a message of an editor that is served.
+// E8 to E10, E12 to E15, and E19: a message of an editor that is served.
 fn from_served(
     tables: &mut Tables,
     alloc: Global,
@@ -131,7 +268,7 @@ fn from_served(
             Ok(())
         }
         Sort::Notification => {
-            take_notice(tables, alloc, outs, e, message)?;
+            from_noting(tables, alloc, outs, e, message)?;
             Ok(())
         }
         Sort::Result | Sort::Error => {
@@ -141,8 +278,7 @@ fn from_served(
     }
 }
 
-// A message, by where its editor stands: where its link is to be ended (J2) it gives nothing, and behind its `shutdown` what is no
-// request.
+// A message, by where its editor stands: where its link is to be ended (J2) it gives nothing.
 fn from_phase(
     tables: &mut Tables,
     alloc: Global,
@@ -160,7 +296,7 @@ fn from_phase(
     ensures same_versions { tables.new.versions ≡ tables.old.versions }
     ensures does { (settings : Settings) (before : List Event) (body : List ℕ) → IsRead message.now body
         → settings.servers ≡ servers.now → settings.default ≡ default → outs.old ≡ [] → Known settings before → Settled settings before
-        → built_behind settings before (FromEditor e body) ≡ true
+        → fits_behind before (FromEditor e body) ≡ true → built_behind settings before (FromEditor e body) ≡ true
         → Stands settings tables.old before → DocumentsStand settings nothing_owed tables.old before
         → OnOk result (Done (λ k events. AllStand settings k events) (row_of settings before (FromEditor e body))
         (with_cause before (FromEditor e body)) [] (tables.new, nothing_owed) outs.new) }
@@ -171,19 +307,19 @@ fn from_phase(
             Ok(())
         }
         Phase::Waiting => {
-            take_early(tables, alloc, outs, e, message)?;
+            from_early(tables, alloc, outs, e, message)?;
             Ok(())
         }
         Phase::Answered | Phase::Running => {
             from_served(tables, alloc, outs, e, message)?;
             Ok(())
         }
-        Phase::Closed => {
-            take_closed(tables, e);
+        Phase::Down => {
+            from_down(tables, alloc, outs, e, message)?;
             Ok(())
         }
-        Phase::Absent | Phase::Down | Phase::Gone => {
-            take_quiet(tables, e, message);
+        Phase::Closed | Phase::Absent | Phase::Gone => {
+            take_closed(tables, e);
             Ok(())
         }
     }
@@ -214,7 +350,7 @@ fn from_malformed(
     }
 }
 
-/// A body comes from an editor: E2 where it is no message; else E7, E8, E10, or E12 to E15, by where the editor stands, or nothing.
+/// A body comes from an editor: E2 where it is no message; else E7 to E10, or E12 to E15, by where the editor stands, or nothing.
 pub fn from_editor(
     tables: &mut Tables,
     alloc: Global,

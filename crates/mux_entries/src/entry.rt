@@ -13,7 +13,7 @@ ghost use Rattle.mux_tables.specs.Documents.{AllStand, DocumentsStand, nothing_o
 ghost use Rattle.mux_tables.specs.Stands.{Stands};
 ghost use Rattle.mux_turns.specs.Ceilings.{HaveCeilings};
 
-use crate::editors::{from_editor, joined};
+use crate::editors::{from_editor, gone, joined};
 use crate::servers::from_server;
 use event_model::Server;
 use message_body::Memory;
@@ -46,6 +46,10 @@ fn follow(
     match cause {
         Cause::Joined(e) => {
             joined(tables, *e)?;
+            Ok(())
+        }
+        Cause::EditorGone(e, _) => {
+            gone(tables, alloc, outs, *e)?;
             Ok(())
         }
         Cause::FromEditor(e, body) => {

@@ -107,18 +107,21 @@ impl<J: Journal> Hub<J> {
         ensures faults { IfOk result (λ hub. J.faults hub.journal ≡ J.faults journal) }
         ensures back { IfErr result (λ back. back ≡ journal) }
     {
+        let Ok(tables) = Tables::new(
+            alloc,
+            limits.groups,
+            limits.idle,
+            limits.requests,
+            limits.versions,
+        ) else {
+            return Err(journal);
+        };
         Ok(Hub {
             alloc,
             limits,
             servers,
             default,
-            tables: Tables::new(
-                alloc,
-                limits.groups,
-                limits.idle,
-                limits.requests,
-                limits.versions,
-            ),
+            tables,
             backlogs: Backlogs::new(alloc),
             spent: false,
             journal,

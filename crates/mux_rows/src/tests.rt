@@ -325,10 +325,45 @@ const DRAINED: [(&str, &str); 3] = [
     ("drained 0 75\n", ""),
 ];
 
+// The first of two editors opens a document and asks, then asks to shut down, asks again, and says `exit`; the link of the second
+// ends.
+const PARTING: [(&str, &str); 9] = [
+    (
+        "ed 0 {\"jsonrpc\":\"2.0\",\"method\":\"textDocument/didOpen\",\"params\":{\"textDocument\":{\"uri\":\"file:///u\",\"languageId\":\"x\",\"version\":1,\"text\":\"a\"}}}\n",
+        ">sv 0 {\"jsonrpc\":\"2.0\",\"method\":\"textDocument/didOpen\",\"params\":{\"textDocument\":{\"uri\":\"file:///u\",\"languageId\":\"x\",\"version\":1,\"text\":\"a\"}}}\n",
+    ),
+    (
+        "ed 0 {\"jsonrpc\":\"2.0\",\"id\":1,\"method\":\"textDocument/hover\",\"params\":{}}\n",
+        ">sv 0 {\"jsonrpc\":\"2.0\",\"id\":2,\"method\":\"textDocument/hover\",\"params\":{}}\n",
+    ),
+    (
+        "ed 1 {\"jsonrpc\":\"2.0\",\"id\":1,\"method\":\"textDocument/hover\",\"params\":{}}\n",
+        ">sv 0 {\"jsonrpc\":\"2.0\",\"id\":3,\"method\":\"textDocument/hover\",\"params\":{}}\n",
+    ),
+    (
+        "ed 0 {\"jsonrpc\":\"2.0\",\"id\":3,\"method\":\"shutdown\"}\n",
+        ">ed 0 {\"jsonrpc\":\"2.0\",\"id\":3,\"result\":null}\n>sv 0 {\"jsonrpc\":\"2.0\",\"method\":\"$/cancelRequest\",\"params\":{\"id\":2}}\n>sv 0 {\"jsonrpc\":\"2.0\",\"method\":\"textDocument/didClose\",\"params\":{\"textDocument\":{\"uri\":\"file:///u\"}}}\n",
+    ),
+    (
+        "ed 0 {\"jsonrpc\":\"2.0\",\"id\":4,\"method\":\"textDocument/hover\",\"params\":{}}\n",
+        ">ed 0 {\"jsonrpc\":\"2.0\",\"id\":4,\"error\":{\"code\":-32600,\"message\":\"Invalid Request\"}}\n",
+    ),
+    (
+        "ed 0 {\"jsonrpc\":\"2.0\",\"method\":\"exit\"}\n",
+        ">close 0\n",
+    ),
+    ("gone 0 end\n", ""),
+    (
+        "gone 1 end\n",
+        ">sv 0 {\"jsonrpc\":\"2.0\",\"method\":\"$/cancelRequest\",\"params\":{\"id\":3}}\n",
+    ),
+    ("sv 0 {\"jsonrpc\":\"2.0\",\"id\":3,\"result\":null}\n", ""),
+];
+
 // Lines that fit, and that no row takes yet.
 const UNBUILT: [&str; 5] = [
-    "ed 0 {\"jsonrpc\":\"2.0\",\"method\":\"exit\"}\n",
-    "ed 0 {\"jsonrpc\":\"2.0\",\"id\":1,\"method\":\"shutdown\"}\n",
+    "ed 0 {\"jsonrpc\":\"2.0\",\"id\":1,\"method\":\"initialize\"}\n",
+    "ed 0 {\"jsonrpc\":\"2.0\",\"id\":1,\"method\":\"lspmux/status\"}\n",
     "ed 0 {\"jsonrpc\":\"2.0\",\"id\":1,\"method\":\"x\",\"params\":{\"workDoneToken\":1}}\n",
     "sv 0 {\"jsonrpc\":\"2.0\",\"method\":\"x\"}\n",
     "tick 1\n",
@@ -357,13 +392,14 @@ fn sessions_bring_their_lines(rt: HostRuntime) -> Result<(), Fail> {
 #[test]
 fn several_editors_bring_their_lines(rt: HostRuntime) -> Result<(), Fail> {
     let alloc = rt.alloc();
-    let sessions: [&[&[(&str, &str)]]; 6] = [
+    let sessions: [&[&[(&str, &str)]]; 7] = [
         &[&TWO_EDITORS, &A_THIRD],
         &[&TWO_EDITORS, &WRONG_NAMES],
         &[&TWO_EDITORS, &BOTH_ASK],
         &[&TWO_EDITORS, &SWITCHING, &CHANGING],
         &[&TWO_EDITORS, &CLOSING],
         &[&TWO_GROUPS],
+        &[&TWO_EDITORS, &PARTING],
     ];
     for parts in sessions {
         play(&rt, alloc, limits(MOST, MOST), parts, Ok(()))?;

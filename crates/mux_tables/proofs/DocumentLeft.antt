@@ -1,11 +1,11 @@
 -- An editor leaves: what is kept of its documents, and what the start is owed.
 use Rattle.std.proofs.Common.{◌≡◌, ℕ, zero, suc, ◌≤◌, ◌<◌, ◌^◌, Bool, true, false, not, ◌&&◌, List, [], ◌∷◌, ◌++◌, length, filter, nat_eq, codes, refl, sym, ap, ap₂, subst, ◌∙◌, append-nil, arith, if◌then◌else◌}
-use Rattle.std.specs.Prelude.{Option, Some, None, slice_get}
+use Rattle.std.specs.Prelude.{Option, Some, None, fold, slice_get, slice_set}
 use Rattle.std.specs.List.{AllByRecursion}
 use Rattle.std.specs.Option.{option_and_then}
 use Rattle.std.proofs.lemmas.Bool.{ne_eqb}
 use Rattle.std.proofs.lemmas.Bool.Decides.{nat_tests}
-use Rattle.std.proofs.lemmas.Option.{slice_get-get_or}
+use Rattle.std.proofs.lemmas.Option.{slice_get-get_or, slice_get_within}
 use Rattle.mux_history.specs.declared.cause.Cause.TheVariants.{EditorGone, FromEditor}
 use Rattle.mux_history.specs.declared.cause.Why.{Why}
 use Rattle.mux_history.specs.declared.out.Out.{Out}
@@ -21,13 +21,14 @@ use Rattle.event_model.specs.Settings.{Settings}
 use Rattle.event_model.specs.Spawns.{start_of}
 use Rattle.event_model.specs.Stages.{Life, is_ready, life_of}
 use Rattle.event_model.proofs.Frames.{never}
+use Rattle.event_model.proofs.Places.{item_at}
 use Rattle.event_model.proofs.Turns.{behind_more}
 use Rattle.editor_session.specs.Sessions.{absent, session_of}
 use Rattle.focus_switch.specs.Documents.{Documents}
-use Rattle.focus_switch.specs.Rows.{leave_row}
+use Rattle.focus_switch.specs.Rows.{Step, close_next, leave_row, uris_of}
 use Rattle.mux_model.specs.Documents.{held_at, sent_of, without_editor}
 use Rattle.group_words.specs.Houses.{home_of, is_home}
-use Rattle.group_rows.specs.Rows as rows
+use Rattle.group_rows.specs.Leaves as departures
 use Rattle.group_rows.specs.Texts.{encoding_of, texts_heard, texts_of}
 use Rattle.group_rows.proofs.Frames.{encoding_stays, texts_more, touches_encoding}
 use Rattle.group_laws.specs.Stands.{HeldStands}
@@ -36,7 +37,7 @@ use Rattle.group_laws.proofs.Leaving.{leave_orderly, leave_outs, leave_silent, l
 use Rattle.group_laws.proofs.Left.{left_held}
 use Rattle.mux_tables.specs.declared.tables.Start.{Start}
 use Rattle.mux_tables.specs.declared.tables.Tables.{Tables}
-use Rattle.mux_tables.specs.Documents.{AllTell, DocumentsStand, IsOwned, Leaves, SharedStands, StartTold, StepAt, StepFrom, leaving, nothing_owed, owes, to}
+use Rattle.mux_tables.specs.Documents.{AllTell, DocumentsStand, IsOwned, Leaves, Owed, SharedStands, StartTold, StepAt, StepFrom, leaving, nothing_owed, owes, to}
 use Rattle.mux_tables.specs.Stands.{Stands, group_in, of_life, start_for}
 use Rattle.mux_tables.proofs.DocumentFrames.{all_owned, owner_stays, parts, sent_stays, shared_stays, start_stays, touches_sent, untold_stays}
 use Rattle.mux_tables.proofs.DocumentMoves.{Rest, documents_all, documents_at, documents_set, set_same, starts_kept}
@@ -58,7 +59,7 @@ module _ (settings : Settings) (events later : List Event) (e g s : ℕ) (d : Do
   bodies = leaving settings events g s e
 
   abbrev raw : List (List ℕ)
-  raw = rows.leave_bodies d.versions (λ u. held_at s u events) e d.opens d.opens
+  raw = departures.leave_bodies d.versions (λ u. held_at s u events) e d.opens d.opens
 
   abbrev LeftShared : Stage → Type 0
   LeftShared stage = SharedStands settings later bodies g s stage (leave_row e d).after × ((leave_row e d).outs ≡ to s bodies)
@@ -89,7 +90,7 @@ module _ (settings : Settings) (events later : List Event) (e g s : ℕ) (d : Do
   left_shared Ended at h = left_idle Ended at refl h.start (no_start h.start) h
   left_shared Ready at h =
       let holds : HeldStands s h.start.code d events = subst (λ es. HeldStands s h.start.code d es) (append-nil events) h.start.holds in
-      let is : bodies ≡ raw = rw (ap is_ready at) (ap₂ (λ n (x : Texts). rows.leave_bodies n (λ u. held_at s u events) e x.opens x.opens) (sym h.versions) h.texts.texts) in
+      let is : bodies ≡ raw = rw (ap is_ready at) (ap₂ (λ n (x : Texts). departures.leave_bodies n (λ u. held_at s u events) e x.opens x.opens) (sym h.versions) h.texts.texts) in
       let outs : (leave_row e d).outs ≡ to s raw = leave_outs s e h.start.code d (λ u. held_at s u events) holds.start holds.known few holds.held h.texts.orderly h.texts.spelt in
       let all : (leave_row e d).outs ≡ to s bodies = outs ∙ ap (to s) (sym is) in (
         left_with Ready (record {
@@ -210,6 +211,45 @@ module _ (settings : Settings) (t u : Tables) (events : List Event) (ev : Event)
   leave_documents : StepFrom (leave_row e) home t.documents.items outs u.documents.items → DocumentsStand settings nothing_owed t events → Leaves settings events e (home_of settings e events) (start_for settings e events) outs u later
   leave_documents left s = left_documents settings t u events later e home outs is ls vs rest st away (λ g own. leaves g) (λ g. encoding_stays g events ev encodes) (λ s w. sent_stays s w events ev sends) owner left s
 
+  -- an editor that isn't served has no documents
+  module _ (owed : Owed) (unserved : is_served (desk_of e events).phase ≡ false) where
+    nowhere : (j : ℕ) (o : Open) → IsOwned settings events j o → nat_eq o.editor e ≡ false
+    nowhere j o k = go (nat_eq o.editor e) refl
+      where
+        go : (b : Bool) → nat_eq o.editor e ≡ b → b ≡ false
+        go false q = refl
+        go true q = let w : o.editor ≡ e = grind (arith, nat_tests) in never (sym k.1 ∙ (ap (λ n. is_served (desk_of n events).phase) w ∙ unserved))
+
+    none_of : (j : ℕ) (os : List Open) → AllByRecursion (IsOwned settings events j) os → AllByRecursion (λ (o : Open). nat_eq o.editor e ≡ false) os
+    none_of j os h = all_owned (IsOwned settings events j) (λ (o : Open). nat_eq o.editor e ≡ false) os (nowhere j) h
+
+    still : (j s : ℕ) (stage : Stage) (c : Documents) → SharedStands settings events (owed j) j s stage c → SharedStands settings later (owed j) j s stage c
+    still j s stage c h = shared_stays settings events later (owed j) j s stage c
+        (leaves j ∙ (ap (without_editor e) h.texts.texts ∙ (ap (λ (os : List Open). record { turn = c.turn; opens = os }) (none_left e c.opens (none_of j c.opens h.owned)) ∙ sym h.texts.texts)))
+        (encoding_stays j events ev encodes) (start_stays s (owed j) c events later (λ w. sent_stays s w events ev sends) stage)
+        (λ k. all_owned (IsOwned settings events j) (IsOwned settings later j) c.opens (λ o q. owner j o (nowhere j o q) q) k) h
+
+    no_uris : (os : List Open) → AllByRecursion (λ (o : Open). nat_eq o.editor e ≡ false) os → uris_of e os ≡ []
+    no_uris [] h = refl
+    no_uris (o ∷ os) h = ap₂ (λ b us. (if b then o.uri ∷ [] else []) ++ us) h.0 (no_uris os h.1)
+
+    no_step : (d : Documents) → AllByRecursion (λ (o : Open). nat_eq o.editor e ≡ false) d.opens → leave_row e d ≡ record { outs = []; after = d }
+    no_step d h = ap (λ us. fold (close_next e) (record { outs = []; after = d }) us) (no_uris d.opens h)
+
+    step_at : (g : ℕ) (o : Option Documents) → slice_get t.documents.items g ≡ o → StepAt (leave_row e) g o t.documents.items outs u.documents.items → DocumentsStand settings owed t events → (outs ≡ []) × (u.documents.items ≡ t.documents.items)
+    step_at g None at left s = left
+    step_at g (Some d) at left s =
+        let x = item_at t.lasts.items g (subst (λ n. g < n) s.count (slice_get_within t.documents.items g d at)) in
+        let k = no_step d (none_of g d.opens (s.each g x.0 d x.1 at).owned) in
+        (left.0 ∙ ap (λ (z : Step). z.outs) k, left.1 ∙ (ap (λ (z : Step). slice_set t.documents.items g z.after) k ∙ set_same t.documents.items g d at))
+
+    step_from : (o : Option ℕ) → StepFrom (leave_row e) o t.documents.items outs u.documents.items → DocumentsStand settings owed t events → (outs ≡ []) × (u.documents.items ≡ t.documents.items)
+    step_from None left s = left
+    step_from (Some g) left s = step_at g (slice_get t.documents.items g) refl left s
+
+    unserved_documents : StepFrom (leave_row e) home t.documents.items outs u.documents.items → DocumentsStand settings owed t events → (outs ≡ []) × DocumentsStand settings owed u later
+    unserved_documents left s = let k = step_from home left s in (k.0, documents_all settings owed owed t u events later rest vs ls k.1 (λ g x d at h. still g x.life.start x.life.stage d h) s)
+
 pub gone_documents : (settings : Settings) (t u : Tables) (events : List Event) (e : ℕ) (why : Why) (home : Option ℕ) (outs : List Out) → e < length t.editors → home ≡ (session_of t.editors e).group → u.lasts ≡ t.lasts → u.versions ≡ t.versions → StepFrom (leave_row e) home t.documents.items outs u.documents.items
     → Stands settings t events → DocumentsStand settings nothing_owed t events → Leaves settings events e (home_of settings e events) (start_for settings e events) outs u (events ++ heard (EditorGone e why) ∷ [])
 gone_documents settings t u events e why home outs l is ls vs left st s = leave_documents settings t u events (heard (EditorGone e why)) e home outs (λ g. texts_more settings g events (heard (EditorGone e why))) refl refl refl (λ n h. h) (home_seen settings t events e home l is st) (ap (λ v. v.items) ls) vs st left s
@@ -219,6 +259,18 @@ pub closed_documents : (settings : Settings) (t u : Tables) (base : List Event) 
 closed_documents settings t u base xs ys e home owed l is ls vs left said_so st s =
     subst (λ es. Leaves settings (behind base xs) e (home_of settings e (behind base xs)) (start_for settings e (behind base xs)) owed u es) (sym (ap (behind base) said_so ∙ behind_more base xs (CloseEditor e ∷ [])))
     (leave_documents settings t u (behind base xs) (said (CloseEditor e)) e home owed (λ g. texts_more settings g (behind base xs) (said (CloseEditor e))) refl refl refl (λ n h. h) (home_seen settings t (behind base xs) e home l is st) (ap (λ v. v.items) ls) vs st left s)
+
+pub gone_unserved : (settings : Settings) (t u : Tables) (events : List Event) (e : ℕ) (why : Why) (home : Option ℕ) (outs : List Out) → e < length t.editors → home ≡ (session_of t.editors e).group → u.lasts ≡ t.lasts → u.versions ≡ t.versions → StepFrom (leave_row e) home t.documents.items outs u.documents.items
+    → Stands settings t events → is_served (desk_of e events).phase ≡ false → DocumentsStand settings nothing_owed t events → (outs ≡ []) × DocumentsStand settings nothing_owed u (events ++ heard (EditorGone e why) ∷ [])
+gone_unserved settings t u events e why home outs l is ls vs left st unserved s = unserved_documents settings t u events (heard (EditorGone e why)) e home outs (λ g. texts_more settings g events (heard (EditorGone e why))) refl refl refl (λ n h. h)
+    (home_seen settings t events e home l is st) (ap (λ v. v.items) ls) vs st nothing_owed unserved left s
+
+pub closed_unserved : (settings : Settings) (owed : Owed) (t u : Tables) (base : List Event) (xs ys : List Out) (e : ℕ) (home : Option ℕ) (outs : List Out) → e < length t.editors → home ≡ (session_of t.editors e).group → u.lasts ≡ t.lasts → u.versions ≡ t.versions → StepFrom (leave_row e) home t.documents.items outs u.documents.items → ys ≡ xs ++ CloseEditor e ∷ []
+    → Stands settings t (behind base xs) → is_served (desk_of e (behind base xs)).phase ≡ false → DocumentsStand settings owed t (behind base xs) → (outs ≡ []) × DocumentsStand settings owed u (behind base ys)
+closed_unserved settings owed t u base xs ys e home outs l is ls vs left said_so st unserved s =
+    subst (λ es. (outs ≡ []) × DocumentsStand settings owed u es) (sym (ap (behind base) said_so ∙ behind_more base xs (CloseEditor e ∷ [])))
+    (unserved_documents settings t u (behind base xs) (said (CloseEditor e)) e home outs (λ g. texts_more settings g (behind base xs) (said (CloseEditor e))) refl refl refl (λ n h. h)
+    (home_seen settings t (behind base xs) e home l is st) (ap (λ v. v.items) ls) vs st owed unserved left s)
 
 -- E9: it asks to shut down
 module _ (settings : Settings) (t u : Tables) (events : List Event) (e : ℕ) (body : List ℕ) (m : Message) (home : Option ℕ) (outs : List Out) (served : is_served (desk_of e events).phase ≡ true) (asks : requests (codes "shutdown") m ≡ true) (is : home_of settings e events ≡ home) (ls : u.lasts.items ≡ t.lasts.items) (vs : u.versions ≡ t.versions) (st : Stands settings t events) where

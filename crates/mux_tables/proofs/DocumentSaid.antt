@@ -1,6 +1,6 @@
 -- The documents of all groups, where an out is said that tells of none, or a start ends.
 use Rattle.std.proofs.Common.{◌≡◌, ℕ, ◌<◌, true, false, List, [], ◌∷◌, ◌++◌, length, get_or, codes, refl, sym, ap, subst, ◌∙◌}
-use Rattle.std.specs.Prelude.{Option, Some, bytes_eq, slice_get, slice_set}
+use Rattle.std.specs.Prelude.{Option, Some, None, bytes_eq, slice_get, slice_set}
 use Rattle.std.proofs.lemmas.Slice.Eq.{bytes_eq-Decides}
 use Rattle.json_text.specs.Json.{Json}
 use Rattle.mux_history.specs.declared.cause.Cause.TheVariants.{ServerGone, StartFailed}
@@ -93,21 +93,21 @@ idle_at stage after s owed d events is h = subst (λ k. StartTold k s owed d eve
 
 -- it is sent `shutdown`
 pub shut_documents : (settings : Settings) (owed : Owed) (t u : Tables) (base : List Event) (xs ys : List Out) (g start n now : ℕ) (z : Start) (life : Standing) (text : List ℕ) (name : Id) (ps : Option Json) → g < length t.lasts.items → z ≡ get_or t.lasts.items g z → message_of text ≡ request name (codes "shutdown") ps
-    → life ≡ stopped n now z.life → u.lasts.items ≡ slice_set t.lasts.items g (record z { life = life }) → ((d : Documents) → slice_get t.documents.items g ≡ Some d → u.documents.items ≡ slice_set t.documents.items g (unready_row d)) → u.versions ≡ t.versions → ys ≡ xs ++ ToServer start text ∷ []
+    → life ≡ stopped n now z.life → u.lasts.items ≡ slice_set t.lasts.items g (record z { life = life; shown = None }) → ((d : Documents) → slice_get t.documents.items g ≡ Some d → u.documents.items ≡ slice_set t.documents.items g (unready_row d)) → u.versions ≡ t.versions → ys ≡ xs ++ ToServer start text ∷ []
     → DocumentsStand settings owed t (behind base xs) → DocumentsStand settings owed u (behind base ys)
 shut_documents settings owed t u base xs ys g start n now z life text name ps within read says stops set dropped vs is =
     documents_said settings owed owed t u (ToServer start text) base xs ys is
-    (unready_documents settings owed t u (behind base xs) (behind base xs ++ said (ToServer start text) ∷ []) g z (record z { life = life }) (rest_notified settings t (behind base xs) start text (message_of text) (ap saying_of says) (ap is_synced says)) vs
+    (unready_documents settings owed t u (behind base xs) (behind base xs ++ said (ToServer start text) ∷ []) g z (record z { life = life; shown = None }) (rest_notified settings t (behind base xs) start text (message_of text) (ap saying_of says) (ap is_synced says)) vs
     (read_here t.lasts.items g z within read) set (ap (λ (l : Standing). l.start) stops) dropped (λ j w c h. shared_notified settings (behind base xs) (owed j) j w.life.start w.life.stage c start text (message_of text) (ap saying_of says) (ap is_synced says) h)
     (λ s d. idle_at Stopping life.stage s (owed g) (unready_row d) _ (ap (λ (l : Standing). l.stage) stops) refl))
 
 -- its program is to be ended
 pub end_documents : (settings : Settings) (owed : Owed) (t u : Tables) (base : List Event) (xs ys : List Out) (g start : ℕ) (z : Start) (life : Standing) → g < length t.lasts.items → z ≡ get_or t.lasts.items g z → life ≡ moved Ending z.life
-    → u.lasts.items ≡ slice_set t.lasts.items g (record z { life = life }) → ((d : Documents) → slice_get t.documents.items g ≡ Some d → u.documents.items ≡ slice_set t.documents.items g (unready_row d)) → u.versions ≡ t.versions → ys ≡ xs ++ EndServer start ∷ []
+    → u.lasts.items ≡ slice_set t.lasts.items g (record z { life = life; shown = None }) → ((d : Documents) → slice_get t.documents.items g ≡ Some d → u.documents.items ≡ slice_set t.documents.items g (unready_row d)) → u.versions ≡ t.versions → ys ≡ xs ++ EndServer start ∷ []
     → DocumentsStand settings owed t (behind base xs) → DocumentsStand settings owed u (behind base ys)
 end_documents settings owed t u base xs ys g start z life within read ends set dropped vs is =
     documents_said settings owed owed t u (EndServer start) base xs ys is
-    (unready_documents settings owed t u (behind base xs) (behind base xs ++ said (EndServer start) ∷ []) g z (record z { life = life }) (rest_quiet settings t (behind base xs) (said (EndServer start)) refl refl) vs
+    (unready_documents settings owed t u (behind base xs) (behind base xs ++ said (EndServer start) ∷ []) g z (record z { life = life; shown = None }) (rest_quiet settings t (behind base xs) (said (EndServer start)) refl refl) vs
     (read_here t.lasts.items g z within read) set (ap (λ (l : Standing). l.start) ends) dropped (λ j w c h. shared_quiet settings (behind base xs) (owed j) j w.life.start w.life.stage c (said (EndServer start)) refl (λ o k. refl) h)
     (λ s d. idle_at Ending life.stage s (owed g) (unready_row d) _ (ap (λ (l : Standing). l.stage) ends) refl))
 

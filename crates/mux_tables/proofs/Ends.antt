@@ -1,14 +1,13 @@
 -- Groups end in their order; a start of a group ends.
-use Rattle.std.proofs.Common.{◌≡◌, ℕ, zero, suc, ◌+◌, ◌<◌, ◌≤◌, max, Bool, true, false, List, [], ◌∷◌, ◌++◌, length, take, get_or, refl, ap, sym, subst, ◌∙◌, append_assoc, if◌then◌else◌, arith}
-use Rattle.std.specs.Prelude.{Some, slice_get}
+use Rattle.std.proofs.Common.{◌≡◌, ℕ, ◌+◌, ◌<◌, max, Bool, true, false, List, [], ◌∷◌, ◌++◌, length, take, get_or, refl, ap, sym, subst, ◌∙◌, append_assoc, if◌then◌else◌}
 use Rattle.std.proofs.lemmas.List.{length-append, take_more}
 use Rattle.mux_history.specs.declared.cause.Cause.TheVariants.{Tick}
 use Rattle.rpc_message.specs.Message.{Message}
 use Rattle.event_model.specs.Event.{Event, took}
 use Rattle.event_model.specs.Settings.{Settings}
 use Rattle.group_words.specs.declared.kept.Kept.{Kept}
-use Rattle.group_words.specs.Placing.{all_from, changed, ended, end_where, idle_from, is_due}
-use Rattle.group_words.specs.Houses.{idle_if_live, groups_of, time_of}
+use Rattle.group_words.specs.Placing.{all_from, changed, ended, end_where, is_due}
+use Rattle.group_words.specs.Houses.{groups_of, time_of}
 use Rattle.group_words.proofs.Frames.{groups_more}
 use Rattle.group_table.specs.Tables.{Table, with_groups}
 use Rattle.mux_tables.specs.declared.tables.Tables.{Tables}
@@ -56,25 +55,6 @@ ends_more (w ∷ gs) g xs = ends_more gs g (changed w ended xs)
 pub ends_next : (t u v : Table) (ns : List ℕ) (i d : ℕ) → i < length ns → u ≡ with_groups (ends (take i ns) t.groups) t → v ≡ with_groups (changed (get_or ns i d) ended u.groups) u → v ≡ with_groups (ends (take (i + 1) ns) t.groups) t
 ends_next t u v ns i d h one two =
     two ∙ (ap (λ (w : Table). with_groups (changed (get_or ns i d) ended w.groups) w) one ∙ ap (λ gs. with_groups gs t) (sym (ends_more (take i ns) (get_or ns i d) t.groups) ∙ ap (λ ms. ends ms t.groups) (sym (take_more ns i d h))))
-
-pub past_end : (f : Kept → Kept) (xs : List Kept) (g : ℕ) → length xs ≤ g → changed g f xs ≡ xs
-past_end f [] g h = refl
-past_end f (x ∷ xs) zero h = absurd (omega arith)
-past_end f (x ∷ xs) (suc g) h = ap (λ ys. x ∷ ys) (past_end f xs g (omega arith))
-
-module _ (now : ℕ) where
-  pub idle_dead : (xs : List Kept) (g : ℕ) (b : Bool) → ((x : Kept) → slice_get xs g ≡ Some x → b ≡ x.live) → b ≡ false → changed g (idle_if_live now) xs ≡ xs
-  idle_dead [] g b h e = refl
-  idle_dead (x ∷ xs) zero b h e = ap (λ t. (if t then idle_from now x else x) ∷ xs) (sym (h x refl) ∙ e)
-  idle_dead (x ∷ xs) (suc g) b h e = ap (λ ys. x ∷ ys) (idle_dead xs g b h e)
-
-  pub idle_alive : (xs : List Kept) (g : ℕ) (b : Bool) → ((x : Kept) → slice_get xs g ≡ Some x → b ≡ x.live) → b ≡ true → changed g (idle_from now) xs ≡ changed g (idle_if_live now) xs
-  idle_alive [] g b h e = refl
-  idle_alive (x ∷ xs) zero b h e = ap (λ t. (if t then idle_from now x else x) ∷ xs) (sym e ∙ h x refl)
-  idle_alive (x ∷ xs) (suc g) b h e = ap (λ ys. x ∷ ys) (idle_alive xs g b h e)
-
-pub nobody : (f : Kept → Kept) (t : Table) (g n : ℕ) → n ≡ length t.groups → n ≤ g → t ≡ with_groups (changed g f t.groups) t
-nobody f t g n e h = ap (λ gs. with_groups gs t) (sym (past_end f t.groups g (subst (λ k. k ≤ g) e h)))
 
 pub tick_heard : (settings : Settings) (events : List Event) (now later : ℕ) (m : Message) (t u : Tables) (ns : List ℕ) → later ≡ max t.time now → u.editors ≡ t.editors → u.time ≡ later → ns ≡ all_from 0 (is_due t.groups.idle later) t.groups.groups → u.groups ≡ with_groups (ends ns t.groups.groups) t.groups
     → HouseStands settings t events → HouseStands settings u (events ++ took (Tick now) m ∷ [])

@@ -63,14 +63,14 @@ twice f h [] g = refl
 twice f h (x ∷ xs) zero = refl
 twice f h (x ∷ xs) (suc g) = ap (λ ys. x ∷ ys) (twice f h xs g)
 
-pub lose_dead : (restarts : ℕ) (wanted live : Bool) (t : Table) (g : ℕ) → ((x : Kept) → slice_get t.groups g ≡ Some x → live ≡ x.live) → live ≡ false → t ≡ with_groups (changed g (exit_of restarts wanted) t.groups) t
-lose_dead restarts wanted live t g is dead = ap (λ gs. with_groups gs t) (sym (no_change (exit_of restarts wanted) t.groups g (λ x at. let e : x.live ≡ false = sym (is x at) ∙ dead in rw e refl)))
+pub lose_dead : (restarts : ℕ) (wanted : Bool) (t u : Table) (g : ℕ) → ((x : Kept) → slice_get t.groups g ≡ Some x → x.live ≡ false) → u ≡ t → u ≡ with_groups (changed g (exit_of restarts wanted) t.groups) t
+lose_dead restarts wanted t u g dead same = same ∙ ap (λ gs. with_groups gs t) (sym (no_change (exit_of restarts wanted) t.groups g (λ x at. let e : x.live ≡ false = dead x at in rw e refl)))
 
-module _ (restarts exits : ℕ) (wanted live : Bool) (t : Table) (g : ℕ) (is : (x : Kept) → slice_get t.groups g ≡ Some x → live ≡ x.live) (lives : live ≡ true) (counts : (x : Kept) → slice_get t.groups g ≡ Some x → exits ≡ x.exits + 1) where
+module _ (restarts exits : ℕ) (wanted : Bool) (t : Table) (g : ℕ) (counts : (x : Kept) → slice_get t.groups g ≡ Some x → (x.live ≡ true) × (exits ≡ x.exits + 1)) where
   pub lose_stays : (u : Table) → (wanted && nat_le exits restarts) ≡ true → u ≡ with_groups (changed g exited t.groups) t → u ≡ with_groups (changed g (exit_of restarts wanted) t.groups) t
   lose_stays u stays e = e ∙ ap (λ gs. with_groups gs t) (same_change exited (exit_of restarts wanted) t.groups g
-      (λ x at. let l : x.live ≡ true = sym (is x at) ∙ lives in let n : x.exits + 1 ≡ exits = sym (counts x at) in rw (l, n, stays) refl))
+      (λ x at. let l : x.live ≡ true = (counts x at).0 in let n : x.exits + 1 ≡ exits = sym (counts x at).1 in rw (l, n, stays) refl))
 
   pub lose_ends : (u v : Table) → (wanted && nat_le exits restarts) ≡ false → u ≡ with_groups (changed g exited t.groups) t → v ≡ with_groups (changed g ended u.groups) u → v ≡ with_groups (changed g (exit_of restarts wanted) t.groups) t
   lose_ends u v ends e f = f ∙ (ap (λ (w : Table). with_groups (changed g ended w.groups) w) e ∙ ap (λ gs. with_groups gs t) (twice ended exited t.groups g ∙ same_change (λ x. ended (exited x)) (exit_of restarts wanted) t.groups g
-      (λ x at. let l : x.live ≡ true = sym (is x at) ∙ lives in let n : x.exits + 1 ≡ exits = sym (counts x at) in rw (l, n, ends) refl)))
+      (λ x at. let l : x.live ≡ true = (counts x at).0 in let n : x.exits + 1 ≡ exits = sym (counts x at).1 in rw (l, n, ends) refl)))

@@ -16,7 +16,7 @@ use Rattle.event_model.specs.Spawns.{group_of, start_of}
 use Rattle.event_model.specs.Stages.{Life, is_ready, life_of}
 use Rattle.editor_session.specs.Sessions.{absent, session_of}
 use Rattle.group_rows.specs.Forwarded.{forwarding_of, numbers_of}
-use Rattle.group_rows.specs.Leaves.{open_of}
+use Rattle.group_rows.specs.Leaves.{uncancelled_of}
 use Rattle.group_rows.specs.Rows.{can_ask}
 use Rattle.group_words.specs.Houses.{home_of}
 use Rattle.group_words.specs.Rows.{result_of, shown_of}
@@ -97,8 +97,8 @@ module _ (settings : Settings) (t : Tables) (events : List Event) (g s : ℕ) (z
       let ids = (st.lasts.each g z here).parts of_ids in
       is ∙ ap₂ (λ x y. x && y) (ap is_ready (sym stage_at)) (ap₂ nat_lt (sym ids.next ∙ ap (λ n. (forwarding_of n events).next) own) (ids.ends ∙ sym st.requests))
 
-  pub open_at : (e : ℕ) (ns : List ℕ) → (IsInOrder z.ids → ns ≡ open_of e (map forwarded_of z.ids.requests)) → ns ≡ open_of e (forwarding_of s events).open_requests
-  open_at e ns is = is ((st.lasts.each g z here).parts of_ids).order ∙ ap (open_of e) (sym ((st.lasts.each g z here).parts of_ids).open_requests ∙ ap (λ n. (forwarding_of n events).open_requests) own)
+  pub open_at : (e : ℕ) (ns : List ℕ) → (IsInOrder z.ids → ns ≡ uncancelled_of e (map forwarded_of z.ids.requests)) → ns ≡ uncancelled_of e (forwarding_of s events).open_requests
+  open_at e ns is = is ((st.lasts.each g z here).parts of_ids).order ∙ ap (uncancelled_of e) (sym ((st.lasts.each g z here).parts of_ids).open_requests ∙ ap (λ n. (forwarding_of n events).open_requests) own)
 
   pub shown_at : is_ready (life_of s events).stage ≡ true → (given : List ℕ) × (result_of s events ≡ Some given) × (z.shown ≡ Some (shown_of (result_bytes given)))
   shown_at ready =
@@ -132,7 +132,7 @@ open_filtered e test (r ∷ rs) h = go (nat_eq r.pending.editor e) (not r.pendin
     go false true m k o rest = rw (o, m) rest
     go false false m k o rest = rw (o, m) rest
 
-pub open_kept : (e : ℕ) (t : tables.Table) (ns : List ℕ) → IsInOrder t → ns ≡ filter (λ n. is_uncancelled (tables.pending_of n t.requests)) (tables.numbers_of e t.requests) → ns ≡ open_of e (map forwarded_of t.requests)
+pub open_kept : (e : ℕ) (t : tables.Table) (ns : List ℕ) → IsInOrder t → ns ≡ filter (λ n. is_uncancelled (tables.pending_of n t.requests)) (tables.numbers_of e t.requests) → ns ≡ uncancelled_of e (map forwarded_of t.requests)
 open_kept e t ns order is =
     is ∙ (open_filtered e (λ n. is_uncancelled (tables.pending_of n t.requests)) t.requests (own_tests (λ n. is_uncancelled (tables.pending_of n t.requests)) 2 t.next t.requests order.rising (λ n l. refl))
     ∙ (sym (numbers_mapped e (filter (λ r. not r.pending.cancelled) t.requests)) ∙ ap (numbers_of e) (sym (filter_mapped forwarded_of (λ f. not f.cancelled) t.requests))))

@@ -1,6 +1,6 @@
 -- What the tables do when an out about a start is said, as the code has it.
 use Rattle.std.proofs.Common.{◌≡◌, ℕ, zero, suc, ◌+◌, ◌<◌, ◌^◌, Bool, true, false, List, [], ◌∷◌, ◌++◌, map, length, get_or, refl, ap, sym, subst, ◌∙◌, nat_eq, bytes_eq, codes}
-use Rattle.std.specs.Prelude.{Option, Some, slice_get, slice_set}
+use Rattle.std.specs.Prelude.{Option, Some, None, slice_get, slice_set}
 use Rattle.std.proofs.lemmas.Slice.Eq.{bytes_eq-Decides}
 use Rattle.json_text.specs.Json.{Json}
 use Rattle.mux_history.specs.declared.out.Out.{Out}
@@ -109,17 +109,17 @@ cancel_does settings t u xs ys base g s start n z ids text method ps at within r
 -- the request `shutdown`
 pub shut_does : (settings : Settings) (t u : Tables) (xs ys : List Out) (base : List Event) (g s start n at_time : ℕ) (z : Start) (life : Standing) (text : List ℕ) (name : Id) (ps : Option Json) → slice_get (map number_in t.lasts.items) g ≡ Some s → g < length t.lasts.items → z ≡ get_or t.lasts.items g z → z.life.stage ≡ Ready
     → message_of text ≡ request name (codes "shutdown") ps → life ≡ stopped n at_time z.life
-    → u.lasts.items ≡ slice_set t.lasts.items g (record z { life = life }) → u.editors ≡ t.editors → u.groups ≡ t.groups → u.time ≡ t.time → u.origins ≡ t.origins → u.requests ≡ t.requests → start ≡ life.start → ys ≡ xs ++ ToServer start text ∷ []
+    → u.lasts.items ≡ slice_set t.lasts.items g (record z { life = life; shown = None }) → u.editors ≡ t.editors → u.groups ≡ t.groups → u.time ≡ t.time → u.origins ≡ t.origins → u.requests ≡ t.requests → start ≡ life.start → ys ≡ xs ++ ToServer start text ∷ []
     → Does (λ t events. Stands settings t events) (send (ToServer s text)) base t xs u ys
 shut_does settings t u xs ys base g s start n at_time z life text name ps at within read ready says stops set es gs now os r is said_so =
     let own : life.start ≡ z.life.start = ap (λ (l : Standing). l.start) stops in
-    sent_does settings t u xs ys base g s start z (record z { life = life }) text at within read set own (ap (λ (l : Standing). l.group) stops) es gs now os r (is ∙ own) said_so (λ st p h. part own p h)
+    sent_does settings t u xs ys base g s start z (record z { life = life; shown = None }) text at within read set own (ap (λ (l : Standing). l.group) stops) es gs now os r (is ∙ own) said_so (λ st p h. part own p h)
   where
-    part : life.start ≡ z.life.start → (p : Part) → PartStands p t.requests z (behind base xs) → PartStands p t.requests (record z { life = life }) (behind base xs ++ said (ToServer z.life.start text) ∷ [])
-    part own of_life h = part_life t.requests (behind base xs) (said (ToServer z.life.start text)) z (record z { life = life }) own
+    part : life.start ≡ z.life.start → (p : Part) → PartStands p t.requests z (behind base xs) → PartStands p t.requests (record z { life = life; shown = None }) (behind base xs ++ said (ToServer z.life.start text) ∷ [])
+    part own of_life h = part_life t.requests (behind base xs) (said (ToServer z.life.start text)) z (record z { life = life; shown = None }) own
         (rw (itself z.life.start) (ap (λ k. record { stage = k; started = z.started }) (rw (ready, says) refl ∙ ap (λ (l : Standing). l.stage) (sym stops)))) h
-    part own of_ids h = still_ids t.requests (behind base xs) (said (ToServer z.life.start text)) z (record z { life = life }) own refl (ap moves_ids says) h
-    part own of_shown h = late_shown t.requests (behind base xs ++ said (ToServer z.life.start text) ∷ []) (record z { life = life }) (ap (λ (l : Standing). is_late l.stage) stops)
+    part own of_ids h = still_ids t.requests (behind base xs) (said (ToServer z.life.start text)) z (record z { life = life; shown = None }) own refl (ap moves_ids says) h
+    part own of_shown h = late_shown t.requests (behind base xs ++ said (ToServer z.life.start text) ∷ []) (record z { life = life; shown = None }) (ap (λ (l : Standing). is_late l.stage) stops)
 
 ending : (g : Stage) → (g ≡ Ended → ⊥) → stage_ending g ≡ Ending
 ending Ended h = absurd (h refl)
@@ -127,14 +127,14 @@ ending other h = refl
 
 -- its program is to be ended
 pub end_does : (settings : Settings) (t u : Tables) (xs ys : List Out) (base : List Event) (g s start : ℕ) (z : Start) (life : Standing) → slice_get (map number_in t.lasts.items) g ≡ Some s → g < length t.lasts.items → z ≡ get_or t.lasts.items g z → (z.life.stage ≡ Ended → ⊥) → life ≡ moved Ending z.life
-    → u.lasts.items ≡ slice_set t.lasts.items g (record z { life = life }) → u.editors ≡ t.editors → u.groups ≡ t.groups → u.time ≡ t.time → u.origins ≡ t.origins → u.requests ≡ t.requests → start ≡ life.start → ys ≡ xs ++ EndServer start ∷ []
+    → u.lasts.items ≡ slice_set t.lasts.items g (record z { life = life; shown = None }) → u.editors ≡ t.editors → u.groups ≡ t.groups → u.time ≡ t.time → u.origins ≡ t.origins → u.requests ≡ t.requests → start ≡ life.start → ys ≡ xs ++ EndServer start ∷ []
     → Does (λ t events. Stands settings t events) (send (EndServer s)) base t xs u ys
 end_does settings t u xs ys base g s start z life at within read runs ends set es gs now os r is said_so =
     let own : life.start ≡ z.life.start = ap (λ (l : Standing). l.start) ends in
-    ended_with settings t u xs ys base g s start z (record z { life = life }) at within read set own (ap (λ (l : Standing). l.group) ends) es gs now os r (is ∙ own) said_so (λ p h. part own p h)
+    ended_with settings t u xs ys base g s start z (record z { life = life; shown = None }) at within read set own (ap (λ (l : Standing). l.group) ends) es gs now os r (is ∙ own) said_so (λ p h. part own p h)
   where
-    part : life.start ≡ z.life.start → (p : Part) → PartStands p t.requests z (behind base xs) → PartStands p t.requests (record z { life = life }) (behind base xs ++ said (EndServer z.life.start) ∷ [])
-    part own of_life h = part_life t.requests (behind base xs) (said (EndServer z.life.start)) z (record z { life = life }) own
+    part : life.start ≡ z.life.start → (p : Part) → PartStands p t.requests z (behind base xs) → PartStands p t.requests (record z { life = life; shown = None }) (behind base xs ++ said (EndServer z.life.start) ∷ [])
+    part own of_life h = part_life t.requests (behind base xs) (said (EndServer z.life.start)) z (record z { life = life; shown = None }) own
         (rw (itself z.life.start) (ap (λ k. record { stage = k; started = z.started }) (ending z.life.stage runs ∙ ap (λ (l : Standing). l.stage) (sym ends)))) h
-    part own of_ids h = still_ids t.requests (behind base xs) (said (EndServer z.life.start)) z (record z { life = life }) own refl refl h
-    part own of_shown h = late_shown t.requests (behind base xs ++ said (EndServer z.life.start) ∷ []) (record z { life = life }) (ap (λ (l : Standing). is_late l.stage) ends)
+    part own of_ids h = still_ids t.requests (behind base xs) (said (EndServer z.life.start)) z (record z { life = life; shown = None }) own refl refl h
+    part own of_shown h = late_shown t.requests (behind base xs ++ said (EndServer z.life.start) ∷ []) (record z { life = life; shown = None }) (ap (λ (l : Standing). is_late l.stage) ends)

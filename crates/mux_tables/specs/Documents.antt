@@ -20,7 +20,8 @@ use Rattle.focus_switch.specs.Documents.{Documents}
 use Rattle.focus_switch.specs.Rows.{Step}
 use Rattle.mux_model.specs.Documents.{held_at, sent_of}
 use Rattle.group_words.specs.Houses.{home_of}
-use Rattle.group_rows.specs.Rows.{document_bodies, leave_bodies, replay_bodies, sync_bodies}
+use Rattle.group_rows.specs.Leaves.{leave_bodies}
+use Rattle.group_rows.specs.Rows.{document_bodies, replay_bodies, sync_bodies}
 use Rattle.group_rows.specs.Texts.{encoding_of, texts_of}
 use Rattle.group_laws.specs.Stands.{HeldStands, TextsStand}
 use Rattle.mux_tables.specs.declared.tables.Start.{Start}

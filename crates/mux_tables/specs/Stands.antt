@@ -113,6 +113,10 @@ blank limit s = record { life = record { start = s; group = 0; stage = Unspawned
 abbrev pub number_in : Start → ℕ
 number_in x = x.life.start
 
+-- where it stands
+abbrev pub stage_in : Start → Stage
+stage_in x = x.life.stage
+
 pub record LastsStand (limit : ℕ) (lasts : List Start) (events : List Event) : Type 0 where
   pub none : (g : ℕ) → length lasts ≤ g → start_of g events ≡ None
   pub each : Each (LastStands limit events) lasts

@@ -18,7 +18,7 @@ ghost use Rattle.mux_tables.specs.Documents.{DocumentsStand, Leaves, Owed, chang
 ghost use Rattle.mux_tables.specs.Stands.{Stands, start_for, stays_in};
 
 use crate::documents::{leave, note};
-use crate::seats::{end_all, idle_at, join, later, seat};
+use crate::seats::{end_all, join, later, seat};
 use crate::tables::Tables;
 use capability_meet::CapFault;
 use event_model::Phase;
@@ -48,6 +48,7 @@ impl Tables {
     pub fn hear_editor(&mut self, e: u64, phase: Phase)
         requires editor { e < length self.old.editors }
         requires joined { phase ≢ Absent }
+        ensures count { length self.new.editors ≡ length self.old.editors }
         ensures requests { self.new.requests ≡ self.old.requests }
         ensures versions { self.new.versions ≡ self.old.versions }
         ensures lasts { self.new.lasts ≡ self.old.lasts }
@@ -113,7 +114,7 @@ impl Tables {
         if left.len() > 0 {
             return Ok(());
         }
-        idle_at(&mut self.groups, g, self.time);
+        self.groups.idle(g, self.time);
         Ok(())
     }
 
@@ -136,15 +137,21 @@ impl Tables {
     }
 
     /// X5: the editor's link is gone. Its group may be idle from now on, and its documents are closed: the bodies that the group's
-    /// start is owed for them. Where the answer is an error the tables stand for nothing any more.
+    /// start is owed for them. One that isn't served has none. Where the answer is an error the tables stand for nothing any more.
     pub fn hear_gone(&mut self, alloc: Global, e: u64) -> Result<Outs, Memory>
         requires { e < length self.old.editors }
+        ensures requests { self.new.requests ≡ self.old.requests }
+        ensures versions { self.new.versions ≡ self.old.versions }
+        ensures lasts { self.new.lasts ≡ self.old.lasts }
         ensures stands { (settings : Settings) (events : List Event) (why : Why) → Stands settings self.old events
             → OnOk result (Stands settings self.new (events ++ heard (EditorGone e why) ∷ [])) }
         ensures documents { (settings : Settings) (events : List Event) (why : Why) → Stands settings self.old events
             → DocumentsStand settings nothing_owed self.old events
             → IfOk result (λ owed. Leaves settings events e (home_of settings e events)
             (start_for settings e events) owed self.new (events ++ heard (EditorGone e why) ∷ [])) }
+        ensures unserved { (settings : Settings) (events : List Event) (why : Why) → Stands settings self.old events
+            → is_served (desk_of e events).phase ≡ false → DocumentsStand settings nothing_owed self.old events
+            → IfOk result (λ owed. (owed ≡ []) × DocumentsStand settings nothing_owed self.new (events ++ heard (EditorGone e why) ∷ [])) }
     {
         let phase = self.editors.phase(e);
         let home = self.editors.group(e);
@@ -158,6 +165,10 @@ impl Tables {
     /// them. Where the answer is an error the tables stand for nothing any more.
     pub fn hear_shutdown(&mut self, alloc: Global, e: u64) -> Result<Outs, Memory>
         requires { e < length self.old.editors }
+        ensures count { length self.new.editors ≡ length self.old.editors }
+        ensures requests { self.new.requests ≡ self.old.requests }
+        ensures versions { self.new.versions ≡ self.old.versions }
+        ensures lasts { self.new.lasts ≡ self.old.lasts }
         ensures stands { (settings : Settings) (events : List Event) (body : List ℕ) → is_served (desk_of e events).phase ≡ true
             → requests (codes "shutdown") (message_of body) ≡ true
             → Stands settings self.old events → OnOk result (Stands settings self.new (events ++ heard (FromEditor e body) ∷ [])) }

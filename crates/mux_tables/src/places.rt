@@ -5,7 +5,7 @@ ghost use Rattle.event_model.specs.Settings.{Settings};
 ghost use Rattle.event_model.specs.Spawns.{start_of};
 ghost use Rattle.event_model.specs.Stages.{is_ready, life_of};
 ghost use Rattle.group_rows.specs.Forwarded.{forwarding_of};
-ghost use Rattle.group_rows.specs.Leaves.{open_of};
+ghost use Rattle.group_rows.specs.Leaves.{uncancelled_of};
 ghost use Rattle.group_rows.specs.Rows.{can_ask};
 ghost use Rattle.group_words.specs.Houses.{groups_of, home_of};
 ghost use Rattle.group_words.specs.Rows.{result_of, shown_of};
@@ -32,8 +32,8 @@ fn is_uncancelled(ids: &IdTable, n: u32) -> bool
 }
 
 // The numbers, rising, of an editor's open requests that it didn't cancel.
-fn open_of(ids: &IdTable, e: u64) -> Result<Vec<u32>, Memory>
-    ensures { IsInOrder ids.now → IfOk result (λ numbers. numbers.items ≡ open_of e (map forwarded_of ids.now.requests)) }
+fn uncancelled_of(ids: &IdTable, e: u64) -> Result<Vec<u32>, Memory>
+    ensures { IsInOrder ids.now → IfOk result (λ numbers. numbers.items ≡ uncancelled_of e (map forwarded_of ids.now.requests)) }
 {
     let mut numbers = ids.of_editor(e)?;
     numbers.retain(|n| is_uncancelled(ids, *n));
@@ -116,9 +116,9 @@ impl Tables {
     pub fn uncancelled_of(&self, g: usize, e: u64) -> Result<Vec<u32>, Memory>
         requires { g < length self.now.lasts.items }
         ensures { (settings : Settings) (events : List Event) (s : ℕ) → slice_get (map number_in self.now.lasts.items) g ≡ Some s
-            → Stands settings self.now events → IfOk result (λ numbers. numbers.items ≡ open_of e (forwarding_of s events).open_requests) }
+            → Stands settings self.now events → IfOk result (λ numbers. numbers.items ≡ uncancelled_of e (forwarding_of s events).open_requests) }
     {
-        let numbers = open_of(&self.lasts[g].ids, e)?;
+        let numbers = uncancelled_of(&self.lasts[g].ids, e)?;
         Ok(numbers)
     }
 

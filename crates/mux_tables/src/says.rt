@@ -3,7 +3,7 @@ ghost use Rattle.std.specs.Prelude.{◌≡◌, ◌≢◌, ◌<◌, ◌≤◌, �
 ghost use Rattle.event_model.specs.declared.stage.Stage.TheVariants.{Ended, Ready};
 ghost use Rattle.event_model.specs.Does.{Does};
 ghost use Rattle.event_model.specs.Event.{Event, behind, requests};
-ghost use Rattle.event_model.specs.Phases.{phase_closed};
+ghost use Rattle.event_model.specs.Phases.{desk_of, is_served, phase_closed};
 ghost use Rattle.event_model.specs.Requests.{is_own};
 ghost use Rattle.event_model.specs.Row.{look, send, ◌⨾◌};
 ghost use Rattle.event_model.specs.Settings.{Settings};
@@ -21,7 +21,7 @@ ghost use Rattle.group_rows.specs.Forwarded.{is_written, moves_ids};
 ghost use Rattle.group_rows.specs.Texts.{is_synced, worker_of};
 ghost use Rattle.mux_tables.specs.Documents.{AllStand, DocumentsStand, Leaves, Owed, nothing_owed, owes, syncing, to};
 ghost use Rattle.mux_tables.specs.Names.{id_in};
-ghost use Rattle.mux_tables.specs.Stands.{Keeps, Sends, Stands, Welcomes, number_in, start_for};
+ghost use Rattle.mux_tables.specs.Stands.{Keeps, Sends, Stands, Welcomes, number_in, stage_in, start_for};
 
 use crate::documents::{leave, sync, unready};
 use crate::requests::{keep, mark};
@@ -76,7 +76,7 @@ impl Tables {
     }
 
     /// An editor's link is to be ended; its group may be idle from now on, and its documents are closed: the bodies that the group's
-    /// start is owed for them. Where the answer is an error the tables stand for nothing any more.
+    /// start is owed for them. One that isn't served has none. Where the answer is an error the tables stand for nothing any more.
     pub fn close(&mut self, alloc: Global, outs: &mut Outs, e: u64) -> Result<Outs, Memory>
         requires { e < length self.old.editors }
         ensures requests { self.new.requests ≡ self.old.requests }
@@ -88,6 +88,9 @@ impl Tables {
             → DocumentsStand settings nothing_owed self.old (behind base outs.old)
             → IfOk result (λ owed. Leaves settings (behind base outs.old) e (home_of settings e (behind base outs.old))
             (start_for settings e (behind base outs.old)) owed self.new (behind base outs.new)) }
+        ensures unserved { (settings : Settings) (owing : Owed) (base : List Event) → Stands settings self.old (behind base outs.old)
+            → is_served (desk_of e (behind base outs.old)).phase ≡ false → DocumentsStand settings owing self.old (behind base outs.old)
+            → IfOk result (λ owed. (owed ≡ []) × DocumentsStand settings owing self.new (behind base outs.new)) }
     {
         let phase = self.editors.phase(e);
         let home = self.editors.group(e);
@@ -199,7 +202,10 @@ impl Tables {
     /// The request of a number is cancelled at the group's last start: `text` is the notification `$/cancelRequest` that names it.
     pub fn cancel(&mut self, outs: &mut Outs, g: usize, n: u32, text: Body) -> Result<(), Memory>
         requires { g < length self.old.lasts.items }
+        ensures requests { self.new.requests ≡ self.old.requests }
+        ensures versions { self.new.versions ≡ self.old.versions }
         ensures starts { OnOk result (map number_in self.new.lasts.items ≡ map number_in self.old.lasts.items) }
+        ensures stages { OnOk result (map stage_in self.new.lasts.items ≡ map stage_in self.old.lasts.items) }
         ensures does { (settings : Settings) (base : List Event) (s : ℕ) (method : List ℕ) (ps : Option Json)
             → slice_get (map number_in self.old.lasts.items) g ≡ Some s → message_of text ≡ message.notification method ps
             → bytes_eq method (codes "$/cancelRequest") ≡ true
@@ -233,6 +239,7 @@ impl Tables {
         unready(&mut self.documents, g);
         let last = &mut self.lasts[g];
         last.life.stop(n, now);
+        last.shown = None;
         outs.push(Out::ToServer(last.life.start(), text))?;
         Ok(())
     }
@@ -252,6 +259,7 @@ impl Tables {
         unready(&mut self.documents, g);
         let last = &mut self.lasts[g];
         last.life.end();
+        last.shown = None;
         outs.push(Out::EndServer(last.life.start()))?;
         Ok(())
     }

@@ -45,34 +45,12 @@ pub fn join(groups: &mut Groups, placed: Placed)
     }
 }
 
-// It is idle from now on, if it lives.
-pub fn idle_at(groups: &mut Groups, g: u64, now: u64)
-    ensures { groups.new ≡ with_groups (changed g (idle_if_live now) groups.old.groups) groups.old }
-{
-    if g >= groups.count() {
-        return;
-    }
-    if groups.is_live(g) {
-        groups.idle(g, now);
-    }
-}
-
-// It ends, if there is one of this number.
-pub fn end_at(groups: &mut Groups, g: u64)
-    ensures { groups.new ≡ with_groups (changed g ended groups.old.groups) groups.old }
-{
-    if g >= groups.count() {
-        return;
-    }
-    groups.end(g);
-}
-
 // These end, one after the other.
 pub fn end_all(groups: &mut Groups, numbers: &[u64])
     ensures { groups.new ≡ with_groups (ends numbers.now groups.old.groups) groups.old }
 {
     for g in numbers {
-        end_at(groups, *g);
+        groups.end(*g);
     }
 }
 
@@ -88,17 +66,13 @@ pub fn lose(groups: &mut Groups, g: u64, wanted: bool, restarts: u64)
     requires { (x : Kept) → slice_get groups.old.groups g ≡ Some x → x.exits < 2 ^ 63 }
     ensures { groups.new ≡ with_groups (changed g (exit_of restarts wanted) groups.old.groups) groups.old }
 {
-    if g >= groups.count() {
+    let Some(exits) = groups.exits(g) else {
         return;
-    }
-    if !groups.is_live(g) {
-        return;
-    }
-    let exits = groups.exits(g);
+    };
     if goes_on(wanted, exits, restarts) {
         return;
     }
-    end_at(groups, g);
+    groups.end(g);
 }
 
 // The later of two moments.

@@ -21,7 +21,7 @@ ghost use Rattle.mux_tables.specs.Stands.{Exits, NamesAt, Stands, any_in, begun_
 
 use crate::documents::{ready, unready};
 use crate::requests::{answer, forget};
-use crate::seats::{end_at, lose};
+use crate::seats::lose;
 use crate::tables::Tables;
 use event_model::Stage;
 use id_rewrite::{IdTable, Pending};
@@ -114,7 +114,7 @@ impl Tables {
             → Stands settings self.old events → DocumentsStand settings owed self.old events
             → DocumentsStand settings owed self.new (events ++ heard (FromServer s body) ∷ []) }
     {
-        end_at(&mut self.groups, g as u64);
+        self.groups.end(g as u64);
         let last = &mut self.lasts[g];
         forget(&mut last.ids, n);
     }
@@ -143,6 +143,7 @@ impl Tables {
         unready(&mut self.documents, g);
         let last = &mut self.lasts[g];
         last.life.over();
+        last.shown = None;
         last.ids = IdTable::new(alloc, self.requests);
         Ok(())
     }

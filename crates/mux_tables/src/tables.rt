@@ -1,5 +1,5 @@
 // What the multiplexer keeps.
-ghost use Rattle.std.specs.Prelude.{◌≡◌, ◌≤◌, []};
+ghost use Rattle.std.specs.Prelude.{◌≡◌, ◌≤◌, [], IfOk};
 ghost use Rattle.event_model.specs.Settings.{Settings};
 ghost use Rattle.mux_tables.specs.Documents.{DocumentsStand, nothing_owed};
 ghost use Rattle.mux_tables.specs.Stands.{Stands};
@@ -8,13 +8,13 @@ use editor_session::Editors;
 use focus_switch::Shared;
 use group_table::Groups;
 use id_rewrite::IdTable;
-use message_body::Body;
+use message_body::{Body, Memory};
 use restart_replay::Life;
 use std::alloc::Global;
 use text_pieces::PieceText;
 
 /// What is kept of the last start of one group: where it stands, whether its program ever ran, the requests that it has to
-/// answer, and what editors are shown of the result of its `initialize`, where it gave one.
+/// answer, and what editors are shown of the result of its `initialize`, where it gave one and isn't to end.
 #[derive(Drop)]
 pub struct Start {
     pub life: Life,
@@ -48,21 +48,28 @@ impl Tables {
     /// Nothing was heard: at most `groups` groups live at once, each idle one for `idle` seconds, and the numbers of requests end
     /// below `requests`, and a document has at most `versions` versions at a start.
     #[tactic(auto, using(crate::proofs::Begins::begins, crate::proofs::DocumentBegins::documents_begin))]
-    pub fn new(alloc: Global, groups: u32, idle: u64, requests: u32, versions: u32) -> Tables
+    pub fn new(
+        alloc: Global,
+        groups: u32,
+        idle: u64,
+        requests: u32,
+        versions: u32,
+    ) -> Result<Tables, Memory>
         requires { 2 ≤ requests }
-        ensures stands { (settings : Settings) → settings.limits.groups ≡ groups → settings.limits.idle ≡ idle → settings.limits.requests ≡ requests
-            → Stands settings result [] }
-        ensures documents { (settings : Settings) → settings.limits.versions ≡ versions → DocumentsStand settings nothing_owed result [] }
+        ensures stands { IfOk result (λ tables. (settings : Settings) → settings.limits.groups ≡ groups → settings.limits.idle ≡ idle
+            → settings.limits.requests ≡ requests → Stands settings tables []) }
+        ensures documents { IfOk result (λ tables. (settings : Settings) → settings.limits.versions ≡ versions
+            → DocumentsStand settings nothing_owed tables []) }
     {
-        Tables {
+        Ok(Tables {
             editors: Editors::new(alloc),
-            groups: Groups::new(alloc, groups, idle),
+            groups: Groups::new(alloc, groups, idle)?,
             time: 0,
             lasts: Vec::new(alloc),
             origins: Vec::new(alloc),
             documents: Vec::new(alloc),
             requests,
             versions,
-        }
+        })
     }
 }

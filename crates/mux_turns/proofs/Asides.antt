@@ -1,7 +1,8 @@
 -- Messages of an editor that place it nowhere, and change no document.
-use Rattle.std.proofs.Common.{◌≡◌, ℕ, Bool, true, false, not, ◌&&◌, ◌||◌, List, refl, ap, ◌∙◌, codes}
+use Rattle.std.proofs.Common.{◌≡◌, ℕ, Bool, true, false, not, ◌&&◌, ◌||◌, List, refl, sym, ap, ap₂, ◌∙◌, codes}
 use Rattle.std.specs.Prelude.{Some}
-use Rattle.document_model.specs.Sayings.{saying_of, speaks}
+use Rattle.document_model.specs.Sayings.{nothing, saying_by, saying_of, speaks}
+use Rattle.std.proofs.lemmas.Slice.Eq.{bytes_eq-Decides}
 use Rattle.mux_history.specs.declared.cause.Cause.TheVariants.{FromEditor}
 use Rattle.rpc_message.specs.declared.sort.Malformed.{Malformed}
 use Rattle.rpc_message.specs.declared.sort.Malformed.TheVariants as fault
@@ -10,7 +11,7 @@ use Rattle.rpc_message.specs.Message.{Message, message_of, request, notification
 use Rattle.rpc_message.specs.Sorts.{Refuses, sort_of}
 use Rattle.event_model.specs.declared.phase.Phase.{Phase}
 use Rattle.event_model.specs.declared.phase.Phase.TheVariants.{Absent, New, Waiting, Answered, Running, Down, Closed, Gone}
-use Rattle.event_model.specs.Event.{Event, heard, requests, with_cause}
+use Rattle.event_model.specs.Event.{Event, heard, notifies, requests, with_cause}
 use Rattle.event_model.specs.Phases.{Desk, desk_behind, desk_hears, desk_of, is_malformed, is_new, is_served, is_there}
 use Rattle.event_model.proofs.Frames.{one_more}
 use Rattle.group_facts.specs.Facts.{is_early}
@@ -87,6 +88,50 @@ malformed_keeps before e (notification method ps) h = absurd (cc)
 malformed_keeps before e (result id r) h = absurd (cc)
 malformed_keeps before e (error id r) h = absurd (cc)
 
+-- `exit` leaves each editor where it is
+pub exit_stays : (p : Phase) (i body : List ℕ) (m : Message) → notifies (codes "exit") m ≡ true → (desk_hears p i body m).phase ≡ p
+exit_stays New i body (notification method ps) h = refl
+exit_stays Answered i body (notification method ps) h = rw (h) refl
+exit_stays Running i body (notification method ps) h = refl
+exit_stays Absent i body (notification method ps) h = refl
+exit_stays Waiting i body (notification method ps) h = refl
+exit_stays Down i body (notification method ps) h = refl
+exit_stays Closed i body (notification method ps) h = refl
+exit_stays Gone i body (notification method ps) h = refl
+exit_stays p i body (request id method ps) h = absurd (cc)
+exit_stays p i body (result id r) h = absurd (cc)
+exit_stays p i body (error id r) h = absurd (cc)
+exit_stays p i body not_json h = absurd (cc)
+exit_stays p i body not_message h = absurd (cc)
+
+-- it is no request, and speaks of no document
+pub exit_aside : (m : Message) → notifies (codes "exit") m ≡ true → sort_of m ≡ Some sort.Request → ⊥
+exit_aside (notification method ps) h k = cc
+exit_aside (request id method ps) h k = absurd (cc)
+exit_aside (result id r) h k = absurd (cc)
+exit_aside (error id r) h k = absurd (cc)
+exit_aside not_json h k = absurd (cc)
+exit_aside not_message h k = absurd (cc)
+
+pub exit_silent : (m : Message) → notifies (codes "exit") m ≡ true → saying_of m ≡ nothing
+exit_silent (notification method ps) h = ap (λ w. saying_by w ps) (sym ((bytes_eq-Decides (codes "exit") method).0 h))
+exit_silent (request id method ps) h = absurd (cc)
+exit_silent (result id r) h = absurd (cc)
+exit_silent (error id r) h = absurd (cc)
+exit_silent not_json h = absurd (cc)
+exit_silent not_message h = absurd (cc)
+
+pub exit_keeps : (before : List Event) (e : ℕ) (m : Message) → notifies (codes "exit") m ≡ true → changes_documents before e m ≡ false
+exit_keeps before e m h = ap (λ b. is_served (desk_of e before).phase && b) (ap₂ (λ a x. a || speaks x) (no_request m h) (exit_silent m h)) ∙ and_off (is_served (desk_of e before).phase)
+  where
+    no_request : (m : Message) → notifies (codes "exit") m ≡ true → requests (codes "shutdown") m ≡ false
+    no_request (notification method ps) h = refl
+    no_request (request id method ps) h = absurd (cc)
+    no_request (result id r) h = absurd (cc)
+    no_request (error id r) h = absurd (cc)
+    no_request not_json h = absurd (cc)
+    no_request not_message h = absurd (cc)
+
 -- before the answer to its `initialize`
 pub early_stays : (p : Phase) (i body : List ℕ) (m : Message) → is_early p ≡ true → places p m ≡ false → (desk_hears p i body m).phase ≡ p
 early_stays New i body m h k = rw (k) refl
@@ -108,8 +153,11 @@ early_unserved Down h = absurd (cc)
 early_unserved Closed h = absurd (cc)
 early_unserved Gone h = absurd (cc)
 
+pub unserved_keeps : (before : List Event) (e : ℕ) (m : Message) → is_served (desk_of e before).phase ≡ false → changes_documents before e m ≡ false
+unserved_keeps before e m h = ap (λ b. b && (requests (codes "shutdown") m || speaks (saying_of m))) h
+
 pub early_keeps : (before : List Event) (e : ℕ) (m : Message) → is_early (desk_of e before).phase ≡ true → changes_documents before e m ≡ false
-early_keeps before e m h = ap (λ b. b && (requests (codes "shutdown") m || speaks (saying_of m))) (early_unserved (desk_of e before).phase h)
+early_keeps before e m h = unserved_keeps before e m (early_unserved (desk_of e before).phase h)
 
 -- where its link is to be ended
 module _ (before : List Event) (e : ℕ) (m : Message) (closed : (desk_of e before).phase ≡ Closed) where

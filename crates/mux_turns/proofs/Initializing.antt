@@ -34,7 +34,8 @@ use Rattle.capability_meet.specs.DeclaredTree.{declared_of, declared_tree}
 use Rattle.capability_meet.specs.MeetTree.{whole_text}
 use Rattle.group_facts.specs.Facts.{Numbered, Plain}
 use Rattle.group_facts.specs.Settled.{Settled}
-use Rattle.group_rows.specs.Rows.{answer_error, leave_bodies, left}
+use Rattle.group_rows.specs.Leaves.{leave_bodies, left}
+use Rattle.group_rows.specs.Rows.{answer_error}
 use Rattle.group_rows.specs.Texts.{texts_of}
 use Rattle.group_table.specs.Tables.{declared_text}
 use Rattle.group_words.specs.declared.idle.Idle.{Idle}

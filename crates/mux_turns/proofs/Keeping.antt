@@ -1,14 +1,13 @@
 -- Bodies that leave an editor in its phase.
-use Rattle.std.proofs.Common.{◌≡◌, ℕ, Bool, true, false, List, refl, ap, sym, subst, ◌∙◌, codes}
+use Rattle.std.proofs.Common.{◌≡◌, ℕ, Bool, true, false, List, refl, ap, sym, subst, ◌∙◌, arith, codes}
 use Rattle.std.specs.Prelude.{Option, Some, None}
-use Rattle.json_text.specs.Json.{Json}
+use Rattle.json_text.specs.declared.kind.Word.TheVariants.{Null}
+use Rattle.json_text.specs.Json.{Json, word}
 use Rattle.mux_history.specs.declared.out.Out.{Out}
 use Rattle.mux_history.specs.declared.out.Out.TheVariants.{ToEditor}
-use Rattle.rpc_message.specs.Message.{Message, not_json, not_message, error, notification, request, Id, id_bytes, message_of, result}
-use Rattle.rpc_message.specs.Sorts.{sort_of}
-use Rattle.rpc_message.specs.declared.sort.Sort.TheVariants as sort
-use Rattle.rpc_message.specs.Texts.{Code, error_text, error_tree, server_not_initialized}
-use Rattle.rpc_message.proofs.Fixed.{error_law, id_as_response, null_as_response}
+use Rattle.rpc_message.specs.Message.{Message, error, request, Id, id_bytes, message_of, result}
+use Rattle.rpc_message.specs.Texts.{Code, error_text, error_tree, ok_text}
+use Rattle.rpc_message.proofs.Fixed.{error_law, id_as_response, null_as_response, ok_law}
 use Rattle.rpc_message.proofs.Ids.{request_id_bytes}
 use Rattle.event_model.specs.declared.phase.Phase.{Phase}
 use Rattle.event_model.specs.declared.phase.Phase.TheVariants.{Absent, New, Waiting, Answered, Running, Down, Closed, Gone}
@@ -18,8 +17,8 @@ use Rattle.event_model.specs.Phases.{Desk, desk_behind, desk_of, phase_told}
 use Rattle.event_model.specs.Row.{Row, choose, send}
 use Rattle.event_model.specs.Settings.{Settings}
 use Rattle.event_model.proofs.Frames.{one_more}
-use Rattle.event_model.proofs.Turns.{does_false, does_nothing, does_true}
-use Rattle.group_rows.specs.Rows.{answer_error, early_row, wrong_code}
+use Rattle.event_model.proofs.Turns.{does_false, does_true}
+use Rattle.group_facts.proofs.PartingRows.{null_value}
 use Rattle.mux_tables.specs.declared.tables.Tables.{Tables}
 use Rattle.mux_tables.specs.Stands.{Keeps, Stands}
 use Rattle.mux_tables.proofs.Frames.{itself}
@@ -65,25 +64,15 @@ module _ (settings : Settings) (base : List Event) (t u : Tables) (xs ys : List 
 pub refused_says : (text body id method : List ℕ) (name : Id) (params : Option Json) (c : Code) → text ≡ error_text id c → id ≡ id_bytes body → message_of body ≡ request name method params → message_of text ≡ error (Some name) (error_tree c)
 refused_says text body id method name params c is own says = ap message_of (is ∙ ap (λ w. error_text w c) own) ∙ error_law (Some name) (id_bytes body) c (id_as_response name (id_bytes body) (request_id_bytes body name method params says))
 
+-- the result null
+abbrev pub null_tree : Json
+null_tree = word (record { from = 0; to = 0 }) Null
+
+pub null_says : (body : List ℕ) (id : Id) (method : List ℕ) (params : Option Json) → message_of body ≡ request id method params → message_of (ok_text (id_bytes body) (codes "null")) ≡ result (Some id) null_tree
+null_says body id method params says = ok_law (Some id) null_tree (id_bytes body) (codes "null") (id_as_response id (id_bytes body) (request_id_bytes body id method params says)) null_value (omega arith)
+
 pub malformed_says : (text : List ℕ) (c : Code) → text ≡ error_text (codes "null") c → message_of text ≡ error None (error_tree c)
 malformed_says text c is = ap message_of is ∙ error_law None (codes "null") c null_as_response
-
--- a message that comes too early
-module _ (settings : Settings) (base : List Event) (t : Tables) (xs ys : List Out) (e : ℕ) (body : List ℕ) where
-  abbrev Early : Message → List Out → Type 0
-  Early m zs = Does (λ t events. Stands settings t events) (early_row e body m) base t xs t zs
-
-  pub early_does : (m : Message) → sort_of m ≡ Some sort.Request → ((id : Id) (method : List ℕ) (params : Option Json) → m ≡ request id method params → Does (λ t events. Stands settings t events) (answer_error e body (wrong_code method server_not_initialized)) base t xs t ys) → Early m ys
-  early_does (request id method params) h d = d id method params refl
-  early_does (notification method params) h d = absurd (cc)
-  early_does (result id x) h d = absurd (cc)
-  early_does (error id x) h d = absurd (cc)
-  early_does not_json h d = absurd (cc)
-  early_does not_message h d = absurd (cc)
-
-  pub not_early : (m : Message) → (sort_of m ≡ Some sort.Request → ⊥) → Early m xs
-  not_early (request id method params) h = absurd (h refl)
-  not_early other h = does_nothing
 
 -- a row that is chosen
 module _ {K : Type 0} {Stands : K → List Event → Type 0} {base : List Event} {t u : K} {xs ys : List Out} where

@@ -4,6 +4,7 @@ pub mod Asking
 pub mod Beginning
 pub mod Cancels
 pub mod Classes
+pub mod Departing
 pub mod Evictions
 pub mod Folders
 pub mod Initializing

@@ -12,7 +12,7 @@ use Rattle.event_model.specs.Spawns.{start_of}
 use Rattle.event_model.specs.Stages.{is_ready, life_of}
 use Rattle.event_model.proofs.Turns.{alike, alike_then, alike_true, alike_false}
 use Rattle.group_rows.specs.Forwarded.{forwarding_of}
-use Rattle.group_rows.specs.Leaves.{cancel, cancels, cancels_row, open_of}
+use Rattle.group_rows.specs.Leaves.{cancel, cancels, cancels_row, uncancelled_of}
 use Rattle.group_rows.specs.Rows.{answer_error, can_ask, forward, request_at, request_row, sync_row}
 use Rattle.group_words.specs.Houses.{home_of}
 use Rattle.mux_tables.specs.Stands.{start_for}
@@ -43,7 +43,7 @@ module _ (settings : Settings) (before : List Event) (e : ℕ) where
   pub unready_left : (g s : ℕ) (stage : Stage) → home_of settings e before ≡ Some g → start_of g before ≡ Some s → stage ≡ (life_of s before).stage → is_ready stage ≡ false → Alike (cancels_row settings before e) nothing
   unready_left g s stage h k at r = is_second (left_at g s h k) (ap is_ready (sym at) ∙ r)
 
-  pub ready_left : (g s : ℕ) (stage : Stage) (ns : List ℕ) → home_of settings e before ≡ Some g → start_of g before ≡ Some s → stage ≡ (life_of s before).stage → is_ready stage ≡ true → ns ≡ open_of e (forwarding_of s before).open_requests
+  pub ready_left : (g s : ℕ) (stage : Stage) (ns : List ℕ) → home_of settings e before ≡ Some g → start_of g before ≡ Some s → stage ≡ (life_of s before).stage → is_ready stage ≡ true → ns ≡ uncancelled_of e (forwarding_of s before).open_requests
       → Alike (cancels_row settings before e) (each (cancel s) ns)
   ready_left g s stage ns h k at r is = alike_then (is_first (left_at g s h k) (ap is_ready (sym at) ∙ r)) (alike (ap (each (cancel s)) (sym is)))
 

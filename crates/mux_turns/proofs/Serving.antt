@@ -48,6 +48,17 @@ module _ (method : List ℕ) (id : Id) (params : Option Json) (s : Serves method
   pub request_keeps : (before : List Event) (e : ℕ) (m : Message) → m ≡ request id method params → changes_documents before e m ≡ false
   request_keeps before e m says = rw (says, s.stays) (and_off (is_served (desk_of e before).phase))
 
+-- `shutdown`
+pub shutdown_downs : (method : List ℕ) (id : Id) (params : Option Json) → bytes_eq (codes "shutdown") method ≡ true → (body : List ℕ) (q : Phase) (i : List ℕ) → is_served q ≡ true → (desk_hears q i body (request id method params)).phase ≡ Down
+shutdown_downs method id params asks body Answered i h = rw (asks) refl
+shutdown_downs method id params asks body Running i h = rw (asks) refl
+shutdown_downs method id params asks body Absent i h = absurd (cc)
+shutdown_downs method id params asks body New i h = absurd (cc)
+shutdown_downs method id params asks body Waiting i h = absurd (cc)
+shutdown_downs method id params asks body Down i h = absurd (cc)
+shutdown_downs method id params asks body Closed i h = absurd (cc)
+shutdown_downs method id params asks body Gone i h = absurd (cc)
+
 -- a notification other than `exit`
 module _ (method : List ℕ) (params : Option Json) (stays : bytes_eq (codes "exit") method ≡ false) where
   pub notice_runs : (body : List ℕ) (q : Phase) (i : List ℕ) → is_served q ≡ true → (desk_hears q i body (notification method params)).phase ≡ Running

@@ -4,10 +4,10 @@ ghost use Rattle.event_model.specs.Does.{Does};
 ghost use Rattle.event_model.specs.Event.{Event, behind};
 ghost use Rattle.event_model.specs.Row.{each};
 ghost use Rattle.event_model.specs.Settings.{Settings};
-ghost use Rattle.group_rows.specs.Leaves.{cancel, cancel_text, cancels_row};
-ghost use Rattle.mux_tables.specs.Documents.{DocumentsStand, Owed};
-ghost use Rattle.mux_tables.specs.Stands.{Stands, number_in};
-ghost use Rattle.mux_turns.specs.Leavings.{Leaves};
+ghost use Rattle.group_rows.specs.Leaves.{cancel, cancel_text, cancels_row, leave_row};
+ghost use Rattle.mux_tables.specs.Documents.{AllStand, DocumentsStand, Owed, nothing_owed};
+ghost use Rattle.mux_tables.specs.Stands.{Stands, number_in, stage_in};
+ghost use Rattle.mux_turns.specs.Leavings.{Leaves, Pays};
 
 use itoa::Buffer;
 use message_body::{Body, Memory};
@@ -46,6 +46,10 @@ fn cancel_all(
     numbers: &[u32],
 ) -> Result<(), Memory>
     requires { g < length tables.old.lasts.items }
+    ensures requests { tables.new.requests ≡ tables.old.requests }
+    ensures versions { tables.new.versions ≡ tables.old.versions }
+    ensures starts { OnOk result (map number_in tables.new.lasts.items ≡ map number_in tables.old.lasts.items) }
+    ensures stages { OnOk result (map stage_in tables.new.lasts.items ≡ map stage_in tables.old.lasts.items) }
     ensures does { (settings : Settings) (base : List Event) (s : ℕ) → slice_get (map number_in tables.old.lasts.items) g ≡ Some s
         → OnOk result (Does (λ t events. Stands settings t events) (each (cancel s) numbers.now) base tables.old outs.old tables.new outs.new) }
     ensures documents { (settings : Settings) (owed : Owed) (base : List Event) → DocumentsStand settings owed tables.old (behind base outs.old)
@@ -74,14 +78,18 @@ pub fn leaving(tables: &Tables, e: u64) -> Result<Option<Departure>, Memory>
     Ok(Some(Departure { group, requests }))
 }
 
-/// L1: the open requests of an editor that leaves are cancelled, numbers rising.
-pub fn leave(
+// L1: the open requests of an editor that leaves are cancelled, numbers rising.
+fn leave(
     tables: &mut Tables,
     alloc: Global,
     outs: &mut Outs,
     leaving: &Option<Departure>,
 ) -> Result<(), Memory>
     requires { IfSome leaving.now (λ l. l.group < length tables.old.lasts.items) }
+    ensures requests { tables.new.requests ≡ tables.old.requests }
+    ensures versions { tables.new.versions ≡ tables.old.versions }
+    ensures starts { OnOk result (map number_in tables.new.lasts.items ≡ map number_in tables.old.lasts.items) }
+    ensures stages { OnOk result (map stage_in tables.new.lasts.items ≡ map stage_in tables.old.lasts.items) }
     ensures does { (settings : Settings) (before base : List Event) (e : ℕ)
         → Leaves settings before e (map number_in tables.old.lasts.items) leaving.now
         → OnOk result (Does (λ t events. Stands settings t events) (cancels_row settings before e) base tables.old outs.old tables.new outs.new) }
@@ -95,4 +103,26 @@ pub fn leave(
             Ok(())
         }
     }
+}
+
+/// L1: an editor leaves: what was looked up is cancelled, and the last start of its group is sent the bodies that it is owed for the
+/// editor's documents.
+pub fn depart(
+    tables: &mut Tables,
+    alloc: Global,
+    outs: &mut Outs,
+    leaving: &Option<Departure>,
+    owed: Outs,
+) -> Result<(), Memory>
+    requires { IfSome leaving.now (λ l. l.group < length tables.old.lasts.items) }
+    ensures requests { tables.new.requests ≡ tables.old.requests }
+    ensures versions { tables.new.versions ≡ tables.old.versions }
+    ensures does { (settings : Settings) (before base : List Event) (e : ℕ) (owing : Owed)
+        → Leaves settings before e (map number_in tables.old.lasts.items) leaving.now → Pays settings before e tables.old owed owing
+        → OnOk result (Does (λ k events. AllStand settings k events) (leave_row settings before e) base
+        (tables.old, owing) outs.old (tables.new, nothing_owed) outs.new) }
+{
+    leave(tables, alloc, outs, leaving)?;
+    tables.pay(outs, owed)?;
+    Ok(())
 }

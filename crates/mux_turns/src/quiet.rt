@@ -7,7 +7,7 @@ ghost use Rattle.event_model.specs.Phases.{desk_of, is_served};
 ghost use Rattle.event_model.specs.Row.{nothing};
 ghost use Rattle.event_model.specs.Settings.{Settings};
 ghost use Rattle.group_facts.specs.Facts.{is_early};
-ghost use Rattle.group_rows.specs.Rows.{answer_error, early_row, wrong_code};
+ghost use Rattle.group_rows.specs.Rows.{answer_error, early_code, wrong_code};
 ghost use Rattle.group_words.specs.Houses.{places, stops};
 ghost use Rattle.json_text.specs.Json.{Json};
 ghost use Rattle.lsp_method.specs.Class.{class_of};
@@ -33,7 +33,7 @@ use rpc_message::{Malformed, Message};
 use std::alloc::Global;
 
 // Where an editor stands that joined.
-fn phase_of(tables: &Tables, e: u64) -> Phase
+pub fn phase_of(tables: &Tables, e: u64) -> Phase
     requires { e < length tables.now.editors }
     ensures joined { result ≢ Absent }
     ensures stands { (settings : Settings) (events : List Event) → Stands settings tables.now events → result ≡ (desk_of e events).phase }
@@ -67,8 +67,8 @@ pub fn take_malformed(
     Ok(())
 }
 
-/// E8: a message other than `initialize` comes before the answer to it: a request is answered with an error (LSP 3.17, Lifecycle
-/// Messages: ServerNotInitialized), another message gives nothing.
+/// E8: a request that places its editor nowhere comes before the answer to `initialize`: it is answered with an error (LSP 3.17,
+/// Lifecycle Messages: ServerNotInitialized).
 pub fn take_early(
     tables: &mut Tables,
     alloc: Global,
@@ -79,10 +79,11 @@ pub fn take_early(
     requires { e < length tables.old.editors }
     ensures requests { tables.new.requests ≡ tables.old.requests }
     ensures versions { tables.new.versions ≡ tables.old.versions }
-    ensures does { (settings : Settings) (before : List Event) (body : List ℕ) → IsRead message.now body → is_early (desk_of e before).phase ≡ true
+    ensures does { (settings : Settings) (before : List Event) (body method : List ℕ) (id : Id) (params : Option Json) → IsRead message.now body
+        → message_of body ≡ request id method params → is_early (desk_of e before).phase ≡ true
         → places (desk_of e before).phase (message_of body) ≡ false → stops before e (message_of body) ≡ false → outs.old ≡ []
         → Stands settings tables.old before → DocumentsStand settings nothing_owed tables.old before
-        → OnOk result (Done (λ k events. AllStand settings k events) (early_row e body (message_of body))
+        → OnOk result (Done (λ k events. AllStand settings k events) (answer_error e body (early_code method))
         (with_cause before (FromEditor e body)) [] (tables.new, nothing_owed) outs.new) }
 {
     let phase = phase_of(tables, e);

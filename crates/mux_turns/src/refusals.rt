@@ -5,7 +5,7 @@ ghost use Rattle.event_model.specs.Does.{Alike, Does};
 ghost use Rattle.event_model.specs.Event.{Event, behind};
 ghost use Rattle.event_model.specs.Row.{◌⨾◌};
 ghost use Rattle.event_model.specs.Settings.{Settings};
-ghost use Rattle.group_rows.specs.Rows.{answer_error, early_row, forward, request_row, sync_row, wrong_code};
+ghost use Rattle.group_rows.specs.Rows.{answer_error, early_code, forward, request_row, sync_row, wrong_code};
 ghost use Rattle.json_text.specs.Json.{Json};
 ghost use Rattle.mux_model.specs.Rows.{malformed_code, malformed_row};
 ghost use Rattle.mux_tables.specs.declared.tables.Start.{Start};
@@ -20,9 +20,9 @@ ghost use Rattle.rpc_message.specs.Texts.{invalid_request, request_failed};
 use event_model::Phase;
 use message_body::Memory;
 use mux_history::Outs;
-use mux_members::is_dollar;
+use mux_members::{is_dollar, is_initialize};
 use mux_tables::Tables;
-use rpc_message::{ErrorCode, Malformed, Message, Sort, error_answer};
+use rpc_message::{ErrorCode, Malformed, Message, error_answer};
 use std::alloc::Global;
 
 // The code of the answer to a body that is no message (JSON-RPC 2.0, section 5.1).
@@ -114,8 +114,19 @@ pub fn refuse_wrong(
     Ok(())
 }
 
-/// E8: a request that comes before the answer to `initialize` gets an error (LSP 3.17, Lifecycle Messages: ServerNotInitialized);
-/// another message gives nothing.
+// E8: the same of a request that comes before the answer to `initialize`; a second `initialize` is an invalid one.
+fn early_code(message: &Message) -> ErrorCode
+    ensures { (body method : List ℕ) (id : Id) (params : Option Json) → IsRead message.now body → message_of body ≡ request id method params
+        → code_of result ≡ early_code method }
+{
+    if is_initialize(message) {
+        ErrorCode::InvalidRequest
+    } else {
+        wrong_code(message, ErrorCode::ServerNotInitialized)
+    }
+}
+
+/// E8: a request that comes before the answer to `initialize` gets an error (LSP 3.17, Lifecycle Messages: ServerNotInitialized).
 pub fn refuse_early(
     tables: &Tables,
     alloc: Global,
@@ -123,16 +134,14 @@ pub fn refuse_early(
     e: u64,
     message: &Message,
 ) -> Result<(), Memory>
-    ensures does { (settings : Settings) (base : List Event) (body : List ℕ) → IsRead message.now body
+    ensures does { (settings : Settings) (base : List Event) (body method : List ℕ) (id : Id) (params : Option Json) → IsRead message.now body
+        → message_of body ≡ request id method params
         → OnOk result (Does (λ t events. Stands settings t events)
-        (early_row e body (message_of body)) base tables.now outs.old tables.now outs.new) }
+        (answer_error e body (early_code method)) base tables.now outs.old tables.now outs.new) }
     ensures documents { (settings : Settings) (owed : Owed) (base : List Event) → DocumentsStand settings owed tables.now (behind base outs.old)
         → OnOk result (DocumentsStand settings owed tables.now (behind base outs.new)) }
 {
-    if message.sort() != Sort::Request {
-        return Ok(());
-    }
-    let code = wrong_code(message, ErrorCode::ServerNotInitialized);
+    let code = early_code(message);
     refuse(tables, alloc, outs, e, message, code)?;
     Ok(())
 }

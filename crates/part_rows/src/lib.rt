@@ -1,4 +1,4 @@
-//! Tests of the parts of messages, and of messages that are written, through the public calls of rpc_message.
+//! Tests of the parts of messages, through the public calls of rpc_message.
 #![tactic(auto)]
 
 #[cfg(test)]

@@ -1,9 +1,5 @@
-//! Tests of settings, of lines and of the program, through the public calls.
+//! Tests of the program, through its public call.
 #![tactic(auto)]
 
 #[cfg(test)]
-mod lines;
-#[cfg(test)]
 mod program;
-#[cfg(test)]
-mod settings;

@@ -1,4 +1,4 @@
-//! Tests of the texts of documents and of the table of shared documents, through their public calls.
+//! Tests of the texts of documents, through their public calls.
 #![tactic(auto)]
 
 #[cfg(test)]
@@ -7,5 +7,3 @@ mod change;
 mod documents;
 #[cfg(test)]
 mod pieces;
-#[cfg(test)]
-mod shared;

@@ -12,9 +12,9 @@ pub returns-in-Request : goal.returns-in-Request
 returns-in-Request c = λ settings before body facts known st read.
     let q = is_request (message_of body) (c.sort.ensures body read ∙ ap (λ x. Some x) c.in-Request.is) in
     let phase = c.phase.ensures settings before st in
-    subst (λ (m : Message). c.built_request.result ≡ built_from_editor (desk_of c.args.e before).phase (open_of c.args.e before) m) (sym q.1.1.1)
-    (subst (λ p. c.built_request.result ≡ built_from_editor p (open_of c.args.e before) (Rattle.rpc_message.specs.Message.request q.0 q.1.0 q.1.1.0)) phase
-    (c.built_request.ensures settings before body q.1.0 q.0 q.1.1.0 facts known st read q.1.1.1 phase))
+    subst (λ (m : Message). c.built_asking.result ≡ built_from_editor (desk_of c.args.e before).phase (open_of c.args.e before) m) (sym q.1.1.1)
+    (subst (λ p. c.built_asking.result ≡ built_from_editor p (open_of c.args.e before) (Rattle.rpc_message.specs.Message.request q.0 q.1.0 q.1.1.0)) phase
+    (c.built_asking.ensures settings before body q.1.0 q.0 q.1.1.0 facts known st read q.1.1.1 phase))
 
 pub returns-in-Notification : goal.returns-in-Notification
 returns-in-Notification c = λ settings before body facts known st read.

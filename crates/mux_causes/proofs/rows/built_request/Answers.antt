@@ -1,18 +1,16 @@
--- A request of an editor.
-use Rattle.std.proofs.Common.{◌≡◌, true, sym, subst, ◌∙◌}
-use Rattle.rpc_message.specs.ValueTexts.{IsIdText}
-use Rattle.rpc_message.proofs.Ids.{request_id_bytes}
-use Rattle.event_model.specs.Requests.{open_of}
-use Rattle.group_facts.specs.Built.{built_as, is_fresh}
-use Rattle.mux_causes.proofs.Meant.{and_off, and_on}
+-- Whether a request is built in a phase.
+use Rattle.std.proofs.Common.{bytes_eq, codes, false, not, sym, ◌&&◌, ◌∙◌}
+use Rattle.lsp_method.specs.Class.{class_of}
+use Rattle.lsp_method.specs.declared.variants.Origin.TheVariants.{Editor}
+use Rattle.event_model.specs.Phases.{is_new, is_served}
+use Rattle.group_facts.specs.Built.{is_marked, is_standard}
+use Rattle.mux_causes.proofs.Meant.{or_first, or_second}
 use Rattle.mux_causes.proofs.rows.built_request.Goals as goal
 
-pub returns-then-built_as : goal.returns-then-built_as
-returns-then-built_as c = λ settings before body method id params facts known st read is phase.
-    let text : IsIdText id c.id_bytes.result.now = subst (λ w. IsIdText id w) (sym (c.id_bytes.ensures body read)) (request_id_bytes body id method params is) in
-    let here : built_as c.args.phase method params ≡ true = sym (c.built_as.ensures body method id params read is) ∙ c.if-built_as.true in
-    c.is_fresh.ensures settings before id method params facts known st text phase here ∙ and_on (is_fresh c.args.phase id (open_of c.args.e before)) (built_as c.args.phase method params) here
+pub returns-then-is_first : goal.returns-then-is_first
+returns-then-is_first c = λ body method id params read is.
+    c.is_first.ensures body method id params read is ∙ or_first (is_new c.args.phase && bytes_eq (codes "initialize") method) (is_standard (class_of method Editor false) && not (is_served c.args.phase && is_marked method params)) (sym (c.is_first.ensures body method id params read is) ∙ c.if-is_first.true)
 
-pub returns-else-built_as : goal.returns-else-built_as
-returns-else-built_as c = λ settings before body method id params facts known st read is phase.
-    c.if-built_as.false ∙ and_off (is_fresh c.args.phase id (open_of c.args.e before)) (built_as c.args.phase method params) (sym (c.built_as.ensures body method id params read is) ∙ c.if-built_as.false)
+pub returns-else-is_first : goal.returns-else-is_first
+returns-else-is_first c = λ body method id params read is.
+    c.is_taken.ensures body method id params read is ∙ or_second (is_new c.args.phase && bytes_eq (codes "initialize") method) (is_standard (class_of method Editor false) && not (is_served c.args.phase && is_marked method params)) (sym (c.is_first.ensures body method id params read is) ∙ c.if-is_first.false)

@@ -2,13 +2,11 @@
 use Rattle.std.proofs.Common.{◌≡◌, true, false, ap, codes, sym, ◌∙◌}
 use Rattle.event_model.specs.Event.{requests}
 use Rattle.event_model.specs.Phases.{desk_of}
-use Rattle.event_model.specs.Requests.{open_of}
-use Rattle.group_facts.specs.Built.{built_from_editor}
 use Rattle.group_facts.specs.Facts.{is_early}
 use Rattle.group_words.specs.Houses.{places}
 use Rattle.rpc_message.specs.Message.{message_of}
 use Rattle.mux_tables.specs.Documents.{AllStand}
-use Rattle.mux_entries.proofs.EditorBuilt.{new_stays}
+use Rattle.mux_entries.proofs.EditorBuilt.{built_stays}
 use Rattle.mux_entries.proofs.EditorRows.{asks_by_name, begins, done_alike, early_new, read_well}
 use Rattle.mux_entries.proofs.editors.from_new.Goals as goal
 
@@ -22,11 +20,11 @@ returns-in_ok-take_initialize-clause-does c = λ settings before body read at se
     done_alike (λ k events. AllStand settings k events) (begins settings before e body at (read_well c.args.message.now body read) named)
     (c.in_ok-take_initialize.ensures.does settings before body asks.method asks.id asks.params read asks.is placed servers default first known settled st ds)
 
-pub returns-in_ok-take_early-clause-does : goal.returns-in_ok-take_early-clause-does
-returns-in_ok-take_early-clause-does c = λ settings before body read at servers default first known settled built st ds.
+pub returns-in_ok-from_early-clause-does : goal.returns-in_ok-from_early-clause-does
+returns-in_ok-from_early-clause-does c = λ settings before body read at servers default first known settled built st ds.
     let e = c.args.e in
     let m = message_of body in
     let other : requests (codes "initialize") m ≡ false = sym (c.is_initialize.ensures body read) ∙ c.if-is_initialize.false in
     let unplaced : places (desk_of e before).phase m ≡ false = ap (λ p. places p m) at ∙ other in
     done_alike (λ k events. AllStand settings k events) (early_new settings before e body at (read_well c.args.message.now body read) other)
-    (c.in_ok-take_early.ensures.does settings before body read (ap is_early at) unplaced (new_stays before e (open_of e before) m (sym (ap (λ p. built_from_editor p (open_of e before) m) at) ∙ built) other) first st ds)
+    (c.in_ok-from_early.ensures.does settings before body read (ap is_early at) unplaced (built_stays before e (desk_of e before).phase m built) first st ds)

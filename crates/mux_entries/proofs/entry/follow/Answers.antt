@@ -1,8 +1,10 @@
--- Bytes were written.
-use Rattle.std.proofs.Common.{[], sym, subst}
+-- Causes by their rows.
+use Rattle.std.proofs.Common.{◌≡◌, [], sym, subst, true}
 use Rattle.event_model.specs.Does.{Done}
 use Rattle.event_model.specs.Event.{with_cause}
+use Rattle.group_facts.specs.Built.{built_behind}
 use Rattle.group_rows.specs.Rows.{row_of}
+use Rattle.mux_model.specs.Fits.{fits_behind}
 use Rattle.mux_tables.specs.Documents.{AllStand, nothing_owed}
 use Rattle.mux_entries.proofs.EditorRows.{done_quietly, drained_entry}
 use Rattle.mux_entries.proofs.entry.follow.Goals as goal
@@ -12,3 +14,15 @@ returns-in-Drained-clause-does c = λ settings before servers default first know
     let t = c.args.tables.now in
     subst (λ cause. Done (λ k events. AllStand settings k events) (row_of settings before cause) (with_cause before cause) [] (t, nothing_owed) c.args.outs.now) (sym c.in-Drained.is)
     (done_quietly (λ k events. AllStand settings k events) first (drained_entry settings before c.in-Drained.field-0 c.in-Drained.field-1 t st ds))
+
+pub returns-in_ok-gone-in-EditorGone-clause-does : goal.returns-in_ok-gone-in-EditorGone-clause-does
+returns-in_ok-gone-in-EditorGone-clause-does c = λ settings before servers default first known settled fits built st ds.
+    let here = subst (λ cause. fits_behind before cause ≡ true) c.in-EditorGone.is fits in
+    subst (λ cause. Done (λ k events. AllStand settings k events) (row_of settings before cause) (with_cause before cause) [] (c.gone.new.tables, nothing_owed) c.gone.new.outs) (sym c.in-EditorGone.is)
+    (c.in_ok-gone-in-EditorGone.ensures.does settings before c.in-EditorGone.field-1 first known here st ds)
+
+pub returns-in_ok-from_editor-in-FromEditor-clause-does : goal.returns-in_ok-from_editor-in-FromEditor-clause-does
+returns-in_ok-from_editor-in-FromEditor-clause-does c = λ settings before servers default first known settled fits built st ds.
+    let is = c.in-FromEditor.is in
+    subst (λ cause. Done (λ k events. AllStand settings k events) (row_of settings before cause) (with_cause before cause) [] (c.from_editor.new.tables, nothing_owed) c.from_editor.new.outs) (sym is)
+    (c.in_ok-from_editor-in-FromEditor.ensures.does settings before servers default first known settled (subst (λ cause. fits_behind before cause ≡ true) is fits) (subst (λ cause. built_behind settings before cause ≡ true) is built) st ds)

@@ -4,12 +4,16 @@ use Rattle.std.specs.Prelude.{Some, slice_get}
 use Rattle.event_model.proofs.Turns.{does_next, does_whole}
 use Rattle.group_rows.specs.Leaves.{cancel}
 use Rattle.rpc_message.specs.Message.{message_of}
-use Rattle.mux_turns.proofs.Cancels.{cancel_said, cancel_says, params_tree}
+use Rattle.group_rows.proofs.Cancels.{cancel_says, params_tree}
+use Rattle.mux_turns.proofs.Cancels.{cancel_said}
 use Rattle.mux_turns.proofs.leaves.cancel_all.Goals as goal
 
 pub loop-n-preserved : goal.loop-n-preserved
 loop-n-preserved c = record {
+  requests = c.cancel.ensures.requests ∙ c.loop-n.invariant.requests;
+  versions = c.cancel.ensures.versions ∙ c.loop-n.invariant.versions;
   starts = c.in_ok-cancel.ensures.starts ∙ c.loop-n.invariant.starts;
+  stages = c.in_ok-cancel.ensures.stages ∙ c.loop-n.invariant.stages;
   does = λ settings base s at.
       let n = get_or c.args.numbers.now c.loop-n.n-index 0 in
       let low = c.type_inv.numbers c.loop-n.n-index in

@@ -1,6 +1,6 @@
 use Rattle.std.proofs.Common.{◌≡◌, ◌+◌, refl, sym, subst, ap, ◌∙◌, None, Some, if◌then◌else◌, arith}
 use Rattle.editor_session.specs.declared.session.Session.{Session}
-use Rattle.editor_session.specs.Kept.{IsAt, held}
+use Rattle.number_table.specs.Numbers.{IsAt, held}
 use Rattle.editor_session.specs.Sessions.{asked, next_ask, session_of}
 use Rattle.editor_session.proofs.Places.{kept_linked, kept_order, kept_session, kept_set, kept_stays, lost, lost_stays}
 use Rattle.editor_session.proofs.editors.Editors.ask_number.Goals as goal

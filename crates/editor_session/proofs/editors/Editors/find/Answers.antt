@@ -1,5 +1,5 @@
 use Rattle.std.proofs.Common.{◌≡◌, subst, None}
-use Rattle.editor_session.specs.Kept.{IsAt, held}
+use Rattle.number_table.specs.Numbers.{IsAt, held}
 use Rattle.editor_session.proofs.Places.{kept_linked, kept_session, lost}
 use Rattle.editor_session.proofs.editors.Editors.find.Goals as goal
 

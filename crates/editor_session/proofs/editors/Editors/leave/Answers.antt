@@ -1,5 +1,7 @@
 use Rattle.std.proofs.Common.{◌≡◌, ap, sym, subst, ◌∙◌, None}
-use Rattle.editor_session.specs.Kept.{AreLinked, IsAt, Rise, held, spread}
+use Rattle.number_table.specs.Numbers.{IsAt, Rise, held, spread}
+use Rattle.editor_session.specs.Kept.{AreLinked}
+use Rattle.editor_session.specs.Sessions.{gone}
 use Rattle.editor_session.proofs.Places.{kept_left, left_order, lost_left}
 use Rattle.editor_session.proofs.editors.Editors.leave.Goals as goal
 
@@ -9,7 +11,7 @@ invariant_of-self c =
 
 pub returns-in-Some : goal.returns-in-Some
 returns-in-Some c =
-    ap (spread 0 c.self.inside.count) c.forget.ensures ∙ kept_left c.self.inside.count c.self.inside.linked.items c.args.self.now c.self.view_is c.self.invariant.0 c.args.e c.in-Some.at (subst (λ ys. IsAt ys c.args.e c.in-Some.at) c.deref.ensures.value c.in-Some.ensures.found)
+    ap (spread gone 0 c.self.inside.count) c.forget.ensures ∙ kept_left c.self.inside.count c.self.inside.linked.items c.args.self.now c.self.view_is c.self.invariant.0 c.args.e c.in-Some.at (subst (λ ys. IsAt ys c.args.e c.in-Some.at) c.deref.ensures.value c.in-Some.ensures.found)
 
 pub returns-in_default : goal.returns-in_default
 returns-in_default c =

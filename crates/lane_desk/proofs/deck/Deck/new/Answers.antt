@@ -9,7 +9,7 @@ invariant_of-desk g c =
     let count : length c.args.ends.items ≡ g.N.Naming.editors + g.N.Naming.servers + 1 = c.requires.count ∙ ap₂ (λ n m. n + m + 1) c.requires.editors c.requires.servers in (
       kept_new g.K.Steps.stands g.N.Naming.editors g.N.Naming.servers c.args.core c.args.ends.items c.in-Ok.seats c.requires.core c.requires.unused (c.in-Ok.ensures ∙ ap₂ start c.requires.editors c.requires.servers),
       c.requires.queues,
-      record { later = (let e = c.requires.before in omega arith); journal = λ e. absurd cc },
+      record { later = (let e = c.requires.before in omega arith); journal = λ e. absurd cc; over = λ f e. absurd cc },
       c.requires.editors,
       c.requires.servers,
       few,

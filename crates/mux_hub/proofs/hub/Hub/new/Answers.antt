@@ -6,9 +6,9 @@ use Rattle.mux_hub.proofs.hub.Hub.new.Goals as goal
 pub invariant_of-result : goal.invariant_of-result
 invariant_of-result g c =
     let settings : Settings = record { limits = c.args.limits; servers = c.args.servers.items; default = c.args.default } in
-    begins_sound settings c.new.result c.requires.requests c.requires.versions c.requires.ceilings (c.new.ensures.stands settings refl refl refl) (c.new.ensures.documents settings refl)
+    begins_sound settings c.in-Ok.tables c.requires.requests c.requires.versions c.requires.ceilings (c.in-Ok.ensures.stands settings refl refl refl) (c.in-Ok.ensures.documents settings refl)
 
 pub returns-clause-stands : goal.returns-clause-stands
 returns-clause-stands g c =
     let settings : Settings = record { limits = c.args.limits; servers = c.args.servers.items; default = c.args.default } in
-    begins g.J.Journal.told settings c.new.result c.new-2.result c.args.journal c.requires.told (c.new.ensures.stands settings refl refl refl) (c.new.ensures.documents settings refl) c.new-2.ensures
+    begins g.J.Journal.told settings c.in-Ok.tables c.new-2.result c.args.journal c.requires.told (c.in-Ok.ensures.stands settings refl refl refl) (c.in-Ok.ensures.documents settings refl) c.new-2.ensures

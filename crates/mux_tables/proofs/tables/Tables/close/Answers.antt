@@ -4,7 +4,7 @@ use Rattle.focus_switch.specs.Documents.{Documents}
 use Rattle.focus_switch.specs.Rows.{leave_row}
 use Rattle.mux_tables.specs.Documents.{StepFrom}
 use Rattle.mux_tables.proofs.Said.{close_does}
-use Rattle.mux_tables.proofs.DocumentLeft.{closed_documents}
+use Rattle.mux_tables.proofs.DocumentLeft.{closed_documents, closed_unserved}
 use Rattle.mux_tables.proofs.tables.Tables.close.Goals as goal
 
 pub returns-clause-does : goal.returns-clause-does
@@ -16,3 +16,8 @@ pub returns-clause-documents : goal.returns-clause-documents
 returns-clause-documents c = λ settings base st ds.
     closed_documents settings c.args.self.now _ base c.args.outs.now c.push.new.self c.args.e c.group-home.result c.in_ok-owed.owed c.requires c.group-home.ensures c.in_ok-empty.ensures.lasts c.in_ok-empty.ensures.versions
     (subst (λ (v : List Documents). StepFrom (leave_row c.args.e) c.group-home.result v c.in_ok-owed.owed c.leave.new.documents.items) (ap (λ v. v.items) c.in_ok-empty.ensures.documents) c.in_ok-owed.ensures) c.in_ok-push.ensures.ok st ds
+
+pub returns-clause-unserved : goal.returns-clause-unserved
+returns-clause-unserved c = λ settings owing base st unserved ds.
+    closed_unserved settings owing c.args.self.now _ base c.args.outs.now c.push.new.self c.args.e c.group-home.result c.in_ok-owed.owed c.requires c.group-home.ensures c.in_ok-empty.ensures.lasts c.in_ok-empty.ensures.versions
+    (subst (λ (v : List Documents). StepFrom (leave_row c.args.e) c.group-home.result v c.in_ok-owed.owed c.leave.new.documents.items) (ap (λ v. v.items) c.in_ok-empty.ensures.documents) c.in_ok-owed.ensures) c.in_ok-push.ensures.ok st unserved ds

@@ -1,5 +1,5 @@
 -- The program is to be ended.
-use Rattle.std.proofs.Common.{refl, ap}
+use Rattle.std.proofs.Common.{refl, ap, None}
 use Rattle.restart_replay.specs.Standings.{Standing}
 use Rattle.mux_tables.proofs.Starts.{read_here, starts_stay}
 use Rattle.mux_tables.proofs.Sent.{end_does}
@@ -10,7 +10,7 @@ pub end-requires : goal.end-requires
 end-requires c = c.requires.runs c.index_mut-last.result.now (read_here c.args.self.now.lasts.items c.args.g c.index_mut-last.result.now c.requires.group c.index_mut-last.ensures.value)
 
 pub returns-clause-starts : goal.returns-clause-starts
-returns-clause-starts c = starts_stay c.args.self.now.lasts.items c.args.g c.index_mut-last.result.now (record c.index_mut-last.result.now { life = c.end.new.self }) c.requires.group c.index_mut-last.ensures.value (ap (λ (l : Standing). l.start) c.end.ensures)
+returns-clause-starts c = starts_stay c.args.self.now.lasts.items c.args.g c.index_mut-last.result.now (record c.index_mut-last.result.now { life = c.end.new.self; shown = None }) c.requires.group c.index_mut-last.ensures.value (ap (λ (l : Standing). l.start) c.end.ensures)
 
 pub returns-clause-does : goal.returns-clause-does
 returns-clause-does c = λ settings base s at.

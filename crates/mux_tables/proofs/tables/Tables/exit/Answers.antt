@@ -1,5 +1,5 @@
 -- A start is over.
-use Rattle.std.proofs.Common.{refl, ap, ◌∙◌}
+use Rattle.std.proofs.Common.{refl, ap, ◌∙◌, None}
 use Rattle.group_words.specs.Houses.{exit_of}
 use Rattle.group_words.specs.Placing.{changed}
 use Rattle.group_table.specs.Tables.{with_groups}
@@ -16,7 +16,7 @@ returns-clause-exits c = λ z at.
     let e = read_same c.args.self.now.lasts.items c.args.g c.index_mut-last.result.now z c.requires.group c.index_mut-last.ensures.value at in
     record {
       groups = c.lose.ensures ∙ ap (λ b. with_groups (changed c.args.g (exit_of c.args.restarts b) c.args.self.now.groups.groups) c.args.self.now.groups) c.in_ok-wanted.ensures;
-      start = record { life = c.over.new.self; started = c.index_mut-last.result.now.started; ids = c.new.result; shown = c.index_mut-last.result.now.shown };
+      start = record { life = c.over.new.self; started = c.index_mut-last.result.now.started; ids = c.new.result; shown = None };
       lasts = refl;
       life = c.over.ensures ∙ ap (λ w. moved Ended w.life) e;
       started = ap (λ w. w.started) e;

@@ -1,0 +1,23 @@
+-- A notification of an editor that is served.
+use Rattle.std.proofs.Common.{◌≡◌, ap, bytes_eq, codes, refl, sym, ◌∙◌, false, true}
+use Rattle.event_model.specs.Event.{notifies}
+use Rattle.event_model.specs.Phases.{desk_of}
+use Rattle.rpc_message.specs.Message.{message_of}
+use Rattle.mux_tables.specs.Documents.{AllStand}
+use Rattle.mux_turns.proofs.Rows.{is_first, is_second}
+use Rattle.mux_entries.proofs.EditorBuilt.{served_needs}
+use Rattle.mux_entries.proofs.EditorRows.{done_alike}
+use Rattle.mux_entries.proofs.editors.from_noting.Goals as goal
+
+pub returns-in_ok-take_exit-clause-does : goal.returns-in_ok-take_exit-clause-does
+returns-in_ok-take_exit-clause-does c = λ settings before body method params read says served first settled st ds.
+    let exits : notifies (codes "exit") (message_of body) ≡ true = sym (c.is_exit.ensures body read) ∙ c.if-is_exit.true in
+    done_alike (λ k events. AllStand settings k events) (is_first refl (ap (notifies (codes "exit")) (sym says) ∙ exits)) (c.in_ok-take_exit.ensures.does settings before body exits first st ds)
+
+pub returns-in_ok-take_notice-clause-does : goal.returns-in_ok-take_notice-clause-does
+returns-in_ok-take_notice-clause-does c = λ settings before body method params read says served first settled st ds.
+    let e = c.args.e in
+    let stays : bytes_eq (codes "exit") method ≡ false = ap (notifies (codes "exit")) (sym says) ∙ (sym (c.is_exit.ensures body read) ∙ c.if-is_exit.false) in
+    let seat = settled.seated e (served_needs (desk_of e before).phase served) in
+    done_alike (λ k events. AllStand settings k events) (is_second refl stays)
+    (c.in_ok-take_notice.ensures.does settings before body method params seat.group seat.start read says stays served seat.home seat.last first st ds)

@@ -1,0 +1,4 @@
+pub mod Spreading
+pub mod Searching
+pub mod Places
+pub mod Counting
