@@ -1,11 +1,11 @@
--- S2, S5 and the start of a program: what an entry of a start sends.
-use Rattle.std.proofs.Common.{◌≡◌, ℕ, zero, suc, ◌+◌, true, false, cond, ◌&&◌, List, [], ◌∷◌, ◌++◌, filter, find, nat_eq, codes, if◌then◌else◌, Some, None, refl, sym, ◌∙◌, ap, ap₂, subst, append_assoc, arith}
+-- S2, S4, S5 and the start of a program: what an entry of a start sends.
+use Rattle.std.proofs.Common.{◌≡◌, ℕ, zero, suc, ◌+◌, true, false, cond, ◌&&◌, List, [], ◌∷◌, ◌++◌, filter, find, nat_eq, codes, if◌then◌else◌, Some, None, refl, sym, ◌∙◌, ap, ap₂, subst, append_assoc, arith, Bool, bytes_eq, Option}
 use Rattle.std.specs.List.{AllByRecursion, range_with_len}
 use Rattle.std.specs.Prelude.{slice_get}
 use Rattle.std.proofs.lemmas.Bool.{and_parts}
 use Rattle.std.proofs.lemmas.List.Elements.{filter-append}
 use Rattle.json_text.specs.Bare.{nowhere}
-use Rattle.json_text.specs.Json.{Json, object, no_members}
+use Rattle.json_text.specs.Json.{Json, object, no_members, word}
 use Rattle.document_model.specs.Helds.{told}
 use Rattle.document_model.specs.Opens.{Open}
 use Rattle.document_model.specs.Sayings.{saying_of}
@@ -13,8 +13,8 @@ use Rattle.mux_history.specs.declared.cause.Cause.TheVariants.{FromServer, Start
 use Rattle.mux_history.specs.declared.out.Out.{Out}
 use Rattle.mux_history.specs.declared.out.Out.TheVariants.{ToEditor, ToServer}
 use Rattle.rpc_message.specs.Message.{Message, request, notification, result, error, not_json, not_message, Id, integer, message_of, id_bytes, result_bytes}
-use Rattle.rpc_message.specs.Texts.{ok_text, initialized_text, with_id_text}
-use Rattle.rpc_message.proofs.Fixed.{initialized_law}
+use Rattle.rpc_message.specs.Texts.{ok_text, initialized_text, with_id_text, error_text, invalid_request}
+use Rattle.rpc_message.proofs.Fixed.{initialized_law, id_as_response, ok_law}
 use Rattle.event_model.specs.declared.stage.Stage.{Stage}
 use Rattle.event_model.specs.declared.stage.Stage.TheVariants.{Unspawned, Spawning, Initializing, Ready, Stopping, Ending, Ended}
 use Rattle.event_model.specs.declared.phase.Phase.TheVariants.{Waiting}
@@ -24,13 +24,13 @@ use Rattle.event_model.specs.Phases.{Desk, desk_of, editors_of, is_there, is_wai
 use Rattle.event_model.specs.Requests.{answered_id, open_of, is_open, without}
 use Rattle.event_model.specs.Row.{each, outs}
 use Rattle.event_model.specs.Settings.{Settings}
-use Rattle.event_model.specs.Stages.{Life, life_of, is_first_result, stage_hears}
+use Rattle.event_model.specs.Stages.{Life, life_of, is_first_result, stage_hears, is_initializing, stage_told}
 use Rattle.mux_model.specs.Documents.{Sent, held_at, sent_of}
 use Rattle.mux_model.specs.Rows.{below, to_start}
 use Rattle.mux_model.proofs.DocumentFolds.{outs_to_start}
 use Rattle.mux_facts.specs.Allowed.{is_response}
 use Rattle.mux_facts.specs.Ranges.{InRange}
-use Rattle.mux_facts.proofs.Bodies.{IsResponseTo, is_result, is_error, passed_says, welcome_says}
+use Rattle.mux_facts.proofs.Bodies.{IsResponseTo, is_result, is_error, passed_says, welcome_says, refusal_says}
 use Rattle.mux_facts.proofs.Folds.{desk_more, life_more, opens_more}
 use Rattle.mux_facts.proofs.Lists.{found_is}
 use Rattle.mux_facts.proofs.Reasons.{Because, by_nothing, by_send, by_then, by_choose, by_look, by_on}
@@ -42,15 +42,20 @@ use Rattle.mux_facts.proofs.Why.{is_early}
 use Rattle.mux_facts.proofs.Words.{same_number}
 use Rattle.group_words.specs.Houses.{groups_of, home_of, is_home}
 use Rattle.group_words.specs.Rows.{shown_of}
+use Rattle.group_rows.specs.Ends.{answers_shutdown, exit_server, exit_text}
 use Rattle.group_rows.specs.Forwarded.{Forwarded, answered_by, forwarding_of}
-use Rattle.group_rows.specs.Rows.{first_result, from_server, replay_bodies, response_row, result_in, started, waiting_in, welcome}
+use Rattle.group_rows.specs.Rows.{first_result, from_server, replay_bodies, response_row, result_in, started, waiting_in, welcome, hasty_answer, hasty_row}
 use Rattle.group_rows.specs.Texts.{texts_of}
 use Rattle.group_facts.specs.Facts.{AllForwarded, Apart, IsAsker, IsForwarded, IsWaiting, IsWritten, Opened, Untold, Written}
 use Rattle.group_facts.proofs.Apart.{alone_answered}
 use Rattle.group_facts.proofs.Forwards.{Still, still_notified, still_now}
 use Rattle.group_facts.proofs.SharedRows.{AllTold, replay_told}
 use Rattle.group_facts.proofs.Tellings.{Calm, tells_row}
-use Rattle.group_facts.specs.Why.{IsPassing, Why, begins, greeted, greets, passes, welcomes}
+use Rattle.group_facts.specs.Why.{IsPassing, Why, begins, greeted, greets, passes, welcomes, responds, exits, stopped}
+use Rattle.rpc_message.proofs.Ids.{request_id_bytes}
+use Rattle.json_text.specs.declared.kind.Word.TheVariants.{Null}
+use Rattle.group_facts.proofs.PartingRows.{null_value}
+use Rattle.group_rows.proofs.Exits.{exit_says}
 
 -- the numbers below, counted up
 range_last : (a n : ℕ) → range_with_len a (suc n) ≡ range_with_len a n ++ (a + n) ∷ []
@@ -89,6 +94,20 @@ module _ (settings : Settings) (range : InRange settings) (before : List Event) 
 
   abbrev R : List Event → Out → Type 0
   R events out = Why settings before (FromServer s body) events out
+
+  -- S4, behind `shutdown`
+  exits_why : (life_of s before).stage ≡ Stopping → answers_shutdown s before (message_of body) ≡ true → Because R now (exit_server s)
+  exits_why at answers = by_then (by_send (exits (record { answer = body; stage = at; stopping = stopping; from = refl; answers = answers; place = refl; says = exit_says }))) (by_send (stopped told))
+    where
+      stopping : (life_of s now).stage ≡ Stopping
+      stopping = ap (λ (l : Life). l.stage) (life_more s before (heard (FromServer s body)))
+          ∙ ap (λ b. (if b then record { stage = stage_hears (life_of s before).stage (message_of body); started = (life_of s before).started } else life_of s before).stage) (same_number s)
+          ∙ ap (λ z. stage_hears z (message_of body)) at
+
+      told : (life_of s (now ++ said (ToServer s exit_text) ∷ [])).stage ≡ Stopping
+      told = ap (λ (l : Life). l.stage) (life_more s now (said (ToServer s exit_text)))
+          ∙ ap (λ b. (if b then record { stage = stage_told (life_of s now).stage (message_of exit_text); started = (life_of s now).started } else life_of s now).stage) (same_number s)
+          ∙ ap (λ z. stage_told z (message_of exit_text)) stopping
 
   -- S5
   response_why : AllForwarded before → Apart before → Because R now (response_row s before body (message_of body))
@@ -200,16 +219,46 @@ module _ (settings : Settings) (range : InRange settings) (before : List Event) 
           (by_look (all_welcomed g (behind greeted_now (outs (to_start s (replay_bodies [] opens opens)) greeted_now))
           (waits_still _ (subst (λ z. Still now s (behind greeted_now z)) (sym (outs_to_start s (replay_bodies [] opens opens) greeted_now)) ((replayed.calm).still))))))
 
+  -- S4
+
+  null_says : (id : Id) (method : List ℕ) (params : Option Json) → message_of body ≡ request id method params → message_of (ok_text (id_bytes body) (codes "null")) ≡ result (Some id) (word (record { from = 0; to = 0 }) Null)
+  null_says id method params says = ok_law (Some id) (word (record { from = 0; to = 0 }) Null) (id_bytes body) (codes "null") (id_as_response id (id_bytes body) (request_id_bytes body id method params says)) null_value (omega arith)
+
+  and_off : (a : Bool) → (a && false) ≡ false
+  and_off true = refl
+  and_off false = refl
+
+  hasty_responds : (id : Id) (method : List ℕ) (params : Option Json) → message_of body ≡ request id method params → is_response (message_of (hasty_answer method body)) ≡ true
+  hasty_responds id method params says = go (bytes_eq (codes "window/showMessageRequest") method)
+    where
+      go : (b : Bool) → is_response (message_of (if b then ok_text (id_bytes body) (codes "null") else error_text (id_bytes body) invalid_request)) ≡ true
+      go true = ap is_response (null_says id method params says)
+      go false = ap is_response (refusal_says body id method params invalid_request says)
+
+  hasty_why : (life_of s before).stage ≡ Initializing → is_first_result (message_of body) ≡ false → (m : Message) → message_of body ≡ m → Because R now (hasty_row s body m)
+  hasty_why at other (request id method params) says = by_send (responds (record {
+    waiting = ap (λ (l : Life). l.stage) (life_more s before (heard (FromServer s body)))
+        ∙ ap (λ b. (if b then record { stage = stage_hears (life_of s before).stage (message_of body); started = (life_of s before).started } else life_of s before).stage) (same_number s)
+        ∙ ap (λ z. stage_hears z (message_of body)) at ∙ ap (λ b. if b then Ready else Initializing) other;
+    stays = ap₂ (λ a b. a && (is_initializing (life_of s before).stage && b)) (same_number s) other ∙ and_off (is_initializing (life_of s before).stage);
+    response = hasty_responds id method params says;
+  }))
+  hasty_why at other (notification method params) says = by_nothing
+  hasty_why at other (result id r) says = by_nothing
+  hasty_why at other (error id x) says = by_nothing
+  hasty_why at other not_json says = by_nothing
+  hasty_why at other not_message says = by_nothing
+
   module _ (opened : Opened settings before) (untold : Untold before) (waiting : AllWaiting before) (all : AllForwarded before) (apart : Apart before) where
     result_why : FirstResult (message_of body) → (life_of s before).stage ≡ Initializing → is_first_result (message_of body) ≡ true → shown_of (result_bytes body) ≡ result_bytes body → Because R now (first_result settings before s body)
     result_why first at is whole = by_on (λ none. by_nothing) (λ g home. greet_why first.r first.is whole at is opened untold waiting g)
 
     pub server_why : ((life_of s before).stage ≡ Initializing → is_first_result (message_of body) ≡ true → shown_of (result_bytes body) ≡ result_bytes body) → (stage : Stage) → (life_of s before).stage ≡ stage → Because R now (from_server settings s before body (message_of body) stage)
-    server_why whole Initializing at = by_choose (λ yes. result_why (first_result_is (message_of body) yes) at yes (whole at yes)) (λ no. by_nothing)
+    server_why whole Initializing at = by_choose (λ yes. result_why (first_result_is (message_of body) yes) at yes (whole at yes)) (λ no. hasty_why at no (message_of body) refl)
     server_why whole Ready at = response_why all apart
     server_why whole Unspawned at = by_nothing
     server_why whole Spawning at = by_nothing
-    server_why whole Stopping at = by_nothing
+    server_why whole Stopping at = by_choose (λ yes. exits_why at yes) (λ no. by_nothing)
     server_why whole Ending at = by_nothing
     server_why whole Ended at = by_nothing
 

@@ -5,7 +5,7 @@ use Rattle.json_text.specs.Json.{Json, IsText}
 use Rattle.json_text.proofs.Laws.{one_tree}
 use Rattle.document_model.proofs.Written.{Spoken, spoken}
 use Rattle.mux_history.specs.declared.cause.Cause.{Cause}
-use Rattle.mux_history.specs.declared.cause.Cause.TheVariants.{Joined, FromEditor, EditorGone, Started, FromServer, Drained}
+use Rattle.mux_history.specs.declared.cause.Cause.TheVariants.{Joined, FromEditor, EditorGone, Started, StartFailed, FromServer, ServerGone, Drained}
 use Rattle.mux_history.specs.declared.out.Out.{Out}
 use Rattle.mux_history.specs.declared.out.Out.TheVariants.{ToServer}
 use Rattle.rpc_message.specs.Message.{request, Id, id_of, integer, message_of}
@@ -18,13 +18,14 @@ use Rattle.event_model.specs.Settings.{Settings}
 use Rattle.event_model.proofs.Frames.{never}
 use Rattle.mux_facts.proofs.Lists.{all_filtered, all_join, all_of, found_is}
 use Rattle.mux_facts.proofs.Words.{same_number}
-use Rattle.group_rows.specs.Forwarded.{Forwarded, Forwarding, answered_by, forwarding_behind, forwarding_of, names, numbered}
+use Rattle.group_rows.specs.Forwarded.{Forwarded, Forwarding, answered_by, forwarding_behind, forwarding_of, names, no_forwarding, numbered}
 use Rattle.group_facts.specs.Built.{built_behind}
 use Rattle.group_facts.specs.Facts.{AllForwarded, Apart, IsAlone, IsForwarded, OneRequest, is_early}
-use Rattle.group_facts.specs.Why.{IsForward, WhyToServer, begins, greets, forwarded, tells, shuts, cancels}
+use Rattle.group_facts.specs.Why.{IsForward, WhyToServer, begins, greets, forwarded, tells, shuts, cancels, responds, exits}
 use Rattle.group_facts.proofs.Forwards.{Fewer, fewer_notified, forwarding_more, more_requests, zip_all}
 use Rattle.group_facts.proofs.Levels.{each_start}
-use Rattle.group_facts.proofs.Numbers.{forwarding_other, forwarding_sent}
+use Rattle.group_facts.proofs.Numbers.{forwarding_other, forwarding_sent, response_forwards}
+use Rattle.mux_facts.specs.Allowed.{is_response}
 
 -- bytes are the text of one id
 
@@ -65,6 +66,11 @@ answered_fewer : (Q : ℕ → ℕ → List ℕ → Type 0) (b : Bool) (test : Fo
 answered_fewer Q true test fs h = all_filtered (λ (f : Forwarded). Q f.number f.editor f.id) (λ (f : Forwarded). Q f.number f.editor f.id) test (λ f t k. k) fs h
 answered_fewer Q false test fs h = h
 
+-- what a start that ended had to answer is forgotten
+ended_fewer : (Q : ℕ → ℕ → List ℕ → Type 0) (b : Bool) (x : Forwarding) → All3 Q x.open_requests → All3 Q (if b then no_forwarding else record { sender = None; next = x.next; open_requests = x.open_requests }).open_requests
+ended_fewer Q true x h = tt
+ended_fewer Q false x h = h
+
 pub fewer_took : (settings : Settings) (events : List Event) (cause : Cause) → built_behind settings events cause ≡ true → Fewer events (with_cause events cause)
 fewer_took settings events (Joined e) built = fewer_by events (heard (Joined e)) (λ t Q h. h)
 fewer_took settings events (FromEditor e body) built = fewer_by events (heard (FromEditor e body)) (λ t Q h. h)
@@ -72,6 +78,8 @@ fewer_took settings events (Started n) built = fewer_by events (heard (Started n
 fewer_took settings events (FromServer n body) built = fewer_by events (heard (FromServer n body)) (λ t Q h. answered_fewer Q (nat_eq n t) (λ f. not (answered_by (answered_id (message_of body)) f)) (forwarding_of t events).open_requests h)
 fewer_took settings events (Drained e k) built = fewer_by events (heard (Drained e k)) (λ t Q h. h)
 fewer_took settings events (EditorGone e why) built = fewer_by events (heard (EditorGone e why)) (λ t Q h. h)
+fewer_took settings events (StartFailed n) built = fewer_by events (heard (StartFailed n)) (λ t Q h. ended_fewer Q (nat_eq n t) (forwarding_of t events) h)
+fewer_took settings events (ServerGone n) built = fewer_by events (heard (ServerGone n)) (λ t Q h. ended_fewer Q (nat_eq n t) (forwarding_of t events) h)
 fewer_took settings events cause built = absurd (cc)
 
 pub asks_fewer : (events : List Event) (e : ℕ) (body : List ℕ) → Fewer events (with_cause events (FromEditor e body))
@@ -89,6 +97,11 @@ module _ (settings : Settings) (before : List Event) (cause : Cause) (events : L
   own_fewer : (id : Id) (method : List ℕ) (params : Option Json) → message_of body ≡ request id method params → is_own method ≡ true → Fewer events sent
   own_fewer id method params says own t Q h = each_start (λ z. All3 Q (forwarding_of z events).open_requests → All3 Q (forwarding_of z sent).open_requests) n
       (λ k. subst (λ (x : Forwarding). All3 Q x.open_requests) (sym (forwarding_sent events n body (request id method params) says ∙ ap (λ c. if c then forwarding_of n events else more_requests (forwarding_of n events)) own)) k)
+      (λ z other k. subst (λ (x : Forwarding). All3 Q x.open_requests) (sym (forwarding_other events n body z other)) k) t h
+
+  response_fewer : is_response (message_of body) ≡ true → Fewer events sent
+  response_fewer answer t Q h = each_start (λ z. All3 Q (forwarding_of z events).open_requests → All3 Q (forwarding_of z sent).open_requests) n
+      (λ k. subst (λ (x : Forwarding). All3 Q x.open_requests) (sym (forwarding_sent events n body (message_of body) refl ∙ response_forwards (forwarding_of n events) (message_of body) answer)) k)
       (λ z other k. subst (λ (x : Forwarding). All3 Q x.open_requests) (sym (forwarding_other events n body z other)) k) t h
 
   -- an editor's request: it alone is new
@@ -129,6 +142,8 @@ module _ (settings : Settings) (before : List Event) (cause : Cause) (events : L
   apart_sent (forwarded k) h = forwarded_apart k h
   apart_sent (tells k) h = let m : Spoken (message_of body) = spoken (message_of body) k.spoken in apart_fewer events sent (fewer_notified n events body m.method m.params m.is) h
   apart_sent (cancels k) h = apart_fewer events sent (fewer_notified n events body (codes "$/cancelRequest") (Some k.params) k.says) h
+  apart_sent (responds k) h = apart_fewer events sent (response_fewer k.response) h
+  apart_sent (exits k) h = apart_fewer events sent (fewer_notified n events body (codes "exit") None k.says) h
   apart_sent (shuts k) h = apart_fewer events sent (own_fewer (integer (decimal (next_number n events))) (codes "shutdown") None k.says refl) h
 
 -- A response that is passed on

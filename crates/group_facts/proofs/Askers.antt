@@ -4,7 +4,7 @@ use Rattle.std.specs.List.{AllByRecursion}
 use Rattle.json_text.specs.Json.{Json}
 use Rattle.document_model.proofs.Written.{Spoken, spoken}
 use Rattle.mux_history.specs.declared.cause.Cause.{Cause}
-use Rattle.mux_history.specs.declared.cause.Cause.TheVariants.{Joined, FromEditor, EditorGone, Started, FromServer, Drained}
+use Rattle.mux_history.specs.declared.cause.Cause.TheVariants.{Joined, FromEditor, EditorGone, Started, StartFailed, FromServer, ServerGone, Drained}
 use Rattle.mux_history.specs.declared.out.Out.{Out}
 use Rattle.mux_history.specs.declared.out.Out.TheVariants.{ToEditor, ToServer, CloseEditor}
 use Rattle.rpc_message.specs.Message.{Message, request, notification, Id, integer, message_of}
@@ -25,13 +25,13 @@ use Rattle.mux_facts.proofs.Lists.{all_filtered, all_join, all_of}
 use Rattle.mux_facts.proofs.Waits.{late_not}
 use Rattle.mux_facts.proofs.Why.{is_early}
 use Rattle.mux_facts.proofs.Words.{id_same, number_same, still_open}
-use Rattle.group_rows.specs.Forwarded.{Forwarded, Forwarding, Sender, answered_by, forwarding_behind, forwarding_of, forwards, numbered}
+use Rattle.group_rows.specs.Forwarded.{Forwarded, Forwarding, Sender, answered_by, forwarding_behind, forwarding_of, forwards, no_forwarding, numbered}
 use Rattle.group_facts.specs.Built.{built_behind}
 use Rattle.group_facts.specs.Facts.{AllForwarded, IsAlone, IsAsker, IsForwarded}
 use Rattle.group_facts.proofs.Forwards.{forwarding_more, more_requests, notified_all, zip_all}
 use Rattle.group_facts.proofs.Levels.{each_start}
-use Rattle.group_facts.proofs.Numbers.{forwarding_other, forwarding_sent}
-use Rattle.group_facts.specs.Why.{IsForward, WhyToEditor, WhyToServer, begins, greets, forwarded, tells, shuts, cancels, rejects, refuses, answers, turns_away, welcomes, passes}
+use Rattle.group_facts.proofs.Numbers.{forwarding_other, forwarding_sent, response_forwards}
+use Rattle.group_facts.specs.Why.{IsForward, WhyToEditor, WhyToServer, begins, greets, forwarded, tells, shuts, cancels, rejects, refuses, answers, turns_away, welcomes, passes, responds, exits}
 
 -- An editor that got its result stays one that did
 
@@ -92,6 +92,12 @@ answered_less : (events later : List Event) (asker : (f : Forwarded) → IsForwa
 answered_less events later asker true test fs h = all_filtered (IsForwarded events) (IsForwarded later) test (λ f t k. asker f k) fs h
 answered_less events later asker false test fs h = all_of (IsForwarded events) (IsForwarded later) asker fs h
 
+-- what a start that ended had to answer is forgotten
+ended_less : (later : List Event) (b : Bool) (x : Forwarding) → AllByRecursion (IsForwarded later) x.open_requests
+    → AllByRecursion (IsForwarded later) (if b then no_forwarding else record { sender = None; next = x.next; open_requests = x.open_requests }).open_requests
+ended_less later true x h = tt
+ended_less later false x h = h
+
 pub asked_took : (settings : Settings) (events : List Event) (cause : Cause) → built_behind settings events cause ≡ true → fits_behind events cause ≡ true → Editors events → AllForwarded events → AllForwarded (with_cause events cause)
 asked_took settings events (Joined e) built fits none h = asked_still events (heard (Joined e)) (asker_heard events (Joined e) fits none) (λ s. refl) h
 asked_took settings events (FromEditor e body) built fits none h = asked_still events (heard (FromEditor e body)) (asker_heard events (FromEditor e body) fits none) (λ s. refl) h
@@ -100,6 +106,10 @@ asked_took settings events (FromServer n body) built fits none h = λ s. asked_b
     (answered_less events (with_cause events (FromServer n body)) (asker_heard events (FromServer n body) fits none) (nat_eq n s) (λ f. not (answered_by (answered_id (message_of body)) f)) (forwarding_of s events).open_requests (h s))
 asked_took settings events (Drained e k) built fits none h = asked_still events (heard (Drained e k)) (asker_heard events (Drained e k) fits none) (λ s. refl) h
 asked_took settings events (EditorGone e why) built fits none h = asked_still events (heard (EditorGone e why)) (asker_heard events (EditorGone e why) fits none) (λ s. refl) h
+asked_took settings events (StartFailed n) built fits none h = λ s. asked_by_list events (heard (StartFailed n)) (asker_heard events (StartFailed n) fits none) s _ refl
+    (ended_less (with_cause events (StartFailed n)) (nat_eq n s) (forwarding_of s events) (all_of (IsForwarded events) (IsForwarded (with_cause events (StartFailed n))) (asker_heard events (StartFailed n) fits none) (forwarding_of s events).open_requests (h s)))
+asked_took settings events (ServerGone n) built fits none h = λ s. asked_by_list events (heard (ServerGone n)) (asker_heard events (ServerGone n) fits none) s _ refl
+    (ended_less (with_cause events (ServerGone n)) (nat_eq n s) (forwarding_of s events) (all_of (IsForwarded events) (IsForwarded (with_cause events (ServerGone n))) (asker_heard events (ServerGone n) fits none) (forwarding_of s events).open_requests (h s)))
 asked_took settings events cause built fits none h = absurd (cc)
 
 -- A body to a start
@@ -141,6 +151,8 @@ module _ (settings : Settings) (before : List Event) (cause : Cause) (events : L
   one_asked (forwarded k) h = asked_on k h
   one_asked (tells k) h = let m : Spoken (message_of body) = spoken (message_of body) k.spoken in notified m.method m.params m.is h
   one_asked (cancels k) h = notified (codes "$/cancelRequest") (Some k.params) k.says h
+  one_asked (responds k) h = by_message (message_of body) refl (subst (λ (x : Forwarding). AllByRecursion (IsForwarded sent) x.open_requests) (sym (response_forwards (forwarding_of n events) (message_of body) k.response)) (still (forwarding_of n events).open_requests h))
+  one_asked (exits k) h = notified (codes "exit") None k.says h
   one_asked (shuts k) h = own_request (integer (decimal (next_number n events))) (codes "shutdown") None k.says refl h
 
   pub asked_sent : WhyToServer settings before cause events n body → AllForwarded events → AllForwarded sent

@@ -6,7 +6,7 @@ use Rattle.std.proofs.lemmas.Bool.{and_parts}
 use Rattle.std.proofs.lemmas.List.{length-append}
 use Rattle.std.proofs.lemmas.List.Sums.{fold-append}
 use Rattle.mux_history.specs.declared.cause.Cause.{Cause}
-use Rattle.mux_history.specs.declared.cause.Cause.TheVariants.{Joined, FromEditor, EditorGone, Started, FromServer, Drained}
+use Rattle.mux_history.specs.declared.cause.Cause.TheVariants.{Joined, FromEditor, EditorGone, Started, StartFailed, FromServer, ServerGone, Drained}
 use Rattle.mux_history.specs.declared.out.Out.{Out}
 use Rattle.mux_history.specs.declared.out.Out.TheVariants.{ToEditor, ToServer, Spawn, CloseEditor, EndServer}
 use Rattle.document_model.specs.Sayings.{Saying, saying_by}
@@ -15,7 +15,7 @@ use Rattle.rpc_message.specs.Texts.{initialized_text, request_failed}
 use Rattle.event_model.specs.declared.phase.Phase.{Phase}
 use Rattle.event_model.specs.declared.phase.Phase.TheVariants.{New, Waiting, Answered, Running, Down}
 use Rattle.event_model.specs.declared.stage.Stage.{Stage}
-use Rattle.event_model.specs.declared.stage.Stage.TheVariants.{Spawning, Initializing, Ready}
+use Rattle.event_model.specs.declared.stage.Stage.TheVariants.{Spawning, Initializing, Ready, Stopping}
 use Rattle.event_model.specs.Event.{Event, behind, heard, requests, said, with_cause}
 use Rattle.event_model.specs.Phases.{desk_of, is_new}
 use Rattle.event_model.specs.Row.{Row, each, look, nothing, on, outs, ◌⨾◌}
@@ -37,12 +37,13 @@ use Rattle.group_words.specs.Rows.{end_group, end_start, initialize_row, placed_
 use Rattle.group_words.proofs.Frames.{changed_length, groups_more, groups_stay, touches_groups}
 use Rattle.group_rows.specs.Forwarded.{Forwarded, forwarding_of}
 use Rattle.group_rows.specs.Leaves.{cancel, cancel_text, cancels, closings, leave_bodies, leave_row, uncancelled_of}
-use Rattle.group_rows.specs.Rows.{answer_error, begin_in, closing_row, document_at, document_bodies, document_row, down_row, early_row, exit_row, first_result, from_server, gone_row, message_row, outs_of, pass_on, replay_bodies, request_at, request_row, response_row, result_in, row_of, served_request, served_row, started, sync_bodies, taken_row, waiting_in, welcome}
+use Rattle.group_rows.specs.Rows.{answer_error, begin_in, closing_row, document_at, document_bodies, document_row, down_row, early_row, exit_row, first_result, from_server, gone_row, message_row, outs_of, pass_on, replay_bodies, request_at, request_row, response_row, result_in, row_of, served_request, served_row, started, sync_bodies, taken_row, waiting_in, welcome, hasty_row}
 use Rattle.group_rows.specs.Texts.{encoding_of, texts_of}
 use Rattle.group_facts.specs.Built.{built_behind}
+use Rattle.group_facts.proofs.Exits.{failed_groups, gone_groups}
 use Rattle.group_facts.proofs.Housed.{ended_length}
 use Rattle.group_facts.proofs.PlacingRow.{IsNext, placed_next}
-use Rattle.group_facts.proofs.Waiting.{new_is, whole_is}
+use Rattle.group_facts.proofs.Waiting.{first_unasked, new_is, whole_is}
 
 -- Outs that spawn none
 
@@ -185,7 +186,7 @@ module _ (settings : Settings) (before : List Event) where
   quiet_taken e body m other events h = by_nothing
 
   quiet_message : (e : ℕ) (body : List ℕ) (m : Message) (phase : Phase) (events : List Event) → places phase m ≡ false → Quiet events (message_row settings before e body m phase)
-  quiet_message e body m phase events h = by_choose (λ twice. quiet_closing e events) (λ single. quiet_taken e body m phase events h)
+  quiet_message e body m phase events h = by_choose (λ twice. quiet_closing e events) (λ single. by_choose (λ asks. by_send tt) (λ other. quiet_taken e body m phase events h))
 
   quiet_gone : (e : ℕ) (phase : Phase) (events : List Event) → Quiet events (gone_row settings before e phase)
   quiet_gone e phase events = by_choose (λ served. quiet_leave e events) (λ off. by_nothing)
@@ -208,9 +209,18 @@ module _ (settings : Settings) (before : List Event) where
   quiet_response : (s : ℕ) (body : List ℕ) (m : Message) (events : List Event) → Quiet events (response_row s before body m)
   quiet_response s body m events = by_on (λ none. by_nothing) (λ f found. quiet_passed body f events)
 
+  quiet_hasty : (s : ℕ) (body : List ℕ) (m : Message) (events : List Event) → Quiet events (hasty_row s body m)
+  quiet_hasty s body (request id method params) events = by_send tt
+  quiet_hasty s body (notification method params) events = by_nothing
+  quiet_hasty s body (result id r) events = by_nothing
+  quiet_hasty s body (error id x) events = by_nothing
+  quiet_hasty s body not_json events = by_nothing
+  quiet_hasty s body not_message events = by_nothing
+
   quiet_server : (s : ℕ) (body : List ℕ) (m : Message) (stage : Stage) (events : List Event) → Quiet events (from_server settings s before body m stage)
-  quiet_server s body m Initializing events = by_choose (λ first. quiet_first s body events) (λ off. by_nothing)
+  quiet_server s body m Initializing events = by_choose (λ first. quiet_first s body events) (λ off. quiet_hasty s body m events)
   quiet_server s body m Ready events = quiet_response s body m events
+  quiet_server s body m Stopping events = by_choose (λ answers. by_then (by_send tt) (by_send tt)) (λ off. by_nothing)
   quiet_server s body m other events = by_nothing
 
   quiet_begin : (s g : ℕ) (events : List Event) → Quiet events (begin_in settings before s g)
@@ -280,7 +290,7 @@ module _ (settings : Settings) where
     now = with_cause before (FromEditor e body)
 
     pub placed_outs : outs_of settings before (FromEditor e body) ≡ outs (initialize_row settings before e body) now
-    placed_outs = let place = and_parts (is_new (desk_of e before).phase) (requests (codes "initialize") (message_of body)) here in rw (whole_is (message_of body) place.1, new_is (desk_of e before).phase place.0, place.1) refl
+    placed_outs = let place = and_parts (is_new (desk_of e before).phase) (requests (codes "initialize") (message_of body)) here in rw (whole_is (message_of body) place.1, new_is (desk_of e before).phase place.0, first_unasked (message_of body) place.1, place.1) refl
 
     groups_now : groups_of settings now ≡ with_editor (placed_for settings before e body (groups_of settings before)) (key_for settings before e body) (declared_for settings before e body) (groups_of settings before)
     groups_now = groups_more settings before (heard (FromEditor e body)) ∙ rw here refl
@@ -317,6 +327,8 @@ module _ (settings : Settings) where
   founding_of before (Drained e k) built = quiet tt (counts_stay before (heard (Drained e k)) refl)
   founding_of before (EditorGone e why) built = quiet (all_outs NoSpawn _ _ (quiet_gone settings before e (desk_of e before).phase (with_cause before (EditorGone e why))).why)
       (ap length (groups_more settings before (heard (EditorGone e why))) ∙ emptied_same ((house_of settings before).home e) _ _ _ (groups_of settings before))
+  founding_of before (StartFailed s) built = quiet tt (ap length (failed_groups settings before s built))
+  founding_of before (ServerGone s) built = quiet tt (ap length (gone_groups settings before s built))
   founding_of before cause built = absurd (cc)
 
   -- Each group has a start

@@ -2,7 +2,7 @@
 use Rattle.std.proofs.Common.{◌≡◌, ℕ, ◌+◌, ◌<◌, ◌≤◌, ◌^◌, Bool, true, false, ◌&&◌, List, [], ◌∷◌, ◌++◌, find, nat_eq, if◌then◌else◌, Some, None, ◌⊎◌, inl, inr, refl, sym, ◌∙◌, ap, ap₂, subst, arith, append-nil}
 use Rattle.std.proofs.lemmas.Bool.{and_parts}
 use Rattle.mux_history.specs.declared.cause.Cause.{Cause}
-use Rattle.mux_history.specs.declared.cause.Cause.TheVariants.{Joined, FromEditor, EditorGone, Started, FromServer, Drained}
+use Rattle.mux_history.specs.declared.cause.Cause.TheVariants.{Joined, FromEditor, EditorGone, Started, StartFailed, FromServer, ServerGone, Drained}
 use Rattle.mux_history.specs.declared.cause.Why as link
 use Rattle.mux_history.specs.declared.out.Out.TheVariants.{ToEditor}
 use Rattle.rpc_message.specs.Message.{Message, request, notification, result, error, not_json, not_message, Id, message_of}
@@ -13,9 +13,10 @@ use Rattle.event_model.specs.declared.stage.Stage.{Stage}
 use Rattle.event_model.specs.declared.stage.Stage.TheVariants.{Unspawned, Spawning, Initializing, Ready, Stopping, Ending, Ended}
 use Rattle.event_model.specs.Event.{Event, behind, heard, said, with_cause}
 use Rattle.event_model.specs.Phases.{Desk, desk_hears, desk_of, editors_of, is_malformed, is_there}
-use Rattle.event_model.specs.Requests.{answered_id, with_request, is_open, open_of, without}
+use Rattle.event_model.specs.Requests.{answered_id, with_request, is_open, open_of, without, next_number}
 use Rattle.event_model.specs.Row.{choose, nothing, on, outs, send}
 use Rattle.event_model.specs.Settings.{Settings}
+use Rattle.event_model.specs.Spawns.{group_of}
 use Rattle.event_model.specs.Stages.{is_first_result, life_of}
 use Rattle.event_model.proofs.Frames.{never}
 use Rattle.mux_model.specs.Fits.{fits_behind}
@@ -27,21 +28,24 @@ use Rattle.mux_facts.proofs.Words.{number_same, same_number}
 use Rattle.group_words.specs.Houses.{groups_of, placed_for, places}
 use Rattle.group_rows.specs.Forwarded.{Forwarded, answered_by, forwarding_of}
 use Rattle.group_rows.specs.Rows.{from_server, outs_of, pass_on, response_row}
-use Rattle.group_facts.specs.Built.{built_behind, built_early, built_from_server, built_late, is_shown_whole}
+use Rattle.group_facts.specs.Built.{built_behind, built_early, built_from_server, is_left, is_shown_whole}
 use Rattle.group_facts.specs.Facts.{is_too_many, is_up, turned_away}
+use Rattle.group_facts.specs.Lively.{Lively}
 use Rattle.group_facts.specs.Settled.{is_answered}
 use Rattle.group_facts.proofs.AnswerRows.{answers_only, response_is}
 use Rattle.group_facts.proofs.Begun.{Begun}
-use Rattle.group_facts.proofs.Facts.{Facts}
+use Rattle.group_facts.proofs.Facts.{Facts, TiedAt}
+use Rattle.group_facts.proofs.Exits.{left_over}
+use Rattle.group_facts.proofs.Lively.{lives_of, up_of}
 use Rattle.group_facts.proofs.OwnEntry.{Nobody, message_rests, placed_open, turned_rests}
-use Rattle.group_facts.proofs.Sent.{Found, IsOf, OneOf, Passed, SentAt, found_one, none_first, rising_of, sent_answered, sent_drained, sent_gone, sent_heard, sent_joined, sent_started}
+use Rattle.group_facts.proofs.Sent.{Found, IsOf, OneOf, Passed, Rising, SentAt, found_one, none_sent, rising_of, sent_answered, sent_drained, sent_gone, sent_heard, sent_joined, sent_started, sent_ended, sent_failed}
 use Rattle.group_facts.proofs.OpenByPhase.{OpenDesk, OpenIf, answered_closed, if_other}
 use Rattle.group_facts.proofs.OpenByOut.{OpenAt, S, open_at, open_entry}
 
 abbrev pub OpenAll : Settings → List Event → Type 0
 OpenAll settings events = (e : ℕ) → OpenAt settings e Nobody events
 
-module _ (settings : Settings) (range : InRange settings) (before : List Event) (facts : Facts settings before) (begun : Begun settings before) (h : OpenAll settings before) where
+module _ (settings : Settings) (range : InRange settings) (before : List Event) (facts : Facts settings before) (begun : Begun settings before) (lively : Lively settings before) (h : OpenAll settings before) where
   abbrev later : Cause → List Event
   later cause = behind (with_cause before cause) (outs_of settings before cause)
 
@@ -120,6 +124,28 @@ module _ (settings : Settings) (range : InRange settings) (before : List Event) 
       sent id (inl k) = inl (sent_started settings e id before s k)
       sent id (inr k) = inr k
 
+  -- a program that ends, or can't be run, of a group that lives no more: it is that of no editor that got its result
+  apart_from : (s : ℕ) → is_left settings before s ≡ true → (e : ℕ) (id : Id) (k : SentAt settings before e id) → is_answered (desk_of e before).phase ≡ true → nat_eq s k.start ≡ false
+  apart_from s left e id k served = go (nat_eq s k.start) refl
+    where
+      go : (b : Bool) → nat_eq s k.start ≡ b → b ≡ false
+      go true same = never (sym (lives_of settings before lively e k.group served k.home) ∙ left_over settings before s left k.group (ap (λ n. group_of n before) (number_same s k.start same) ∙ (lively.last k.group k.start k.last).0))
+      go false other = refl
+
+  failed_now : (s e : ℕ) → is_left settings before s ≡ true → OpenAt settings e Nobody (with_cause before (StartFailed s))
+  failed_now s e left = open_at settings e Nobody before (heard (StartFailed s)) (if_other (S settings e Nobody before) (S settings e Nobody (with_cause before (StartFailed s))) (desk_of e before).phase (desk_of e before).initialize (open_of e before) (λ served id is. sent served id) (h e))
+    where
+      sent : is_answered (desk_of e before).phase ≡ true → (id : Id) → SentAt settings before e id ⊎ ⊥ → SentAt settings (with_cause before (StartFailed s)) e id ⊎ ⊥
+      sent served id (inl k) = inl (sent_failed settings e id before s k (apart_from s left e id k served))
+      sent served id (inr k) = inr k
+
+  ended_now : (s e : ℕ) → is_left settings before s ≡ true → OpenAt settings e Nobody (with_cause before (ServerGone s))
+  ended_now s e left = open_at settings e Nobody before (heard (ServerGone s)) (if_other (S settings e Nobody before) (S settings e Nobody (with_cause before (ServerGone s))) (desk_of e before).phase (desk_of e before).initialize (open_of e before) (λ served id is. sent served id) (h e))
+    where
+      sent : is_answered (desk_of e before).phase ≡ true → (id : Id) → SentAt settings before e id ⊎ ⊥ → SentAt settings (with_cause before (ServerGone s)) e id ⊎ ⊥
+      sent served id (inl k) = inl (sent_ended settings e id before s k (apart_from s left e id k served))
+      sent served id (inr k) = inr k
+
   -- Entries of starts
 
   module _ (s : ℕ) (body : List ℕ) (built : built_behind settings before (FromServer s body) ≡ true) where
@@ -130,16 +156,20 @@ module _ (settings : Settings) (range : InRange settings) (before : List Event) 
     fs = (forwarding_of s before).open_requests
 
     module _ (e : ℕ) where
-      -- those that the response answers are excused
+      -- those that the response answers are excused, of a start that isn't to end
       abbrev Answers : Id → Type 0
-      Answers id = Passed settings e id before s body
+      Answers id = (is_up (life_of s before).stage ≡ true) × Passed settings e id before s body
 
       response_now : OpenAt settings e Answers now
-      response_now = open_at settings e Answers before (heard (FromServer s body)) (if_other (S settings e Nobody before) (S settings e Answers now) (desk_of e before).phase (desk_of e before).initialize (open_of e before) (λ served id is. sent id) (h e))
+      response_now = open_at settings e Answers before (heard (FromServer s body)) (if_other (S settings e Nobody before) (S settings e Answers now) (desk_of e before).phase (desk_of e before).initialize (open_of e before) (λ served id is. sent served id) (h e))
         where
-          sent : (id : Id) → SentAt settings before e id ⊎ ⊥ → SentAt settings now e id ⊎ Answers id
-          sent id (inl k) = sent_answered settings e id before s body k
-          sent id (inr k) = absurd k
+          answered : is_answered (desk_of e before).phase ≡ true → (id : Id) (k : SentAt settings before e id) → SentAt settings now e id ⊎ ((s ≡ k.start) × Passed settings e id before s body) → SentAt settings now e id ⊎ Answers id
+          answered served id k (inl at) = inl at
+          answered served id k (inr p) = inr (ap (λ n. is_up (life_of n before).stage) p.0 ∙ up_of settings before lively e k.group k.start served k.home k.last, p.1)
+
+          sent : is_answered (desk_of e before).phase ≡ true → (id : Id) → SentAt settings before e id ⊎ ⊥ → SentAt settings now e id ⊎ Answers id
+          sent served id (inl k) = answered served id k (sent_answered settings e id before s body k)
+          sent served id (inr k) = absurd k
 
       -- and their editors get it
 
@@ -195,11 +225,6 @@ module _ (settings : Settings) (range : InRange settings) (before : List Event) 
           let p : Found (IsOf e id) (answered_id (message_of body)) (forwarding_of s before).next (low (ap is_up at)) fs = found_one (IsOf e id) (answered_id (message_of body)) (forwarding_of s before).next (low (ap is_up at)) 2 fs (rising_of s before) k in
           answered_not id p.first p.found p.holds (is_there (desk_of (p.first).editor before).phase) refl served still
 
-      first_not : (life_of s before).stage ≡ Initializing → is_first_result (message_of body) ≡ true → (id : Id) → Passed settings e id before s body → ⊥
-      first_not at first id k =
-          let r : FirstResult (message_of body) = first_result_is (message_of body) first in
-          none_first (IsOf e id) (answered_id (message_of body)) (forwarding_of s before).next (low (ap is_up at)) (ap answered_id r.is) fs (rising_of s before) k
-
       -- what isn't a response answers nothing
       malformed_none : (m : Message) → is_malformed m ≡ true → answered_id m ≡ None
       malformed_none not_json h = refl
@@ -209,33 +234,22 @@ module _ (settings : Settings) (range : InRange settings) (before : List Event) 
       malformed_none (result id r) h = absurd (cc)
       malformed_none (error id x) h = absurd (cc)
 
-      late_none : (m : Message) → built_late m ≡ true → answered_id m ≡ None
-      late_none not_json h = refl
-      late_none not_message h = refl
-      late_none (request id method params) h = refl
-      late_none (notification method params) h = refl
-      late_none (result id r) h = absurd (cc)
-      late_none (error id x) h = absurd (cc)
+      -- none is open before the first result
+      early_not : (life_of s before).stage ≡ Initializing → (id : Id) → Passed settings e id before s body → ⊥
+      early_not at id k = none_sent (λ (f : Forwarded). IsOf e id f × (answered_by (answered_id (message_of body)) f ≡ true)) fs
+          (subst (λ n. Rising 2 n fs) (subst (λ z. TiedAt z (next_number s before) (forwarding_of s before).next) at (facts.tied s)).1 (rising_of s before)) k
 
-      early_not : (life_of s before).stage ≡ Initializing → (m : Message) → message_of body ≡ m → built_early body m ≡ true → (id : Id) → Passed settings e id before s body → ⊥
-      early_not at (result i r) says h id k = first_not at (ap is_first_result says ∙ (and_parts (is_first_result (result i r)) (is_shown_whole body) h).0) id k
-      early_not at (error i x) says h id k = absurd (cc)
-      early_not at (request i method params) says h id k = absurd (cc)
-      early_not at (notification method params) says h id k = none_answered id (ap answered_id says) k
-      early_not at not_json says h id k = none_answered id (ap answered_id says) k
-      early_not at not_message says h id k = none_answered id (ap answered_id says) k
+      fine_not : (stage : Stage) → (life_of s before).stage ≡ stage → is_up stage ≡ true → built_from_server stage fs body (message_of body) ≡ true → (id : Id) → Passed settings e id before s body → Stays stage id
+      fine_not Initializing at up fine id k served still = early_not at id k
+      fine_not Ready at up fine id k served still = ready_not at id k served still
+      fine_not Stopping at up fine id k served still = never (sym up)
+      fine_not Ending at up fine id k served still = never (sym up)
+      fine_not Ended at up fine id k served still = never (sym up)
+      fine_not Unspawned at up fine id k served still = none_answered id (malformed_none (message_of body) fine) k
+      fine_not Spawning at up fine id k served still = none_answered id (malformed_none (message_of body) fine) k
 
-      fine_not : (stage : Stage) → (life_of s before).stage ≡ stage → built_from_server stage fs body (message_of body) ≡ true → (id : Id) → Passed settings e id before s body → Stays stage id
-      fine_not Initializing at fine id k served still = early_not at (message_of body) refl fine id k
-      fine_not Ready at fine id k served still = ready_not at id k served still
-      fine_not Stopping at fine id k served still = none_answered id (late_none (message_of body) fine) k
-      fine_not Ending at fine id k served still = none_answered id (late_none (message_of body) fine) k
-      fine_not Unspawned at fine id k served still = none_answered id (malformed_none (message_of body) fine) k
-      fine_not Spawning at fine id k served still = none_answered id (malformed_none (message_of body) fine) k
-      fine_not Ended at fine id k served still = none_answered id (malformed_none (message_of body) fine) k
-
-      passed_not : (id : Id) → Passed settings e id before s body → Stays (life_of s before).stage id
-      passed_not id k = fine_not (life_of s before).stage refl built id k
+      passed_not : (id : Id) → Answers id → Stays (life_of s before).stage id
+      passed_not id k = fine_not (life_of s before).stage refl k.0 built id k.1
 
       server_at : OpenAt settings e Nobody (later (FromServer s body))
       server_at = if_other (S settings e Answers (later (FromServer s body))) (S settings e Nobody (later (FromServer s body))) (desk_of e (later (FromServer s body))).phase (desk_of e (later (FromServer s body))).initialize (open_of e (later (FromServer s body)))
@@ -252,4 +266,6 @@ module _ (settings : Settings) (range : InRange settings) (before : List Event) 
   open_rests (Started s) fits built = λ e. open_entry settings e Nobody before (Started s) refl range facts begun built (started_now s e)
   open_rests (Drained n k) fits built = λ e. open_entry settings e Nobody before (Drained n k) refl range facts begun built (drained_now n k e)
   open_rests (EditorGone n why) fits built = λ e. open_entry settings e Nobody before (EditorGone n why) refl range facts begun built (gone_now n why e)
+  open_rests (StartFailed s) fits built = λ e. open_entry settings e Nobody before (StartFailed s) refl range facts begun built (failed_now s e built)
+  open_rests (ServerGone s) fits built = λ e. open_entry settings e Nobody before (ServerGone s) refl range facts begun built (ended_now s e built)
   open_rests cause fits built = absurd (cc)

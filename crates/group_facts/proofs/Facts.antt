@@ -1,9 +1,9 @@
 -- The facts as the proofs hold them: what the events before tell, what holds at every place, and what only between entries.
-use Rattle.std.proofs.Common.{◌≡◌, ℕ, false, List, Bool, subst, nat_eq}
+use Rattle.std.proofs.Common.{◌≡◌, ℕ, ◌+◌, false, List, Bool, subst, nat_eq}
 use Rattle.mux_history.specs.declared.cause.Cause.{Cause}
 use Rattle.mux_history.specs.declared.cause.Cause.TheVariants.{Started}
 use Rattle.event_model.specs.declared.stage.Stage.{Stage}
-use Rattle.event_model.specs.declared.stage.Stage.TheVariants.{Initializing, Ready}
+use Rattle.event_model.specs.declared.stage.Stage.TheVariants.{Initializing, Ready, Stopping}
 use Rattle.event_model.specs.Event.{Event}
 use Rattle.event_model.specs.Phases.{desk_of}
 use Rattle.event_model.specs.Requests.{next_number, open_of}
@@ -13,7 +13,7 @@ use Rattle.mux_facts.proofs.Editors.{Editors}
 use Rattle.mux_facts.proofs.Starts.{Starts}
 use Rattle.mux_facts.proofs.Waits.{AllWaiting, Waits, WaitsAt, waits_at}
 use Rattle.group_rows.specs.Forwarded.{forwarding_of}
-use Rattle.group_facts.specs.Facts.{AllForwarded, Apart, Bounded, Housed, Known, Numbered, Opened, Plain, Unbegun, Untold, Written, turned_away}
+use Rattle.group_facts.specs.Facts.{AllForwarded, Apart, Bounded, Housed, Known, Numbered, Opened, Plain, Stopped, Unbegun, Untold, Written, turned_away}
 
 pub record Base (settings : Settings) (events : List Event) : Type 0 where
   pub opened : Opened settings events
@@ -34,6 +34,7 @@ pub record Steady (settings : Settings) (events : List Event) : Type 0 where
 abbrev pub TiedAt : Stage → ℕ → ℕ → Type 0
 TiedAt Initializing a f = (a ≡ 2) × (f ≡ 2)
 TiedAt Ready a f = a ≡ f
+TiedAt Stopping a f = a ≡ f + 1
 TiedAt other a f = Unit {0}
 
 abbrev pub Tied : List Event → ℕ → Type 0
@@ -42,9 +43,12 @@ Tied events s = TiedAt (life_of s events).stage (next_number s events) (forwardi
 abbrev pub AllTied : List Event → Type 0
 AllTied events = (s : ℕ) → Tied events s
 
--- so while a start is ready
+-- so while a start is ready, and while it is to stop
 pub numbered_of : (events : List Event) → AllTied events → Numbered events
 numbered_of events h s at = subst (λ z. TiedAt z (next_number s events) (forwarding_of s events).next) at (h s)
+
+pub stopped_of : (events : List Event) → AllTied events → Stopped events
+stopped_of events h s at = subst (λ z. TiedAt z (next_number s events) (forwarding_of s events).next) at (h s)
 
 -- between entries also the two numbers are tied, and each editor that waits has its `initialize` open
 pub record Facts (settings : Settings) (events : List Event) : Type 0 where
@@ -82,6 +86,7 @@ known_of settings events h = record {
   apart = (h.steady).apart;
   housed = (h.steady).housed;
   numbered = numbered_of events h.tied;
+  stopped = stopped_of events h.tied;
   waiting = λ e at. let w : Waits (desk_of e events).initialize (open_of e events) = waits_at events e at h.waiting in (w.id, record { params = w.params; phase = at; asks = w.asks; waits = w.waits });
   opened = (h.base).opened;
   plain = (h.base).plain;

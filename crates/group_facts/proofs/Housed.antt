@@ -3,7 +3,7 @@ use Rattle.std.proofs.Common.{◌≡◌, ℕ, ◌+◌, ◌<◌, ◌≤◌, Bool,
 use Rattle.std.proofs.lemmas.List.{length-append}
 use Rattle.std.proofs.lemmas.List.Sums.{fold-append}
 use Rattle.mux_history.specs.declared.cause.Cause.{Cause}
-use Rattle.mux_history.specs.declared.cause.Cause.TheVariants.{Joined, FromEditor, EditorGone, Started, FromServer, Drained}
+use Rattle.mux_history.specs.declared.cause.Cause.TheVariants.{Joined, FromEditor, EditorGone, Started, StartFailed, FromServer, ServerGone, Drained}
 use Rattle.mux_history.specs.declared.out.Out.{Out}
 use Rattle.mux_history.specs.declared.out.Out.TheVariants.{Spawn, CloseEditor}
 use Rattle.rpc_message.specs.Message.{message_of}
@@ -24,6 +24,7 @@ use Rattle.group_words.specs.Placing.{busy, changed, end_where, ended, founded, 
 use Rattle.group_words.proofs.Frames.{changed_length, groups_more, groups_stay, touches_groups}
 use Rattle.group_facts.specs.Built.{built_behind}
 use Rattle.group_facts.specs.Facts.{Housed, IsHoused}
+use Rattle.group_facts.proofs.Exits.{failed_groups, gone_groups}
 
 -- No group is forgotten
 
@@ -51,7 +52,7 @@ emptied_length (Some g) was stays now groups = go (was && not (stays g))
     go false = omega arith
 
 -- one event more
-group_more : (s : ℕ) (events : List Event) (event : Event) → group_of s (events ++ event ∷ []) ≡ group_behind s (group_of s events) event
+pub group_more : (s : ℕ) (events : List Event) (event : Event) → group_of s (events ++ event ∷ []) ≡ group_behind s (group_of s events) event
 group_more s events event = fold-append (group_behind s) None events (event ∷ [])
 
 module _ (settings : Settings) where
@@ -78,6 +79,8 @@ module _ (settings : Settings) where
   longer_took events (Started s) built = still_long events (heard (Started s)) refl
   longer_took events (Drained e k) built = still_long events (heard (Drained e k)) refl
   longer_took events (EditorGone e why) built = subst (λ z. length (groups_of settings events) ≤ length z) (sym (groups_more settings events (heard (EditorGone e why)))) (emptied_length ((house_of settings events).home e) _ _ _ (groups_of settings events))
+  longer_took events (StartFailed s) built = subst (λ z. length (groups_of settings events) ≤ length z) (sym (failed_groups settings events s built)) (omega arith)
+  longer_took events (ServerGone s) built = subst (λ z. length (groups_of settings events) ≤ length z) (sym (gone_groups settings events s built)) (omega arith)
   longer_took events cause built = absurd (cc)
 
   pub longer_did : (events : List Event) (out : Out) → Longer events (events ++ said out ∷ [])

@@ -2,7 +2,7 @@
 use Rattle.std.proofs.Common.{◌≡◌, ℕ, zero, suc, Bool, true, false, not, ◌&&◌, List, [], ◌∷◌, ◌++◌, if◌then◌else◌, Option, Some, None, refl, sym, subst}
 use Rattle.std.specs.List.{AllByRecursion}
 use Rattle.mux_history.specs.declared.cause.Cause.{Cause}
-use Rattle.mux_history.specs.declared.cause.Cause.TheVariants.{Joined, FromEditor, EditorGone, Started, FromServer, Drained}
+use Rattle.mux_history.specs.declared.cause.Cause.TheVariants.{Joined, FromEditor, EditorGone, Started, StartFailed, FromServer, ServerGone, Drained}
 use Rattle.mux_history.specs.declared.out.Out.{Out}
 use Rattle.mux_history.specs.declared.out.Out.TheVariants.{CloseEditor}
 use Rattle.rpc_message.specs.Message.{message_of}
@@ -21,6 +21,7 @@ use Rattle.group_words.specs.Keys.{Common}
 use Rattle.group_words.specs.Placing.{busy, changed, end_where, ended, founded, idle_from, is_live, with_editor}
 use Rattle.group_words.proofs.Frames.{groups_more, groups_stay, touches_groups}
 use Rattle.group_facts.specs.Built.{built_behind}
+use Rattle.group_facts.proofs.Exits.{failed_groups, gone_groups}
 
 -- it is kept
 pub record Keeps (P : Kept → Type 0) : Type 0 where
@@ -85,6 +86,8 @@ module _ (P : Kept → Type 0) (keeps : Keeps P) where
     all_took events (Started s) built f h = stay events (heard (Started s)) refl h
     all_took events (Drained e k) built f h = stay events (heard (Drained e k)) refl h
     all_took events (EditorGone e why) built f h = subst All (sym (groups_more settings events (heard (EditorGone e why)))) (all_emptied ((house_of settings events).home e) _ _ _ (groups_of settings events) h)
+    all_took events (StartFailed s) built f h = subst All (sym (failed_groups settings events s built)) h
+    all_took events (ServerGone s) built f h = subst All (sym (gone_groups settings events s built)) h
     all_took events cause built f h = absurd (cc)
 
     pub all_did : (events : List Event) (out : Out) → All (groups_of settings events) → All (groups_of settings (events ++ said out ∷ []))

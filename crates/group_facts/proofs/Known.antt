@@ -5,7 +5,7 @@ use Rattle.mux_history.specs.declared.cause.Cause.TheVariants.{Joined}
 use Rattle.mux_history.specs.declared.entry.Entry.{Entry}
 use Rattle.mux_history.specs.declared.out.Out.{Out}
 use Rattle.mux_history.specs.declared.out.Out.TheVariants.{ToEditor, ToServer, Spawn, CloseEditor, EndServer}
-use Rattle.event_model.specs.declared.stage.Stage.TheVariants.{Unspawned, Spawning}
+use Rattle.event_model.specs.declared.stage.Stage.TheVariants.{Unspawned, Spawning, Stopping}
 use Rattle.event_model.specs.Event.{Event, heard, said, behind, with_cause, events_of}
 use Rattle.event_model.specs.Phases.{Desk, desk_of, is_there, phase_closed}
 use Rattle.event_model.specs.Requests.{next_number}
@@ -44,7 +44,7 @@ use Rattle.group_facts.proofs.Opened.{opened_did, opened_none, opened_took}
 use Rattle.group_facts.proofs.Plain.{plain_did, plain_none, plain_took}
 use Rattle.group_facts.proofs.Table.{reasons}
 use Rattle.group_facts.proofs.Waiting.{waiting_closed, waiting_rests, waiting_said, waiting_told, waiting_took}
-use Rattle.group_facts.specs.Why.{Why, WhyToEditor, is_starting}
+use Rattle.group_facts.specs.Why.{Why, WhyEnd, WhyToEditor, is_starting, starting, stopped}
 use Rattle.group_facts.proofs.Written.{written_did, written_took}
 
 module _ (settings : Settings) where
@@ -53,8 +53,21 @@ module _ (settings : Settings) where
   base_took : (events : List Event) (cause : Cause) → built_behind settings events cause ≡ true → Base settings events → Base settings (with_cause events cause)
   base_took events cause built h = record { opened = opened_took settings events cause h.opened; plain = plain_took settings events cause built h.plain; written = written_took settings events cause built h.written }
 
-  base_did : (events : List Event) (out : Out) → Base settings events → Base settings (events ++ said out ∷ [])
-  base_did events out h = record { opened = opened_did settings events out h.opened; plain = plain_did events out h.plain; written = written_did settings events out h.written }
+  -- a program that is to be ended was spawned
+  begun_end : (events : List Event) (n : ℕ) → WhyEnd settings events n → (life_of n events).stage ≡ Unspawned → ⊥
+  begun_end events n (starting early dying) at = never (sym early ∙ ap is_starting at)
+  begun_end events n (stopped stopping) at = let clash : Stopping ≡ Unspawned = sym stopping ∙ at in cc
+
+  -- a start that is spawned wasn't before
+  fresh_out : (before : List Event) (cause : Cause) (events : List Event) (out : Out) → Why settings before cause events out → starts.Starts events → (s : ℕ) → Fresh is_up up_falls s (life_of s events) (said out)
+  fresh_out before cause events (Spawn n g) why none s = λ same. spawn_fresh is_up refl events none s (subst (λ k. nat_eq k s ≡ true) why.0 same)
+  fresh_out before cause events (ToEditor e body) why none s = tt
+  fresh_out before cause events (ToServer n body) why none s = tt
+  fresh_out before cause events (CloseEditor e) why none s = tt
+  fresh_out before cause events (EndServer n) why none s = tt
+
+  base_did : (events : List Event) (out : Out) → ((s : ℕ) → Fresh is_up up_falls s (life_of s events) (said out)) → Base settings events → Base settings (events ++ said out ∷ [])
+  base_did events out fresh h = record { opened = opened_did settings events out h.opened; plain = plain_did events out fresh h.plain; written = written_did settings events out h.written }
 
   -- At a cause
 
@@ -149,10 +162,10 @@ module _ (settings : Settings) where
         d : (s : ℕ) (u : List ℕ) → held_at s u (events ++ said (CloseEditor n) ∷ []) ≡ held_at s u events
         d s u = ap (λ (x : Sent). x.held) (sent_more s u events (said (CloseEditor n)))
 
-    ends : (n : ℕ) → is_starting (life_of n events).stage ≡ true → Steady settings events → Steady settings (events ++ said (EndServer n) ∷ [])
-    ends n starting h = record {
+    ends : (n : ℕ) → WhyEnd settings events n → Steady settings events → Steady settings (events ++ said (EndServer n) ∷ [])
+    ends n why h = record {
       starts = starts.more events (said (EndServer n)) h.starts refl (λ s none. unless (nat_eq n s) (record { stage = stage_ending Unspawned; started = false }) no_life
-          (λ same. never (sym starting ∙ ap (λ (l : Life). is_starting l.stage) (ap (λ k. life_of k events) (number_same n s same) ∙ none))));
+          (λ same. absurd (begun_end events n why (ap (λ (l : Life). l.stage) (ap (λ k. life_of k events) (number_same n s same) ∙ none)))));
       unbegun = unbegun_said settings events (EndServer n) a f d (λ s. tt) h.unbegun;
       untold = untold_said settings events (EndServer n) a f d (λ s. tt) h.untold;
       bounded = bounded_said settings events (EndServer n) a f d (λ s. tt) h.bounded;
@@ -219,7 +232,7 @@ module _ (settings : Settings) where
     }
 
     pub here_did : (before : List Event) (cause : Cause) → Facts settings before → built_behind settings before cause ≡ true → (events : List Event) (out : Out) → Why settings before cause events out → Here before cause events → Here before cause (events ++ said out ∷ [])
-    here_did before cause facts built events out why h = record { base = base_did events out h.base; mid = mid_did range before cause facts built events out why h.mid }
+    here_did before cause facts built events out why h = record { base = base_did events out (fresh_out before cause events out why ((h.mid).steady).starts) h.base; mid = mid_did range before cause facts built events out why h.mid }
 
     pub entry_keeps : (before : List Event) (cause : Cause) → fits_behind before cause ≡ true → built_behind settings before cause ≡ true → Facts settings before → Facts settings (behind (with_cause before cause) (outs_of settings before cause))
     entry_keeps before cause fits built h =

@@ -45,7 +45,7 @@ module _ (test : Stage → Bool) (falls : Falls test) where
   Fresh s life (did (Spawn n g) m) = nat_eq n s ≡ true → test life.stage ≡ true
   Fresh s life other = Unit {0}
 
-  falls_back : (s : ℕ) (life : Life) (event : Event) → Fresh s life event → test (life_behind s life event).stage ≡ true → test life.stage ≡ true
+  pub falls_back : (s : ℕ) (life : Life) (event : Event) → Fresh s life event → test (life_behind s life event).stage ≡ true → test life.stage ≡ true
   falls_back s life (took (Started n) m) f h = back (nat_eq n s) (record { stage = stage_started life.stage; started = true }) life (falls.started life.stage) h
   falls_back s life (took (StartFailed n) m) f h = back (nat_eq n s) (record { stage = Ended; started = life.started }) life (λ e. never (sym e ∙ falls.ended)) h
   falls_back s life (took (FromServer n body) m) f h = back (nat_eq n s) (record { stage = stage_hears life.stage m; started = life.started }) life (falls.hears life.stage m) h

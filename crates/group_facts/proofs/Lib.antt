@@ -5,6 +5,7 @@ pub mod Begun
 pub mod DocumentRow
 pub mod Entries
 pub mod Everywhere
+pub mod Exits
 pub mod Facts
 pub mod Forwards
 pub mod Housed
@@ -12,6 +13,8 @@ pub mod Keeping
 pub mod Known
 pub mod LeaveRows
 pub mod Levels
+pub mod LiveGroups
+pub mod Lively
 pub mod Numbered
 pub mod Numbers
 pub mod OpenByOut

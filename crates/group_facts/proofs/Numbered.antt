@@ -1,18 +1,19 @@
--- While a start is ready, the request that is next has one number by both counts: of all requests, and of those of editors.
-use Rattle.std.proofs.Common.{◌≡◌, ℕ, ◌+◌, ◌<◌, ◌≤◌, Bool, true, false, List, [], ◌∷◌, ◌++◌, nat_eq, codes, decimal, not, if◌then◌else◌, Option, None, Some, refl, sym, ◌∙◌, ap, subst, subst₂, append-nil, arith}
+-- While a start is ready, the request that is next has one number by both counts: of all requests, and of those of editors; while it is to stop, `shutdown` is counted in the first alone.
+use Rattle.std.proofs.Common.{◌≡◌, ℕ, ◌+◌, ◌<◌, ◌≤◌, Bool, true, false, List, [], ◌∷◌, ◌++◌, nat_eq, codes, bytes_eq, decimal, not, if◌then◌else◌, Option, None, Some, refl, sym, ◌∙◌, ap, subst, subst₂, append-nil, arith}
 use Rattle.std.specs.Prelude.{slice_get}
 use Rattle.std.proofs.lemmas.Bool.{and_parts}
+use Rattle.std.proofs.lemmas.Slice.Eq.{bytes_eq-Decides}
 use Rattle.json_text.specs.Json.{Json}
 use Rattle.document_model.proofs.Written.{Spoken, spoken}
 use Rattle.mux_history.specs.declared.cause.Cause.{Cause}
-use Rattle.mux_history.specs.declared.cause.Cause.TheVariants.{Joined, FromEditor, EditorGone, Started, FromServer, Drained}
+use Rattle.mux_history.specs.declared.cause.Cause.TheVariants.{Joined, FromEditor, EditorGone, Started, StartFailed, FromServer, ServerGone, Drained}
 use Rattle.mux_history.specs.declared.out.Out.{Out}
 use Rattle.mux_history.specs.declared.out.Out.TheVariants.{ToServer}
 use Rattle.rpc_message.specs.Message.{Message, request, notification, integer, message_of}
 use Rattle.event_model.specs.declared.stage.Stage.{Stage}
 use Rattle.event_model.specs.declared.stage.Stage.TheVariants.{Unspawned, Spawning, Initializing, Ready, Stopping, Ending, Ended}
-use Rattle.event_model.specs.Event.{Event, heard, said, behind, with_cause, requests}
-use Rattle.event_model.specs.Requests.{next_number}
+use Rattle.event_model.specs.Event.{Event, heard, said, behind, with_cause}
+use Rattle.event_model.specs.Requests.{is_own, next_number}
 use Rattle.event_model.specs.Row.{outs}
 use Rattle.event_model.specs.Settings.{Settings}
 use Rattle.event_model.specs.Spawns.{starts_of}
@@ -30,12 +31,12 @@ use Rattle.group_rows.specs.Forwarded.{Forwarding, forwarding_of, numbered}
 use Rattle.group_rows.specs.Rows.{outs_of, started}
 use Rattle.group_facts.specs.Built.{built_behind}
 use Rattle.group_facts.specs.Facts.{Housed, IsHoused, IsWritten, Unbegun, Written}
-use Rattle.group_facts.specs.Why.{IsForward, WhyToServer, begins, greets, forwarded, tells, shuts, cancels}
+use Rattle.group_facts.specs.Why.{IsForward, WhyToServer, begins, greets, forwarded, tells, shuts, cancels, responds, IsShutting, exits}
 use Rattle.group_facts.proofs.AnswerRows.{get_all}
 use Rattle.group_facts.proofs.Facts.{AllTied, OthersTied, Tied, TiedAt, begins_now}
 use Rattle.group_facts.proofs.Forwards.{notified_next}
 use Rattle.group_facts.proofs.Levels.{each_start}
-use Rattle.group_facts.proofs.Numbers.{number_heard, number_other, number_sent, forwarding_heard, forwarding_other, forwarding_sent, stage_sent}
+use Rattle.group_facts.proofs.Numbers.{number_heard, number_other, number_sent, forwarding_heard, forwarding_other, forwarding_sent, stage_sent, response_forwards, response_number, ends_now}
 
 tied_by : (s : ℕ) (events later : List Event) (stage : Stage) → (life_of s later).stage ≡ stage → next_number s later ≡ (next_number s events) → (forwarding_of s later).next ≡ (forwarding_of s events).next → TiedAt stage (next_number s events) (forwarding_of s events).next → Tied later s
 tied_by s events later stage l a f h = subst (λ z. TiedAt z (next_number s later) (forwarding_of s later).next) (sym l) (subst₂ (TiedAt stage) (sym a) (sym f) h)
@@ -54,27 +55,38 @@ if_life : (b : Bool) (x y : Life) (a f : ℕ) → TiedAt x.stage a f → TiedAt 
 if_life true x y a f h k = h
 if_life false x y a f h k = k
 
+-- a start that ended has nothing to tie
+tied_end : (settings : Settings) (events : List Event) (cause : Cause) (s : ℕ) (b : Bool) → built_behind settings events cause ≡ true
+    → (life_of s (with_cause events cause)).stage ≡ (if b then record { stage = Ended; started = (life_of s events).started } else life_of s events).stage → (b ≡ false → ends_now cause s ≡ false) → Tied events s → Tied (with_cause events cause) s
+tied_end settings events cause s true built life on h = subst (λ z. TiedAt z (next_number s (with_cause events cause)) (forwarding_of s (with_cause events cause)).next) (sym life) tt
+tied_end settings events cause s false built life on h = tied_by s events (with_cause events cause) (life_of s events).stage life (number_heard s events cause) (forwarding_heard settings s events cause built (on refl)) h
+
 pub tied_took : (settings : Settings) (events : List Event) (cause : Cause) → built_behind settings events cause ≡ true → AllTied events → OthersTied cause (with_cause events cause)
-tied_took settings events (Joined e) built h = λ s rest. tied_by s events (with_cause events (Joined e)) (life_of s events).stage (ap (λ (l : Life). l.stage) (life_more s events (heard (Joined e)))) (number_heard s events (Joined e)) (forwarding_heard settings s events (Joined e) built) (h s)
-tied_took settings events (FromEditor e body) built h = λ s rest. tied_by s events (with_cause events (FromEditor e body)) (life_of s events).stage (ap (λ (l : Life). l.stage) (life_more s events (heard (FromEditor e body)))) (number_heard s events (FromEditor e body)) (forwarding_heard settings s events (FromEditor e body) built) (h s)
+tied_took settings events (Joined e) built h = λ s rest. tied_by s events (with_cause events (Joined e)) (life_of s events).stage (ap (λ (l : Life). l.stage) (life_more s events (heard (Joined e)))) (number_heard s events (Joined e)) (forwarding_heard settings s events (Joined e) built refl) (h s)
+tied_took settings events (FromEditor e body) built h = λ s rest. tied_by s events (with_cause events (FromEditor e body)) (life_of s events).stage (ap (λ (l : Life). l.stage) (life_more s events (heard (FromEditor e body)))) (number_heard s events (FromEditor e body)) (forwarding_heard settings s events (FromEditor e body) built refl) (h s)
 tied_took settings events (Started n) built h = λ s rest. tied_by s events (with_cause events (Started n)) (life_of s events).stage
-    (ap (λ (l : Life). l.stage) (life_more s events (heard (Started n))) ∙ ap (λ b. (if b then record { stage = stage_started (life_of s events).stage; started = true } else life_of s events).stage) rest) (number_heard s events (Started n)) (forwarding_heard settings s events (Started n) built) (h s)
-tied_took settings events (FromServer n body) built h = λ s rest. tied_by s events (with_cause events (FromServer n body)) _ (ap (λ (l : Life). l.stage) (life_more s events (heard (FromServer n body)))) (number_heard s events (FromServer n body)) (forwarding_heard settings s events (FromServer n body) built)
+    (ap (λ (l : Life). l.stage) (life_more s events (heard (Started n))) ∙ ap (λ b. (if b then record { stage = stage_started (life_of s events).stage; started = true } else life_of s events).stage) rest) (number_heard s events (Started n)) (forwarding_heard settings s events (Started n) built refl) (h s)
+tied_took settings events (FromServer n body) built h = λ s rest. tied_by s events (with_cause events (FromServer n body)) _ (ap (λ (l : Life). l.stage) (life_more s events (heard (FromServer n body)))) (number_heard s events (FromServer n body)) (forwarding_heard settings s events (FromServer n body) built refl)
     (if_life (nat_eq n s) (record { stage = stage_hears (life_of s events).stage (message_of body); started = (life_of s events).started }) (life_of s events) (next_number s events) (forwarding_of s events).next
     (heard_first (life_of s events).stage (message_of body) (next_number s events) (forwarding_of s events).next (h s)) (h s))
-tied_took settings events (Drained e k) built h = λ s rest. tied_by s events (with_cause events (Drained e k)) (life_of s events).stage (ap (λ (l : Life). l.stage) (life_more s events (heard (Drained e k)))) (number_heard s events (Drained e k)) (forwarding_heard settings s events (Drained e k) built) (h s)
-tied_took settings events (EditorGone e why) built h = λ s rest. tied_by s events (with_cause events (EditorGone e why)) (life_of s events).stage (ap (λ (l : Life). l.stage) (life_more s events (heard (EditorGone e why)))) (number_heard s events (EditorGone e why)) (forwarding_heard settings s events (EditorGone e why) built) (h s)
+tied_took settings events (Drained e k) built h = λ s rest. tied_by s events (with_cause events (Drained e k)) (life_of s events).stage (ap (λ (l : Life). l.stage) (life_more s events (heard (Drained e k)))) (number_heard s events (Drained e k)) (forwarding_heard settings s events (Drained e k) built refl) (h s)
+tied_took settings events (EditorGone e why) built h = λ s rest. tied_by s events (with_cause events (EditorGone e why)) (life_of s events).stage (ap (λ (l : Life). l.stage) (life_more s events (heard (EditorGone e why)))) (number_heard s events (EditorGone e why)) (forwarding_heard settings s events (EditorGone e why) built refl) (h s)
+tied_took settings events (StartFailed n) built h = λ s rest. tied_end settings events (StartFailed n) s (nat_eq n s) built (ap (λ (l : Life). l.stage) (life_more s events (heard (StartFailed n)))) (λ on. on) (h s)
+tied_took settings events (ServerGone n) built h = λ s rest. tied_end settings events (ServerGone n) s (nat_eq n s) built (ap (λ (l : Life). l.stage) (life_more s events (heard (ServerGone n)))) (λ on. on) (h s)
 tied_took settings events cause built h = absurd (cc)
 
 -- A body to a start
 
--- by a request a ready start stays ready, or is to end
-told_tied : (m : Message) (a f : ℕ) → a ≡ f → TiedAt (stage_told Ready m) a f
-told_tied m a f h = go (requests (codes "shutdown") m)
+-- an editor's request isn't `shutdown`: a ready start stays ready
+pub no_shutdown : (method : List ℕ) → is_own method ≡ false → bytes_eq (codes "shutdown") method ≡ false
+no_shutdown method other = go (bytes_eq (codes "shutdown") method) refl
   where
-    go : (b : Bool) → TiedAt (if b then Stopping else Ready) a f
-    go true = tt
-    go false = h
+    own : method ≡ codes "shutdown" → is_own method ≡ true
+    own is = ap is_own is
+
+    go : (b : Bool) → bytes_eq (codes "shutdown") method ≡ b → b ≡ false
+    go true same = never (sym (own (sym ((bytes_eq-Decides (codes "shutdown") method).0 same))) ∙ other)
+    go false same = refl
 
 module _ (settings : Settings) (cause : Cause) (events : List Event) (n : ℕ) (body : List ℕ) where
   abbrev sent : List Event
@@ -86,11 +98,11 @@ module _ (settings : Settings) (cause : Cause) (events : List Event) (n : ℕ) (
   stage_now : (m : Message) → message_of body ≡ m → (life_of n sent).stage ≡ stage_told (life_of n events).stage m
   stage_now m says = ap (λ (l : Life). l.stage) (life_more n events (said (ToServer n body))) ∙ stage_sent events n body m says
 
-  notified : (method : List ℕ) (params : Option Json) → message_of body ≡ notification method params → (life_of n events).stage ≡ Ready → Later n
-  notified method params says ready rest h = tied_by n events sent Ready (stage_now (notification method params) says ∙ ap (λ z. stage_told z (notification method params)) ready)
+  notified : (method : List ℕ) (params : Option Json) (stage : Stage) → message_of body ≡ notification method params → (life_of n events).stage ≡ stage → stage_told stage (notification method params) ≡ stage → Later n
+  notified method params stage says at same rest h = tied_by n events sent stage (stage_now (notification method params) says ∙ ap (λ z. stage_told z (notification method params)) at ∙ same)
       ((number_sent events n body (notification method params) says))
       (ap (λ (x : Forwarding). x.next) (forwarding_sent events n body (notification method params) says) ∙ notified_next (forwarding_of n events) method params)
-      (subst (λ z. TiedAt z (next_number n events) (forwarding_of n events).next) ready h)
+      (subst (λ z. TiedAt z (next_number n events) (forwarding_of n events).next) at h)
 
   -- an editor's request
   goes : (k : IsForward settings cause events n body) → Tied events n → Tied sent n
@@ -100,18 +112,32 @@ module _ (settings : Settings) (cause : Cause) (events : List Event) (n : ℕ) (
       let f : (forwarding_of n sent).next ≡ (forwarding_of n events).next + 1 = ap (λ (x : Forwarding). x.next) (forwarding_sent events n body m k.says)
       ∙ ap (λ c. (if c then forwarding_of n events else record { sender = (forwarding_of n events).sender; next = (forwarding_of n events).next + 1; open_requests = (forwarding_of n events).open_requests ++ numbered (forwarding_of n events).sender (forwarding_of n events).next }).next) k.other in
       let same : next_number n events ≡ (forwarding_of n events).next = subst (λ z. TiedAt z (next_number n events) (forwarding_of n events).next) k.ready h in
-      let stage : (life_of n sent).stage ≡ stage_told Ready m = stage_now m k.says ∙ ap (λ z. stage_told z m) k.ready in
-      subst (λ z. TiedAt z (next_number n sent) (forwarding_of n sent).next) (sym stage) (told_tied m (next_number n sent) (forwarding_of n sent).next (a ∙ ap (λ z. z + 1) same ∙ sym f))
+      let stage : (life_of n sent).stage ≡ Ready = stage_now m k.says ∙ ap (λ z. stage_told z m) k.ready ∙ ap (λ b. if b then Stopping else Ready) (no_shutdown k.method k.other) in
+      subst (λ z. TiedAt z (next_number n sent) (forwarding_of n sent).next) (sym stage) (a ∙ ap (λ z. z + 1) same ∙ sym f)
+
+  -- the daemon's own `shutdown`
+  shut : {before : List Event} (k : IsShutting settings before cause events n body) → Tied events n → Tied sent n
+  shut k h =
+      let m : Message = request (integer (decimal (next_number n events))) (codes "shutdown") None in
+      let a : next_number n sent ≡ next_number n events + 1 = (number_sent events n body m k.says) in
+      let f : (forwarding_of n sent).next ≡ (forwarding_of n events).next = ap (λ (x : Forwarding). x.next) (forwarding_sent events n body m k.says) in
+      let same : next_number n events ≡ (forwarding_of n events).next = subst (λ z. TiedAt z (next_number n events) (forwarding_of n events).next) k.ready h in
+      let stage : (life_of n sent).stage ≡ Stopping = stage_now m k.says ∙ ap (λ z. stage_told z m) k.ready in
+      subst (λ z. TiedAt z (next_number n sent) (forwarding_of n sent).next) (sym stage) (a ∙ ap (λ z. z + 1) (same ∙ sym f))
 
   module _ (before : List Event) where
     one_tied : WhyToServer settings before cause events n body → Later n
     one_tied (begins k) rest h = never (sym (ap (λ c. begins_now c n) k.from ∙ same_number n) ∙ rest)
-    one_tied (greets k) rest h = notified (codes "initialized") k.params k.says k.ready rest h
+    one_tied (greets k) rest h = notified (codes "initialized") k.params Ready k.says k.ready refl rest h
     one_tied (forwarded k) rest h = goes k h
-    one_tied (tells k) rest h = let m : Spoken (message_of body) = spoken (message_of body) k.spoken in notified m.method m.params m.is k.ready rest h
-    one_tied (cancels k) rest h = notified (codes "$/cancelRequest") (Some k.params) k.says k.ready rest h
-    one_tied (shuts k) rest h = subst (λ z. TiedAt z (next_number n sent) (forwarding_of n sent).next)
-        (sym (stage_now (request (integer (decimal (next_number n events))) (codes "shutdown") None) k.says ∙ ap (λ z. stage_told z (request (integer (decimal (next_number n events))) (codes "shutdown") None)) k.ready)) tt
+    one_tied (tells k) rest h = let m : Spoken (message_of body) = spoken (message_of body) k.spoken in notified m.method m.params Ready m.is k.ready refl rest h
+    one_tied (cancels k) rest h = notified (codes "$/cancelRequest") (Some k.params) Ready k.says k.ready refl rest h
+    one_tied (responds k) rest h = tied_by n events sent Initializing (stage_now (message_of body) refl ∙ ap (λ z. stage_told z (message_of body)) k.waiting)
+        (number_sent events n body (message_of body) refl ∙ response_number (next_number n events) (message_of body) k.response)
+        (ap (λ (x : Forwarding). x.next) (forwarding_sent events n body (message_of body) refl ∙ response_forwards (forwarding_of n events) (message_of body) k.response))
+        (subst (λ z. TiedAt z (next_number n events) (forwarding_of n events).next) k.waiting h)
+    one_tied (exits k) rest h = notified (codes "exit") None Stopping k.says k.stopping refl rest h
+    one_tied (shuts k) rest h = shut k h
 
     pub tied_sent : WhyToServer settings before cause events n body → OthersTied cause events → OthersTied cause sent
     tied_sent why h s rest = each_start Later n (one_tied why)
@@ -156,7 +182,7 @@ module _ (settings : Settings) (before : List Event) (n : ℕ) where
       let a : next_number n end ≡ next_number n now + 1 = (number_sent now n (initialize_of x) m k.says) in
       let f : (forwarding_of n end).next ≡ (forwarding_of n now).next = ap (λ (z : Forwarding). z.next) (forwarding_sent now n (initialize_of x) m k.says) in
       subst (λ z. TiedAt z (next_number n end) (forwarding_of n end).next) (sym stage)
-      (a ∙ ap (λ z. z + 1) (number_heard n before (Started n) ∙ none.0), f ∙ forwarding_heard settings n before (Started n) refl ∙ none.1)
+      (a ∙ ap (λ z. z + 1) (number_heard n before (Started n) ∙ none.0), f ∙ forwarding_heard settings n before (Started n) refl refl ∙ none.1)
 
   -- a start that is spawned has a group
   spawned : Starts before → (life_of n before).stage ≡ Spawning → n < starts_of before

@@ -2,16 +2,16 @@
 use Rattle.std.proofs.Common.{◌≡◌, ℕ, ◌+◌, ◌≤◌, ◌<◌, Bool, true, false, List, [], ◌∷◌, ◌++◌, nat_eq, codes, decimal, if◌then◌else◌, Option, None, refl, sym, ◌∙◌, ap, ap₂, subst, arith, ltb-true, Some}
 use Rattle.json_text.specs.Json.{Json}
 use Rattle.document_model.specs.Helds.{told}
-use Rattle.document_model.specs.Sayings.{saying_of}
+use Rattle.document_model.specs.Sayings.{saying_of, nothing}
 use Rattle.document_model.proofs.Written.{Spoken, spoken}
 use Rattle.mux_history.specs.declared.cause.Cause.{Cause}
-use Rattle.mux_history.specs.declared.cause.Cause.TheVariants.{Joined, FromEditor, EditorGone, Started, FromServer, Drained}
+use Rattle.mux_history.specs.declared.cause.Cause.TheVariants.{Joined, FromEditor, EditorGone, Started, StartFailed, FromServer, ServerGone, Drained}
 use Rattle.mux_history.specs.declared.out.Out.{Out}
 use Rattle.mux_history.specs.declared.out.Out.TheVariants.{ToServer}
-use Rattle.rpc_message.specs.Message.{Message, request, notification, integer, message_of}
+use Rattle.rpc_message.specs.Message.{Message, request, notification, integer, message_of, result, error, not_json, not_message}
 use Rattle.event_model.specs.declared.stage.Stage.{Stage}
-use Rattle.event_model.specs.declared.stage.Stage.TheVariants.{Initializing, Ready, Stopping}
-use Rattle.event_model.specs.Event.{Event, heard, said, with_cause}
+use Rattle.event_model.specs.declared.stage.Stage.TheVariants.{Initializing, Ready, Stopping, Ended}
+use Rattle.event_model.specs.Event.{Event, heard, said, with_cause, requests}
 use Rattle.event_model.specs.Requests.{next_number, number_told}
 use Rattle.event_model.specs.Settings.{Settings}
 use Rattle.event_model.specs.Spawns.{starts_of}
@@ -23,13 +23,14 @@ use Rattle.mux_facts.proofs.Known.{is_unbegun}
 use Rattle.mux_facts.proofs.Starts.{Starts}
 use Rattle.mux_facts.proofs.Tellings.{sent_more}
 use Rattle.mux_facts.proofs.Words.{number_same, same_number}
-use Rattle.group_rows.specs.Forwarded.{Forwarding, forwarding_of, forwards, numbered}
+use Rattle.group_rows.specs.Forwarded.{Forwarding, forwarding_of, forwards, no_forwarding, numbered}
 use Rattle.group_facts.specs.Built.{built_behind}
 use Rattle.group_facts.specs.Facts.{Bounded, Unbegun, Untold, is_unready, is_up}
 use Rattle.group_facts.proofs.Facts.{Facts}
 use Rattle.group_facts.proofs.Forwards.{forwarding_more, notified_next}
 use Rattle.group_facts.proofs.Levels.{Fresh, Step, each_start, level_more, unbegun_falls, unready_falls, up_falls}
-use Rattle.group_facts.specs.Why.{IsBeginning, IsForward, WhyToServer, begins, greets, forwarded, tells, shuts, cancels}
+use Rattle.group_facts.specs.Why.{IsBeginning, IsForward, WhyToServer, begins, greets, forwarded, tells, shuts, cancels, IsReply, responds, exits}
+use Rattle.mux_facts.specs.Allowed.{is_response}
 
 -- A cause leaves the numbers and the documents alone
 
@@ -41,14 +42,40 @@ held_heard : (s : ℕ) (u : List ℕ) (events : List Event) (cause : Cause) → 
 held_heard s u events (Joined e) = ap (λ (x : Sent). x.held) (sent_more s u events (heard (Joined e)))
 held_heard s u events cause = ap (λ (x : Sent). x.held) (sent_more s u events (heard cause))
 
-pub forwarding_heard : (settings : Settings) (s : ℕ) (events : List Event) (cause : Cause) → built_behind settings events cause ≡ true → (forwarding_of s (with_cause events cause)).next ≡ (forwarding_of s events).next
-forwarding_heard settings s events (Joined e) built = ap (λ (x : Forwarding). x.next) (forwarding_more s events (heard (Joined e)))
-forwarding_heard settings s events (FromEditor e body) built = ap (λ (x : Forwarding). x.next) (forwarding_more s events (heard (FromEditor e body)))
-forwarding_heard settings s events (Started n) built = ap (λ (x : Forwarding). x.next) (forwarding_more s events (heard (Started n)))
-forwarding_heard settings s events (FromServer n body) built = ap (λ (x : Forwarding). x.next) (forwarding_more s events (heard (FromServer n body)))
-forwarding_heard settings s events (Drained e k) built = ap (λ (x : Forwarding). x.next) (forwarding_more s events (heard (Drained e k)))
-forwarding_heard settings s events (EditorGone e why) built = ap (λ (x : Forwarding). x.next) (forwarding_more s events (heard (EditorGone e why)))
-forwarding_heard settings s events other built = absurd (cc)
+-- the program of s ends, or can't be run
+abbrev pub ends_now : Cause → ℕ → Bool
+ends_now (StartFailed n) s = nat_eq n s
+ends_now (ServerGone n) s = nat_eq n s
+ends_now other s = false
+
+-- that of a start that passes the test behind the cause doesn't
+goes_on : (test : Stage → Bool) → test Ended ≡ false → (s : ℕ) (life : Life) (cause : Cause) → test (life_behind s life (heard cause)).stage ≡ true → ends_now cause s ≡ false
+goes_on test over s life (StartFailed n) h = go (nat_eq n s) h
+  where
+    go : (b : Bool) → test (if b then record { stage = Ended; started = life.started } else life).stage ≡ true → b ≡ false
+    go true h = never (sym h ∙ over)
+    go false h = refl
+goes_on test over s life (ServerGone n) h = go (nat_eq n s) h
+  where
+    go : (b : Bool) → test (if b then record { stage = Ended; started = life.started } else life).stage ≡ true → b ≡ false
+    go true h = never (sym h ∙ over)
+    go false h = refl
+goes_on test over s life other h = refl
+
+next_left : (b : Bool) (x : Forwarding) → b ≡ false → (if b then no_forwarding else record { sender = None; next = x.next; open_requests = x.open_requests }).next ≡ x.next
+next_left true x h = never h
+next_left false x h = refl
+
+pub forwarding_heard : (settings : Settings) (s : ℕ) (events : List Event) (cause : Cause) → built_behind settings events cause ≡ true → ends_now cause s ≡ false → (forwarding_of s (with_cause events cause)).next ≡ (forwarding_of s events).next
+forwarding_heard settings s events (Joined e) built on = ap (λ (x : Forwarding). x.next) (forwarding_more s events (heard (Joined e)))
+forwarding_heard settings s events (FromEditor e body) built on = ap (λ (x : Forwarding). x.next) (forwarding_more s events (heard (FromEditor e body)))
+forwarding_heard settings s events (Started n) built on = ap (λ (x : Forwarding). x.next) (forwarding_more s events (heard (Started n)))
+forwarding_heard settings s events (FromServer n body) built on = ap (λ (x : Forwarding). x.next) (forwarding_more s events (heard (FromServer n body)))
+forwarding_heard settings s events (Drained e k) built on = ap (λ (x : Forwarding). x.next) (forwarding_more s events (heard (Drained e k)))
+forwarding_heard settings s events (EditorGone e why) built on = ap (λ (x : Forwarding). x.next) (forwarding_more s events (heard (EditorGone e why)))
+forwarding_heard settings s events (StartFailed n) built on = ap (λ (x : Forwarding). x.next) (forwarding_more s events (heard (StartFailed n))) ∙ next_left (nat_eq n s) (forwarding_of s events) on
+forwarding_heard settings s events (ServerGone n) built on = ap (λ (x : Forwarding). x.next) (forwarding_more s events (heard (ServerGone n))) ∙ next_left (nat_eq n s) (forwarding_of s events) on
+forwarding_heard settings s events other built on = absurd (cc)
 
 -- Bodies to a start
 
@@ -82,19 +109,55 @@ module _ (events : List Event) (n : ℕ) (body : List ℕ) where
     held_other u = ap (λ (x : Sent). x.held) (sent_more s u events (said (ToServer n body)))
         ∙ ap (λ b. if b then told (sent_of s u events).encoding u (held_at s u events) (saying_of (message_of body)) else held_at s u events) other
 
+-- a response is no request, moves no number, and speaks of no document
+pub response_forwards : (x : Forwarding) (m : Message) → is_response m ≡ true → forwards x m ≡ x
+response_forwards x (result id r) h = refl
+response_forwards x (error id e) h = refl
+response_forwards x (request id method params) h = absurd (cc)
+response_forwards x (notification method params) h = absurd (cc)
+response_forwards x not_json h = absurd (cc)
+response_forwards x not_message h = absurd (cc)
+
+pub response_number : (n : ℕ) (m : Message) → is_response m ≡ true → number_told n m ≡ n
+response_number n (result id r) h = refl
+response_number n (error id e) h = refl
+response_number n (request id method params) h = absurd (cc)
+response_number n (notification method params) h = absurd (cc)
+response_number n not_json h = absurd (cc)
+response_number n not_message h = absurd (cc)
+
+pub response_asks : (name : List ℕ) (m : Message) → is_response m ≡ true → requests name m ≡ false
+response_asks name (result id r) h = refl
+response_asks name (error id e) h = refl
+response_asks name (request id method params) h = absurd (cc)
+response_asks name (notification method params) h = absurd (cc)
+response_asks name not_json h = absurd (cc)
+response_asks name not_message h = absurd (cc)
+
+pub response_silent : (m : Message) → is_response m ≡ true → saying_of m ≡ nothing
+response_silent (result id r) h = refl
+response_silent (error id e) h = refl
+response_silent (request id method params) h = absurd (cc)
+response_silent (notification method params) h = absurd (cc)
+response_silent not_json h = absurd (cc)
+response_silent not_message h = absurd (cc)
+
 -- the stage of a start whose program begins
 begun_stage : (before : List Event) (cause : Cause) (events : List Event) (s : ℕ) (body : List ℕ) → IsBeginning before cause events s body → (life_of s events).stage ≡ Initializing
 begun_stage before cause events s body k = ap (λ z. (life_of s z).stage) (k.place ∙ ap (with_cause before) k.from) ∙ ap (λ (l : Life). l.stage) (life_more s before (heard (Started s)))
     ∙ ap (λ b. (if b then record { stage = stage_started (life_of s before).stage; started = true } else life_of s before).stage) (same_number s) ∙ ap stage_started k.stage
 
--- any other start that is sent a body is ready
-ready_or : (settings : Settings) (before : List Event) (cause : Cause) (events : List Event) (s : ℕ) (body : List ℕ) (P : Type 0) → WhyToServer settings before cause events s body → (IsBeginning before cause events s body → P) → ((life_of s events).stage ≡ Ready → P) → P
-ready_or settings before cause events s body P (begins k) f g = f k
-ready_or settings before cause events s body P (greets k) f g = g k.ready
-ready_or settings before cause events s body P (forwarded k) f g = g k.ready
-ready_or settings before cause events s body P (tells k) f g = g k.ready
-ready_or settings before cause events s body P (shuts k) f g = g k.ready
-ready_or settings before cause events s body P (cancels k) f g = g k.ready
+-- any other start that is sent a body is answered at once, is ready, or is to stop
+ready_or : (settings : Settings) (before : List Event) (cause : Cause) (events : List Event) (s : ℕ) (body : List ℕ) (P : Type 0) → WhyToServer settings before cause events s body → (IsBeginning before cause events s body → P)
+    → (IsReply before cause events s body → P) → ((life_of s events).stage ≡ Ready → P) → ((life_of s events).stage ≡ Stopping → P) → P
+ready_or settings before cause events s body P (begins k) f r g h = f k
+ready_or settings before cause events s body P (greets k) f r g h = g k.ready
+ready_or settings before cause events s body P (forwarded k) f r g h = g k.ready
+ready_or settings before cause events s body P (tells k) f r g h = g k.ready
+ready_or settings before cause events s body P (shuts k) f r g h = g k.ready
+ready_or settings before cause events s body P (cancels k) f r g h = g k.ready
+ready_or settings before cause events s body P (responds k) f r g h = r k
+ready_or settings before cause events s body P (exits k) f r g h = h k.stopping
 
 clash : (test : Stage → Bool) (a b : Stage) {A : Type 0} → a ≡ b → test b ≡ false → test a ≡ true → A
 clash test a b e h k = never (sym k ∙ (ap test e ∙ h))
@@ -121,13 +184,13 @@ module _ (settings : Settings) where
   -- at a cause
   module _ (events : List Event) (cause : Cause) (built : built_behind settings events cause ≡ true) where
     pub unbegun_took : ((s : ℕ) → Fresh is_unbegun unbegun_falls s (life_of s events) (heard cause)) → Unbegun events → Unbegun (with_cause events cause)
-    unbegun_took fresh h = level_more is_unbegun unbegun_falls NoRequest events (heard cause) fresh (λ s was after k. (number_heard s events cause ∙ k.0, forwarding_heard settings s events cause built ∙ k.1)) h
+    unbegun_took fresh h = level_more is_unbegun unbegun_falls NoRequest events (heard cause) fresh (λ s was after k. (number_heard s events cause ∙ k.0, forwarding_heard settings s events cause built (goes_on is_unbegun refl s (life_of s events) cause after) ∙ k.1)) h
 
     pub untold_took : ((s : ℕ) → Fresh is_unready unready_falls s (life_of s events) (heard cause)) → Untold events → Untold (with_cause events cause)
     untold_took fresh h = level_more is_unready unready_falls HasNone events (heard cause) fresh (λ s was after k u. held_heard s u events cause ∙ k u) h
 
     pub bounded_took : ((s : ℕ) → Fresh is_up up_falls s (life_of s events) (heard cause)) → Bounded settings events → Bounded settings (with_cause events cause)
-    bounded_took fresh h = level_more is_up up_falls InBounds events (heard cause) fresh (λ s was after k. bounds_by s events (with_cause events cause) (number_heard s events cause) (forwarding_heard settings s events cause built) k) h
+    bounded_took fresh h = level_more is_up up_falls InBounds events (heard cause) fresh (λ s was after k. bounds_by s events (with_cause events cause) (number_heard s events cause) (forwarding_heard settings s events cause built (goes_on is_up refl s (life_of s events) cause after)) k) h
 
   -- at a body to a start
   module _ (before : List Event) (cause : Cause) (facts : Facts settings before) (built : built_behind settings before cause ≡ true) (events : List Event) (n : ℕ) (body : List ℕ) (why : WhyToServer settings before cause events n body) where
@@ -138,14 +201,17 @@ module _ (settings : Settings) where
     unbegun_sent h = level_more is_unbegun unbegun_falls NoRequest events (said (ToServer n body)) (λ s. tt)
         (each_start (Step is_unbegun unbegun_falls NoRequest events (said (ToServer n body))) n
         (λ was after k. ready_or settings before cause events n body (NoRequest n sent) why
-        (λ b. clash is_unbegun (life_of n events).stage Initializing (begun_stage before cause events n body b) refl was) (λ ready. clash is_unbegun (life_of n events).stage Ready ready refl was))
+        (λ b. clash is_unbegun (life_of n events).stage Initializing (begun_stage before cause events n body b) refl was) (λ b. clash is_unbegun (life_of n events).stage Initializing b.waiting refl was)
+        (λ ready. clash is_unbegun (life_of n events).stage Ready ready refl was) (λ stopping. clash is_unbegun (life_of n events).stage Stopping stopping refl was))
         (λ s other was after k. ((number_other events n body s other) ∙ k.0, ap (λ (x : Forwarding). x.next) (forwarding_other events n body s other) ∙ k.1))) h
 
     pub untold_sent : Untold events → Untold sent
     untold_sent h = level_more is_unready unready_falls HasNone events (said (ToServer n body)) (λ s. tt)
         (each_start (Step is_unready unready_falls HasNone events (said (ToServer n body))) n
         (λ was after k. ready_or settings before cause events n body (HasNone n sent) why
-        (λ b u. held_sent events n body (request (integer (codes "1")) (codes "initialize") b.params) b.says u ∙ k u) (λ ready. clash is_unready (life_of n events).stage Ready ready refl was))
+        (λ b u. held_sent events n body (request (integer (codes "1")) (codes "initialize") b.params) b.says u ∙ k u)
+        (λ b u. held_sent events n body (message_of body) refl u ∙ (ap (told (sent_of n u events).encoding u (held_at n u events)) (response_silent (message_of body) b.response) ∙ k u))
+        (λ ready. clash is_unready (life_of n events).stage Ready ready refl was) (λ stopping. clash is_unready (life_of n events).stage Stopping stopping refl was))
         (λ s other was after k u. held_other events n body s other u ∙ k u)) h
 
     -- a notification
@@ -160,7 +226,7 @@ module _ (settings : Settings) where
         let here : events ≡ with_cause before (Started n) = b.place ∙ ap (with_cause before) b.from in
         let none : NoRequest n before = (facts.steady).unbegun n (rw b.stage refl) in
         let asked : next_number n events ≡ 1 = ap (λ z. next_number n z) here ∙ number_heard n before (Started n) ∙ none.0 in
-        let sent_on : (forwarding_of n events).next ≡ 2 = ap (λ z. (forwarding_of n z).next) here ∙ forwarding_heard settings n before (Started n) refl ∙ none.1 in
+        let sent_on : (forwarding_of n events).next ≡ 2 = ap (λ z. (forwarding_of n z).next) here ∙ forwarding_heard settings n before (Started n) refl refl ∙ none.1 in
         let a : next_number n sent ≡ next_number n events + 1 = (number_sent events n body m b.says) in
         let f : (forwarding_of n sent).next ≡ (forwarding_of n events).next = ap (λ (x : Forwarding). x.next) (forwarding_sent events n body m b.says) in
         (omega (arith, a, f, asked, sent_on), omega (arith, f, sent_on))
@@ -183,6 +249,9 @@ module _ (settings : Settings) where
     one_bounded (forwarded b) was after k = asked_on b k
     one_bounded (tells b) was after k = let m : Spoken (message_of body) = spoken (message_of body) b.spoken in notified m.method m.params m.is k
     one_bounded (cancels b) was after k = notified (codes "$/cancelRequest") (Some b.params) b.says k
+    one_bounded (responds b) was after k = bounds_by n events sent (number_sent events n body (message_of body) refl ∙ response_number (next_number n events) (message_of body) b.response)
+        (ap (λ (x : Forwarding). x.next) (forwarding_sent events n body (message_of body) refl ∙ response_forwards (forwarding_of n events) (message_of body) b.response)) k
+    one_bounded (exits b) was after k = notified (codes "exit") None b.says k
     one_bounded (shuts b) was after k = clash is_up (life_behind n (life_of n events) (said (ToServer n body))).stage Stopping
         (stage_sent events n body (request (integer (decimal (next_number n events))) (codes "shutdown") None) b.says ∙ ap (λ z. stage_told z (request (integer (decimal (next_number n events))) (codes "shutdown") None)) b.ready) refl after
 

@@ -24,8 +24,9 @@ use Rattle.group_facts.specs.Why.{Why, WhyToEditor, rejects, refuses, answers, t
 use Rattle.group_facts.proofs.Begun.{Begun, Founding, NoSpawn, founding_of, founds, quiet, starts_stay, start_took}
 use Rattle.group_facts.proofs.Facts.{Facts}
 use Rattle.group_facts.proofs.Sent.{SentAt, sent_did, sent_spawn}
+use Rattle.group_facts.proofs.RequestRow.{beside_other}
 use Rattle.group_facts.proofs.Table.{reasons}
-use Rattle.group_facts.proofs.OpenByPhase.{OpenDesk, OpenIf, if_closed, if_null, if_other, if_passed, if_refused, if_welcomed}
+use Rattle.group_facts.proofs.OpenByPhase.{OpenDesk, OpenIf, if_closed, if_null, if_other, if_passed, if_refused, if_replied, if_welcomed}
 
 reasons_left : (R : List Event → Out → Type 0) (events : List Event) (xs ys : List Out) → Reasons R events (xs ++ ys) → Reasons R events xs
 reasons_left R events [] ys h = tt
@@ -80,7 +81,8 @@ module _ (settings : Settings) (e : ℕ) (E : Id → Type 0) where
         (if_null T (desk_of e events).phase (desk_of e events).initialize (open_of e events) k.x h)
     told_by T events body (refuses k) h = subst (λ m. OpenIf T (phase_told (desk_of e events).phase (desk_of e events).initialize m) (desk_of e events).initialize (without (answered_id m) (open_of e events))) (sym k.says)
         (if_refused T (desk_of e events).phase (desk_of e events).initialize (open_of e events) k.id k.x k.others h)
-    told_by T events body (answers k) h = if_passed T (desk_of e events).phase (desk_of e events).initialize (open_of e events) (message_of body) k.late h
+    told_by T events body (answers k) h = subst (λ m. OpenIf T (phase_told (desk_of e events).phase (desk_of e events).initialize m) (desk_of e events).initialize (without (answered_id m) (open_of e events))) (sym k.says)
+        (if_replied T (desk_of e events).phase (desk_of e events).initialize (open_of e events) k.id k.r (λ at. beside_other events e k.id (k.others at)) h)
     told_by T events body (turns_away k) h = never (sym k.turned ∙ stays)
     told_by T events body (welcomes k) h = subst (λ m. OpenIf T (phase_told (desk_of e events).phase (desk_of e events).initialize m) (desk_of e events).initialize (without (answered_id m) (open_of e events))) (sym k.says)
         (if_welcomed T (desk_of e events).phase (desk_of e events).initialize (open_of e events) k.id (k.waiting).params k.r (k.waiting).phase (k.waiting).asks h)

@@ -8,6 +8,7 @@ use Rattle.event_model.specs.Event.{requests, same_id}
 use Rattle.event_model.specs.Phases.{Desk, desk_hears, has_id, makes_running, phase_closed, phase_told}
 use Rattle.event_model.specs.Requests.{answered_id, is_open, without}
 use Rattle.event_model.proofs.Frames.{never}
+use Rattle.mux_facts.proofs.Late.{error_told}
 use Rattle.mux_facts.proofs.Why.{is_early}
 use Rattle.group_facts.specs.Settled.{is_answered}
 use Rattle.mux_facts.proofs.Words.{id_same, same_id_itself}
@@ -71,6 +72,17 @@ open_either i k (x ∷ ids) h = go (same_id i x) (λ e. open_either i k ids e) h
     go : (b : Bool) → (is_open i (ids ++ k ∷ []) ≡ true → (is_open i ids ≡ true) ⊎ (i ≡ k)) → (b || is_open i (ids ++ k ∷ [])) ≡ true → ((b || is_open i ids) ≡ true) ⊎ (i ≡ k)
     go true f e = inl refl
     go false f e = f e
+
+-- a result for another request than the `initialize` of an editor that waits moves no editor
+pub reply_told : (phase : Phase) (initialize : List ℕ) (id : Id) (r : Json) → (phase ≡ Waiting → has_id id (message_of initialize) ≡ false) → phase_told phase initialize (result (Some id) r) ≡ phase
+reply_told Waiting initialize id r others = ap (λ b. if b then Answered else Waiting) (others refl)
+reply_told Absent initialize id r others = refl
+reply_told New initialize id r others = refl
+reply_told Answered initialize id r others = refl
+reply_told Running initialize id r others = refl
+reply_told Down initialize id r others = refl
+reply_told Closed initialize id r others = refl
+reply_told Gone initialize id r others = refl
 
 -- By phase
 
@@ -170,6 +182,11 @@ module _ (S : Id → Type 0) where
   if_refused Down initialize ids id x others h = λ i k. h i (fewer_open i (Some id) ids k)
   if_refused Closed initialize ids id x others h = tt
   if_refused Gone initialize ids id x others h = tt
+
+  -- a result under such an id
+  pub if_replied : (phase : Phase) (initialize : List ℕ) (ids : List Id) (id : Id) (r : Json) → (phase ≡ Waiting → has_id id (message_of initialize) ≡ false) → OpenIf S phase initialize ids
+      → OpenIf S (phase_told phase initialize (result (Some id) r)) initialize (without (Some id) ids)
+  if_replied phase initialize ids id r others h = subst (λ p. OpenIf S p initialize (without (Some id) ids)) (error_told phase initialize (Some id) r ∙ sym (reply_told phase initialize id r others)) (if_refused phase initialize ids id r others h)
 
   -- any response, to an editor that got its result
   pub if_passed : (phase : Phase) (initialize : List ℕ) (ids : List Id) (m : Message) → is_early phase ≡ false → OpenIf S phase initialize ids → OpenIf S (phase_told phase initialize m) initialize (without (answered_id m) ids)

@@ -42,7 +42,9 @@ use Rattle.group_words.specs.Rows.{initialize_row}
 use Rattle.group_words.proofs.Frames.{home_more, home_stays}
 use Rattle.group_rows.specs.Forwarded.{Forwarding, forwarding_of, numbered}
 use Rattle.group_rows.specs.Leaves.{leave_row}
-use Rattle.group_rows.specs.Rows.{answer_error, can_ask, closing_row, document_at, document_bodies, document_row, early_code, early_row, exit_row, forward, from_editor, is_misplaced, message_row, outs_of, request_at, request_row, served_request, served_row, shutdown_row, sync_row, taken_row, wrong_code}
+use Rattle.group_rows.specs.Rows.{answer_error, can_ask, closing_row, document_at, document_bodies, document_row, early_code, early_row, exit_row, forward, from_editor, is_misplaced, message_row, outs_of, request_at, request_row, served_request, served_row, shutdown_row, status_row, sync_row, taken_row, told_row, wrong_code}
+use Rattle.group_rows.specs.Status.{items_of, status_text}
+use Rattle.group_rows.proofs.Statuses.{told_tree}
 use Rattle.group_rows.specs.Texts.{encoding_of, texts_of}
 use Rattle.group_facts.specs.Facts.{turned_away}
 use Rattle.group_facts.specs.Why.{IsForward}
@@ -53,9 +55,9 @@ use Rattle.group_facts.proofs.Facts.{Facts}
 use Rattle.group_facts.proofs.Forwards.{more_requests}
 use Rattle.group_facts.proofs.Numbers.{forwarding_sent}
 use Rattle.group_facts.proofs.PartingRows.{null_value}
-use Rattle.group_facts.proofs.RequestRow.{desk_taken, goes_on, not_own, synced_sender}
+use Rattle.group_facts.proofs.RequestRow.{beside, beside_other, desk_taken, goes_on, not_own, status_said, synced_sender}
 use Rattle.group_facts.proofs.Sent.{IsOf, OneOf, SentAt, one_last, sent_did, sent_heard}
-use Rattle.group_facts.proofs.OpenByPhase.{OpenDesk, OpenIf, if_asked, if_hears, if_null, if_other, without_last}
+use Rattle.group_facts.proofs.OpenByPhase.{OpenDesk, OpenIf, if_asked, if_hears, if_null, if_other, reply_told, without_last}
 use Rattle.group_facts.proofs.SharedRows.{off_first}
 use Rattle.group_facts.proofs.Waiting.{new_is, turned_outs}
 use Rattle.group_facts.proofs.OpenByOut.{OpenAt, S, open_at, open_closed, open_sent, open_still, or_later, told}
@@ -126,6 +128,10 @@ module _ (settings : Settings) (before : List Event) (n : ℕ) (body : List ℕ)
 
   open_now : open_of n now ≡ with_request (message_of body) ids
   open_now = opens_more n before (heard (FromEditor n body)) ∙ ap (λ b. if b then with_request (message_of body) ids else ids) (same_number n)
+
+  -- `lspmux/status`, or what this row gives
+  abbrev or_status : List ℕ → Row → Row
+  or_status method row = choose (bytes_eq (codes "lspmux/status") method) (status_row settings before n body) row
 
   -- a body to it
   open_told : (E : Id → Type 0) (events : List Event) (text : List ℕ) (m : Message) → message_of text ≡ m
@@ -289,6 +295,15 @@ module _ (settings : Settings) (before : List Event) (n : ℕ) (body : List ℕ)
       shutdown_rests : is_early (desk_of n before).phase ≡ false → Rests (outs (shutdown_row settings before n body) now)
       shutdown_rests late = left_rests (ToEditor n done) (done_rests late)
 
+      -- E5: `lspmux/status` is answered
+      abbrev told_text : List ℕ
+      told_text = ok_text (id_bytes body) (status_text (items_of settings before))
+
+      status_rests : ((desk_of n before).phase ≡ New → requests (codes "initialize") (message_of body) ≡ false) → (here.phase ≡ Waiting → has_id id (message_of here.initialize) ≡ false) → Rests (outs (status_row settings before n body) now)
+      status_rests other others = open_told Nobody now told_text (result (Some id) (told_tree (items_of settings before))) (status_said settings before body id method params says)
+          (subst₂ (λ p z. OpenIf (S settings n Nobody (told_now told_text)) p here.initialize z) (sym (reply_told here.phase here.initialize id (told_tree (items_of settings before)) others)) (sym (ap (without (Some id)) asked_now ∙ without_last id ids fresh))
+          (if_other (S settings n Nobody now) (S settings n Nobody (told_now told_text)) here.phase here.initialize ids (λ sent i is. or_later settings n Nobody now (told_now told_text) i (sent_did settings n i now (ToEditor n told_text) tt)) (heard_if Nobody other)))
+
     -- E3 and E9: its link is to be ended
     closing_rests : Rests (outs (closing_row settings before n) now)
     closing_rests = left_rests (CloseEditor n) (open_closed settings n Nobody now)
@@ -307,18 +322,27 @@ module _ (settings : Settings) (before : List Event) (n : ℕ) (body : List ℕ)
         go true h = h
         go false h = refl
 
-    by_single : (m : Message) (phase : Phase) → is_doubled before n m ≡ false → outs (message_row settings before n body m phase) now ≡ outs (taken_row settings before n body m phase) now
-    by_single m phase h = ap (λ b. outs (choose b (closing_row settings before n) (taken_row settings before n body m phase)) now) (single phase m h)
+    -- nor is it `lspmux/status`
+    unasked : (phase : Phase) (m : Message) → requests (codes "lspmux/status") m ≡ false → (is_there phase && requests (codes "lspmux/status") m) ≡ false
+    unasked phase m h = go (is_there phase) h
+      where
+        go : (b : Bool) → requests (codes "lspmux/status") m ≡ false → (b && requests (codes "lspmux/status") m) ≡ false
+        go true h = h
+        go false h = refl
+
+    by_single : (m : Message) (phase : Phase) → is_doubled before n m ≡ false → requests (codes "lspmux/status") m ≡ false → outs (message_row settings before n body m phase) now ≡ outs (taken_row settings before n body m phase) now
+    by_single m phase h g = ap (λ b. outs (choose b (closing_row settings before n) (told_row settings before n body m phase)) now) (single phase m h)
+        ∙ ap (λ b. outs (choose b (status_row settings before n body) (taken_row settings before n body m phase)) now) (unasked phase m g)
 
     result_silent : (id : Option Id) (r : Json) (phase : Phase) → outs (from_editor settings before n body (result id r) phase) now ≡ []
-    result_silent id r phase = by_single (result id r) phase refl ∙ silent phase
+    result_silent id r phase = by_single (result id r) phase refl refl ∙ silent phase
       where
         silent : (phase : Phase) → outs (taken_row settings before n body (result id r) phase) now ≡ []
         silent New = refl
         silent other = refl
 
     error_silent : (id : Option Id) (x : Json) (phase : Phase) → outs (from_editor settings before n body (error id x) phase) now ≡ []
-    error_silent id x phase = by_single (error id x) phase refl ∙ silent phase
+    error_silent id x phase = by_single (error id x) phase refl refl ∙ silent phase
       where
         silent : (phase : Phase) → outs (taken_row settings before n body (error id x) phase) now ≡ []
         silent New = refl
@@ -357,7 +381,7 @@ module _ (settings : Settings) (before : List Event) (n : ℕ) (body : List ℕ)
         go false = document_rests method params says
 
     notified_rests : (method : List ℕ) (params : Option Json) → message_of body ≡ notification method params → (phase : Phase) → Rests (outs (message_row settings before n body (notification method params) phase) now)
-    notified_rests method params says phase = subst (λ xs. Rests xs) (sym (by_single (notification method params) phase refl)) (go phase)
+    notified_rests method params says phase = subst (λ xs. Rests xs) (sym (by_single (notification method params) phase refl refl)) (go phase)
       where
         go : (phase : Phase) → Rests (outs (taken_row settings before n body (notification method params) phase) now)
         go Answered = served_rests method params says
@@ -390,16 +414,30 @@ module _ (settings : Settings) (before : List Event) (n : ℕ) (body : List ℕ)
           by_double true twice row f = closing_rests
           by_double false fresh row f = f fresh
 
+          -- `lspmux/status`, or another request
+          by_status : is_open id ids ≡ false → is_there (desk_of n before).phase ≡ true → (row : Row) → Rests (outs row now) → Rests (outs (choose (bytes_eq (codes "lspmux/status") method) (status_row settings before n body) row) now)
+          by_status fresh there row rest = go (bytes_eq (codes "lspmux/status") method) refl
+            where
+              other : bytes_eq (codes "lspmux/status") method ≡ true → requests (codes "initialize") (message_of body) ≡ false
+              other is = ap (requests (codes "initialize")) says ∙ ap (bytes_eq (codes "initialize")) (sym ((bytes_eq-Decides (codes "lspmux/status") method).0 is))
+
+              go : (b : Bool) → bytes_eq (codes "lspmux/status") method ≡ b → Rests (outs (choose b (status_row settings before n body) row) now)
+              go true is = status_rests id method params says fresh (λ new. other is) (λ at. beside_other now n id (beside settings before n body id method params says there (alone_by before (facts.steady).asked n id fresh) (other is) (λ waits. fresh) facts.waiting at))
+              go false is = rest
+
           early_old : (phase : Phase) → (desk_of n before).phase ≡ phase → is_new phase ≡ false → (desk_of n before).phase ≡ New → requests (codes "initialize") (message_of body) ≡ false
           early_old phase at old new = never (sym (ap is_new (sym at ∙ new)) ∙ old)
 
           go : (phase : Phase) → (desk_of n before).phase ≡ phase → places phase (request id method params) ≡ false → Rests (outs (message_row settings before n body (request id method params) phase) now)
-          go New at off = subst (λ b. Rests (outs (choose b (initialize_row settings before n body) (early_row settings before n body (request id method params))) now)) (sym off)
-              (refused id method params says (ap (is_open id) (subst (λ p. OpenIf (S settings n Nobody before) p (desk_of n before).initialize ids) at h)) (λ new. ap (requests (codes "initialize")) says ∙ off) (early_code method))
-          go Waiting at off = by_double (is_open id ids) refl (answer_error n body (early_code method)) (λ fresh. refused id method params says fresh (early_old Waiting at refl) (early_code method))
-          go Answered at off = by_double (is_open id ids) refl (served_request settings before n body method) (λ fresh. late_request fresh (ap is_there at) (ap is_early at))
-          go Running at off = by_double (is_open id ids) refl (served_request settings before n body method) (λ fresh. late_request fresh (ap is_there at) (ap is_early at))
-          go Down at off = by_double (is_open id ids) refl (answer_error n body (wrong_code method invalid_request)) (λ fresh. refused id method params says fresh (early_old Down at refl) (wrong_code method invalid_request))
+          go New at off = subst (λ b. Rests (outs (choose (bytes_eq (codes "lspmux/status") method) (status_row settings before n body) (choose b (initialize_row settings before n body) (early_row settings before n body (request id method params)))) now)) (sym off)
+              (by_status none (ap is_there at) (choose false (initialize_row settings before n body) (early_row settings before n body (request id method params))) (refused id method params says none (λ new. ap (requests (codes "initialize")) says ∙ off) (early_code method)))
+            where
+              none : is_open id ids ≡ false
+              none = ap (is_open id) (subst (λ p. OpenIf (S settings n Nobody before) p (desk_of n before).initialize ids) at h)
+          go Waiting at off = by_double (is_open id ids) refl (or_status method (answer_error n body (early_code method))) (λ fresh. by_status fresh (ap is_there at) (answer_error n body (early_code method)) (refused id method params says fresh (early_old Waiting at refl) (early_code method)))
+          go Answered at off = by_double (is_open id ids) refl (or_status method (served_request settings before n body method)) (λ fresh. by_status fresh (ap is_there at) (served_request settings before n body method) (late_request fresh (ap is_there at) (ap is_early at)))
+          go Running at off = by_double (is_open id ids) refl (or_status method (served_request settings before n body method)) (λ fresh. by_status fresh (ap is_there at) (served_request settings before n body method) (late_request fresh (ap is_there at) (ap is_early at)))
+          go Down at off = by_double (is_open id ids) refl (or_status method (answer_error n body (wrong_code method invalid_request))) (λ fresh. by_status fresh (ap is_there at) (answer_error n body (wrong_code method invalid_request)) (refused id method params says fresh (early_old Down at refl) (wrong_code method invalid_request)))
           go Absent at off = never (sym linked ∙ ap is_linked at)
           go Closed at off = rests_here (asked_closed Closed at (λ i m. tt))
           go Gone at off = rests_here (asked_closed Gone at (λ i m. tt))

@@ -21,6 +21,7 @@ use Rattle.mux_facts.specs.Ranges.{InRange}
 use Rattle.mux_facts.proofs.Folds.{life_more}
 use Rattle.mux_facts.proofs.Reasons.{Because, by_choose, by_nothing, by_send, by_then}
 use Rattle.mux_facts.proofs.Table.{late_taken, open_taken, there_taken}
+use Rattle.mux_facts.proofs.Waits.{late_not}
 use Rattle.mux_facts.proofs.Tellings.{sent_more}
 use Rattle.mux_facts.proofs.Why.{is_early}
 use Rattle.mux_facts.proofs.Words.{same_number}
@@ -79,7 +80,7 @@ module _ (settings : Settings) (range : InRange settings) (before : List Event) 
           id = id;
           r = word (record { from = 0; to = 0 }) Null;
           there = there_taken settings before e body there;
-          late = late_taken before e body late;
+          others = λ at. absurd (late_not (desk_of e asked).phase (late_taken before e body late) at);
           waits = open_taken before e body id method params says;
           alone = alone_fewer before asked (asks_fewer before e body) e id lonely;
           says = ok_law (Some id) (word (record { from = 0; to = 0 }) Null) (id_bytes body) (codes "null") (id_as_response id (id_bytes body) (request_id_bytes body id method params says)) null_value (omega arith);

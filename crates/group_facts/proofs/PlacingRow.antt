@@ -17,7 +17,7 @@ use Rattle.event_model.specs.Requests.{next_number}
 use Rattle.event_model.specs.Row.{Row, nothing, on, outs}
 use Rattle.event_model.specs.Settings.{Settings}
 use Rattle.event_model.specs.Spawns.{start_of}
-use Rattle.event_model.specs.Stages.{Life, life_of}
+use Rattle.event_model.specs.Stages.{Life, is_ready, life_of}
 use Rattle.event_model.proofs.Frames.{never}
 use Rattle.mux_facts.specs.Ranges.{InRange}
 use Rattle.mux_facts.proofs.Bodies.{refusal_says, welcome_says}
@@ -37,9 +37,11 @@ use Rattle.group_words.proofs.Frames.{changed_length, groups_more, groups_stay}
 use Rattle.mux_facts.proofs.Keeps.{behind_nothing}
 use Rattle.group_words.specs.Rows.{answer_with, end_group, end_start, initialize_row, placed_row}
 use Rattle.group_rows.specs.Forwarded.{forwarding_of}
-use Rattle.group_facts.specs.Facts.{Bounded, IsPlain, IsWaiting, Plain, is_parting, turned_away}
+use Rattle.group_facts.specs.Lively.{IsDying, lives_at}
+use Rattle.group_facts.proofs.LiveGroups.{IsFair, over_at, placed_fair}
+use Rattle.group_facts.specs.Facts.{Bounded, IsPlain, IsWaiting, Plain, is_parting, is_up, turned_away}
 use Rattle.group_facts.proofs.RequestRow.{R, asked, desk_taken, either_desk}
-use Rattle.group_facts.specs.Why.{is_starting, shuts, turns_away, welcomes}
+use Rattle.group_facts.specs.Why.{is_starting, shuts, starting, turns_away, welcomes}
 
 -- a new group is the next one
 abbrev pub IsNext : ℕ → Placed → Type 0
@@ -61,6 +63,10 @@ placed_next limit key declared groups = go (first_from 0 (takes key declared) gr
     go : (o : Option ℕ) → IsNext (length groups) (joining o (founding limit groups))
     go (Some g) = tt
     go None = founded_next limit groups
+
+ready_up : (stage : Stage) → is_ready stage ≡ true → is_up stage ≡ true
+ready_up Ready h = refl
+ready_up other h = never (sym h)
 
 -- the daemon's own `shutdown`
 shutdown_says : (n : ℕ) → n < 2 ^ 128 → message_of (request_text n (codes "shutdown") None) ≡ request (integer (decimal n)) (codes "shutdown") None
@@ -100,8 +106,8 @@ module _ (settings : Settings) (range : InRange settings) (before : List Event) 
   }))
 
   -- end(g), of an idle group
-  shuts_down : Bounded settings before → (s : ℕ) (stage : Stage) → (life_of s now).stage ≡ stage → Mine (end_start s stage)
-  shuts_down bounded s Ready at = by_look (by_send (shuts (record { ready = at; stays = refl; place = refl; says = shutdown_says (next_number s now) low })))
+  shuts_down : Bounded settings before → (s : ℕ) (stage : Stage) → IsDying settings now s → (life_of s now).stage ≡ stage → Mine (end_start s stage)
+  shuts_down bounded s Ready dying at = by_look (by_send (shuts (record { ready = at; stays = refl; place = refl; dying = dying; says = shutdown_says (next_number s now) low })))
     where
       stood : (life_of s before).stage ≡ Ready
       stood = sym (ap (λ (l : Life). l.stage) (life_more s before (heard (FromEditor e body)))) ∙ at
@@ -113,15 +119,12 @@ module _ (settings : Settings) (range : InRange settings) (before : List Event) 
           let second : (forwarding_of s before).next ≤ settings.limits.requests + 2 = b.1 in
           let wide : settings.limits.requests < 2 ^ 32 = range.requests in
           omega (arith, same, first, second, wide)
-  shuts_down bounded s Spawning at = by_send (ap is_starting at)
-  shuts_down bounded s Initializing at = by_send (ap is_starting at)
-  shuts_down bounded s Unspawned at = by_nothing
-  shuts_down bounded s Stopping at = by_nothing
-  shuts_down bounded s Ending at = by_nothing
-  shuts_down bounded s Ended at = by_nothing
-
-  evicts : Bounded settings before → (g : ℕ) → Mine (end_group g)
-  evicts bounded g = by_look (by_on (λ none. by_nothing) (λ s start. shuts_down bounded s (life_of s now).stage refl))
+  shuts_down bounded s Spawning dying at = by_send (starting (ap is_starting at) dying)
+  shuts_down bounded s Initializing dying at = by_send (starting (ap is_starting at) dying)
+  shuts_down bounded s Unspawned dying at = by_nothing
+  shuts_down bounded s Stopping dying at = by_nothing
+  shuts_down bounded s Ending dying at = by_nothing
+  shuts_down bounded s Ended dying at = by_nothing
 
   -- a group that is founded is kept
   abbrev placed : Placed
@@ -138,6 +141,14 @@ module _ (settings : Settings) (range : InRange settings) (before : List Event) 
 
   next : IsNext (length (groups_of settings before)) placed
   next = placed_next settings.limits.groups key declared (groups_of settings before)
+
+  -- the evicted group lives no more
+  evicted_over : (a g : ℕ) → placed ≡ Evicts a g → lives_at a (groups_of settings now) ≡ false
+  evicted_over a g at = ap (lives_at a) (groups_now ∙ ap (λ p. with_editor p key declared (groups_of settings before)) at)
+      ∙ over_at a (groups_of settings before) (founded key declared) (subst (IsFair (groups_of settings before)) at (placed_fair settings.limits.groups key declared (groups_of settings before))).0
+
+  evicts : Bounded settings before → (a g : ℕ) → placed ≡ Evicts a g → Mine (end_group a)
+  evicts bounded a g at = by_look (by_on (λ none. by_nothing) (λ s start. shuts_down bounded s (life_of s now).stage (record { group = a; last = start; over = evicted_over a g at }) refl))
 
   founds_kept : (g : ℕ) → placed ≡ Founds g → g < length (groups_of settings now)
   founds_kept g at =
@@ -182,9 +193,9 @@ module _ (settings : Settings) (range : InRange settings) (before : List Event) 
         (by_send (or_first (turned_away settings before (FromEditor e body) e) (nat_eq e e && is_parting before e (message_of body)) turned, there_still))
 
   placed_why : Plain before → Bounded settings before → (p : Placed) → placed_for settings before e body (groups_of settings before) ≡ p → Mine (placed_row e body before p)
-  placed_why plain bounded (Joins g) at = by_on (λ none. by_nothing) (λ s start. by_choose (λ ready. by_on (λ none. by_nothing) (λ given found. joins plain s given (plain.whole s given found))) (λ no. by_nothing))
+  placed_why plain bounded (Joins g) at = by_on (λ none. by_nothing) (λ s start. by_choose (λ ready. by_on (λ none. by_nothing) (λ given found. joins plain s given (plain.whole s given (ready_up (life_of s before).stage ready) found))) (λ no. by_nothing))
   placed_why plain bounded (Founds g) at = by_look (by_send (refl, founds_kept g at))
-  placed_why plain bounded (Evicts a g) at = by_then (evicts bounded a) (by_look (by_send (refl, subst (λ z. g < length z) (sym (evicted_groups (start_of a now))) (evicts_kept a g at))))
+  placed_why plain bounded (Evicts a g) at = by_then (evicts bounded a g at) (by_look (by_send (refl, subst (λ z. g < length z) (sym (evicted_groups (start_of a now))) (evicts_kept a g at))))
   placed_why plain bounded TooMany at = turn at
 
   -- the whole row

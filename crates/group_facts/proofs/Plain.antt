@@ -1,4 +1,4 @@
--- Editors are shown all of the result that a start gave, and one that is ready gave one.
+-- Editors are shown all of the result that a start gave which isn't to end, and one that is ready gave one.
 use Rattle.std.proofs.Common.{◌≡◌, ℕ, Bool, true, false, List, [], ◌∷◌, ◌++◌, nat_eq, is_some, if◌then◌else◌, Option, Some, None, refl, sym, ◌∙◌, ap, subst, codes}
 use Rattle.std.proofs.lemmas.List.Sums.{fold-append}
 use Rattle.mux_history.specs.declared.cause.Cause.{Cause}
@@ -18,7 +18,8 @@ use Rattle.mux_facts.proofs.Words.{number_same}
 use Rattle.group_words.specs.Rows.{result_behind, result_of}
 use Rattle.group_rows.specs.Forwarded.{Forwarded, forwarding_of}
 use Rattle.group_facts.specs.Built.{built_behind, built_from_server}
-use Rattle.group_facts.specs.Facts.{IsPlain, Plain}
+use Rattle.group_facts.specs.Facts.{IsPlain, Plain, is_up}
+use Rattle.group_facts.proofs.Levels.{Fresh, falls_back, up_falls}
 use Rattle.group_facts.proofs.Table.{shown_whole}
 
 result_more : (s : ℕ) (events : List Event) (event : Event) → result_of s (events ++ event ∷ []) ≡ result_behind s (result_of s events) event
@@ -88,9 +89,13 @@ gave s n life body m None f h = go (nat_eq n s) h
 by_life : (s : ℕ) (events : List Event) (event : Event) → is_ready (life_of s (events ++ event ∷ [])).stage ≡ true → is_ready (life_behind s (life_of s events) event).stage ≡ true
 by_life s events event h = sym (ap (λ (l : Life). is_ready l.stage) (life_more s events event)) ∙ h
 
-quiet_more : (events : List Event) (event : Event) → is_heard event ≡ false → Plain events → Plain (events ++ event ∷ [])
-quiet_more events event quietly h = record {
-  whole = λ s body e. h.whole s body (sym (result_more s events event ∙ quiet s (result_of s events) event quietly) ∙ e);
+-- one that isn't to end behind an event wasn't before it
+was_up : (s : ℕ) (events : List Event) (event : Event) → Fresh is_up up_falls s (life_of s events) event → is_up (life_of s (events ++ event ∷ [])).stage ≡ true → is_up (life_of s events).stage ≡ true
+was_up s events event fresh up = falls_back is_up up_falls s (life_of s events) event fresh (sym (ap (λ (l : Life). is_up l.stage) (life_more s events event)) ∙ up)
+
+quiet_more : (events : List Event) (event : Event) → is_heard event ≡ false → ((s : ℕ) → Fresh is_up up_falls s (life_of s events) event) → Plain events → Plain (events ++ event ∷ [])
+quiet_more events event quietly fresh h = record {
+  whole = λ s body up e. h.whole s body (was_up s events event (fresh s) up) (sym (result_more s events event ∙ quiet s (result_of s events) event quietly) ∙ e);
   given = λ s ready. ap is_some (result_more s events event) ∙ kept s (result_of s events) event (h.given s (was_ready s (life_of s events) event quietly (by_life s events event ready)));
 }
 
@@ -102,26 +107,30 @@ module _ (settings : Settings) (events : List Event) (n : ℕ) (body : List ℕ)
   abbrev fs : List Forwarded
   fs = (forwarding_of n events).open_requests
 
-  fresh_first : (stage : Stage) → (life_of n events).stage ≡ stage → built_from_server stage fs body (message_of body) ≡ true → result_of n events ≡ None → is_first_result (message_of body) ≡ true → IsPlain body
-  fresh_first Initializing at fine none first = let k : FirstResult (message_of body) = first_result_is (message_of body) first in record { id = Some (integer (codes "1")); r = k.r; says = k.is; whole = shown_whole (message_of body) body fine first }
-  fresh_first Ready at fine none first = never (sym (sym (ap is_some none) ∙ h.given n (ap is_ready at)))
-  fresh_first Stopping at fine none first = let k : FirstResult (message_of body) = first_result_is (message_of body) first in absurd (let late : built_from_server Stopping fs body (message_of body) ≡ true = fine in let no : false ≡ true = sym (ap (built_from_server Stopping fs body) k.is) ∙ late in cc)
-  fresh_first Ending at fine none first = let k : FirstResult (message_of body) = first_result_is (message_of body) first in absurd (let late : built_from_server Ending fs body (message_of body) ≡ true = fine in let no : false ≡ true = sym (ap (built_from_server Ending fs body) k.is) ∙ late in cc)
-  fresh_first Unspawned at fine none first = let k : FirstResult (message_of body) = first_result_is (message_of body) first in absurd (let no : false ≡ true = sym (ap (built_from_server Unspawned fs body) k.is) ∙ fine in cc)
-  fresh_first Spawning at fine none first = let k : FirstResult (message_of body) = first_result_is (message_of body) first in absurd (let no : false ≡ true = sym (ap (built_from_server Spawning fs body) k.is) ∙ fine in cc)
-  fresh_first Ended at fine none first = let k : FirstResult (message_of body) = first_result_is (message_of body) first in absurd (let no : false ≡ true = sym (ap (built_from_server Ended fs body) k.is) ∙ fine in cc)
+  fresh_first : (stage : Stage) → (life_of n events).stage ≡ stage → is_up stage ≡ true → built_from_server stage fs body (message_of body) ≡ true → result_of n events ≡ None → is_first_result (message_of body) ≡ true → IsPlain body
+  fresh_first Initializing at up fine none first = let k : FirstResult (message_of body) = first_result_is (message_of body) first in record { id = Some (integer (codes "1")); r = k.r; says = k.is; whole = shown_whole (message_of body) body fine first }
+  fresh_first Ready at up fine none first = never (sym (sym (ap is_some none) ∙ h.given n (ap is_ready at)))
+  fresh_first Stopping at up fine none first = never (sym up)
+  fresh_first Ending at up fine none first = never (sym up)
+  fresh_first Ended at up fine none first = never (sym up)
+  fresh_first Unspawned at up fine none first = let k : FirstResult (message_of body) = first_result_is (message_of body) first in absurd (let no : false ≡ true = sym (ap (built_from_server Unspawned fs body) k.is) ∙ fine in cc)
+  fresh_first Spawning at up fine none first = let k : FirstResult (message_of body) = first_result_is (message_of body) first in absurd (let no : false ≡ true = sym (ap (built_from_server Spawning fs body) k.is) ∙ fine in cc)
 
-  heard_whole : (s : ℕ) (b : List ℕ) → result_of s (with_cause events (FromServer n body)) ≡ Some b → IsPlain b
-  heard_whole s b e = go (result_of s events) refl (sym (result_more s events (heard (FromServer n body))) ∙ e)
+  heard_whole : (s : ℕ) (b : List ℕ) → is_up (life_of s (with_cause events (FromServer n body))).stage ≡ true → result_of s (with_cause events (FromServer n body)) ≡ Some b → IsPlain b
+  heard_whole s b after e = go (result_of s events) refl (sym (result_more s events (heard (FromServer n body))) ∙ e)
     where
+      up : is_up (life_of s events).stage ≡ true
+      up = was_up s events (heard (FromServer n body)) tt after
+
       first_given : (c d : Bool) → nat_eq n s ≡ c → is_first_result (message_of body) ≡ d → result_of s events ≡ None → (if c then (if d then Some body else None) else None) ≡ Some b → IsPlain b
-      first_given true true same first none k = subst IsPlain (the_body k) (fresh_first (life_of n events).stage refl built (ap (λ i. result_of i events) (number_same n s same) ∙ none) first)
+      first_given true true same first none k = let is : n ≡ s = number_same n s same in
+          subst IsPlain (the_body k) (fresh_first (life_of n events).stage refl (ap (λ i. is_up (life_of i events).stage) is ∙ up) built (ap (λ i. result_of i events) is ∙ none) first)
       first_given true false same first none k = absurd (cc)
       first_given false d same first none k = absurd (cc)
 
       go : (x : Option (List ℕ)) → result_of s events ≡ x → result_behind s x (heard (FromServer n body)) ≡ Some b → IsPlain b
       go None at k = first_given (nat_eq n s) (is_first_result (message_of body)) refl refl at k
-      go (Some c) at k = h.whole s b (at ∙ k)
+      go (Some c) at k = h.whole s b up (at ∙ k)
 
   heard_given : (s : ℕ) → is_ready (life_of s (with_cause events (FromServer n body))).stage ≡ true → is_some (result_of s (with_cause events (FromServer n body))) ≡ true
   heard_given s ready = ap is_some (result_more s events (heard (FromServer n body)))
@@ -132,14 +141,14 @@ module _ (settings : Settings) (events : List Event) (n : ℕ) (body : List ℕ)
 
 pub plain_took : (settings : Settings) (events : List Event) (cause : Cause) → built_behind settings events cause ≡ true → Plain events → Plain (with_cause events cause)
 plain_took settings events (FromServer n body) built h = heard_plain settings events n body built h
-plain_took settings events cause built h = quiet_more events (heard cause) refl h
+plain_took settings events cause built h = quiet_more events (heard cause) refl (λ s. tt) h
 
-pub plain_did : (events : List Event) (out : Out) → Plain events → Plain (events ++ said out ∷ [])
-plain_did events out h = quiet_more events (said out) (silent out) h
+pub plain_did : (events : List Event) (out : Out) → ((s : ℕ) → Fresh is_up up_falls s (life_of s events) (said out)) → Plain events → Plain (events ++ said out ∷ [])
+plain_did events out fresh h = quiet_more events (said out) (silent out) fresh h
   where
     silent : (out : Out) → is_heard (said out) ≡ false
     silent (ToEditor e body) = refl
     silent other = refl
 
 pub plain_none : Plain []
-plain_none = record { whole = λ s body e. cc; given = λ s ready. never (sym ready) }
+plain_none = record { whole = λ s body up e. cc; given = λ s ready. never (sym ready) }

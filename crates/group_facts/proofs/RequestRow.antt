@@ -6,14 +6,16 @@ use Rattle.json_text.specs.Json.{Json}
 use Rattle.document_model.specs.Opens.{Open}
 use Rattle.mux_history.specs.declared.cause.Cause.TheVariants.{FromEditor}
 use Rattle.mux_history.specs.declared.out.Out.{Out}
-use Rattle.rpc_message.specs.Message.{request, Id, integer, message_of, id_bytes}
-use Rattle.rpc_message.specs.Texts.{Code, with_id_text, request_failed, error_tree}
+use Rattle.rpc_message.specs.Message.{Message, request, result, Id, integer, message_of, id_bytes}
+use Rattle.rpc_message.specs.Texts.{Code, ok_text, with_id_text, request_failed, error_tree}
 use Rattle.rpc_message.proofs.Decimals.{decimal_law}
+use Rattle.rpc_message.proofs.Fixed.{id_as_response, ok_law}
 use Rattle.rpc_message.proofs.Ids.{request_with_id, request_id_bytes}
-use Rattle.event_model.specs.declared.phase.Phase.TheVariants.{New, Waiting}
-use Rattle.event_model.specs.Event.{Event, heard, same_id, behind, with_cause}
-use Rattle.event_model.specs.Phases.{Desk, desk_of, desk_hears, has_id, is_there}
-use Rattle.event_model.specs.Requests.{is_open, is_own, open_of}
+use Rattle.event_model.specs.declared.phase.Phase.{Phase}
+use Rattle.event_model.specs.declared.phase.Phase.TheVariants.{Absent, New, Waiting, Answered, Running, Down, Closed, Gone}
+use Rattle.event_model.specs.Event.{Event, heard, requests, same_id, behind, with_cause}
+use Rattle.event_model.specs.Phases.{Desk, desk_of, desk_hears, has_id, is_there, makes_running}
+use Rattle.event_model.specs.Requests.{is_open, is_own, open_of, with_request}
 use Rattle.event_model.specs.Row.{on, outs, ◌⨾◌}
 use Rattle.event_model.specs.Settings.{Settings}
 use Rattle.event_model.specs.Spawns.{start_of}
@@ -23,14 +25,17 @@ use Rattle.mux_model.specs.Documents.{held_at}
 use Rattle.mux_model.proofs.DocumentFolds.{outs_to_start}
 use Rattle.mux_facts.specs.Ranges.{InRange}
 use Rattle.mux_facts.proofs.Bodies.{refusal_says}
-use Rattle.mux_facts.proofs.Folds.{desk_more}
+use Rattle.mux_facts.proofs.Asked.{hears_open}
+use Rattle.mux_facts.proofs.Folds.{desk_more, opens_more}
 use Rattle.mux_facts.proofs.Reasons.{Because, by_send, by_then, by_choose, by_look, by_on}
 use Rattle.mux_facts.proofs.Table.{late_taken, open_taken, there_taken}
 use Rattle.mux_facts.proofs.Waits.{AllWaiting, Waits, late_not, waits_at}
 use Rattle.mux_facts.proofs.Why.{is_early}
 use Rattle.mux_facts.proofs.Words.{id_same, same_number}
 use Rattle.group_rows.specs.Forwarded.{Forwarding, forwarding_of, sender_of}
-use Rattle.group_rows.specs.Rows.{answer_error, can_ask, forward, request_at, request_row, sync_bodies, sync_row}
+use Rattle.group_rows.specs.Rows.{answer_error, can_ask, forward, request_at, request_row, status_row, sync_bodies, sync_row}
+use Rattle.group_rows.specs.Status.{items_of, status_text}
+use Rattle.group_rows.proofs.Statuses.{status_deep, status_value, told_tree}
 use Rattle.group_rows.specs.Texts.{texts_of}
 use Rattle.group_facts.specs.Facts.{IsAlone, Opened}
 use Rattle.group_facts.proofs.Apart.{asks_fewer}
@@ -38,7 +43,7 @@ use Rattle.group_facts.proofs.DocumentRow.{calm_now, held_still}
 use Rattle.group_facts.proofs.Forwards.{alone_fewer, forwarding_more}
 use Rattle.group_facts.proofs.SharedRows.{AllTold, Held, sync_told}
 use Rattle.group_facts.proofs.Tellings.{Calm, tells_row}
-use Rattle.group_facts.specs.Why.{IsForward, Why, forwarded, refuses}
+use Rattle.group_facts.specs.Why.{IsBeside, IsForward, Why, answers, forwarded, refuses}
 
 -- a request that is neither `initialize` nor `shutdown` is no one of the daemon's own
 turned_round : (a b : List ℕ) → bytes_eq b a ≡ false → bytes_eq a b ≡ false
@@ -53,6 +58,40 @@ not_own method a b = ap₂ (λ x y. x || y) (turned_round method (codes "initial
 
 abbrev pub either_desk : Bool → Desk → Desk → Desk
 either_desk b x y = if b then x else y
+
+-- E5: the answer is a result
+pub status_said : (settings : Settings) (before : List Event) (body : List ℕ) (id : Id) (method : List ℕ) (params : Option Json) → message_of body ≡ request id method params
+    → message_of (ok_text (id_bytes body) (status_text (items_of settings before))) ≡ result (Some id) (told_tree (items_of settings before))
+status_said settings before body id method params says = ok_law (Some id) (told_tree (items_of settings before)) (id_bytes body) (status_text (items_of settings before))
+    (id_as_response id (id_bytes body) (request_id_bytes body id method params says)) (status_value (items_of settings before)) (status_deep (items_of settings before))
+
+-- an id that isn't that of the `initialize` of an editor that waits
+pub beside_other : (events : List Event) (e : ℕ) (id : Id) → IsBeside events e id → has_id id (message_of (desk_of e events).initialize) ≡ false
+beside_other events e id k = ap (has_id id) (k.waiting).asks ∙ k.other
+
+-- an editor that waits behind a message which isn't its first `initialize` waited before
+hears_waiting : (phase : Phase) (initialize body : List ℕ) (m : Message) → requests (codes "initialize") m ≡ false → (desk_hears phase initialize body m).phase ≡ Waiting → phase ≡ Waiting
+hears_waiting Waiting initialize body m other at = refl
+hears_waiting New initialize body m other at = go (requests (codes "initialize") m) other at
+  where
+    go : (b : Bool) → b ≡ false → (either_desk b (record { phase = Waiting; initialize = body }) (record { phase = New; initialize = initialize })).phase ≡ Waiting → New ≡ Waiting
+    go true h k = absurd (cc)
+    go false h k = k
+hears_waiting Answered initialize body m other at = go (requests (codes "shutdown") m) (makes_running m) at
+  where
+    go : (a b : Bool) → (if a then Down else if b then Running else Answered) ≡ Waiting → Answered ≡ Waiting
+    go true b k = absurd (cc)
+    go false true k = absurd (cc)
+    go false false k = absurd (cc)
+hears_waiting Running initialize body m other at = go (requests (codes "shutdown") m) at
+  where
+    go : (a : Bool) → (if a then Down else Running) ≡ Waiting → Running ≡ Waiting
+    go true k = absurd (cc)
+    go false k = absurd (cc)
+hears_waiting Absent initialize body m other at = absurd (cc)
+hears_waiting Down initialize body m other at = absurd (cc)
+hears_waiting Closed initialize body m other at = absurd (cc)
+hears_waiting Gone initialize body m other at = absurd (cc)
 
 module _ (settings : Settings) (before : List Event) (e : ℕ) (body : List ℕ) where
   abbrev pub asked : List Event
@@ -98,6 +137,41 @@ module _ (settings : Settings) (before : List Event) (e : ℕ) (body : List ℕ)
         apart : (b : Bool) → same_id id w.id ≡ b → b ≡ false
         apart true k = absurd (let o : is_open id (open_of e before) ≡ true = subst (λ i. is_open i (open_of e before) ≡ true) (sym (id_same id w.id k)) w.waits in cc)
         apart false k = refl
+
+    -- its own `initialize` is open under another id, where it waits
+    module _ (other : requests (codes "initialize") (message_of body) ≡ false) (fresh : (desk_of e before).phase ≡ Waiting → is_open id (open_of e before) ≡ false) (waiting : AllWaiting before) where
+      waited : (desk_of e asked).phase ≡ Waiting → (desk_of e before).phase ≡ Waiting
+      waited at = hears_waiting (desk_of e before).phase (desk_of e before).initialize body (message_of body) other (ap (λ (d : Desk). d.phase) (sym desk_taken) ∙ at)
+
+      pub beside : (desk_of e asked).phase ≡ Waiting → IsBeside asked e id
+      beside at = record {
+        first = w.id;
+        waiting = record { params = w.params; phase = at; asks = ap (λ (d : Desk). message_of d.initialize) (desk_taken ∙ ap (λ p. desk_hears p (desk_of e before).initialize body (message_of body)) (waited at)) ∙ w.asks; waits = still_waits };
+        other = apart (same_id id w.id) refl;
+      }
+        where
+          w : Waits (desk_of e before).initialize (open_of e before)
+          w = waits_at before e (waited at) waiting
+
+          still_waits : is_open w.id (open_of e asked) ≡ true
+          still_waits = ap (is_open w.id) (opens_more e before (heard (FromEditor e body)) ∙ ap₂ (λ b m. if b then with_request m (open_of e before) else open_of e before) (same_number e) says)
+              ∙ hears_open true (request id method params) (open_of e before) w.id w.waits
+
+          apart : (b : Bool) → same_id id w.id ≡ b → b ≡ false
+          apart true k = absurd (let o : is_open id (open_of e before) ≡ true = subst (λ i. is_open i (open_of e before) ≡ true) (sym (id_same id w.id k)) w.waits in let f : is_open id (open_of e before) ≡ false = fresh (waited at) in cc)
+          apart false k = refl
+
+      -- E5
+      pub status_why : Because R asked (status_row settings before e body)
+      status_why = by_send (answers (record {
+        id = id;
+        r = told_tree (items_of settings before);
+        there = there_taken settings before e body there;
+        others = beside;
+        waits = open_taken before e body id method params says;
+        alone = alone;
+        says = status_said settings before body id method params says;
+      }))
 
     -- behind the answer to `initialize`
     pub late_refused : (code : Code) → is_early (desk_of e before).phase ≡ false → Because R asked (answer_error e body code)

@@ -8,7 +8,6 @@ use Rattle.event_model.specs.Event.{Event, said, behind, with_cause, events_of}
 use Rattle.event_model.specs.Phases.{desk_of, is_there}
 use Rattle.event_model.specs.Settings.{Settings}
 use Rattle.event_model.specs.Spawns.{starts_of}
-use Rattle.event_model.specs.Stages.{life_of}
 use Rattle.mux_model.specs.Fits.{fits_behind}
 use Rattle.mux_facts.specs.Ranges.{InRange}
 use Rattle.mux_facts.proofs.Keeps.{events_more}
@@ -18,7 +17,7 @@ use Rattle.group_rows.specs.Rows.{outs_of}
 use Rattle.group_facts.specs.Built.{built_behind}
 use Rattle.group_facts.specs.Facts.{ends_link}
 use Rattle.group_facts.specs.Legal.{Legal, LegalFrom}
-use Rattle.group_facts.specs.Why.{Why, WhyToEditor, WhyToServer, is_starting}
+use Rattle.group_facts.specs.Why.{Why, WhyEnd, WhyToEditor, WhyToServer}
 use Rattle.group_facts.proofs.Facts.{Facts, Mid}
 use Rattle.group_facts.proofs.Known.{Here, entry_keeps, here_did, here_took, no_facts}
 use Rattle.group_facts.proofs.Table.{reasons}
@@ -32,7 +31,7 @@ pub record RestLaw (settings : Settings) (I : List Event → Type 0) (M : List E
       → M before cause (events ++ said (ToServer s body) ∷ [])
   pub close : (before : List Event) (cause : Cause) (events : List Event) (e : ℕ) → ends_link settings before cause e ≡ true → is_there (desk_of e events).phase ≡ true → Facts settings before → Mid settings before cause events → I before → M before cause events
       → M before cause (events ++ said (CloseEditor e) ∷ [])
-  pub end : (before : List Event) (cause : Cause) (events : List Event) (s : ℕ) → is_starting (life_of s events).stage ≡ true → Facts settings before → Mid settings before cause events → I before → M before cause events → M before cause (events ++ said (EndServer s) ∷ [])
+  pub end : (before : List Event) (cause : Cause) (events : List Event) (s : ℕ) → WhyEnd settings events s → Facts settings before → Mid settings before cause events → I before → M before cause events → M before cause (events ++ said (EndServer s) ∷ [])
   pub spawn : (before : List Event) (cause : Cause) (events : List Event) (g : ℕ) → g < length (groups_of settings events) → Facts settings before → Mid settings before cause events → I before → M before cause events
       → M before cause (events ++ said (Spawn (starts_of events) g) ∷ [])
   pub rest : (before : List Event) (cause : Cause) → fits_behind before cause ≡ true → Facts settings before → I before → M before cause (behind (with_cause before cause) (outs_of settings before cause)) → I (behind (with_cause before cause) (outs_of settings before cause))

@@ -154,6 +154,29 @@ module _ (settings : Settings) (e : ℕ) (id : Id) where
   pub sent_drained : (events : List Event) (n bytes : ℕ) → SentAt settings events e id → SentAt settings (with_cause events (Drained n bytes)) e id
   sent_drained events n bytes k = sent_more events (heard (Drained n bytes)) (λ g at. home_stays settings e events (heard (Drained n bytes)) refl ∙ at) (λ g s at. at) (λ s h. h) k
 
+  -- the end of another start
+  forgets : (b : Bool) (x : Forwarding) → b ≡ false → Among x.open_requests → Among (if b then no_forwarding else record { sender = None; next = x.next; open_requests = x.open_requests }).open_requests
+  forgets true x other h = absurd (cc)
+  forgets false x other h = h
+
+  pub sent_failed : (events : List Event) (n : ℕ) (k : SentAt settings events e id) → nat_eq n k.start ≡ false → SentAt settings (with_cause events (StartFailed n)) e id
+  sent_failed events n k other = record {
+    group = k.group;
+    start = k.start;
+    home = home_stays settings e events (heard (StartFailed n)) refl ∙ k.home;
+    last = start_more k.group events (heard (StartFailed n)) ∙ k.last;
+    among = subst (λ (x : Forwarding). Among x.open_requests) (sym (forwarding_more k.start events (heard (StartFailed n)))) (forgets (nat_eq n k.start) (forwarding_of k.start events) other k.among);
+  }
+
+  pub sent_ended : (events : List Event) (n : ℕ) (k : SentAt settings events e id) → nat_eq n k.start ≡ false → SentAt settings (with_cause events (ServerGone n)) e id
+  sent_ended events n k other = record {
+    group = k.group;
+    start = k.start;
+    home = home_stays settings e events (heard (ServerGone n)) refl ∙ k.home;
+    last = start_more k.group events (heard (ServerGone n)) ∙ k.last;
+    among = subst (λ (x : Forwarding). Among x.open_requests) (sym (forwarding_more k.start events (heard (ServerGone n)))) (forgets (nat_eq n k.start) (forwarding_of k.start events) other k.among);
+  }
+
   pub sent_gone : (events : List Event) (n : ℕ) (why : link.Why) → nat_eq n e ≡ false → SentAt settings events e id → SentAt settings (with_cause events (EditorGone n why)) e id
   sent_gone events n why other k = sent_more events (heard (EditorGone n why)) (λ g at. home_more settings e events (heard (EditorGone n why)) ∙ ap (λ b. if b then None else home_of settings e events) other ∙ at) (λ g s at. at) (λ s h. h) k
 
@@ -168,7 +191,7 @@ module _ (settings : Settings) (e : ℕ) (id : Id) where
   abbrev unanswered : List ℕ → List Forwarded → List Forwarded
   unanswered body fs = filter (λ f. not (answered_by (answered_id (message_of body)) f)) fs
 
-  pub sent_answered : (events : List Event) (n : ℕ) (body : List ℕ) → SentAt settings events e id → SentAt settings (with_cause events (FromServer n body)) e id ⊎ Passed events n body
+  pub sent_answered : (events : List Event) (n : ℕ) (body : List ℕ) → (k : SentAt settings events e id) → SentAt settings (with_cause events (FromServer n body)) e id ⊎ ((n ≡ k.start) × Passed events n body)
   sent_answered events n body k = go (nat_eq n k.start) refl
     where
       made : Among (forwarding_behind k.start (forwarding_of k.start events) (heard (FromServer n body))).open_requests → SentAt settings (with_cause events (FromServer n body)) e id
@@ -183,11 +206,11 @@ module _ (settings : Settings) (e : ℕ) (id : Id) where
       with_rest : (b : Bool) → nat_eq n k.start ≡ b → Among (if b then unanswered body (forwarding_of k.start events).open_requests else (forwarding_of k.start events).open_requests) → SentAt settings (with_cause events (FromServer n body)) e id
       with_rest b same h = made (subst (λ c. Among (if c then unanswered body (forwarding_of k.start events).open_requests else (forwarding_of k.start events).open_requests)) (sym same) h)
 
-      split : nat_eq n k.start ≡ true → Among (unanswered body (forwarding_of k.start events).open_requests) ⊎ OneOf (λ (f : Forwarded). IsOf e id f × (answered_by (answered_id (message_of body)) f ≡ true)) (forwarding_of k.start events).open_requests → SentAt settings (with_cause events (FromServer n body)) e id ⊎ Passed events n body
+      split : nat_eq n k.start ≡ true → Among (unanswered body (forwarding_of k.start events).open_requests) ⊎ OneOf (λ (f : Forwarded). IsOf e id f × (answered_by (answered_id (message_of body)) f ≡ true)) (forwarding_of k.start events).open_requests → SentAt settings (with_cause events (FromServer n body)) e id ⊎ ((n ≡ k.start) × Passed events n body)
       split same (inl h) = inl (with_rest true same h)
-      split same (inr h) = inr (subst (λ s. OneOf (λ (f : Forwarded). IsOf e id f × (answered_by (answered_id (message_of body)) f ≡ true)) (forwarding_of s events).open_requests) (sym (number_same n k.start same)) h)
+      split same (inr h) = inr (number_same n k.start same, subst (λ s. OneOf (λ (f : Forwarded). IsOf e id f × (answered_by (answered_id (message_of body)) f ≡ true)) (forwarding_of s events).open_requests) (sym (number_same n k.start same)) h)
 
-      go : (b : Bool) → nat_eq n k.start ≡ b → SentAt settings (with_cause events (FromServer n body)) e id ⊎ Passed events n body
+      go : (b : Bool) → nat_eq n k.start ≡ b → SentAt settings (with_cause events (FromServer n body)) e id ⊎ ((n ≡ k.start) × Passed events n body)
       go true same = split same (one_without (IsOf e id) (answered_by (answered_id (message_of body))) (forwarding_of k.start events).open_requests k.among)
       go false other = inl (with_rest false other k.among)
 
@@ -288,7 +311,7 @@ module _ (P : Forwarded → Type 0) (id : Option Id) (next : ℕ) (limit : next 
       go true h k = absurd (none_above f.number (small f fs r.1) h fs (f.number + 1) (omega arith) r.1 q)
       go false h k = record { first = k.first; found = ap (λ b. cond b (Some f) (find (answered_by id) fs)) h ∙ k.found; holds = k.holds }
 
-  -- the number 1 is none of theirs
-  pub none_first : id ≡ Some (integer (codes "1")) → (fs : List Forwarded) → Rising 2 next fs → OneOf Hit fs → ⊥
-  unfolding digits
-  none_first is fs r k = none_above 1 (omega arith) (ap (λ i. names i 1) is) fs 2 (omega arith) r k
+-- below 2 there is none
+pub none_sent : (Q : Forwarded → Type 0) (fs : List Forwarded) → Rising 2 2 fs → OneOf Q fs → ⊥
+none_sent Q [] r k = k
+none_sent Q (f ∷ fs) r k = let least : 2 ≤ f.number = r.0 in let rest : f.number + 1 ≤ 2 = below_next (f.number + 1) 2 fs r.1 in omega (arith, least, rest)

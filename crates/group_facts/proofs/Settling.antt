@@ -20,12 +20,14 @@ use Rattle.group_words.proofs.Openings.{folders_utf8}
 use Rattle.group_rows.specs.Rows.{outs_of}
 use Rattle.group_facts.specs.Built.{built_behind}
 use Rattle.group_facts.specs.Legal.{Legal, LegalFrom}
+use Rattle.group_facts.specs.Lively.{Lively}
 use Rattle.group_facts.specs.Settled.{AreUtf8, IsOnly, IsSent, Settled, is_answered}
 use Rattle.group_facts.proofs.Entries.{OpenAll, open_rests}
 use Rattle.group_facts.proofs.Begun.{Begun, begun_rests}
 use Rattle.group_facts.proofs.Facts.{Facts}
 use Rattle.group_facts.proofs.Keeping.{Keeps, all_did, all_took}
 use Rattle.group_facts.proofs.Known.{entry_keeps, no_facts}
+use Rattle.group_facts.proofs.Lively.{lively_rests, no_lively}
 use Rattle.group_facts.proofs.OwnEntry.{Nobody}
 use Rattle.group_facts.proofs.Seated.{AllPlaced, placed_rests, seat}
 use Rattle.group_facts.proofs.Sent.{SentAt, sent_is}
@@ -52,6 +54,7 @@ module _ (settings : Settings) (range : InRange settings) where
     unnamed : Unnamed settings events
     spelt : AllSpelt settings events
     begun : Begun settings events
+    lively : Lively settings events
     opens : OpenAll settings events
     placed : AllPlaced settings events
 
@@ -66,7 +69,8 @@ module _ (settings : Settings) (range : InRange settings) where
     unnamed = entry_all (Unnamed settings) (unnamed_did settings) (with_cause before cause) (outs_of settings before cause) (unnamed_took settings before cause built h.unnamed);
     spelt = entry_all (AllSpelt settings) (all_did Spelt spelt_keeps settings) (with_cause before cause) (outs_of settings before cause) (all_took Spelt spelt_keeps settings before cause built (λ e body. folders_utf8 body) h.spelt);
     begun = begun_rests settings before cause built h.begun;
-    opens = open_rests settings range before h.facts h.begun h.opens cause fits built;
+    lively = lively_rests settings range before h.facts h.begun h.lively cause fits built;
+    opens = open_rests settings range before h.facts h.begun h.lively h.opens cause fits built;
     placed = placed_rests settings before h.placed cause built;
   }
 
@@ -76,6 +80,7 @@ module _ (settings : Settings) (range : InRange settings) where
     unnamed = λ e. refl;
     spelt = tt;
     begun = λ g. (λ none. omega arith, λ le. refl);
+    lively = no_lively settings;
     opens = λ e. refl;
     placed = λ e needs. absurd (cc);
   }
@@ -104,6 +109,7 @@ module _ (settings : Settings) (range : InRange settings) where
     unnamed = h.unnamed;
     spelt = h.spelt;
     begun = h.begun;
+    lively = h.lively;
     unasked = λ e at. subst (λ p. OpenIf (S settings e Nobody events) p (desk_of e events).initialize (open_of e events)) at (h.opens e);
     waiting = λ e at. only events e h.opens at;
     sent = λ e id served still. sent_on events e id h.opens served still;

@@ -1,5 +1,5 @@
 -- The routing table over several editors and groups, walked once: each out of every row has its reason.
-use Rattle.std.proofs.Common.{◌≡◌, ℕ, true, false, ◌&&◌, ◌||◌, List, codes, bytes_eq, Option, refl, sym, ◌∙◌, ap}
+use Rattle.std.proofs.Common.{◌≡◌, ℕ, true, false, ◌&&◌, ◌||◌, List, codes, bytes_eq, Option, refl, sym, ◌∙◌, ap, not, Bool}
 use Rattle.std.proofs.lemmas.Bool.{and_parts}
 use Rattle.std.proofs.lemmas.Slice.Eq.{bytes_eq-Decides}
 use Rattle.json_text.specs.Json.{Json}
@@ -9,8 +9,9 @@ use Rattle.rpc_message.specs.Message.{Message, request, notification, result, er
 use Rattle.rpc_message.specs.Texts.{error_tree, invalid_request}
 use Rattle.event_model.specs.declared.phase.Phase.{Phase}
 use Rattle.event_model.specs.declared.phase.Phase.TheVariants.{Absent, New, Waiting, Answered, Running, Down, Closed, Gone}
-use Rattle.event_model.specs.Event.{Event, notifies, with_cause}
+use Rattle.event_model.specs.Event.{Event, notifies, requests, with_cause}
 use Rattle.event_model.specs.Phases.{desk_of, is_begun, is_malformed, is_there}
+use Rattle.event_model.specs.Requests.{is_open, open_of}
 use Rattle.event_model.specs.Row.{Row}
 use Rattle.event_model.specs.Settings.{Settings}
 use Rattle.event_model.specs.Stages.{is_first_result, life_of}
@@ -26,7 +27,7 @@ use Rattle.mux_facts.proofs.Why.{is_early}
 use Rattle.group_words.specs.Houses.{is_doubled}
 use Rattle.group_words.specs.Rows.{shown_of}
 use Rattle.group_rows.specs.Forwarded.{forwarding_of}
-use Rattle.group_rows.specs.Rows.{closing_row, down_row, early_code, early_row, exit_row, from_editor, message_row, row_of, served_request, served_row, taken_row, wrong_code}
+use Rattle.group_rows.specs.Rows.{closing_row, down_row, early_code, early_row, exit_row, from_editor, message_row, row_of, served_request, served_row, status_row, taken_row, wrong_code}
 use Rattle.group_facts.specs.Built.{built_behind, built_early, built_from_server, is_shown_whole}
 use Rattle.group_facts.specs.Facts.{IsAlone, is_parting}
 use Rattle.group_facts.proofs.AnswerRows.{server_why, start_why}
@@ -35,7 +36,7 @@ use Rattle.group_facts.proofs.DocumentRow.{document_why}
 use Rattle.group_facts.proofs.Facts.{Facts}
 use Rattle.group_facts.proofs.PartingRows.{closing_why, gone_why, or_second, shutdown_why}
 use Rattle.group_facts.proofs.PlacingRow.{initialize_why}
-use Rattle.group_facts.proofs.RequestRow.{R, asked, early_new, early_waiting, late_refused, not_own, request_why}
+use Rattle.group_facts.proofs.RequestRow.{R, asked, early_new, early_waiting, late_refused, not_own, request_why, status_why}
 use Rattle.group_facts.proofs.SharedRows.{off_first}
 use Rattle.group_facts.specs.Why.{Why, rejects}
 
@@ -111,6 +112,31 @@ module _ (settings : Settings) (range : InRange settings) (before : List Event) 
   begun_there Closed h = absurd (cc)
   begun_there Gone h = absurd (cc)
 
+  unbegun_early : (phase : Phase) → is_there phase ≡ true → is_begun phase ≡ false → is_early phase ≡ true
+  unbegun_early New there h = refl
+  unbegun_early Absent there h = refl
+  unbegun_early Waiting there h = refl
+  unbegun_early Answered there h = absurd (cc)
+  unbegun_early Running there h = absurd (cc)
+  unbegun_early Down there h = absurd (cc)
+  unbegun_early Closed there h = absurd (cc)
+  unbegun_early Gone there h = absurd (cc)
+
+  -- E5: `lspmux/status` of an editor that is there
+  told_why : (m : Message) → message_of body ≡ m → is_there (desk_of e before).phase ≡ true → requests (codes "lspmux/status") m ≡ true → (is_begun (desk_of e before).phase && is_doubled before e m) ≡ false → Mine (status_row settings before e body)
+  told_why (request id method params) says there asks single = status_why settings before e body id method params says there (lonely (is_begun (desk_of e before).phase) refl)
+      (ap (requests (codes "initialize")) says ∙ ap (bytes_eq (codes "initialize")) (sym ((bytes_eq-Decides (codes "lspmux/status") method).0 asks)))
+      (λ at. ap (λ p. is_begun p && is_open id (open_of e before)) (sym at) ∙ single) facts.waiting
+    where
+      lonely : (b : Bool) → is_begun (desk_of e before).phase ≡ b → IsAlone before e id
+      lonely true begun = alone_by before (facts.steady).asked e id (ap (λ b. b && is_open id (open_of e before)) (sym begun) ∙ single)
+      lonely false unbegun = alone_early before (facts.steady).asked e id (unbegun_early (desk_of e before).phase there unbegun)
+  told_why (notification method params) says there asks single = absurd (cc)
+  told_why (result id r) says there asks single = absurd (cc)
+  told_why (error id x) says there asks single = absurd (cc)
+  told_why not_json says there asks single = absurd (cc)
+  told_why not_message says there asks single = absurd (cc)
+
   taken_why : (phase : Phase) → (desk_of e before).phase ≡ phase → (is_begun phase && is_doubled before e (message_of body)) ≡ false → Mine (taken_row settings before e body (message_of body) phase)
   taken_why New at single = new_why (message_of body) refl at
   taken_why Waiting at single = waiting_why (message_of body) refl at single
@@ -124,7 +150,9 @@ module _ (settings : Settings) (range : InRange settings) (before : List Event) 
   message_why : (phase : Phase) → (desk_of e before).phase ≡ phase → Mine (message_row settings before e body (message_of body) phase)
   message_why phase at = by_choose
       (λ twice. let p = and_parts (is_begun phase) (is_doubled before e (message_of body)) twice in parting (ap is_there at ∙ begun_there phase p.0) (or_second (notifies (codes "exit") (message_of body)) (is_doubled before e (message_of body)) p.1))
-      (λ single. taken_why phase at single)
+      (λ single. by_choose
+      (λ asks. let p = and_parts (is_there phase) (requests (codes "lspmux/status") (message_of body)) asks in told_why (message_of body) refl (ap is_there at ∙ p.0) p.1 (ap (λ p. is_begun p && is_doubled before e (message_of body)) at ∙ single))
+      (λ other. taken_why phase at single))
 
   editor_why : Mine (from_editor settings before e body (message_of body) (desk_of e before).phase)
   editor_why = by_choose (λ malformed. rejected malformed) (λ fine. message_why (desk_of e before).phase refl)
@@ -136,7 +164,11 @@ module _ (settings : Settings) (range : InRange settings) (before : List Event) 
 
 -- what is built of a start that gave no result yet: editors are shown all of its result
 pub shown_whole : (m : Message) (body : List ℕ) → built_early body m ≡ true → is_first_result m ≡ true → shown_of (result_bytes body) ≡ result_bytes body
-shown_whole (result id r) body h first = (bytes_eq-Decides (shown_of (result_bytes body)) (result_bytes body)).0 (and_parts (is_first_result (result id r)) (is_shown_whole body) h).1
+shown_whole (result id r) body h first = (bytes_eq-Decides (shown_of (result_bytes body)) (result_bytes body)).0 (first_whole (is_first_result (result id r)) (is_shown_whole body) first h)
+  where
+    first_whole : (a b : Bool) → a ≡ true → (not a || b) ≡ true → b ≡ true
+    first_whole true b is h = h
+    first_whole false b is h = absurd (cc)
 shown_whole (error id x) body h first = absurd (cc)
 shown_whole (request id method params) body h first = absurd (cc)
 shown_whole (notification method params) body h first = absurd (cc)

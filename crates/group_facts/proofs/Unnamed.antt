@@ -20,7 +20,7 @@ use Rattle.event_model.specs.Requests.{open_of}
 use Rattle.event_model.specs.Settings.{Settings}
 use Rattle.document_model.proofs.ScalarTrees.{either_way}
 use Rattle.group_words.specs.Houses.{Meant, meant_behind, meant_of, server_named, settles}
-use Rattle.group_facts.specs.Built.{built_behind, built_from_editor, built_request, is_fresh, is_marked, is_standard}
+use Rattle.group_facts.specs.Built.{built_behind, built_from_editor, built_request, doubles, is_marked, is_standard}
 
 -- no method that is built is `lspmux/open`
 
@@ -35,12 +35,16 @@ standard_unnamed : (method : List ℕ) → is_standard (class_of method Editor f
 unfolding editor_request own_request
 standard_unnamed method h = not_named method (λ same. let k : is_standard (class_of (codes "lspmux/open") Editor false) ≡ true = subst (λ m. is_standard (class_of m Editor false) ≡ true) same h in cc)
 
-request_unnamed : (phase : Phase) (method : List ℕ) (params : Option Json) → built_request phase method params ≡ true → bytes_eq (codes "lspmux/open") method ≡ false
-request_unnamed phase method params h = go (is_new phase && bytes_eq (codes "initialize") method) refl h
+request_unnamed : (phase : Phase) (doubled : Bool) (method : List ℕ) (params : Option Json) → built_request phase doubled method params ≡ true → bytes_eq (codes "lspmux/open") method ≡ false
+request_unnamed phase doubled method params h = go (is_new phase && bytes_eq (codes "initialize") method) refl h
   where
-    go : (b : Bool) → (is_new phase && bytes_eq (codes "initialize") method) ≡ b → (b || (is_standard (class_of method Editor false) && not (is_served phase && is_marked method params))) ≡ true → bytes_eq (codes "lspmux/open") method ≡ false
+    status : (b : Bool) → bytes_eq (codes "lspmux/status") method ≡ b → (b || (is_standard (class_of method Editor false) && (doubled || not (is_served phase && is_marked method params)))) ≡ true → bytes_eq (codes "lspmux/open") method ≡ false
+    status true is k = ap (λ m. bytes_eq (codes "lspmux/open") m) (sym ((bytes_eq-Decides (codes "lspmux/status") method).0 is))
+    status false is k = standard_unnamed method (and_parts (is_standard (class_of method Editor false)) (doubled || not (is_served phase && is_marked method params)) k).0
+
+    go : (b : Bool) → (is_new phase && bytes_eq (codes "initialize") method) ≡ b → (b || (bytes_eq (codes "lspmux/status") method || (is_standard (class_of method Editor false) && (doubled || not (is_served phase && is_marked method params))))) ≡ true → bytes_eq (codes "lspmux/open") method ≡ false
     go true first k = ap (λ m. bytes_eq (codes "lspmux/open") m) (sym ((bytes_eq-Decides (codes "initialize") method).0 (and_parts (is_new phase) (bytes_eq (codes "initialize") method) first).1))
-    go false first k = standard_unnamed method (and_parts (is_standard (class_of method Editor false)) (not (is_served phase && is_marked method params)) k).0
+    go false first k = status (bytes_eq (codes "lspmux/status") method) refl k
 
 abbrev server_in : Meant → Option ℕ
 server_in x = x.server
@@ -49,7 +53,7 @@ server_in x = x.server
 settles_none : (servers : List Server) (x : Meant) (phase : Phase) (ids : List Id) (m : Message) → built_from_editor phase ids m ≡ true → x.server ≡ None → (settles servers x m).server ≡ None
 settles_none servers x phase ids (request id method params) built h =
     ap (λ b. server_in (if b then record { settled = true; server = server_named servers (string_of (named_of (codes "server") params)) } else record { settled = bytes_eq (codes "initialize") method; server = None }))
-    (request_unnamed phase method params (and_parts (is_fresh phase id ids) (built_request phase method params) built).1)
+    (request_unnamed phase (doubles phase id ids) method params built)
 settles_none servers x phase ids (notification method params) built h = h
 settles_none servers x phase ids (result id r) built h = h
 settles_none servers x phase ids (error id e) built h = h

@@ -1,6 +1,7 @@
 -- Each editor that waits has its `initialize` open, but for one that is turned away in the entry at hand.
-use Rattle.std.proofs.Common.{◌≡◌, ℕ, Bool, true, false, ◌&&◌, List, [], ◌∷◌, ◌++◌, nat_eq, codes, if◌then◌else◌, None, Some, refl, sym, ◌∙◌, ap, subst, subst₂, append_assoc}
+use Rattle.std.proofs.Common.{◌≡◌, ℕ, Bool, true, false, ◌&&◌, List, [], ◌∷◌, ◌++◌, nat_eq, codes, bytes_eq, if◌then◌else◌, None, Some, refl, sym, ◌∙◌, ap, subst, subst₂, append_assoc}
 use Rattle.std.proofs.lemmas.Bool.{and_parts}
+use Rattle.std.proofs.lemmas.Slice.Eq.{bytes_eq-Decides}
 use Rattle.json_text.specs.Json.{Json}
 use Rattle.mux_history.specs.declared.cause.Cause.{Cause}
 use Rattle.mux_history.specs.declared.cause.Cause.TheVariants.{FromEditor}
@@ -72,7 +73,7 @@ module _ (settings : Settings) (before : List Event) (cause : Cause) (events : L
   pub waiting_told : WhyToEditor settings before cause events n body → OthersWait settings before cause events → OthersWait settings before cause told
   waiting_told (rejects k) h e rest = null_told k.x k.says e (h e rest)
   waiting_told (refuses k) h e rest = refusal_told k e (h e rest)
-  waiting_told (answers k) h e rest = result_told (λ at. absurd (late_not (desk_of n events).phase k.late at)) e (h e rest)
+  waiting_told (answers k) h e rest = result_told (λ at. ap is_a_result k.says) e (h e rest)
   waiting_told (turns_away k) h e rest = by_told e (h e rest) (λ same. never (sym (ap (turned_away settings before cause) (sym same) ∙ k.turned) ∙ rest))
   waiting_told (welcomes k) h e rest = result_told (λ at. ap is_a_result k.says) e (h e rest)
   waiting_told (passes k) h e rest = result_told (λ at. absurd (late_not (desk_of n events).phase k.late at)) e (h e rest)
@@ -112,6 +113,15 @@ whole_is (error id x) h = refl
 whole_is not_json h = absurd (cc)
 whole_is not_message h = absurd (cc)
 
+-- it is no `lspmux/status`
+pub first_unasked : (m : Message) → requests (codes "initialize") m ≡ true → requests (codes "lspmux/status") m ≡ false
+first_unasked (request id method params) h = ap (bytes_eq (codes "lspmux/status")) (sym ((bytes_eq-Decides (codes "initialize") method).0 h))
+first_unasked (notification method params) h = absurd (cc)
+first_unasked (result id r) h = absurd (cc)
+first_unasked (error id x) h = absurd (cc)
+first_unasked not_json h = absurd (cc)
+first_unasked not_message h = absurd (cc)
+
 many_is : (placed : Placed) → is_too_many placed ≡ true → placed ≡ TooMany
 many_is TooMany h = refl
 many_is (Joins g) h = absurd (cc)
@@ -127,7 +137,7 @@ module _ (settings : Settings) (before : List Event) (n : ℕ) (body : List ℕ)
       let parts = and_parts (nat_eq n e) (places (desk_of n before).phase (message_of body) && is_too_many (placed_for settings before n body (groups_of settings before))) turned in
       let more = and_parts (places (desk_of n before).phase (message_of body)) (is_too_many (placed_for settings before n body (groups_of settings before))) parts.1 in
       let place = and_parts (is_new (desk_of n before).phase) (requests (codes "initialize") (message_of body)) more.0 in
-      rw (whole_is (message_of body) place.1, new_is (desk_of n before).phase place.0, place.1, many_is (placed_for settings before n body (groups_of settings before)) more.1) refl
+      rw (whole_is (message_of body) place.1, new_is (desk_of n before).phase place.0, first_unasked (message_of body) place.1, place.1, many_is (placed_for settings before n body (groups_of settings before)) more.1) refl
 
   pub turned_closed : (e : ℕ) → turned_away settings before (FromEditor n body) e ≡ true → (now : List Event) → WaitsAt (desk_of e (behind now (ToEditor n answer ∷ CloseEditor n ∷ []))) (open_of e (behind now (ToEditor n answer ∷ CloseEditor n ∷ [])))
   turned_closed e turned now = subst (λ z. WaitsAt (desk_of e z) (open_of e z)) (append_assoc now (said (ToEditor n answer) ∷ []) (said (CloseEditor n) ∷ []))

@@ -1,11 +1,12 @@
 -- Which causes meet only rows of the table over several editors and groups that are built, until all are.
--- Not built of an editor: requests under an id that is open (E3), those of the multiplexer's own (E4 to E6), `initialize` in another phase than New (E8), and while it is served requests that go on with tokens (E10), and the notifications that go on (E11, E16, E17).
--- Not built of a start: its requests and notifications while it is ready, results that read versions (S5), and before that requests, a refused `initialize` (S3) and responses to nothing; behind its `shutdown` or its end, responses. Nor the end of a program, and ticks.
+-- Not built of an editor: requests of the multiplexer's own but `lspmux/status` (E4 and E6), `initialize` in another phase than New (E8), and while it is served requests that go on with tokens (E10), and the notifications that go on (E11, E16, E17).
+-- Not built of a start: its requests and notifications while it is ready, results that read versions (S5), and before that a refused `initialize` (S3). Nor the end of a program whose group lives, and ticks.
 -- Of S2, what is read back must be what was meant: editors are shown all of the result.
 use Rattle.std.specs.Prelude.{ℕ, Bool, true, false, not, ◌&&◌, ◌||◌, List, find, codes, bytes_eq}
 use Rattle.std.specs.Prelude.{Option, Some, None}
+use Rattle.std.specs.Option.{option_map_or}
 use Rattle.mux_history.specs.declared.cause.Cause.{Cause}
-use Rattle.mux_history.specs.declared.cause.Cause.TheVariants.{Joined, FromEditor, EditorGone, Started, FromServer, Drained}
+use Rattle.mux_history.specs.declared.cause.Cause.TheVariants.{Joined, FromEditor, EditorGone, Started, StartFailed, FromServer, ServerGone, Drained}
 use Rattle.mux_history.specs.declared.entry.Entry.{Entry}
 use Rattle.json_text.specs.Json.{Json}
 use Rattle.document_model.specs.Sayings.{speaks, saying_by}
@@ -22,11 +23,14 @@ use Rattle.event_model.specs.Members.{has_token, reads_versions}
 use Rattle.event_model.specs.Phases.{desk_of, is_begun, is_malformed, is_new, is_served}
 use Rattle.event_model.specs.Requests.{is_open, open_of}
 use Rattle.event_model.specs.Settings.{Settings}
+use Rattle.event_model.specs.Spawns.{group_of}
 use Rattle.event_model.specs.Stages.{life_of, is_first_result}
 use Rattle.mux_model.specs.Built.{is_other}
 use Rattle.mux_model.specs.Methods.{is_dropped}
+use Rattle.group_words.specs.Houses.{is_first_error, groups_of}
 use Rattle.group_words.specs.Rows.{shown_of}
 use Rattle.group_rows.specs.Forwarded.{Forwarded, answered_by, forwarding_of}
+use Rattle.group_facts.specs.Lively.{lives_at}
 
 -- E10: the request is of class Other
 abbrev pub is_plain : List ℕ → Bool
@@ -43,13 +47,14 @@ is_standard _ = false
 abbrev pub is_marked : List ℕ → Option Json → Bool
 is_marked method params = is_plain method && has_token params
 
--- E3: no request of the editor under this id is open
-abbrev pub is_fresh : Phase → Id → List Id → Bool
-is_fresh phase id ids = not (is_begun phase && is_open id ids)
+-- E3: a request of the editor under this id is open
+abbrev pub doubles : Phase → Id → List Id → Bool
+doubles phase id ids = is_begun phase && is_open id ids
 
--- E7, E8 and J2, and behind the answer to `initialize` E9 and E10
-abbrev pub built_request : Phase → List ℕ → Option Json → Bool
-built_request phase method params = (is_new phase && bytes_eq (codes "initialize") method) || (is_standard (class_of method Editor false) && not (is_served phase && is_marked method params))
+-- E3, E5, E7, E8 and J2, and behind the answer to `initialize` E9 and E10
+abbrev pub built_request : Phase → Bool → List ℕ → Option Json → Bool
+built_request phase doubled method params = (is_new phase && bytes_eq (codes "initialize") method)
+    || (bytes_eq (codes "lspmux/status") method || (is_standard (class_of method Editor false) && (doubled || not (is_served phase && is_marked method params))))
 
 -- E9, E12 to E15: `exit`, `initialized`, what is on documents, and class Dropped
 abbrev pub is_quiet : List ℕ → Option Json → Bool
@@ -60,7 +65,7 @@ built_notice phase method params = not (is_served phase) || is_quiet method para
 
 -- E19: a response answers nothing, since nothing is asked of editors yet
 abbrev pub built_from_editor : Phase → List Id → Message → Bool
-built_from_editor phase ids (request id method params) = is_fresh phase id ids && built_request phase method params
+built_from_editor phase ids (request id method params) = built_request phase (doubles phase id ids) method params
 built_from_editor phase ids (notification method params) = built_notice phase method params
 built_from_editor phase ids other = true
 
@@ -68,11 +73,10 @@ built_from_editor phase ids other = true
 abbrev pub is_shown_whole : List ℕ → Bool
 is_shown_whole body = bytes_eq (shown_of (result_bytes body)) (result_bytes body)
 
--- S2, and notifications by S4
+-- S2, and S4 without the first error, which is S3
 abbrev pub built_early : List ℕ → Message → Bool
-built_early body (request id method params) = false
-built_early body (result id r) = is_first_result (result id r) && is_shown_whole body
-built_early body (error id e) = false
+built_early body (result id r) = not (is_first_result (result id r)) || is_shown_whole body
+built_early body (error id e) = not (is_first_error (error id e))
 built_early body other = true
 
 -- S5 without versions
@@ -86,19 +90,17 @@ built_response fs (notification method params) = false
 built_response fs (result id r) = is_passed_plainly (find (answered_by id) fs) r
 built_response fs other = true
 
--- S4 of a start that is to end, without responses
-abbrev pub built_late : Message → Bool
-built_late (result id r) = false
-built_late (error id e) = false
-built_late other = true
-
--- S1 in every stage, and those
+-- S4 of a start that is to end; S1 in every stage, and those
 abbrev pub built_from_server : Stage → List Forwarded → List ℕ → Message → Bool
 built_from_server Initializing fs body m = built_early body m
 built_from_server Ready fs body m = built_response fs m
-built_from_server Stopping fs body m = built_late m
-built_from_server Ending fs body m = built_late m
+built_from_server Stopping fs body m = true
+built_from_server Ending fs body m = true
 built_from_server other fs body m = is_malformed m
+
+-- X1 to X3 of a start whose group lives no more
+abbrev pub is_left : Settings → List Event → ℕ → Bool
+is_left settings before s = not (option_map_or (λ g. lives_at g (groups_of settings before)) (group_of s before) false)
 
 abbrev pub built_behind : Settings → List Event → Cause → Bool
 built_behind settings before (Joined e) = true
@@ -107,6 +109,8 @@ built_behind settings before (FromEditor e body) = built_from_editor (desk_of e 
 built_behind settings before (EditorGone e why) = true
 built_behind settings before (FromServer s body) = built_from_server (life_of s before).stage (forwarding_of s before).open_requests body (message_of body)
 built_behind settings before (Drained e k) = true
+built_behind settings before (StartFailed s) = is_left settings before s
+built_behind settings before (ServerGone s) = is_left settings before s
 built_behind settings before other = false
 
 abbrev pub built : Settings → List Entry → Cause → Bool

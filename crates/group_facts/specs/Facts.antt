@@ -12,7 +12,7 @@ use Rattle.rpc_message.specs.ValueTexts.{IsIdText}
 use Rattle.event_model.specs.declared.phase.Phase.{Phase}
 use Rattle.event_model.specs.declared.phase.Phase.TheVariants.{Absent, New, Waiting}
 use Rattle.event_model.specs.declared.stage.Stage.{Stage}
-use Rattle.event_model.specs.declared.stage.Stage.TheVariants.{Unspawned, Spawning, Initializing, Ready}
+use Rattle.event_model.specs.declared.stage.Stage.TheVariants.{Unspawned, Spawning, Initializing, Ready, Stopping}
 use Rattle.event_model.specs.Event.{Event, notifies}
 use Rattle.event_model.specs.Phases.{desk_of, editors_of}
 use Rattle.event_model.specs.Requests.{next_number, is_open, open_of}
@@ -47,6 +47,14 @@ pub record IsOpened (x : Texts) : Type 0 where
 abbrev pub Opened : Settings → List Event → Type 0
 Opened settings events = (g : ℕ) → IsOpened (texts_of settings g events)
 
+-- a start isn't to end, and didn't
+abbrev pub is_up : Stage → Bool
+is_up Unspawned = true
+is_up Spawning = true
+is_up Initializing = true
+is_up Ready = true
+is_up other = false
+
 -- editors are shown all of the result that a start gave
 pub record IsPlain (body : List ℕ) : Type 0 where
   pub id : Option Id
@@ -54,9 +62,9 @@ pub record IsPlain (body : List ℕ) : Type 0 where
   pub says : message_of body ≡ result id r
   pub whole : shown_of (result_bytes body) ≡ result_bytes body
 
--- and one that is ready gave one
+-- and isn't to end; and one that is ready gave one
 pub record Plain (events : List Event) : Type 0 where
-  pub whole : (s : ℕ) (body : List ℕ) → result_of s events ≡ Some body → IsPlain body
+  pub whole : (s : ℕ) (body : List ℕ) → is_up (life_of s events).stage ≡ true → result_of s events ≡ Some body → IsPlain body
   pub given : (s : ℕ) → is_ready (life_of s events).stage ≡ true → is_some (result_of s events) ≡ true
 
 -- the daemon's own `initialize` to the starts of a group is a request with the number 1
@@ -98,19 +106,16 @@ abbrev pub Untold : List Event → Type 0
 Untold events = (s : ℕ) → is_unready (life_of s events).stage ≡ true → (u : List ℕ) → held_at s u events ≡ None
 
 -- until a start is to end, its next number is at most the limit and two
-abbrev pub is_up : Stage → Bool
-is_up Unspawned = true
-is_up Spawning = true
-is_up Initializing = true
-is_up Ready = true
-is_up other = false
-
 abbrev pub Bounded : Settings → List Event → Type 0
 Bounded settings events = (s : ℕ) → is_up (life_of s events).stage ≡ true → (next_number s events ≤ (forwarding_of s events).next) × ((forwarding_of s events).next ≤ settings.limits.requests + 2)
 
 -- while a start is ready, the next request to it has the same number by the count of all requests as by that of editors' requests
 abbrev pub Numbered : List Event → Type 0
 Numbered events = (s : ℕ) → (life_of s events).stage ≡ Ready → next_number s events ≡ (forwarding_of s events).next
+
+-- and behind `shutdown`, which is no editor's, one more was counted
+abbrev pub Stopped : List Event → Type 0
+Stopped events = (s : ℕ) → (life_of s events).stage ≡ Stopping → next_number s events ≡ (forwarding_of s events).next + 1
 
 -- it got no result to its `initialize` yet
 abbrev pub is_early : Phase → Bool
@@ -185,6 +190,7 @@ pub record Known (settings : Settings) (events : List Event) : Type 0 where
   pub apart : Apart events
   pub housed : Housed settings events
   pub numbered : Numbered events
+  pub stopped : Stopped events
   pub waiting : WaitingAsked events
   pub opened : Opened settings events
   pub plain : Plain events

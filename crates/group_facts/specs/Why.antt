@@ -14,8 +14,8 @@ use Rattle.rpc_message.specs.Texts.{initialized_text, with_id_text}
 use Rattle.rpc_message.specs.ValueTexts.{IsIdText}
 use Rattle.event_model.specs.declared.phase.Phase.TheVariants.{Waiting}
 use Rattle.event_model.specs.declared.stage.Stage.{Stage}
-use Rattle.event_model.specs.declared.stage.Stage.TheVariants.{Spawning, Initializing, Ready}
-use Rattle.event_model.specs.Event.{Event, events_of, heard, said, with_cause}
+use Rattle.event_model.specs.declared.stage.Stage.TheVariants.{Spawning, Initializing, Ready, Stopping}
+use Rattle.event_model.specs.Event.{Event, events_of, heard, said, with_cause, same_id}
 use Rattle.event_model.specs.Parts.{server_part}
 use Rattle.event_model.specs.Phases.{desk_of, has_id, is_there, is_malformed}
 use Rattle.event_model.specs.Requests.{next_number, answered_id, open_of, is_open, is_own}
@@ -26,9 +26,11 @@ use Rattle.mux_facts.specs.Allowed.{AllowsSaying, is_response}
 use Rattle.mux_model.specs.Documents.{held_at}
 use Rattle.document_model.specs.Helds.{HeldText}
 use Rattle.group_words.specs.Houses.{groups_of}
+use Rattle.group_rows.specs.Ends.{answers_shutdown}
 use Rattle.group_rows.specs.Forwarded.{Forwarded, Sender, answered_by, forwarding_of}
 use Rattle.group_rows.specs.Leaves.{cancel_text}
 use Rattle.group_facts.specs.Facts.{IsAlone, IsWaiting, ends_link, is_early, turned_away}
+use Rattle.group_facts.specs.Lively.{IsDying}
 
 -- Bodies to a start
 
@@ -99,11 +101,12 @@ pub record IsTelling (before : List Event) (cause : Cause) (events : List Event)
   pub spoken : speaks (saying_of (message_of body)) ≡ true
   pub allowed : AllowsSaying (versions_at s events) (saying_of (message_of body))
 
--- the daemon's own `shutdown` to a ready start, as the first out of its entry: E7 ends a group for another one
-pub record IsShutting (before : List Event) (cause : Cause) (events : List Event) (s : ℕ) (body : List ℕ) : Type 0 where
+-- the daemon's own `shutdown` to a ready start, as the first out of its entry: E7 ended its group for another one
+pub record IsShutting (settings : Settings) (before : List Event) (cause : Cause) (events : List Event) (s : ℕ) (body : List ℕ) : Type 0 where
   pub ready : (life_of s events).stage ≡ Ready
   pub stays : moves before cause s ≡ false
   pub place : events ≡ with_cause before cause
+  pub dying : IsDying settings events s
   pub says : message_of body ≡ request (integer (decimal (next_number s events))) (codes "shutdown") None
 
 -- an open request is cancelled at s, which is ready, by its number (LSP 3.17, Cancellation Support)
@@ -115,13 +118,31 @@ pub record IsCancel (before : List Event) (cause : Cause) (events : List Event) 
   pub bytes : body ≡ cancel_text number
   pub says : message_of body ≡ notification (codes "$/cancelRequest") (Some params)
 
+-- a request of s, which gave no result yet, is answered at once
+pub record IsReply (before : List Event) (cause : Cause) (events : List Event) (s : ℕ) (body : List ℕ) : Type 0 where
+  pub waiting : (life_of s events).stage ≡ Initializing
+  pub stays : moves before cause s ≡ false
+  pub response : is_response (message_of body) ≡ true
+
+-- `exit`, as the first out of its entry: s answered the daemon's `shutdown` (LSP 3.17, Exit Notification)
+pub record IsExit (before : List Event) (cause : Cause) (events : List Event) (s : ℕ) (body : List ℕ) : Type 0 where
+  pub answer : List ℕ
+  pub stage : (life_of s before).stage ≡ Stopping
+  pub stopping : (life_of s events).stage ≡ Stopping
+  pub from : cause ≡ FromServer s answer
+  pub answers : answers_shutdown s before (message_of answer) ≡ true
+  pub place : events ≡ with_cause before cause
+  pub says : message_of body ≡ notification (codes "exit") None
+
 pub data WhyToServer (settings : Settings) (before : List Event) (cause : Cause) (events : List Event) (s : ℕ) (body : List ℕ) : Type 0 where
   begins : IsBeginning before cause events s body → WhyToServer settings before cause events s body
   greets : IsGreeting before cause events s body → WhyToServer settings before cause events s body
   forwarded : IsForward settings cause events s body → WhyToServer settings before cause events s body
   tells : IsTelling before cause events s body → WhyToServer settings before cause events s body
-  shuts : IsShutting before cause events s body → WhyToServer settings before cause events s body
+  shuts : IsShutting settings before cause events s body → WhyToServer settings before cause events s body
   cancels : IsCancel before cause events s body → WhyToServer settings before cause events s body
+  responds : IsReply before cause events s body → WhyToServer settings before cause events s body
+  exits : IsExit before cause events s body → WhyToServer settings before cause events s body
 
 -- Bodies to an editor
 
@@ -145,12 +166,18 @@ pub record IsRefusal (events : List Event) (e : ℕ) (body : List ℕ) : Type 0 
   pub alone : IsAlone events e id
   pub says : message_of body ≡ error (Some id) x
 
--- the daemon's own result for an open request of an editor that got one for its `initialize`; it isn't open at a start
+-- the `initialize` of an editor that waits is open, under another id
+pub record IsBeside (events : List Event) (e : ℕ) (id : Id) : Type 0 where
+  pub first : Id
+  pub waiting : IsWaiting events e first
+  pub other : same_id id first ≡ false
+
+-- the daemon's own result for an open request, which isn't the `initialize` of an editor that waits, and isn't open at a start
 pub record IsAnswer (events : List Event) (e : ℕ) (body : List ℕ) : Type 0 where
   pub id : Id
   pub r : Json
   pub there : is_there (desk_of e events).phase ≡ true
-  pub late : is_early (desk_of e events).phase ≡ false
+  pub others : (desk_of e events).phase ≡ Waiting → IsBeside events e id
   pub waits : is_open id (open_of e events) ≡ true
   pub alone : IsAlone events e id
   pub says : message_of body ≡ result (Some id) r
@@ -202,12 +229,17 @@ is_starting Spawning = true
 is_starting Initializing = true
 is_starting other = false
 
+-- the end of a program: its group ended before it gave a result (E7), or it was sent `shutdown` (S4)
+pub data WhyEnd (settings : Settings) (events : List Event) (s : ℕ) : Type 0 where
+  starting : is_starting (life_of s events).stage ≡ true → IsDying settings events s → WhyEnd settings events s
+  stopped : (life_of s events).stage ≡ Stopping → WhyEnd settings events s
+
 abbrev pub Why : Settings → List Event → Cause → List Event → Out → Type 0
 Why settings before cause events (ToEditor e body) = WhyToEditor settings before cause events e body
 Why settings before cause events (ToServer s body) = WhyToServer settings before cause events s body
 Why settings before cause events (Spawn s g) = (s ≡ starts_of events) × (g < length (groups_of settings events))
 Why settings before cause events (CloseEditor e) = (ends_link settings before cause e ≡ true) × (is_there (desk_of e events).phase ≡ true)
-Why settings before cause events (EndServer s) = is_starting (life_of s events).stage ≡ true
+Why settings before cause events (EndServer s) = WhyEnd settings events s
 
 -- each of these outs of a cause has its reason, at its place
 abbrev pub AllWhy : Settings → List Event → Cause → List Event → List Out → Type 0

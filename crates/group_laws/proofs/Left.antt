@@ -115,7 +115,7 @@ module _ (settings : Settings) (g e : ℕ) (d : Documents) (before mid : List Ev
     pub left_outs : d.versions ≡ settings.limits.versions → (leave_row e d).outs ≡ map (λ b. ToServer s b) (departures.leave_bodies settings.limits.versions (λ u. held_at s u before) e (texts_of settings g before).opens (texts_of settings g before).opens)
     left_outs same = outs_is ∙ ap₂ (λ m (x : Texts). map (λ b. ToServer s b) (departures.leave_bodies m (λ u. held_at s u before) e x.opens x.opens)) same (sym texts.texts)
 
--- J2: its link is lost
+-- X5: its link is lost
 module _ (settings : Settings) (g e : ℕ) (why : Why) (before : List Event) where
   abbrev pub after_loss : List Event
   after_loss = with_cause before (EditorGone e why)

@@ -1,3 +1,5 @@
 pub mod Cancels
+pub mod Exits
 pub mod Frames
 pub mod Worked
+pub mod Statuses

@@ -4,7 +4,7 @@ use Rattle.mux_history.specs.declared.cause.Cause.{Cause}
 use Rattle.mux_history.specs.declared.cause.Cause.TheVariants.{Joined, FromEditor, EditorGone, Started, FromServer, ServerGone}
 use Rattle.mux_history.specs.declared.cause.Why.TheVariants.{End}
 use Rattle.mux_history.specs.declared.out.Out.{Out}
-use Rattle.mux_history.specs.declared.out.Out.TheVariants.{ToEditor, ToServer, CloseEditor, Spawn}
+use Rattle.mux_history.specs.declared.out.Out.TheVariants.{ToEditor, ToServer, CloseEditor, EndServer, Spawn}
 use Rattle.document_model.specs.Opens.{Open}
 use Rattle.event_model.specs.Event.{Event, behind, with_cause}
 use Rattle.event_model.specs.Row.{outs}
@@ -14,8 +14,11 @@ use Rattle.group_rows.specs.Leaves.{cancel_text, leave_row}
 use Rattle.group_rows.specs.Rows.{outs_from, outs_of}
 
 -- all outs, one entry behind the other
+abbrev pub outs_with : ℕ → List Cause → List Out
+outs_with groups causes = flat_map (λ xs. xs) (outs_from (with_groups groups) [] causes)
+
 abbrev pub all_outs : List Cause → List Out
-all_outs causes = flat_map (λ xs. xs) (outs_from (with_groups 8) [] causes)
+all_outs causes = outs_with 8 causes
 
 abbrev pub events_behind : Settings → List Event → List Cause → List Event
 events_behind settings events [] = events
@@ -241,4 +244,64 @@ links_end_outs = two_editors_outs
     ∷ ToServer 0 (codes "{\"jsonrpc\":\"2.0\",\"id\":2,\"method\":\"textDocument/hover\",\"params\":{}}")
     ∷ ToServer 0 (codes "{\"jsonrpc\":\"2.0\",\"method\":\"$/cancelRequest\",\"params\":{\"id\":2}}")
     ∷ ToServer 0 (codes "{\"jsonrpc\":\"2.0\",\"method\":\"textDocument/didClose\",\"params\":{\"textDocument\":{\"uri\":\"file:///u\"}}}")
+    ∷ []
+
+-- `lspmux/status` of a new editor, of one that waits while its start's program is to begin, and behind its result; one editor is down, another's link ended, and a request is open of each
+abbrev pub asking_status : List Cause
+asking_status = Joined 0
+    ∷ FromEditor 0 (codes "{\"jsonrpc\":\"2.0\",\"id\":1,\"method\":\"lspmux/status\"}")
+    ∷ FromEditor 0 (codes "{\"jsonrpc\":\"2.0\",\"id\":0,\"method\":\"initialize\",\"params\":{\"rootUri\":\"file:///w\",\"capabilities\":{}}}")
+    ∷ FromEditor 0 (codes "{\"jsonrpc\":\"2.0\",\"id\":1,\"method\":\"lspmux/status\"}")
+    ∷ Started 0
+    ∷ Joined 1
+    ∷ FromEditor 1 (codes "{\"jsonrpc\":\"2.0\",\"id\":0,\"method\":\"initialize\",\"params\":{\"rootUri\":\"file:///w\",\"capabilities\":{}}}")
+    ∷ FromServer 0 (codes "{\"jsonrpc\":\"2.0\",\"id\":1,\"result\":{\"capabilities\":{}}}")
+    ∷ FromEditor 0 (codes "{\"jsonrpc\":\"2.0\",\"id\":1,\"method\":\"textDocument/hover\",\"params\":{}}")
+    ∷ FromEditor 1 (codes "{\"jsonrpc\":\"2.0\",\"id\":1,\"method\":\"textDocument/hover\",\"params\":{}}")
+    ∷ FromEditor 1 (codes "{\"jsonrpc\":\"2.0\",\"id\":2,\"method\":\"shutdown\"}")
+    ∷ FromEditor 1 (codes "{\"jsonrpc\":\"2.0\",\"id\":3,\"method\":\"lspmux/status\"}")
+    ∷ EditorGone 1 End
+    ∷ FromEditor 0 (codes "{\"jsonrpc\":\"2.0\",\"id\":2,\"method\":\"lspmux/status\"}")
+    ∷ []
+
+abbrev pub asking_status_outs : List Out
+asking_status_outs = ToEditor 0 (codes "{\"jsonrpc\":\"2.0\",\"id\":1,\"result\":{\"groups\":[]}}")
+    ∷ Spawn 0 0
+    ∷ ToEditor 0 (codes "{\"jsonrpc\":\"2.0\",\"id\":1,\"result\":{\"groups\":[{\"group\":0,\"server\":\"main\",\"start\":0,\"state\":\"spawning\",\"editors\":[0],\"open\":0}]}}")
+    ∷ ToServer 0 (codes "{\"jsonrpc\":\"2.0\",\"id\":1,\"method\":\"initialize\",\"params\":{\"processId\":null,\"clientInfo\":{\"name\":\"lspmux\"},\"rootUri\":\"file:///w\",\"capabilities\":{},\"trace\":\"off\"}}")
+    ∷ ToServer 0 (codes "{\"jsonrpc\":\"2.0\",\"method\":\"initialized\",\"params\":{}}")
+    ∷ ToEditor 0 (codes "{\"jsonrpc\":\"2.0\",\"id\":0,\"result\":{\"capabilities\":{}}}")
+    ∷ ToEditor 1 (codes "{\"jsonrpc\":\"2.0\",\"id\":0,\"result\":{\"capabilities\":{}}}")
+    ∷ ToServer 0 (codes "{\"jsonrpc\":\"2.0\",\"id\":2,\"method\":\"textDocument/hover\",\"params\":{}}")
+    ∷ ToServer 0 (codes "{\"jsonrpc\":\"2.0\",\"id\":3,\"method\":\"textDocument/hover\",\"params\":{}}")
+    ∷ ToEditor 1 (codes "{\"jsonrpc\":\"2.0\",\"id\":2,\"result\":null}")
+    ∷ ToServer 0 (codes "{\"jsonrpc\":\"2.0\",\"method\":\"$/cancelRequest\",\"params\":{\"id\":3}}")
+    ∷ ToEditor 1 (codes "{\"jsonrpc\":\"2.0\",\"id\":3,\"result\":{\"groups\":[{\"group\":0,\"server\":\"main\",\"start\":0,\"state\":\"ready\",\"editors\":[0,1],\"open\":2}]}}")
+    ∷ ToEditor 0 (codes "{\"jsonrpc\":\"2.0\",\"id\":2,\"result\":{\"groups\":[{\"group\":0,\"server\":\"main\",\"start\":0,\"state\":\"ready\",\"editors\":[0],\"open\":1}]}}")
+    ∷ []
+
+-- where one group is the limit, an idle one ends for another: its start answers `shutdown`, and its program ends
+abbrev pub evicted : List Cause
+evicted = Joined 0
+    ∷ FromEditor 0 (codes "{\"jsonrpc\":\"2.0\",\"id\":0,\"method\":\"initialize\",\"params\":{\"rootUri\":\"file:///w\",\"capabilities\":{}}}")
+    ∷ Started 0
+    ∷ FromServer 0 (codes "{\"jsonrpc\":\"2.0\",\"id\":1,\"result\":{\"capabilities\":{}}}")
+    ∷ EditorGone 0 End
+    ∷ Joined 1
+    ∷ FromEditor 1 (codes "{\"jsonrpc\":\"2.0\",\"id\":0,\"method\":\"initialize\",\"params\":{\"rootUri\":\"file:///v\",\"capabilities\":{}}}")
+    ∷ FromServer 0 (codes "{\"jsonrpc\":\"2.0\",\"id\":1,\"result\":null}")
+    ∷ FromServer 0 (codes "{\"jsonrpc\":\"2.0\",\"id\":2,\"result\":null}")
+    ∷ FromServer 0 (codes "{\"jsonrpc\":\"2.0\",\"id\":2,\"result\":null}")
+    ∷ ServerGone 0
+    ∷ []
+
+abbrev pub evicted_outs : List Out
+evicted_outs = Spawn 0 0
+    ∷ ToServer 0 (codes "{\"jsonrpc\":\"2.0\",\"id\":1,\"method\":\"initialize\",\"params\":{\"processId\":null,\"clientInfo\":{\"name\":\"lspmux\"},\"rootUri\":\"file:///w\",\"capabilities\":{},\"trace\":\"off\"}}")
+    ∷ ToServer 0 (codes "{\"jsonrpc\":\"2.0\",\"method\":\"initialized\",\"params\":{}}")
+    ∷ ToEditor 0 (codes "{\"jsonrpc\":\"2.0\",\"id\":0,\"result\":{\"capabilities\":{}}}")
+    ∷ ToServer 0 (codes "{\"jsonrpc\":\"2.0\",\"id\":2,\"method\":\"shutdown\"}")
+    ∷ Spawn 1 1
+    ∷ ToServer 0 (codes "{\"jsonrpc\":\"2.0\",\"method\":\"exit\"}")
+    ∷ EndServer 0
     ∷ []

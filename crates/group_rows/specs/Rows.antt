@@ -1,4 +1,4 @@
--- The routing table over several editors and groups, in part: J2, E2, E3, E7 to E10, E12 to E15, S2 of a group's first start, S4 where it gives nothing, S5 without versions, X5, and the start of a server's program.
+-- The routing table over several editors and groups, in part: J2, E2, E3, E5, E7 to E10, E12 to E15, S2 of a group's first start, S4, S5 without versions, X5, and the start of a server's program.
 use Rattle.std.specs.Prelude.{ℕ, Bool, false, ◌&&◌, ◌||◌, List, [], ◌∷◌, ◌++◌, filter, find, flat_map, codes, nat_eq, nat_lt, decimal, bytes_eq, if◌then◌else◌}
 use Rattle.std.specs.Prelude.{Option, Some, None, slice_get}
 use Rattle.std.specs.List.{list_any}
@@ -22,7 +22,7 @@ use Rattle.document_model.specs.Texts.{Texts, opened, found, changed}
 use Rattle.event_model.specs.declared.phase.Phase.{Phase}
 use Rattle.event_model.specs.declared.phase.Phase.TheVariants.{New, Waiting, Answered, Running, Down}
 use Rattle.event_model.specs.declared.stage.Stage.{Stage}
-use Rattle.event_model.specs.declared.stage.Stage.TheVariants.{Spawning, Initializing, Ready}
+use Rattle.event_model.specs.declared.stage.Stage.TheVariants.{Spawning, Initializing, Ready, Stopping}
 use Rattle.event_model.specs.Event.{Event, behind, with_cause, requests}
 use Rattle.event_model.specs.Phases.{desk_of, is_begun, is_there, is_malformed, is_served, is_waiting}
 use Rattle.event_model.specs.Requests.{answered_id}
@@ -35,8 +35,10 @@ use Rattle.mux_model.specs.Methods.{is_dollar, is_wrong}
 use Rattle.mux_model.specs.Rows.{malformed_row, to_start}
 use Rattle.group_words.specs.Houses.{editors_in, groups_of, home_of, is_doubled}
 use Rattle.group_words.specs.Rows.{initialize_of, initialize_row, shown_of}
+use Rattle.group_rows.specs.Ends.{answers_shutdown, exit_server}
 use Rattle.group_rows.specs.Forwarded.{Forwarded, forwarding_of, answered_by}
 use Rattle.group_rows.specs.Leaves.{leave_row}
+use Rattle.group_rows.specs.Status.{items_of, status_text}
 use Rattle.group_rows.specs.Texts.{encoding_of, texts_of}
 
 abbrev pub answer_error : ℕ → List ℕ → Code → Row
@@ -149,9 +151,16 @@ taken_row settings before e body m Running = served_row settings before e body m
 taken_row settings before e body m Down = down_row settings before e body m
 taken_row settings before e body m other = nothing
 
+-- E5: `lspmux/status` is answered with what stands before it, since the request itself changes nothing that it tells
+abbrev pub status_row : Settings → List Event → ℕ → List ℕ → Row
+status_row settings before e body = send (ToEditor e (ok_text (id_bytes body) (status_text (items_of settings before))))
+
+abbrev pub told_row : Settings → List Event → ℕ → List ℕ → Message → Phase → Row
+told_row settings before e body m phase = choose (is_there phase && requests (codes "lspmux/status") m) (status_row settings before e body) (taken_row settings before e body m phase)
+
 -- E3: a request under an id that is open stands before all others; a new editor has none
 abbrev pub message_row : Settings → List Event → ℕ → List ℕ → Message → Phase → Row
-message_row settings before e body m phase = choose (is_begun phase && is_doubled before e m) (closing_row settings before e) (taken_row settings before e body m phase)
+message_row settings before e body m phase = choose (is_begun phase && is_doubled before e m) (closing_row settings before e) (told_row settings before e body m phase)
 
 abbrev pub from_editor : Settings → List Event → ℕ → List ℕ → Message → Phase → Row
 from_editor settings before e body m phase = choose (is_malformed m) (malformed_row e m phase) (message_row settings before e body m phase)
@@ -177,9 +186,22 @@ pass_on before body f = choose (is_there (desk_of f.editor before).phase) (send 
 abbrev pub response_row : ℕ → List Event → List ℕ → Message → Row
 response_row s before body m = on (find (answered_by (answered_id m)) (forwarding_of s before).open_requests) nothing (pass_on before body)
 
+-- S4: what a start asks before its first result is answered at once, under any id (LSP 3.17, Initialize Request)
+abbrev pub hasty_answer : List ℕ → List ℕ → List ℕ
+hasty_answer method body = if bytes_eq (codes "window/showMessageRequest") method then ok_text (id_bytes body) (codes "null") else error_text (id_bytes body) invalid_request
+
+abbrev pub hasty_row : ℕ → List ℕ → Message → Row
+hasty_row s body (request id method params) = send (ToServer s (hasty_answer method body))
+hasty_row s body other = nothing
+
+-- S4: behind `shutdown` its response ends the start; all else that comes there gives nothing
+abbrev pub stopping_row : ℕ → List Event → Message → Row
+stopping_row s before m = choose (answers_shutdown s before m) (exit_server s) nothing
+
 abbrev pub from_server : Settings → ℕ → List Event → List ℕ → Message → Stage → Row
-from_server settings s before body m Initializing = choose (is_first_result m) (first_result settings before s body) nothing
+from_server settings s before body m Initializing = choose (is_first_result m) (first_result settings before s body) (hasty_row s body m)
 from_server settings s before body m Ready = response_row s before body m
+from_server settings s before body m Stopping = stopping_row s before m
 from_server settings s before body m other = nothing
 
 -- the daemon's own initialize, of the group's key and of what is declared

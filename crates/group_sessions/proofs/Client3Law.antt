@@ -15,7 +15,7 @@ use Rattle.event_model.specs.declared.phase.Phase.TheVariants.{Absent, New, Wait
 use Rattle.event_model.specs.Event.{Event, requests, said, same_id, with_cause}
 use Rattle.event_model.specs.Always.{Always}
 use Rattle.event_model.specs.Parts.{editor_part, is_of_editor}
-use Rattle.event_model.specs.Phases.{Desk, desk_of, desk_behind, is_new, is_served, is_there, phase_closed, phase_told}
+use Rattle.event_model.specs.Phases.{Desk, desk_of, desk_behind, has_id, is_new, is_served, is_there, phase_closed, phase_told}
 use Rattle.event_model.specs.Requests.{answered_id, is_open, open_behind, open_of, without}
 use Rattle.event_model.specs.Settings.{Settings}
 use Rattle.event_model.specs.Spawns.{starts_of}
@@ -29,10 +29,10 @@ use Rattle.mux_facts.proofs.Words.{id_same, number_same}
 use Rattle.session_laws.specs.ClientRules.{ClientRule3, KeepsClient3, Opening, may_hear, opening_behind, opening_told}
 use Rattle.session_laws.proofs.Client3Law as client_3
 use Rattle.session_laws.proofs.Client3Law.{AsksOnce, Expects, Link, LinkAt, closed_link, late_told, may_answer, may_welcome, none_open, opening, same_request, took_it, welcomed}
-use Rattle.group_facts.specs.Built.{built_behind, built_from_editor, built_request, is_fresh, is_marked, is_standard}
+use Rattle.group_facts.specs.Built.{built_behind, built_from_editor, doubles, is_marked, is_standard}
 use Rattle.group_facts.proofs.Waiting.{new_is}
 use Rattle.group_facts.specs.Legal.{Legal}
-use Rattle.group_facts.specs.Why.{WhyToEditor, rejects, refuses, answers, turns_away, welcomes, passes}
+use Rattle.group_facts.specs.Why.{IsBeside, WhyToEditor, rejects, refuses, answers, turns_away, welcomes, passes}
 use Rattle.group_facts.proofs.RestLaws.{Law, law_holds}
 use Rattle.group_sessions.proofs.Client2Law.{response_to}
 
@@ -47,11 +47,15 @@ standard_other method h = go (bytes_eq (codes "initialize") method) refl
     go false e = refl
 
 no_initialize : (phase : Phase) (ids : List Id) (m : Message) → (phase ≡ New → ⊥) → built_from_editor phase ids m ≡ true → requests (codes "initialize") m ≡ false
-no_initialize phase ids (request id method params) other h = go (is_new phase && bytes_eq (codes "initialize") method) refl (and_parts (is_fresh phase id ids) (built_request phase method params) h).1
+no_initialize phase ids (request id method params) other h = go (is_new phase && bytes_eq (codes "initialize") method) refl h
   where
-    go : (b : Bool) → (is_new phase && bytes_eq (codes "initialize") method) ≡ b → (b || (is_standard (class_of method Editor false) && not (is_served phase && is_marked method params))) ≡ true → bytes_eq (codes "initialize") method ≡ false
+    status : (b : Bool) → bytes_eq (codes "lspmux/status") method ≡ b → (b || (is_standard (class_of method Editor false) && (doubles phase id ids || not (is_served phase && is_marked method params)))) ≡ true → bytes_eq (codes "initialize") method ≡ false
+    status true is k = ap (bytes_eq (codes "initialize")) (sym ((bytes_eq-Decides (codes "lspmux/status") method).0 is))
+    status false is k = standard_other method (and_parts (is_standard (class_of method Editor false)) (doubles phase id ids || not (is_served phase && is_marked method params)) k).0
+
+    go : (b : Bool) → (is_new phase && bytes_eq (codes "initialize") method) ≡ b → (b || (bytes_eq (codes "lspmux/status") method || (is_standard (class_of method Editor false) && (doubles phase id ids || not (is_served phase && is_marked method params))))) ≡ true → bytes_eq (codes "initialize") method ≡ false
     go true first k = absurd (other (new_is phase (and_parts (is_new phase) (bytes_eq (codes "initialize") method) first).0))
-    go false first k = standard_other method (and_parts (is_standard (class_of method Editor false)) (not (is_served phase && is_marked method params)) k).0
+    go false first k = status (bytes_eq (codes "lspmux/status") method) refl k
 no_initialize phase ids (notification method params) other h = refl
 no_initialize phase ids (result id r) other h = refl
 no_initialize phase ids (error id x) other h = refl
@@ -116,6 +120,55 @@ error_link Running i ids o k x h w = none_without k o.initializes (h tt)
 error_link Down i ids o k x h w = none_without k o.initializes (h tt)
 error_link Closed i ids o k x h w = tt
 error_link Gone i ids o k x h w = tt
+
+-- A result for another request than the `initialize` of an editor that waits
+
+record IsApart (initialize : List ℕ) (id : Id) : Type 0 where
+  first : Id
+  params : Option Json
+  asks : message_of initialize ≡ request first (codes "initialize") params
+  other : same_id id first ≡ false
+
+abbrev Apart : Phase → List ℕ → Id → Type 0
+Apart Waiting i id = IsApart i id
+Apart phase i id = Unit {0}
+
+not_both : (b : Bool) → not (b && false) ≡ true
+not_both true = refl
+not_both false = refl
+
+none_may : (o : Opening) (id : Id) → o.initializes ≡ [] → not (o.answered && is_open id o.initializes) ≡ true
+none_may o id h = ap (λ ids. not (o.answered && is_open id ids)) h ∙ not_both o.answered
+
+may_reply : (phase : Phase) (i : List ℕ) (o : Opening) (id : Id) (r : Json) → is_there phase ≡ true → Apart phase i id → Link phase i o → may_hear o (result (Some id) r) ≡ true
+may_reply New i o id r there apart h = none_may o id h.0
+may_reply Waiting i o id r there apart h = ap (λ b. not (b && is_open id o.initializes)) h.not_yet
+may_reply Answered i o id r there apart h = none_may o id h
+may_reply Running i o id r there apart h = none_may o id h
+may_reply Down i o id r there apart h = none_may o id h
+may_reply Absent i o id r there apart h = absurd (cc)
+may_reply Closed i o id r there apart h = absurd (cc)
+may_reply Gone i o id r there apart h = absurd (cc)
+
+none_answered : (o : Opening) (id : Id) → o.initializes ≡ [] → o.answered ≡ false → (o.answered || is_open id o.initializes) ≡ false
+none_answered o id h g = ap (λ b. b || is_open id o.initializes) g ∙ ap (is_open id) h
+
+reply_waiting : (i : List ℕ) (o : Opening) (id : Id) (r : Json) → IsApart i id → Expects i o → Link (phase_told Waiting i (result (Some id) r)) i (opening_told o (result (Some id) r))
+reply_waiting i o id r apart h = subst (λ b. Link (if b then Answered else Waiting) i (opening_told o (result (Some id) r))) (sym (ap (has_id id) apart.asks ∙ apart.other))
+    (record { id = h.id; params = h.params; asks = h.asks; only = ap (without (Some id)) h.only ∙ ap (λ b. cond (not b) (h.id ∷ []) []) other; not_yet = ap (λ b. b || is_open id o.initializes) h.not_yet ∙ ap (is_open id) h.only ∙ ap (λ b. b || false) other })
+  where
+    other : same_id id h.id ≡ false
+    other = ap (same_id id) (same_request (sym h.asks ∙ apart.asks)) ∙ apart.other
+
+reply_link : (phase : Phase) (i : List ℕ) (o : Opening) (id : Id) (r : Json) → Apart phase i id → Link phase i o → Link (phase_told phase i (result (Some id) r)) i (opening_told o (result (Some id) r))
+reply_link Absent i o id r apart h = (ap (without (Some id)) h.0, none_answered o id h.0 h.1)
+reply_link New i o id r apart h = (ap (without (Some id)) h.0, none_answered o id h.0 h.1)
+reply_link Waiting i o id r apart h = reply_waiting i o id r apart h
+reply_link Answered i o id r apart h = ap (without (Some id)) h
+reply_link Running i o id r apart h = ap (without (Some id)) h
+reply_link Down i o id r apart h = ap (without (Some id)) h
+reply_link Closed i o id r apart h = tt
+reply_link Gone i o id r apart h = tt
 
 late_waits : (phase : Phase) (i : List ℕ) (ids : List Id) → is_early phase ≡ false → WaitsIf phase i ids
 late_waits Waiting i ids late = absurd (cc)
@@ -190,10 +243,39 @@ module _ (events : List Event) (n : ℕ) (body : List ℕ) where
       to_editor h (may_answer (opening n events) id (message_of body) response (none_open (desk_of n events).phase (desk_of n events).initialize (opening n events) there late link))
       (λ left. late_told (desk_of n events).phase (desk_of n events).initialize (opening n events) id (message_of body) response late link)
 
+  reply_told : (id : Id) (r : Json) → is_there (desk_of n events).phase ≡ true → ((desk_of n events).phase ≡ Waiting → IsBeside events n id) → message_of body ≡ result (Some id) r → Everywhere events → Everywhere (events ++ said (ToEditor n body) ∷ [])
+  reply_told id r there others says h =
+      let waits : WaitsIf (desk_of n events).phase (desk_of n events).initialize (open_of n events) = beside_waits (desk_of n events).phase refl (λ at. others at) in
+      let apart : Apart (desk_of n events).phase (desk_of n events).initialize id = beside_apart (desk_of n events).phase refl (λ at. others at) in
+      let link : LinkAt (desk_of n events) (opening n events) = (h n).link waits in
+      to_editor h (ap (may_hear (opening n events)) says ∙ may_reply (desk_of n events).phase (desk_of n events).initialize (opening n events) id r there apart link)
+      (λ left. subst (λ m. Link (phase_told (desk_of n events).phase (desk_of n events).initialize m) (desk_of n events).initialize (opening_told (opening n events) m)) (sym says)
+      (reply_link (desk_of n events).phase (desk_of n events).initialize (opening n events) id r apart link))
+    where
+      beside_waits : (phase : Phase) → (desk_of n events).phase ≡ phase → (phase ≡ Waiting → IsBeside events n id) → WaitsIf phase (desk_of n events).initialize (open_of n events)
+      beside_waits Waiting at f = let k : IsBeside events n id = f refl in record { id = k.first; params = (k.waiting).params; asks = (k.waiting).asks; waits = (k.waiting).waits }
+      beside_waits Absent at f = tt
+      beside_waits New at f = tt
+      beside_waits Answered at f = tt
+      beside_waits Running at f = tt
+      beside_waits Down at f = tt
+      beside_waits Closed at f = tt
+      beside_waits Gone at f = tt
+
+      beside_apart : (phase : Phase) → (desk_of n events).phase ≡ phase → (phase ≡ Waiting → IsBeside events n id) → Apart phase (desk_of n events).initialize id
+      beside_apart Waiting at f = let k : IsBeside events n id = f refl in record { first = k.first; params = (k.waiting).params; asks = (k.waiting).asks; other = k.other }
+      beside_apart Absent at f = tt
+      beside_apart New at f = tt
+      beside_apart Answered at f = tt
+      beside_apart Running at f = tt
+      beside_apart Down at f = tt
+      beside_apart Closed at f = tt
+      beside_apart Gone at f = tt
+
   told_it : (settings : Settings) (before : List Event) (cause : Cause) → WhyToEditor settings before cause events n body → Everywhere events → Everywhere (events ++ said (ToEditor n body) ∷ [])
   told_it settings before cause (rejects k) h = error_told None k.x k.says h
   told_it settings before cause (refuses k) h = error_told (Some k.id) k.x k.says h
-  told_it settings before cause (answers k) h = answer_told k.id k.there k.late (is_result k.r k.says) h
+  told_it settings before cause (answers k) h = reply_told k.id k.r k.there k.others k.says h
   told_it settings before cause (turns_away k) h = error_told (Some k.id) k.x k.says h
   told_it settings before cause (welcomes k) h = welcome_told k.id (k.waiting).params k.r (k.waiting).phase (k.waiting).asks (k.waiting).waits k.says h
   told_it settings before cause (passes k) h = answer_told k.id k.there k.late (response_to k.id (message_of body) k.response k.answers) h

@@ -34,7 +34,7 @@ use Rattle.group_words.specs.Rows.{initialize_of}
 use Rattle.group_rows.specs.Rows.{outs_of, result_in}
 use Rattle.group_facts.specs.Facts.{Housed, IsHoused, IsWritten, Written, is_unready}
 use Rattle.group_facts.specs.Legal.{Legal}
-use Rattle.group_facts.specs.Why.{IsTelling, Turn, WhyToServer, begins, greets, forwarded, tells, shuts, cancels, stays, greeted, moves}
+use Rattle.group_facts.specs.Why.{IsTelling, Turn, WhyToServer, begins, greets, forwarded, tells, shuts, cancels, stays, greeted, moves, responds, exits}
 use Rattle.group_facts.proofs.AnswerRows.{get_all}
 use Rattle.group_facts.proofs.Facts.{Facts}
 use Rattle.group_facts.proofs.RestLaws.{RestLaw}
@@ -242,7 +242,20 @@ module _ (settings : Settings) (range : InRange settings) (before : List Event) 
   step (forwarded k) h m = ready_step k.ready (ap (λ c. moves before c s) k.from) m (λ o. asked_on (hand s events) s body (message_of body) _ k.method k.params k.says o)
   step (tells k) h m = told_step k h m (λ o. tells_on settings range (hand s events) s body (message_of body) k.spoken o)
   step (cancels k) h m = ready_step k.ready k.stays m (λ o. (ap₂ allows o k.says, still_open (requests (codes "shutdown") (message_of body)) (handshake_behind (hand s events) (said (ToServer s body))) (ap (λ z. handshake_behind z (said (ToServer s body))) o)))
+  step (responds k) h m =
+      let asking : hand s events ≡ asked = subst (λ z. Link z (hand s events)) k.waiting (m.hands s k.stays) in
+      record {
+        allowed = ap (λ w. allows w (message_of body)) asking ∙ k.response;
+        next = λ still. subst (λ z. Link (stage_told z (message_of body)) (handshake_behind (hand s events) (said (ToServer s body)))) (sym k.waiting) (ap (λ w. handshake_behind w (said (ToServer s body))) asking);
+      }
   step (shuts k) h m = ready_step k.ready k.stays m (λ o. asked_on (hand s events) s body (message_of body) _ (codes "shutdown") None k.says o)
+  step (exits k) h m =
+      let still : moves before cause s ≡ false = ap (λ c. moves before c s) k.from ∙ ap₂ (λ a z. a && (is_initializing z && is_first_result (message_of k.answer))) (same_number s) k.stage in
+      let now : hand s events ≡ open_to_all = subst (λ z. Link z (hand s events)) k.stopping (m.hands s still) in
+      record {
+        allowed = ap₂ allows now k.says;
+        next = λ still. subst (λ z. Link (stage_told z (message_of body)) (handshake_behind (hand s events) (said (ToServer s body)))) (sym k.stopping) (ap (λ z. handshake_behind z (said (ToServer s body))) now);
+      }
 
   sent : Step before cause events s body → Within before cause events → Within before cause (events ++ said (ToServer s body) ∷ [])
   sent k m = record {

@@ -1,8 +1,8 @@
 -- The requests to a start are numbered from 1.
-use Rattle.std.proofs.Common.{◌≡◌, ℕ, List, decimal, refl, sym, ap, subst}
+use Rattle.std.proofs.Common.{◌≡◌, ℕ, List, decimal, refl, sym, ap, subst, true}
 use Rattle.mux_history.specs.declared.cause.Cause.{Cause}
 use Rattle.mux_history.specs.declared.entry.Entry.{Entry}
-use Rattle.rpc_message.specs.Message.{integer, message_of}
+use Rattle.rpc_message.specs.Message.{integer, message_of, Message, request, notification, result, error, not_json, not_message}
 use Rattle.event_model.specs.Event.{Event}
 use Rattle.event_model.specs.Requests.{next_number}
 use Rattle.event_model.specs.Settings.{Settings}
@@ -13,10 +13,19 @@ use Rattle.session_laws.proofs.Server3Law.{begun_numbered, free, known, told_num
 use Rattle.group_rows.specs.Forwarded.{forwarding_of}
 use Rattle.group_facts.specs.Facts.{is_unbegun}
 use Rattle.group_facts.specs.Legal.{Legal}
-use Rattle.group_facts.specs.Why.{WhyToServer, begins, greets, forwarded, tells, shuts, cancels}
+use Rattle.group_facts.specs.Why.{WhyToServer, begins, greets, forwarded, tells, shuts, cancels, responds, exits}
 use Rattle.group_facts.proofs.Facts.{Facts, Mid, TiedAt, begins_now}
 use Rattle.group_facts.proofs.RestLaws.{Inside}
 use Rattle.group_sessions.proofs.PartLaws.{ServerRule, no_law, server_history}
+use Rattle.mux_facts.specs.Allowed.{is_response}
+
+response_numbered : (n : ℕ) (m : Message) → is_response m ≡ true → HasNumber n m
+response_numbered n (result id r) h = tt
+response_numbered n (error id e) h = tt
+response_numbered n (request id method params) h = absurd (cc)
+response_numbered n (notification method params) h = tt
+response_numbered n not_json h = tt
+response_numbered n not_message h = tt
 
 module _ (settings : Settings) (before : List Event) (cause : Cause) (events : List Event) (s : ℕ) (body : List ℕ) where
   -- a request has the next number
@@ -28,6 +37,8 @@ module _ (settings : Settings) (before : List Event) (cause : Cause) (events : L
       subst (HasNumber (next_number s events)) (sym k.says) (ap (λ n. integer (decimal n)) (sym tied))
   numbered (tells k) h here = told_numbered (next_number s events) (message_of body) k.spoken
   numbered (cancels k) h here = subst (HasNumber (next_number s events)) (sym k.says) tt
+  numbered (responds k) h here = response_numbered (next_number s events) (message_of body) k.response
+  numbered (exits k) h here = subst (HasNumber (next_number s events)) (sym k.says) tt
   numbered (shuts k) h here = subst (HasNumber (next_number s events)) (sym k.says) refl
 
 rule : (settings : Settings) → ServerRule settings No (Inside No) ServerRule3

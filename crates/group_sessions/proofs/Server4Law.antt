@@ -12,9 +12,10 @@ use Rattle.session_laws.specs.ServerRules.{KeepsServer4, ServerRule4}
 use Rattle.session_laws.proofs.PartLaws.{No}
 use Rattle.session_laws.proofs.Server4Law.{by_part, free}
 use Rattle.group_facts.specs.Legal.{Legal}
-use Rattle.group_facts.specs.Why.{WhyToServer, begins, greets, forwarded, tells, shuts, cancels, versions_at}
+use Rattle.group_facts.specs.Why.{WhyToServer, begins, greets, forwarded, tells, shuts, cancels, versions_at, responds, exits}
 use Rattle.group_facts.proofs.RestLaws.{Inside}
 use Rattle.group_sessions.proofs.PartLaws.{ServerRule, no_law, server_history}
+use Rattle.group_facts.proofs.Numbers.{response_silent}
 
 module _ (settings : Settings) (before : List Event) (cause : Cause) (events : List Event) (s : ℕ) (body : List ℕ) where
   allowed : WhyToServer settings before cause events s body → AllowsSaying (versions_at s events) (saying_of (message_of body))
@@ -23,6 +24,8 @@ module _ (settings : Settings) (before : List Event) (cause : Cause) (events : L
   allowed (forwarded k) = subst (λ m. AllowsSaying (versions_at s events) (saying_of m)) (sym k.says) tt
   allowed (tells k) = k.allowed
   allowed (cancels k) = subst (λ m. AllowsSaying (versions_at s events) (saying_of m)) (sym k.says) tt
+  allowed (responds k) = subst (AllowsSaying (versions_at s events)) (sym (response_silent (message_of body) k.response)) tt
+  allowed (exits k) = subst (λ m. AllowsSaying (versions_at s events) (saying_of m)) (sym k.says) tt
   allowed (shuts k) = subst (λ m. AllowsSaying (versions_at s events) (saying_of m)) (sym k.says) tt
 
 rule : (settings : Settings) → ServerRule settings No (Inside No) ServerRule4

@@ -218,7 +218,7 @@ impl Groups {
     /// group of the same key that declares no more than is declared for the editor takes it; else a new one, while fewer live
     /// than the limit; else a new one in place of the one that is idle for longest, the lowest of equals. `NotJson` comes just
     /// where the capabilities or the ceiling are no JSON text that nests at most 1,024 deep. It compares with each live group. A group of
-    /// the number 2^64 - 1 or above is answered as a want of memory.
+    /// the number 2^64 - 1 or above is answered as out of memory.
     pub fn place(
         &mut self,
         key: Key,

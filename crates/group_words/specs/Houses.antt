@@ -129,11 +129,12 @@ has_editor test g home events = nat_lt 0 (length (editors_in test g home events)
 abbrev pub places : Phase → Message → Bool
 places phase m = is_new phase && requests (codes "initialize") m
 
--- E6: the message stops all
+-- E3: the message is a request under an id that is open at its editor
 abbrev pub is_doubled : List Event → ℕ → Message → Bool
 is_doubled before e (request id method params) = is_open id (open_of e before)
 is_doubled before e other = false
 
+-- E6: the message stops all
 abbrev pub stops : List Event → ℕ → Message → Bool
 stops before e m = requests (codes "lspmux/stop") m && (is_there (desk_of e before).phase && not (is_doubled before e m))
 

@@ -10,7 +10,7 @@ use Rattle.id_rewrite.specs.declared.pending.Pending.{Pending}
 use Rattle.id_rewrite.specs.declared.pending.Numbered.{Numbered}
 use Rattle.id_rewrite.specs.declared.slots.Slot.{Slot}
 use Rattle.id_rewrite.specs.Slots.{RiseSlots, any_of, before, live, marked}
-use Rattle.id_rewrite.specs.Tables.{RiseWithin, cancelled, has_number, is_among, is_of, is_under, last_editor, number_under, numbers_of, pending_of, with_cancelled, without}
+use Rattle.id_rewrite.specs.Tables.{RiseWithin, cancelled, editors_of, has_number, is_among, is_of, is_under, last_editor, number_under, numbers_of, pending_of, with_cancelled, without}
 use Rattle.id_rewrite.proofs.Rising.{below_marked, below_without, itself, less, lower, other}
 
 -- the place of a number
@@ -375,3 +375,33 @@ numbers_same editor ss k ns s so l e is = sym (append-nil ns) ∙ numbers_next e
 
 pub numbers_all : (editor : ℕ) (ss : List Slot) (ns : List ℕ) → NumbersTo editor ss (length ss) ns → ns ≡ numbers_of editor (live ss)
 numbers_all editor ss ns so = so ∙ ap (λ ts. numbers_of editor (live ts)) (take_all ss)
+
+-- the editors of all
+
+abbrev pub EditorsTo : List Slot → ℕ → List ℕ → Type 0
+EditorsTo ss k es = es ≡ editors_of (live (take k ss))
+
+editors_append : (rs qs : List Numbered) → editors_of (rs ++ qs) ≡ editors_of rs ++ editors_of qs
+editors_append [] qs = refl
+editors_append (r ∷ rs) qs = ap (λ es. r.pending.editor ∷ es) (editors_append rs qs)
+
+abbrev one_editor : Option ℕ → List ℕ
+one_editor None = []
+one_editor (Some editor) = editor ∷ []
+
+one_before : (n : ℕ) (o : Option Pending) → editors_of (before n o []) ≡ one_editor (option_map (λ (p : Pending). p.editor) o)
+one_before n None = refl
+one_before n (Some p) = refl
+
+editors_next : (ss : List Slot) (k : ℕ) (es : List ℕ) (s : Slot) (o : Option ℕ) → EditorsTo ss k es → k < length ss → s ≡ get_or ss k s → o ≡ option_map (λ (p : Pending). p.editor) s.pending → EditorsTo ss (k + 1) (es ++ one_editor o)
+editors_next ss k es s o so l e is =
+    ap₂ (λ xs ys. xs ++ ys) so (ap one_editor is ∙ sym (one_before s.number s.pending)) ∙ sym (ap editors_of (split ss k s l e) ∙ editors_append (live (take k ss)) (live (s ∷ [])))
+
+pub editors_more : (ss : List Slot) (k : ℕ) (es : List ℕ) (s : Slot) (editor : ℕ) → EditorsTo ss k es → k < length ss → s ≡ get_or ss k s → Some editor ≡ option_map (λ (p : Pending). p.editor) s.pending → EditorsTo ss (k + 1) (es ++ editor ∷ [])
+editors_more ss k es s editor so l e is = editors_next ss k es s (Some editor) so l e is
+
+pub editors_same : (ss : List Slot) (k : ℕ) (es : List ℕ) (s : Slot) → EditorsTo ss k es → k < length ss → s ≡ get_or ss k s → None ≡ option_map (λ (p : Pending). p.editor) s.pending → EditorsTo ss (k + 1) es
+editors_same ss k es s so l e is = sym (append-nil es) ∙ editors_next ss k es s None so l e is
+
+pub editors_all : (ss : List Slot) (es : List ℕ) → EditorsTo ss (length ss) es → es ≡ editors_of (live ss)
+editors_all ss es so = so ∙ ap (λ ts. editors_of (live ts)) (take_all ss)

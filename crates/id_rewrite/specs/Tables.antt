@@ -64,6 +64,10 @@ number_under editor id requests = option_map (λ r. r.number) (find (is_under ed
 abbrev pub numbers_of : ℕ → List Numbered → List ℕ
 numbers_of editor requests = map (λ r. r.number) (filter (is_of editor) requests)
 
+-- the editor of each
+abbrev pub editors_of : List Numbered → List ℕ
+editors_of requests = map (λ r. r.pending.editor) requests
+
 abbrev pub is_among : List ℕ → Numbered → Bool
 is_among editors r = list_any (λ e. nat_eq e r.pending.editor) editors
 

@@ -1,7 +1,7 @@
 // The open requests by number.
 ghost use Rattle.std.specs.Prelude.{◌≡◌, ℕ, ◌+◌, ◌<◌, ◌≤◌, ◌^◌, ◌&&◌, List, [], ◌∷◌, ◌++◌, Some, IfNone, IfOk, IfSome, IsTrue, is_some, OnErr, OnOk, find, get_or, length, option_copied, option_map};
 ghost use Rattle.id_rewrite.specs.Slots.{RiseSlots, any_of, live, marked};
-ghost use Rattle.id_rewrite.specs.Tables.{RiseWithin, is_among, is_of, is_under, last_editor, number_under, numbers_of, pending_of, with_cancelled, without};
+ghost use Rattle.id_rewrite.specs.Tables.{RiseWithin, editors_of, is_among, is_of, is_under, last_editor, number_under, numbers_of, pending_of, with_cancelled, without};
 
 use crate::pending::{Pending, is_under};
 use message_body::Memory;
@@ -84,6 +84,16 @@ fn is_of(slot: &Slot, editor: u64) -> bool
     match &slot.pending {
         Some(pending) => pending.editor == editor,
         None => false,
+    }
+}
+
+// The editor of the open request of a place.
+fn editor_of(slot: &Slot) -> Option<u64>
+    ensures { result ≡ option_map (λ p. p.editor) slot.now.pending }
+{
+    match &slot.pending {
+        Some(pending) => Some(pending.editor),
+        None => None,
     }
 }
 
@@ -234,6 +244,19 @@ impl Slots {
             }
         }
         Ok(numbers)
+    }
+
+    #[tactic(auto, using(crate::proofs::Slotting::editors_more, crate::proofs::Slotting::editors_same, crate::proofs::Slotting::editors_all))]
+    pub fn editors(&self, alloc: Global) -> Result<Vec<u64>, Memory>
+        ensures { IfOk result (λ editors. editors.items ≡ editors_of self.now.requests) }
+    {
+        let mut editors = Vec::new(alloc);
+        for slot in &self.slots {
+            if let Some(editor) = editor_of(slot) {
+                editors.push(editor)?;
+            }
+        }
+        Ok(editors)
     }
 
     pub fn last_editor(&self, among: &[u64]) -> Option<u64>

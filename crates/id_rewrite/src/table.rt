@@ -2,7 +2,7 @@
 ghost use Rattle.std.specs.Prelude.{◌≡◌, ℕ, ◌+◌, ◌<◌, ◌≤◌, List, [], ◌∷◌, ◌++◌, true, None, Some, IfOk, IsOk, OnOk, OnErr, IfSome, MatchResult, option_copied, option_map};
 ghost use Rattle.rpc_message.specs.Message.{Id};
 ghost use Rattle.rpc_message.specs.ValueTexts.{IsIdText};
-ghost use Rattle.id_rewrite.specs.Tables.{AreIds, IsInOrder, last_editor, number_of, number_under, numbers_of, pending_of, with_cancelled, without};
+ghost use Rattle.id_rewrite.specs.Tables.{AreIds, IsInOrder, last_editor, number_of, number_under, numbers_of, pending_of, with_cancelled, without, editors_of};
 
 use crate::form::fingerprint;
 use crate::pending::{NumbersUsed, Pending, is_under};
@@ -185,6 +185,13 @@ impl IdTable {
         ensures { IfOk result (λ numbers. numbers.items ≡ numbers_of editor self.now.requests) }
     {
         self.slots.of_editor(self.alloc, editor)
+    }
+
+    /// The editor of each open request, in the order of their numbers, by a walk over all open requests.
+    pub fn editors(&self) -> Result<Vec<u64>, Memory>
+        ensures { IfOk result (λ editors. editors.items ≡ editors_of self.now.requests) }
+    {
+        self.slots.editors(self.alloc)
     }
 
     /// The editor, among these, of the greatest open number that one of them has. It walks down from the greatest open

@@ -19,7 +19,10 @@ use Rattle.event_model.specs.Members.{reads_versions}
 use Rattle.event_model.specs.Phases.{is_malformed}
 use Rattle.event_model.specs.Settings.{Settings}
 use Rattle.event_model.specs.Stages.{is_first_result}
-use Rattle.group_facts.specs.Built.{built_early, built_from_editor, built_from_server, built_late, built_response, is_fresh, is_passed_plainly, is_shown_whole}
+use Rattle.group_words.specs.Houses.{is_first_error, groups_of}
+use Rattle.group_facts.specs.Built.{built_early, built_from_editor, built_from_server, built_response, is_passed_plainly, is_shown_whole, is_left}
+use Rattle.group_facts.specs.Lively.{lives_at}
+use Rattle.std.specs.Option.{option_map_or}
 use Rattle.group_rows.specs.Forwarded.{Forwarded, answered_by, forwarding_of, is_under}
 use Rattle.id_rewrite.specs.declared.pending.Numbered.{Numbered}
 use Rattle.id_rewrite.specs.Tables.{has_number, pending_of}
@@ -67,17 +70,6 @@ response_built phase ids (request id method params) x h (inr e) = absurd (cc)
 response_built phase ids (notification method params) x h (inl e) = absurd (cc)
 response_built phase ids (notification method params) x h (inr e) = absurd (cc)
 
--- where none can be open under it
-pub fresh_else : (p : Phase) (i : Id) (ids : List Id) → (p ≡ Waiting → ⊥) → (p ≡ Answered → ⊥) → (p ≡ Running → ⊥) → (p ≡ Down → ⊥) → true ≡ is_fresh p i ids
-fresh_else New i ids w a r d = refl
-fresh_else Closed i ids w a r d = refl
-fresh_else Absent i ids w a r d = refl
-fresh_else Gone i ids w a r d = refl
-fresh_else Waiting i ids w a r d = absurd (w refl)
-fresh_else Answered i ids w a r d = absurd (a refl)
-fresh_else Running i ids w a r d = absurd (r refl)
-fresh_else Down i ids w a r d = absurd (d refl)
-
 -- of a start
 
 some_mapped : (k : ℕ) (rs : List Numbered) → is_some (pending_of k rs) ≡ is_some (find (is_under k) (map forwarded_of rs))
@@ -118,60 +110,52 @@ no_call_built fs (error id v) x h r e = absurd (e (cc))
 no_call_built fs not_json x h r e = absurd (cc)
 no_call_built fs not_message x h r e = absurd (cc)
 
--- before its result, and where it is to end
-pub early_notice : (body : List ℕ) (m : Message) → sort_of m ≡ Some sort.Notification → true ≡ built_early body m
-early_notice body (notification method params) h = refl
-early_notice body (request id method params) h = absurd (cc)
-early_notice body (result id r) h = absurd (cc)
-early_notice body (error id e) h = absurd (cc)
-early_notice body not_json h = absurd (cc)
-early_notice body not_message h = absurd (cc)
+-- before its result
+pub early_call : (body : List ℕ) (m : Message) (x : Sort) → sort_of m ≡ Some x → (x ≡ sort.Request) ⊎ (x ≡ sort.Notification) → true ≡ built_early body m
+early_call body (request id method params) x h k = refl
+early_call body (notification method params) x h k = refl
+early_call body (result id r) x h (inl k) = absurd (cc)
+early_call body (result id r) x h (inr k) = absurd (cc)
+early_call body (error id e) x h (inl k) = absurd (cc)
+early_call body (error id e) x h (inr k) = absurd (cc)
+early_call body not_json x h k = absurd (cc)
+early_call body not_message x h k = absurd (cc)
 
-pub early_refused : (body : List ℕ) (m : Message) (x : Sort) → sort_of m ≡ Some x → (x ≡ sort.Request) ⊎ (x ≡ sort.Error) → false ≡ built_early body m
-early_refused body (request id method params) x h k = refl
-early_refused body (error id e) x h k = refl
-early_refused body (notification method params) x h (inl k) = absurd (cc)
-early_refused body (notification method params) x h (inr k) = absurd (cc)
-early_refused body (result id r) x h (inl k) = absurd (cc)
-early_refused body (result id r) x h (inr k) = absurd (cc)
-early_refused body not_json x h k = absurd (cc)
-early_refused body not_message x h k = absurd (cc)
+pub early_error : (body : List ℕ) (m : Message) (b : Bool) → sort_of m ≡ Some sort.Error → b ≡ is_first_error m → not b ≡ built_early body m
+early_error body (error id e) b h is = ap not is
+early_error body (request id method params) b h is = absurd (cc)
+early_error body (notification method params) b h is = absurd (cc)
+early_error body (result id r) b h is = absurd (cc)
+early_error body not_json b h is = absurd (cc)
+early_error body not_message b h is = absurd (cc)
 
 pub early_first : (body : List ℕ) (m : Message) → is_first_result m ≡ true → is_shown_whole body ≡ built_early body m
-early_first body (result id r) h = ap (λ b. b && is_shown_whole body) (sym h)
+early_first body (result id r) h = ap (λ b. not b || is_shown_whole body) (sym h)
 early_first body (request id method params) h = absurd (cc)
 early_first body (notification method params) h = absurd (cc)
 early_first body (error id e) h = absurd (cc)
 early_first body not_json h = absurd (cc)
 early_first body not_message h = absurd (cc)
 
-pub early_other : (body : List ℕ) (m : Message) → sort_of m ≡ Some sort.Result → is_first_result m ≡ false → false ≡ built_early body m
-early_other body (result id r) s h = ap (λ b. b && is_shown_whole body) (sym h)
+pub early_other : (body : List ℕ) (m : Message) → sort_of m ≡ Some sort.Result → is_first_result m ≡ false → true ≡ built_early body m
+early_other body (result id r) s h = ap (λ b. not b || is_shown_whole body) (sym h)
 early_other body (request id method params) s h = absurd (cc)
 early_other body (notification method params) s h = absurd (cc)
 early_other body (error id e) s h = absurd (cc)
 early_other body not_json s h = absurd (cc)
 early_other body not_message s h = absurd (cc)
 
-pub late_call : (m : Message) (x : Sort) → sort_of m ≡ Some x → (x ≡ sort.Request) ⊎ (x ≡ sort.Notification) → true ≡ built_late m
-late_call (request id method params) x h k = refl
-late_call (notification method params) x h k = refl
-late_call (result id r) x h (inl k) = absurd (cc)
-late_call (result id r) x h (inr k) = absurd (cc)
-late_call (error id e) x h (inl k) = absurd (cc)
-late_call (error id e) x h (inr k) = absurd (cc)
-late_call not_json x h k = absurd (cc)
-late_call not_message x h k = absurd (cc)
+-- of a start that is to end each message is built
+pub late_built : (x y : Stage) (fs : List Forwarded) (body : List ℕ) (m : Message) → y ≡ x → (y ≡ Stopping) ⊎ (y ≡ Ending) → true ≡ built_from_server x fs body m
+late_built x y fs body m same (inl at) = ap (λ z. built_from_server z fs body m) (sym at ∙ same)
+late_built x y fs body m same (inr at) = ap (λ z. built_from_server z fs body m) (sym at ∙ same)
 
-pub late_response : (m : Message) (x : Sort) → sort_of m ≡ Some x → (x ≡ sort.Result) ⊎ (x ≡ sort.Error) → false ≡ built_late m
-late_response (result id r) x h k = refl
-late_response (error id e) x h k = refl
-late_response (request id method params) x h (inl k) = absurd (cc)
-late_response (request id method params) x h (inr k) = absurd (cc)
-late_response (notification method params) x h (inl k) = absurd (cc)
-late_response (notification method params) x h (inr k) = absurd (cc)
-late_response not_json x h k = absurd (cc)
-late_response not_message x h k = absurd (cc)
+-- X1 to X3
+pub left_here : (settings : Settings) (t : Tables) (before : List Event) (s g : ℕ) (b : Bool) → Stands settings t before → Some g ≡ slice_get t.origins.items s → b ≡ lives_at g (groups_of settings before) → not b ≡ is_left settings before s
+left_here settings t before s g b st at is = ap not is ∙ ap (λ o. not (option_map_or (λ h. lives_at h (groups_of settings before)) o false)) (at ∙ sym (st.origins.group s))
+
+pub left_nowhere : (settings : Settings) (t : Tables) (before : List Event) (s : ℕ) → Stands settings t before → None ≡ slice_get t.origins.items s → true ≡ is_left settings before s
+left_nowhere settings t before s st at = ap (λ o. not (option_map_or (λ h. lives_at h (groups_of settings before)) o false)) (at ∙ sym (st.origins.group s))
 
 -- of a start that is over no message is built
 pub over_built : (stage : Stage) (fs : List Forwarded) (body : List ℕ) (m : Message) → is_malformed m ≡ false → is_over stage ≡ true → false ≡ built_from_server stage fs body m

@@ -131,7 +131,7 @@ impl Backlogs {
     }
 
     /// Takes in an entry: who joined, what was drained, and what was sent. Counts that pass 2^64 - 1, and bodies to editors that aren't
-    /// linked, are answered as a want of memory; where the answer is an error the counts stand for nothing any more.
+    /// linked, are answered as out of memory; where the answer is an error the counts stand for nothing any more.
     pub fn take(&mut self, cause: &Cause, outs: &Outs) -> Result<(), Memory>
         ensures { (events : List Event) → BacklogsStand self.old events
             → OnOk result (BacklogsStand self.new (behind (with_cause events cause.now) outs.now)) }

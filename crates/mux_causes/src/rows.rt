@@ -1,16 +1,17 @@
 // Which causes meet rows of the routing table that are built.
 ghost use Rattle.std.specs.Prelude.{◌≡◌, ◌≤◌, ◌<◌, ◌&&◌, ◌||◌, ℕ, not, true, false, bytes_eq, codes, length, map, find, is_some, List, Option, Some, IfOk, slice_get};
-ghost use Rattle.event_model.specs.declared.phase.Phase.TheVariants.{Waiting};
 ghost use Rattle.event_model.specs.Event.{Event};
 ghost use Rattle.event_model.specs.Members.{has_token, reads_versions};
 ghost use Rattle.event_model.specs.Phases.{desk_of, is_new, is_served};
 ghost use Rattle.event_model.specs.Requests.{answered_id, is_open, open_of};
 ghost use Rattle.event_model.specs.Settings.{Settings};
 ghost use Rattle.event_model.specs.Stages.{is_first_result, life_of};
-ghost use Rattle.group_facts.specs.Built.{built_behind, built_early, built_from_editor, built_from_server, built_late, built_notice, built_request, built_response, is_fresh, is_marked, is_passed_plainly, is_plain, is_quiet, is_shown_whole, is_standard};
+ghost use Rattle.group_facts.specs.Built.{built_behind, built_early, built_from_editor, built_from_server, built_notice, built_request, built_response, doubles, is_left, is_marked, is_passed_plainly, is_plain, is_quiet, is_shown_whole, is_standard};
 ghost use Rattle.group_facts.specs.Facts.{Known};
-ghost use Rattle.group_facts.specs.Settled.{Settled, is_answered};
+ghost use Rattle.group_facts.specs.Lively.{lives_at};
+ghost use Rattle.group_facts.specs.Settled.{Settled};
 ghost use Rattle.group_rows.specs.Forwarded.{answered_by, forwarding_of};
+ghost use Rattle.group_words.specs.Houses.{groups_of};
 ghost use Rattle.json_text.specs.Json.{Json};
 ghost use Rattle.lsp_method.specs.Class.{class_of};
 ghost use Rattle.lsp_method.specs.declared.variants.Origin.TheVariants.{Editor};
@@ -19,7 +20,6 @@ ghost use Rattle.mux_model.specs.Built.{is_other};
 ghost use Rattle.mux_tables.specs.Stands.{Stands, number_in};
 ghost use Rattle.rpc_message.specs.Message.{Id, message_of, notification, request, result as outcome};
 ghost use Rattle.rpc_message.specs.Parsed.{IsRead};
-ghost use Rattle.rpc_message.specs.ValueTexts.{IsIdText};
 
 use event_model::{Phase, Stage};
 use lsp_method::Class;
@@ -27,11 +27,11 @@ use message_body::{Body, Memory};
 use mux_history::Cause;
 use mux_members::{
     class_in, has_token, is_dropped, is_exit, is_first_result, is_initialize, is_initialized,
-    is_wrong, reads_versions, speaks,
+    is_status, is_wrong, reads_versions, speaks,
 };
 use mux_tables::Tables;
-use mux_turns::{answered_number, shown_of};
-use rpc_message::{Malformed, Message, Sort, same_id};
+use mux_turns::{answered_number, doubles, is_first_error, shown_of};
+use rpc_message::{Malformed, Message, Sort};
 use std::alloc::Global;
 
 // Whether this is the class of requests that are passed on.
@@ -90,20 +90,45 @@ fn is_marked_here(phase: Phase, message: &Message) -> bool
     phase.is_served() && is_marked(message)
 }
 
-// E8 to E10: whether a request of the standard is built, which doesn't place its editor.
-fn is_taken(phase: Phase, message: &Message) -> bool
+// E3 and E10: whether a request goes nowhere, since it is under an id that is open, or goes on without a token.
+fn is_tokenless(phase: Phase, doubled: bool, message: &Message) -> bool
     ensures { (body method : List ℕ) (id : Id) (params : Option Json) → IsRead message.now body → message_of body ≡ request id method params
-        → result ≡ (is_standard (class_of method Editor false) && not (is_served phase && is_marked method params)) }
+        → result ≡ (doubled || not (is_served phase && is_marked method params)) }
 {
-    is_standard(message) && !is_marked_here(phase, message)
+    doubled || !is_marked_here(phase, message)
 }
 
-// Whether a request of an editor in this phase is built, whatever its id is.
-fn built_request(phase: Phase, message: &Message) -> bool
+// E3 and E8 to E10: whether a request of the standard is built, which doesn't place its editor.
+fn is_taken(phase: Phase, doubled: bool, message: &Message) -> bool
     ensures { (body method : List ℕ) (id : Id) (params : Option Json) → IsRead message.now body → message_of body ≡ request id method params
-        → result ≡ built_request phase method params }
+        → result ≡ (is_standard (class_of method Editor false) && (doubled || not (is_served phase && is_marked method params))) }
 {
-    is_first(phase, message) || is_taken(phase, message)
+    is_standard(message) && is_tokenless(phase, doubled, message)
+}
+
+// E5: whether a request is `lspmux/status`.
+fn names_status(message: &Message) -> bool
+    ensures { (body method : List ℕ) (id : Id) (params : Option Json) → IsRead message.now body → message_of body ≡ request id method params
+        → result ≡ bytes_eq (codes "lspmux/status") method }
+{
+    is_status(message)
+}
+
+// E3, E5 and E8 to E10: whether a request is built, which doesn't place its editor.
+fn is_met(phase: Phase, doubled: bool, message: &Message) -> bool
+    ensures { (body method : List ℕ) (id : Id) (params : Option Json) → IsRead message.now body → message_of body ≡ request id method params
+        → result ≡ (bytes_eq (codes "lspmux/status") method
+        || (is_standard (class_of method Editor false) && (doubled || not (is_served phase && is_marked method params)))) }
+{
+    names_status(message) || is_taken(phase, doubled, message)
+}
+
+// Whether a request of an editor in this phase is built, under an id that is open or not.
+fn built_request(phase: Phase, doubled: bool, message: &Message) -> bool
+    ensures { (body method : List ℕ) (id : Id) (params : Option Json) → IsRead message.now body → message_of body ≡ request id method params
+        → result ≡ built_request phase doubled method params }
+{
+    is_first(phase, message) || is_met(phase, doubled, message)
 }
 
 // E9, E12 to E15: whether a notification behind the answer to `initialize` is built.
@@ -122,52 +147,14 @@ fn built_notice(phase: Phase, message: &Message) -> bool
     !phase.is_served() || is_quiet(message)
 }
 
-// Of an editor that waits: whether this is the id of its `initialize`.
-fn is_own(tables: &Tables, e: u64, id: &[u8]) -> bool
-    ensures { (settings : Settings) (before : List Event) (i : Id) → Settled settings before → Stands settings tables.now before → IsIdText i id.now
-        → (desk_of e before).phase ≡ Waiting → result ≡ is_open i (open_of e before) }
-{
-    if e >= tables.editors.count() {
-        return false;
-    }
-    match tables.initialize_id(e) {
-        Some(own) => same_id(id, own.bytes()),
-        None => false,
-    }
-}
-
-// Of an editor that got its result: whether a request of it under this id is open at the last start of its group.
-fn is_sent(tables: &Tables, e: u64, id: &[u8]) -> bool
-    ensures { (settings : Settings) (before : List Event) (i : Id) → Known settings before → Settled settings before
-        → Stands settings tables.now before → IsIdText i id.now → is_answered (desk_of e before).phase ≡ true → result ≡ is_open i (open_of e before) }
-{
-    match tables.place(e) {
-        Some(g) => tables.lasts[g].ids.find(e, id).is_some(),
-        None => false,
-    }
-}
-
-// E3: whether no request of an editor under this id is open.
-fn is_fresh(tables: &Tables, e: u64, phase: Phase, id: &[u8]) -> bool
-    ensures { (settings : Settings) (before : List Event) (i : Id) → Known settings before → Settled settings before
-        → Stands settings tables.now before → IsIdText i id.now → phase ≡ (desk_of e before).phase → result ≡ is_fresh phase i (open_of e before) }
-{
-    match phase {
-        Phase::Waiting => !is_own(tables, e, id),
-        Phase::Answered => !is_sent(tables, e, id),
-        Phase::Running => !is_sent(tables, e, id),
-        Phase::Down => !is_sent(tables, e, id),
-        _ => true,
-    }
-}
-
 // A request of an editor.
 fn built_asking(tables: &Tables, e: u64, phase: Phase, message: &Message) -> bool
     ensures { (settings : Settings) (before : List Event) (body method : List ℕ) (id : Id) (params : Option Json) → Known settings before
         → Settled settings before → Stands settings tables.now before → IsRead message.now body → message_of body ≡ request id method params
-        → phase ≡ (desk_of e before).phase → result ≡ (is_fresh phase id (open_of e before) && built_request phase method params) }
+        → phase ≡ (desk_of e before).phase → result ≡ built_request phase (doubles phase id (open_of e before)) method params }
 {
-    is_fresh(tables, e, phase, message.id_bytes()) && built_request(phase, message)
+    let doubled = doubles(tables, e, phase, message.id_bytes());
+    built_request(phase, doubled, message)
 }
 
 // A message of an editor.
@@ -243,30 +230,20 @@ fn built_response(tables: &Tables, g: usize, message: &Message) -> bool
     }
 }
 
-// S2 and S4: a message of a start that gave no result yet.
+// S2 and S4: a message of a start that gave no result yet, without S3.
 fn built_early(alloc: Global, message: &Message) -> Result<bool, Memory>
     ensures { (body : List ℕ) → IsRead message.now body → IfOk result (λ answer. answer ≡ built_early body (message_of body)) }
 {
     match message.sort() {
-        Sort::Notification => Ok(true),
-        Sort::Request | Sort::Error => Ok(false),
+        Sort::Request | Sort::Notification => Ok(true),
+        Sort::Error => Ok(!is_first_error(message)),
         Sort::Result => {
             if is_first_result(message) {
                 is_shown_whole(alloc, message)
             } else {
-                Ok(false)
+                Ok(true)
             }
         }
-    }
-}
-
-// S4: a message of a start that is to end.
-fn built_late(message: &Message) -> bool
-    ensures { (body : List ℕ) → IsRead message.now body → result ≡ built_late (message_of body) }
-{
-    match message.sort() {
-        Sort::Request | Sort::Notification => true,
-        Sort::Result | Sort::Error => false,
     }
 }
 
@@ -280,8 +257,7 @@ fn built_answer(tables: &Tables, alloc: Global, g: usize, message: &Message) -> 
     match tables.stage(g) {
         Stage::Initializing => built_early(alloc, message),
         Stage::Ready => Ok(built_response(tables, g, message)),
-        Stage::Stopping => Ok(built_late(message)),
-        Stage::Ending => Ok(built_late(message)),
+        Stage::Stopping | Stage::Ending => Ok(true),
         _ => Ok(false),
     }
 }
@@ -316,6 +292,26 @@ fn built_from_server(tables: &Tables, alloc: Global, s: u64, body: &Body) -> Res
     }
 }
 
+// Whether the group of a number lives.
+fn lives(tables: &Tables, g: u64) -> bool
+    ensures { (settings : Settings) (before : List Event) → Stands settings tables.now before → result ≡ lives_at g (groups_of settings before) }
+{
+    match tables.kept(g) {
+        Some(kept) => kept.live,
+        None => false,
+    }
+}
+
+// X1 to X3: whether the group of a start lives no more.
+fn is_left(tables: &Tables, s: u64) -> bool
+    ensures { (settings : Settings) (before : List Event) → Stands settings tables.now before → result ≡ is_left settings before s }
+{
+    match tables.origin(s) {
+        Some(g) => !lives(tables, g),
+        None => true,
+    }
+}
+
 /// Whether this cause meets only rows of the routing table that are built.
 pub fn built(tables: &Tables, alloc: Global, cause: &Cause) -> Result<bool, Memory>
     requires { body_length cause.now ≤ 268435456 }
@@ -329,6 +325,8 @@ pub fn built(tables: &Tables, alloc: Global, cause: &Cause) -> Result<bool, Memo
         Cause::Drained(_, _) => Ok(true),
         Cause::FromEditor(e, body) => built_from_editor(tables, alloc, *e, body),
         Cause::FromServer(s, body) => built_from_server(tables, alloc, *s, body),
+        Cause::StartFailed(s) => Ok(is_left(tables, *s)),
+        Cause::ServerGone(s) => Ok(is_left(tables, *s)),
         _ => Ok(false),
     }
 }

@@ -1,5 +1,5 @@
 -- What the causes that are built say of a message of an editor.
-use Rattle.std.proofs.Common.{◌≡◌, ℕ, Bool, true, false, not, ◌&&◌, ◌||◌, List, refl, ap, sym, subst, codes, bytes_eq, arith}
+use Rattle.std.proofs.Common.{◌≡◌, ℕ, Bool, true, false, not, ◌&&◌, ◌||◌, List, refl, ap, sym, subst, ◌∙◌, codes, bytes_eq, arith}
 use Rattle.std.specs.Prelude.{Option, Some}
 use Rattle.std.proofs.lemmas.Slice.Eq.{bytes_eq-Decides}
 use Rattle.json_text.specs.Json.{Json}
@@ -18,13 +18,13 @@ use Rattle.event_model.specs.declared.phase.Phase.TheVariants.{Absent, New, Wait
 use Rattle.event_model.specs.Event.{Event, requests}
 use Rattle.event_model.specs.Phases.{desk_of, is_begun, is_new, is_served, is_there, needs_server}
 use Rattle.event_model.specs.Requests.{is_open, open_of}
-use Rattle.group_facts.specs.Built.{built_from_editor, built_request, is_fresh, is_marked, is_standard}
+use Rattle.group_facts.specs.Built.{built_from_editor, built_request, doubles, is_marked, is_standard}
 use Rattle.group_facts.specs.Facts.{is_early}
 use Rattle.group_words.specs.Houses.{is_doubled, stops}
 use Rattle.mux_tables.specs.Documents.{changes_documents}
 use Rattle.mux_turns.proofs.Classes.{swapped}
 
-second_of : (a b : Bool) → (a && b) ≡ true → b ≡ true
+pub second_of : (a b : Bool) → (a && b) ≡ true → b ≡ true
 second_of true b h = h
 second_of false b h = absurd (cc)
 
@@ -55,47 +55,78 @@ standard_stays method h same = let own : is_standard (class_of (codes "lspmux/st
 first_stays : (method : List ℕ) → bytes_eq (codes "initialize") method ≡ true → (codes "lspmux/stop" ≡ method) → ⊥
 first_stays method h same = let clash : bytes_eq (codes "initialize") (codes "lspmux/stop") ≡ true = subst (λ m. bytes_eq (codes "initialize") m ≡ true) (sym same) h in cc
 
-request_stays : (p : Phase) (method : List ℕ) (params : Option Json) → built_request p method params ≡ true → (codes "lspmux/stop" ≡ method) → ⊥
-request_stays p method params h = go (is_new p && bytes_eq (codes "initialize") method) refl h
+status_stays : (method : List ℕ) → bytes_eq (codes "lspmux/status") method ≡ true → (codes "lspmux/stop" ≡ method) → ⊥
+status_stays method h same = let clash : bytes_eq (codes "lspmux/status") (codes "lspmux/stop") ≡ true = subst (λ m. bytes_eq (codes "lspmux/status") m ≡ true) (sym same) h in cc
+
+request_stays : (p : Phase) (doubled : Bool) (method : List ℕ) (params : Option Json) → built_request p doubled method params ≡ true → (codes "lspmux/stop" ≡ method) → ⊥
+request_stays p doubled method params h = go (is_new p && bytes_eq (codes "initialize") method) refl h
   where
-    go : (b : Bool) → (is_new p && bytes_eq (codes "initialize") method) ≡ b → (b || (is_standard (class_of method Editor false) && not (is_served p && is_marked method params))) ≡ true → (codes "lspmux/stop" ≡ method) → ⊥
+    status : (b : Bool) → bytes_eq (codes "lspmux/status") method ≡ b → (b || (is_standard (class_of method Editor false) && (doubled || not (is_served p && is_marked method params)))) ≡ true → (codes "lspmux/stop" ≡ method) → ⊥
+    status true k s = status_stays method k
+    status false k s = standard_stays method (first_of (is_standard (class_of method Editor false)) (doubled || not (is_served p && is_marked method params)) s)
+
+    go : (b : Bool) → (is_new p && bytes_eq (codes "initialize") method) ≡ b → (b || (bytes_eq (codes "lspmux/status") method || (is_standard (class_of method Editor false) && (doubled || not (is_served p && is_marked method params))))) ≡ true → (codes "lspmux/stop" ≡ method) → ⊥
     go true k s = first_stays method (second_of (is_new p) (bytes_eq (codes "initialize") method) k)
-    go false k s = standard_stays method (first_of (is_standard (class_of method Editor false)) (not (is_served p && is_marked method params)) s)
+    go false k s = status (bytes_eq (codes "lspmux/status") method) refl s
+
+-- a request other than `lspmux/status`
+other_built : (b c : Bool) → b ≡ false → (b || c) ≡ true → c ≡ true
+other_built true c h k = absurd (cc)
+other_built false c h k = k
 
 module _ (before : List Event) (e : ℕ) (p : Phase) where
   abbrev ids : List Id
   ids = open_of e before
 
   pub built_stays : (m : Message) → built_from_editor p ids m ≡ true → stops before e m ≡ false
-  built_stays (request id method params) h = stops_not method (request_stays p method params (second_of (is_fresh p id ids) (built_request p method params) h)) before e id params
+  built_stays (request id method params) h = stops_not method (request_stays p (doubles p id ids) method params h) before e id params
   built_stays (notification method params) h = refl
   built_stays (result id r) h = refl
   built_stays (error id r) h = refl
   built_stays not_json h = refl
   built_stays not_message h = refl
 
-  -- it is under no id that is open
-  pub built_single : (m : Message) → built_from_editor p ids m ≡ true → (is_begun p && is_doubled before e m) ≡ false
-  built_single (request id method params) h = not_so (is_begun p && is_open id ids) (first_of (is_fresh p id ids) (built_request p method params) h)
-  built_single (notification method params) h = and_off (is_begun p)
-  built_single (result id r) h = and_off (is_begun p)
-  built_single (error id r) h = and_off (is_begun p)
-  built_single not_json h = and_off (is_begun p)
-  built_single not_message h = and_off (is_begun p)
-
-  -- of one that is served it is a request of the standard
-  pub served_standard : (id : Id) (method : List ℕ) (params : Option Json) → is_served p ≡ true → built_from_editor p ids (request id method params) ≡ true → is_standard (class_of method Editor false) ≡ true
-  served_standard id method params served h = go p served (second_of (is_fresh p id ids) (built_request p method params) h)
+  -- under an id that is open it is a request of the standard, or `lspmux/status`
+  pub doubled_standard : (id : Id) (method : List ℕ) (params : Option Json) → bytes_eq (codes "lspmux/status") method ≡ false → doubles p id ids ≡ true → built_from_editor p ids (request id method params) ≡ true → is_standard (class_of method Editor false) ≡ true
+  doubled_standard id method params none doubled h = go p (first_of (is_begun p) (is_open id ids) doubled) h
     where
-      go : (q : Phase) → is_served q ≡ true → built_request q method params ≡ true → is_standard (class_of method Editor false) ≡ true
-      go Answered s k = first_of (is_standard (class_of method Editor false)) (not (is_marked method params)) k
-      go Running s k = first_of (is_standard (class_of method Editor false)) (not (is_marked method params)) k
+      go : (q : Phase) → is_begun q ≡ true → built_request q (doubles p id ids) method params ≡ true → is_standard (class_of method Editor false) ≡ true
+      go Waiting s k = first_of (is_standard (class_of method Editor false)) (doubles p id ids || true) (other_built (bytes_eq (codes "lspmux/status") method) _ none k)
+      go Answered s k = first_of (is_standard (class_of method Editor false)) (doubles p id ids || not (is_marked method params)) (other_built (bytes_eq (codes "lspmux/status") method) _ none k)
+      go Running s k = first_of (is_standard (class_of method Editor false)) (doubles p id ids || not (is_marked method params)) (other_built (bytes_eq (codes "lspmux/status") method) _ none k)
+      go Down s k = first_of (is_standard (class_of method Editor false)) (doubles p id ids || true) (other_built (bytes_eq (codes "lspmux/status") method) _ none k)
+      go Absent s k = absurd (cc)
+      go New s k = absurd (cc)
+      go Closed s k = absurd (cc)
+      go Gone s k = absurd (cc)
+
+  -- of one that is served it is such a request too
+  pub served_standard : (id : Id) (method : List ℕ) (params : Option Json) → bytes_eq (codes "lspmux/status") method ≡ false → is_served p ≡ true → built_from_editor p ids (request id method params) ≡ true → is_standard (class_of method Editor false) ≡ true
+  served_standard id method params none served h = go p served h
+    where
+      go : (q : Phase) → is_served q ≡ true → built_request q (doubles p id ids) method params ≡ true → is_standard (class_of method Editor false) ≡ true
+      go Answered s k = first_of (is_standard (class_of method Editor false)) (doubles p id ids || not (is_marked method params)) (other_built (bytes_eq (codes "lspmux/status") method) _ none k)
+      go Running s k = first_of (is_standard (class_of method Editor false)) (doubles p id ids || not (is_marked method params)) (other_built (bytes_eq (codes "lspmux/status") method) _ none k)
       go Absent s k = absurd (cc)
       go New s k = absurd (cc)
       go Waiting s k = absurd (cc)
       go Down s k = absurd (cc)
       go Closed s k = absurd (cc)
       go Gone s k = absurd (cc)
+
+-- a request of an editor that is there, which isn't `lspmux/status`
+pub unasked_when : (p : Phase) (m : Message) (id : Id) (method : List ℕ) (params : Option Json) → m ≡ request id method params → is_there p ≡ true → (is_there p && requests (codes "lspmux/status") m) ≡ false → bytes_eq (codes "lspmux/status") method ≡ false
+unasked_when p m id method params says there none = ap (λ k. requests (codes "lspmux/status") k) (sym says) ∙ (ap (λ b. b && requests (codes "lspmux/status") m) (sym there) ∙ none)
+
+pub served_there : (p : Phase) → is_served p ≡ true → is_there p ≡ true
+served_there Answered h = refl
+served_there Running h = refl
+served_there Absent h = absurd (cc)
+served_there New h = absurd (cc)
+served_there Waiting h = absurd (cc)
+served_there Down h = absurd (cc)
+served_there Closed h = absurd (cc)
+served_there Gone h = absurd (cc)
 
 -- such a request is of class Wrong, is `shutdown`, or goes on
 pub other_class : (k : Class) → is_standard k ≡ true → (k ≡ class.Wrong → ⊥) → (k ≡ class.Shutdown → ⊥) → is_other k ≡ true
@@ -107,21 +138,6 @@ other_class k h w s = absurd (cc)
 pub other_right : (k : Class) → is_other k ≡ true → is_wrong k ≡ false
 other_right class.Other h = refl
 other_right k h = absurd (cc)
-
-module _ (m : List ℕ) (h : is_shutdown (class_of m Editor false) ≡ true) where
-  shutdown_name : bytes_eq m (codes "shutdown") ≡ true
-  unfolding editor_request own_request
-  shutdown_name = grind arith
-
-  pub shutdown_named : bytes_eq (codes "shutdown") m ≡ true
-  shutdown_named = subst (λ w. bytes_eq (codes "shutdown") w ≡ true) (sym ((bytes_eq-Decides m (codes "shutdown")).0 shutdown_name)) refl
-
-  first_not : bytes_eq m (codes "initialize") ≡ false
-  unfolding editor_request own_request
-  first_not = grind arith
-
-  pub shutdown_later : bytes_eq (codes "initialize") m ≡ false
-  shutdown_later = swapped m (codes "initialize") first_not
 
 pub served_needs : (p : Phase) → is_served p ≡ true → needs_server p ≡ true
 served_needs Answered h = refl

@@ -19,14 +19,14 @@ use Rattle.event_model.specs.declared.phase.Phase.{Phase}
 use Rattle.event_model.specs.declared.phase.Phase.TheVariants.{Absent, New, Waiting, Answered, Running, Down, Closed, Gone}
 use Rattle.event_model.specs.Does.{Alike, Done}
 use Rattle.event_model.specs.Event.{Event, behind, notifies, requests, with_cause}
-use Rattle.event_model.specs.Phases.{desk_of, is_begun, is_linked, is_malformed, is_served}
+use Rattle.event_model.specs.Phases.{desk_of, is_begun, is_linked, is_malformed, is_served, is_there}
 use Rattle.event_model.specs.Row.{Row, nothing}
 use Rattle.event_model.specs.Settings.{Settings}
 use Rattle.event_model.proofs.Turns.{alike, alike_then, does_nothing}
 use Rattle.mux_model.specs.Rows.{malformed_row}
 use Rattle.group_words.specs.Rows.{initialize_row}
 use Rattle.group_words.specs.Houses.{is_doubled}
-use Rattle.group_rows.specs.Rows.{closing_row, down_row, early_row, exit_row, from_editor, row_of, served_row, taken_row}
+use Rattle.group_rows.specs.Rows.{closing_row, down_row, early_row, exit_row, from_editor, row_of, served_row, status_row, taken_row}
 use Rattle.mux_tables.specs.declared.tables.Tables.{Tables}
 use Rattle.mux_tables.specs.Documents.{AllStand, DocumentsStand, nothing_owed}
 use Rattle.mux_tables.specs.Stands.{Stands}
@@ -75,6 +75,38 @@ asks_by_sort (result id r) h = absurd (cc)
 asks_by_sort (error id r) h = absurd (cc)
 asks_by_sort not_json h = absurd (cc)
 asks_by_sort not_message h = absurd (cc)
+
+-- what is under an id that is open is a request
+module _ (before : List Event) (e : ℕ) (b : Bool) where
+  never : {A : Type 0} → (b && false) ≡ true → A
+  never h = no b h
+    where
+      no : {A : Type 0} (c : Bool) → (c && false) ≡ true → A
+      no true h = absurd (cc)
+      no false h = absurd (cc)
+
+  pub asks_doubled : (m : Message) → (b && is_doubled before e m) ≡ true → Asks m
+  asks_doubled (request id method params) h = record { id = id; method = method; params = params; is = refl }
+  asks_doubled (notification method params) h = never h
+  asks_doubled (result id r) h = never h
+  asks_doubled (error id r) h = never h
+  asks_doubled not_json h = never h
+  asks_doubled not_message h = never h
+
+  nothing_doubled : false ≡ (b && false)
+  nothing_doubled = no b
+    where
+      no : (c : Bool) → false ≡ (c && false)
+      no true = refl
+      no false = refl
+
+  pub undoubled : (m : Message) → (sort_of m ≡ Some sort.Request → ⊥) → false ≡ (b && is_doubled before e m)
+  undoubled (request id method params) h = absurd (h refl)
+  undoubled (notification method params) h = nothing_doubled
+  undoubled (result id r) h = nothing_doubled
+  undoubled (error id r) h = nothing_doubled
+  undoubled not_json h = nothing_doubled
+  undoubled not_message h = nothing_doubled
 
 -- a notification, with its parts
 pub record Notes (m : Message) : Type 0 where
@@ -127,17 +159,27 @@ module _ (settings : Settings) (before : List Event) (e : ℕ) (body : List ℕ)
   pub malformed : is_malformed (message_of body) ≡ true → Alike row (malformed_row e (message_of body) (desk_of e before).phase)
   malformed h = is_first refl h
 
-  -- one that is under no open id
-  pub taken : (p : Phase) → (desk_of e before).phase ≡ p → is_malformed (message_of body) ≡ false → (is_begun p && is_doubled before e (message_of body)) ≡ false → Alike row (taken_row settings before e body (message_of body) p)
-  taken p at well single = alike_then (alike (ap (from_editor settings before e body (message_of body)) at)) (alike_then (is_second refl well) (is_second refl single))
+  -- one that is under no open id, and isn't `lspmux/status`
+  pub taken : (p : Phase) → (desk_of e before).phase ≡ p → is_malformed (message_of body) ≡ false → (is_begun p && is_doubled before e (message_of body)) ≡ false → (is_there p && requests (codes "lspmux/status") (message_of body)) ≡ false
+      → Alike row (taken_row settings before e body (message_of body) p)
+  taken p at well single other = alike_then (alike (ap (from_editor settings before e body (message_of body)) at)) (alike_then (is_second refl well) (alike_then (is_second refl single) (is_second refl other)))
+
+  -- E5
+  pub told : is_malformed (message_of body) ≡ false → (is_begun (desk_of e before).phase && is_doubled before e (message_of body)) ≡ false → (is_there (desk_of e before).phase && requests (codes "lspmux/status") (message_of body)) ≡ true
+      → Alike row (status_row settings before e body)
+  told well single asks = alike_then (is_second refl well) (alike_then (is_second refl single) (is_first refl asks))
+
+  -- E3
+  pub closes : is_malformed (message_of body) ≡ false → (is_begun (desk_of e before).phase && is_doubled before e (message_of body)) ≡ true → Alike row (closing_row settings before e)
+  closes well twice = alike_then (is_second refl well) (is_first refl twice)
 
   -- E7
-  pub begins : (desk_of e before).phase ≡ New → is_malformed (message_of body) ≡ false → requests (codes "initialize") (message_of body) ≡ true → Alike row (initialize_row settings before e body)
-  begins at well h = alike_then (taken New at well refl) (is_first refl h)
+  pub begins : (desk_of e before).phase ≡ New → is_malformed (message_of body) ≡ false → requests (codes "initialize") (message_of body) ≡ true → (is_there (desk_of e before).phase && requests (codes "lspmux/status") (message_of body)) ≡ false → Alike row (initialize_row settings before e body)
+  begins at well h other = alike_then (taken New at well refl (ap (λ p. is_there p && requests (codes "lspmux/status") (message_of body)) (sym at) ∙ other)) (is_first refl h)
 
   -- E8
-  pub early_new : (desk_of e before).phase ≡ New → is_malformed (message_of body) ≡ false → requests (codes "initialize") (message_of body) ≡ false → Alike row (early_row settings before e body (message_of body))
-  early_new at well h = alike_then (taken New at well refl) (is_second refl h)
+  pub early_new : (desk_of e before).phase ≡ New → is_malformed (message_of body) ≡ false → requests (codes "initialize") (message_of body) ≡ false → (is_there (desk_of e before).phase && requests (codes "lspmux/status") (message_of body)) ≡ false → Alike row (early_row settings before e body (message_of body))
+  early_new at well h other = alike_then (taken New at well refl (ap (λ p. is_there p && requests (codes "lspmux/status") (message_of body)) (sym at) ∙ other)) (is_second refl h)
 
   served_as : (m : Message) (p : Phase) → is_served p ≡ true → taken_row settings before e body m p ≡ served_row settings before e body m
   served_as m Answered h = refl
@@ -149,8 +191,8 @@ module _ (settings : Settings) (before : List Event) (e : ℕ) (body : List ℕ)
   served_as m Closed h = absurd (cc)
   served_as m Gone h = absurd (cc)
 
-  pub served : (m : Message) → message_of body ≡ m → is_served (desk_of e before).phase ≡ true → is_malformed (message_of body) ≡ false → (is_begun (desk_of e before).phase && is_doubled before e (message_of body)) ≡ false → Alike row (served_row settings before e body m)
-  served m says h well single = alike_then (taken (desk_of e before).phase refl well single) (alike (served_as (message_of body) (desk_of e before).phase h ∙ ap (served_row settings before e body) says))
+  pub served : (m : Message) → message_of body ≡ m → is_served (desk_of e before).phase ≡ true → is_malformed (message_of body) ≡ false → (is_begun (desk_of e before).phase && is_doubled before e (message_of body)) ≡ false → (is_there (desk_of e before).phase && requests (codes "lspmux/status") (message_of body)) ≡ false → Alike row (served_row settings before e body m)
+  served m says h well single other = alike_then (taken (desk_of e before).phase refl well single other) (alike (served_as (message_of body) (desk_of e before).phase h ∙ ap (served_row settings before e body) says))
 
   answers_as : (m : Message) → (sort_of m ≡ Some sort.Request → ⊥) → (sort_of m ≡ Some sort.Notification → ⊥) → served_row settings before e body m ≡ nothing
   answers_as (request id method params) h k = absurd (h refl)
@@ -160,8 +202,8 @@ module _ (settings : Settings) (before : List Event) (e : ℕ) (body : List ℕ)
   answers_as not_json h k = refl
   answers_as not_message h k = refl
 
-  pub answered : (sort_of (message_of body) ≡ Some sort.Request → ⊥) → (sort_of (message_of body) ≡ Some sort.Notification → ⊥) → is_served (desk_of e before).phase ≡ true → is_malformed (message_of body) ≡ false → (is_begun (desk_of e before).phase && is_doubled before e (message_of body)) ≡ false → Alike row nothing
-  answered h k p well single = alike_then (served (message_of body) refl p well single) (alike (answers_as (message_of body) h k))
+  pub answered : (sort_of (message_of body) ≡ Some sort.Request → ⊥) → (sort_of (message_of body) ≡ Some sort.Notification → ⊥) → is_served (desk_of e before).phase ≡ true → is_malformed (message_of body) ≡ false → (is_begun (desk_of e before).phase && is_doubled before e (message_of body)) ≡ false → (is_there (desk_of e before).phase && requests (codes "lspmux/status") (message_of body)) ≡ false → Alike row nothing
+  answered h k p well single other = alike_then (served (message_of body) refl p well single other) (alike (answers_as (message_of body) h k))
 
 -- what is no request, by its row
 pub exit_named : (settings : Settings) (before : List Event) (e : ℕ) (m : Message) → notifies (codes "exit") m ≡ true → Alike (exit_row settings before e m) (closing_row settings before e)

@@ -1,5 +1,5 @@
 -- What a start says, by where it stands.
-use Rattle.std.proofs.Common.{◌≡◌, ℕ, Bool, true, false, not, ◌&&◌, List, [], ◌∷◌, map, nat_eq, refl, ap, sym, subst, ◌∙◌, codes, if◌then◌else◌, ◌⊎◌, inl, inr}
+use Rattle.std.proofs.Common.{◌≡◌, ℕ, Bool, true, false, not, ◌&&◌, List, [], ◌∷◌, map, nat_eq, refl, ap, sym, subst, ◌∙◌, codes, if◌then◌else◌, ◌⊎◌, inl, inr, ◌||◌}
 use Rattle.std.specs.Prelude.{Option, Some, None, bytes_eq, find, fold, slice_get}
 use Rattle.std.proofs.lemmas.Bool.{and_parts}
 use Rattle.std.proofs.lemmas.Slice.Eq.{bytes_eq-Decides}
@@ -24,11 +24,12 @@ use Rattle.event_model.specs.Row.{nothing, on}
 use Rattle.event_model.specs.Settings.{Settings}
 use Rattle.event_model.specs.Stages.{Life, is_ended, is_first_result, life_behind, life_of, no_life, runs, stage_ending, stage_hears, stage_started, stage_told}
 use Rattle.event_model.proofs.Frames.{never}
-use Rattle.event_model.proofs.Turns.{alike}
-use Rattle.group_facts.specs.Built.{built_early, built_from_server, built_late, is_shown_whole}
+use Rattle.event_model.proofs.Turns.{alike, alike_then}
+use Rattle.group_facts.specs.Built.{built_early, built_from_server, is_shown_whole}
 use Rattle.group_facts.specs.Facts.{AllForwarded, IsForwarded, WaitingAsked, is_early}
-use Rattle.group_rows.specs.Forwarded.{Forwarded, answered_by, forwarding_of}
-use Rattle.group_rows.specs.Rows.{first_result, from_server, pass_on, response_row}
+use Rattle.group_rows.specs.Forwarded.{Forwarded, answered_by, forwarding_of, names}
+use Rattle.group_rows.specs.Rows.{first_result, from_server, pass_on, response_row, hasty_row, stopping_row}
+use Rattle.group_rows.specs.Ends.{last_number}
 use Rattle.group_words.specs.Houses.{is_first_error}
 use Rattle.group_words.specs.Rows.{shown_of}
 use Rattle.mux_facts.proofs.Lists.{found_is}
@@ -39,6 +40,9 @@ use Rattle.mux_tables.proofs.Starts.{start_at_place}
 use Rattle.mux_turns.specs.Answers.{IsAsked}
 use Rattle.mux_turns.specs.Welcomes.{AllAsking, IsShown}
 use Rattle.mux_turns.proofs.Rows.{is_first, is_second}
+use Rattle.rpc_message.specs.declared.sort.Sort.TheVariants as sort
+use Rattle.rpc_message.specs.Sorts.{sort_of}
+use Rattle.mux_turns.proofs.Asides.{malformed_aside}
 
 -- where the last start of a group stands
 module _ (settings : Settings) (t : Tables) (before : List Event) (g s : ℕ) (x : Start) (here : slice_get t.lasts.items g ≡ Some x) (at : slice_get (map number_in t.lasts.items) g ≡ Some s) (st : Stands settings t before) where
@@ -133,15 +137,15 @@ nobody : (fs : List Forwarded) → find (answered_by None) fs ≡ None
 nobody [] = refl
 nobody (f ∷ fs) = nobody fs
 
-pub unanswered_first : (m : Message) (b : Bool) → answered_id m ≡ None → (is_first_result m && b) ≡ false
-unanswered_first (result None r) b h = refl
-unanswered_first (result (Some id) r) b h = absurd (cc)
-unanswered_first other b h = refl
+pub unanswered_first : (m : Message) → answered_id m ≡ None → is_first_result m ≡ false
+unanswered_first (result None r) h = refl
+unanswered_first (result (Some id) r) h = absurd (cc)
+unanswered_first other h = refl
 
-pub unanswered_error : (m : Message) (b : Bool) → answered_id m ≡ None → (is_first_error m && b) ≡ false
-unanswered_error (error None r) b h = refl
-unanswered_error (error (Some id) r) b h = absurd (cc)
-unanswered_error other b h = refl
+pub unanswered_error : (m : Message) → answered_id m ≡ None → is_first_error m ≡ false
+unanswered_error (error None r) h = refl
+unanswered_error (error (Some id) r) h = absurd (cc)
+unanswered_error other h = refl
 
 pub malformed_names : (m : Message) → is_malformed m ≡ true → answered_id m ≡ None
 malformed_names not_json h = refl
@@ -154,20 +158,32 @@ malformed_names (error id r) h = absurd (cc)
 pub unanswered_named : (m : Message) → answered_id m ≡ None → NamesAt (answered_id m) None
 unanswered_named m h = subst (λ id. NamesAt id None) (sym h) (λ n l. refl)
 
-module _ (settings : Settings) (s : ℕ) (before : List Event) (body : List ℕ) (m : Message) where
-  pub unanswered_row : (stage : Stage) → answered_id m ≡ None → Alike (from_server settings s before body m stage) nothing
-  unanswered_row Initializing h = is_second refl (first_not m h)
-    where
-      first_not : (m : Message) → answered_id m ≡ None → is_first_result m ≡ false
-      first_not (result None r) h = refl
-      first_not (result (Some id) r) h = absurd (cc)
-      first_not other h = refl
-  unanswered_row Ready h = alike (ap (λ o. on o nothing (pass_on before body)) (ap (λ id. find (answered_by id) (forwarding_of s before).open_requests) h ∙ nobody (forwarding_of s before).open_requests))
-  unanswered_row Unspawned h = alike refl
-  unanswered_row Spawning h = alike refl
-  unanswered_row Stopping h = alike refl
-  unanswered_row Ending h = alike refl
-  unanswered_row Ended h = alike refl
+module _ (settings : Settings) (s : ℕ) (before : List Event) (body : List ℕ) where
+  unasked_row : (m : Message) → (sort_of m ≡ Some sort.Request → ⊥) → hasty_row s body m ≡ nothing
+  unasked_row (request id method params) h = absurd (h refl)
+  unasked_row (notification method params) h = refl
+  unasked_row (result id r) h = refl
+  unasked_row (error id r) h = refl
+  unasked_row not_json h = refl
+  unasked_row not_message h = refl
+
+  -- S1
+  pub malformed_row : (m : Message) (stage : Stage) → is_malformed m ≡ true → Alike (from_server settings s before body m stage) nothing
+  malformed_row m Initializing h = alike_then (is_second refl (unanswered_first m (malformed_names m h))) (alike (unasked_row m (malformed_aside m h)))
+  malformed_row m Ready h = alike (ap (λ o. on o nothing (pass_on before body)) (ap (λ id. find (answered_by id) (forwarding_of s before).open_requests) (malformed_names m h) ∙ nobody (forwarding_of s before).open_requests))
+  malformed_row m Unspawned h = alike refl
+  malformed_row m Spawning h = alike refl
+  malformed_row m Stopping h = is_second refl (ap (λ id. names id (last_number s before)) (malformed_names m h))
+  malformed_row m Ending h = alike refl
+  malformed_row m Ended h = alike refl
+
+  -- S4
+  module _ (m : Message) (stage : Stage) (at : stage ≡ Initializing) (other : is_first_result m ≡ false) where
+    pub other_row : (sort_of m ≡ Some sort.Request → ⊥) → Alike (from_server settings s before body m stage) nothing
+    other_row unasked = alike_then (alike (ap (from_server settings s before body m) at)) (alike_then (is_second refl other) (alike (unasked_row m unasked)))
+
+    pub hasty_here : (id : Id) (method : List ℕ) (params : Option Json) → m ≡ request id method params → Alike (from_server settings s before body m stage) (hasty_row s body (request id method params))
+    hasty_here id method params is = alike_then (alike (ap (from_server settings s before body m) at)) (alike_then (is_second refl other) (alike (ap (hasty_row s body) is)))
 
 -- a body that was read is a message
 tells_one : (doc : Doc) (envelope : Envelope) (m : Message) → Tells doc envelope m → is_malformed m ≡ false
@@ -179,35 +195,31 @@ tells_one doc (Failure id failure) m h = ap is_malformed h.is
 pub read_well : (parsed : Parsed) (body : List ℕ) → IsRead parsed body → is_malformed (message_of body) ≡ false
 read_well parsed body read = tells_one parsed.doc parsed.envelope (message_of body) read.tells
 
--- what is built of a start that gave no result yet: that result, shown whole, or what answers nothing
+-- what is built of a start that gave no result yet: that result is shown whole
 early_whole : (body : List ℕ) (m : Message) → built_early body m ≡ true → is_first_result m ≡ true → is_shown_whole body ≡ true
-early_whole body (result id r) h first = (and_parts (is_first_result (result id r)) (is_shown_whole body) h).1
+early_whole body (result id r) h first = go (is_first_result (result id r)) first h
+  where
+    go : (b : Bool) → b ≡ true → (not b || is_shown_whole body) ≡ true → is_shown_whole body ≡ true
+    go true is k = k
+    go false is k = absurd (cc)
 early_whole body (error id r) h first = absurd (cc)
 early_whole body (request id method params) h first = absurd (cc)
 early_whole body (notification method params) h first = absurd (cc)
 early_whole body not_json h first = absurd (cc)
 early_whole body not_message h first = absurd (cc)
 
-early_silent : (body : List ℕ) (m : Message) → built_early body m ≡ true → is_first_result m ≡ false → answered_id m ≡ None
-early_silent body (result id r) h other = never (sym (and_parts (is_first_result (result id r)) (is_shown_whole body) h).0 ∙ other)
-early_silent body (error id r) h other = absurd (cc)
-early_silent body (request id method params) h other = absurd (cc)
-early_silent body (notification method params) h other = refl
-early_silent body not_json h other = refl
-early_silent body not_message h other = refl
-
--- and of one that is to end
-late_silent : (m : Message) → built_late m ≡ true → answered_id m ≡ None
-late_silent (result id r) h = absurd (cc)
-late_silent (error id r) h = absurd (cc)
-late_silent (request id method params) h = refl
-late_silent (notification method params) h = refl
-late_silent not_json h = refl
-late_silent not_message h = refl
-
-pub silent_late : (stage : Stage) (fs : List Forwarded) (body : List ℕ) (m : Message) → (stage ≡ Stopping) ⊎ (stage ≡ Ending) → built_from_server stage fs body m ≡ true → answered_id m ≡ None
-silent_late stage fs body m (inl at) built = late_silent m (ap (λ g. built_from_server g fs body m) (sym at) ∙ built)
-silent_late stage fs body m (inr at) built = late_silent m (ap (λ g. built_from_server g fs body m) (sym at) ∙ built)
+-- and no first error
+pub unrefused : (body : List ℕ) (m : Message) → built_early body m ≡ true → is_first_error m ≡ false
+unrefused body (error id r) h = go (is_first_error (error id r)) h
+  where
+    go : (b : Bool) → not b ≡ true → b ≡ false
+    go true k = absurd (cc)
+    go false k = refl
+unrefused body (result id r) h = refl
+unrefused body (request id method params) h = refl
+unrefused body (notification method params) h = refl
+unrefused body not_json h = refl
+unrefused body not_message h = refl
 
 -- S2
 first_is : (m : Message) → is_first_result m ≡ true → (id : Option Id) × (r : Json) × (m ≡ result id r)
@@ -234,9 +246,8 @@ module _ (settings : Settings) (before : List Event) (s : ℕ) (body : List ℕ)
   now_built : built_early body (message_of body) ≡ true
   now_built = ap (λ g. built_from_server g (forwarding_of s before).open_requests body (message_of body)) (sym stage) ∙ built
 
-  -- another message
-  pub other_silent : is_first_result (message_of body) ≡ false → answered_id (message_of body) ≡ None
-  other_silent other = early_silent body (message_of body) now_built other
+  pub now_unrefused : is_first_error (message_of body) ≡ false
+  now_unrefused = unrefused body (message_of body) now_built
 
   pub first_entry : is_first_result (message_of body) ≡ true → IsFirst settings before s body
   first_entry first =
@@ -259,6 +270,10 @@ asked before s m all f found = asked_so before f (found_is (IsForwarded before) 
 
 pub ready_row : (settings : Settings) (before : List Event) (s : ℕ) (body : List ℕ) → (life_of s before).stage ≡ Ready → Alike (from_server settings s before body (message_of body) (life_of s before).stage) (response_row s before body (message_of body))
 ready_row settings before s body stage = alike (ap (from_server settings s before body (message_of body)) stage)
+
+-- S4
+pub stopped_row : (settings : Settings) (before : List Event) (s : ℕ) (body : List ℕ) → (life_of s before).stage ≡ Stopping → Alike (from_server settings s before body (message_of body) (life_of s before).stage) (stopping_row s before (message_of body))
+stopped_row settings before s body stage = alike (ap (from_server settings s before body (message_of body)) stage)
 
 -- in other stages no message is built
 others_none : (stage : Stage) (fs : List Forwarded) (body : List ℕ) (m : Message) → (stage ≡ Initializing → ⊥) → (stage ≡ Ready → ⊥) → (stage ≡ Stopping → ⊥) → (stage ≡ Ending → ⊥) → built_from_server stage fs body m ≡ is_malformed m

@@ -1,15 +1,15 @@
 //! What editors do: that one joined, what one said, and that a link is gone.
-ghost use Rattle.std.specs.Prelude.{◌≡◌, ◌≤◌, ◌<◌, ℕ, List, [], Option, Some, true, false, length, OnOk};
+ghost use Rattle.std.specs.Prelude.{◌≡◌, ◌≤◌, ◌<◌, ◌&&◌, ℕ, List, [], Option, Some, true, false, codes, length, OnOk};
 ghost use Rattle.event_model.specs.declared.phase.Phase.TheVariants.{Down, New};
 ghost use Rattle.event_model.specs.Does.{Done};
-ghost use Rattle.event_model.specs.Event.{Event, with_cause};
-ghost use Rattle.event_model.specs.Phases.{desk_of, is_served};
+ghost use Rattle.event_model.specs.Event.{Event, requests, with_cause};
+ghost use Rattle.event_model.specs.Phases.{desk_of, is_begun, is_served, is_there};
 ghost use Rattle.event_model.specs.Settings.{Settings};
 ghost use Rattle.group_facts.specs.Built.{built_behind, is_standard};
 ghost use Rattle.group_facts.specs.Facts.{Known, is_early};
 ghost use Rattle.group_facts.specs.Settled.{Settled};
 ghost use Rattle.group_rows.specs.Rows.{down_row, early_row, exit_row, row_of, served_request, served_row};
-ghost use Rattle.group_words.specs.Houses.{places, stops};
+ghost use Rattle.group_words.specs.Houses.{is_doubled, places, stops};
 ghost use Rattle.json_text.specs.Json.{Json};
 ghost use Rattle.lsp_method.specs.Class.{class_of};
 ghost use Rattle.lsp_method.specs.declared.variants.Origin.TheVariants.{Editor};
@@ -28,11 +28,12 @@ use event_model::{Phase, Server};
 use lsp_method::Class;
 use message_body::{Body, Memory};
 use mux_history::Outs;
-use mux_members::{class_in, is_exit, is_initialize};
+use mux_members::{class_in, is_exit, is_initialize, is_status};
 use mux_tables::Tables;
 use mux_turns::{
-    take_closed, take_down, take_early, take_exit, take_gone, take_initialize, take_malformed,
-    take_notice, take_quiet, take_request, take_shutdown, take_wrong,
+    doubles, take_closed, take_doubled, take_doubled_status, take_down, take_early, take_exit,
+    take_gone, take_initialize, take_malformed, take_notice, take_quiet, take_request,
+    take_shutdown, take_status, take_wrong,
 };
 use rpc_message::{Malformed, Message, Sort};
 use std::alloc::Global;
@@ -172,6 +173,7 @@ fn from_new(
     ensures does { (settings : Settings) (before : List Event) (body : List ℕ) → IsRead message.now body → (desk_of e before).phase ≡ New
         → settings.servers ≡ servers.now → settings.default ≡ default → outs.old ≡ [] → Known settings before → Settled settings before
         → built_behind settings before (FromEditor e body) ≡ true
+        → (is_there (desk_of e before).phase && requests (codes "lspmux/status") (message_of body)) ≡ false
         → Stands settings tables.old before → DocumentsStand settings nothing_owed tables.old before
         → OnOk result (Done (λ k events. AllStand settings k events) (row_of settings before (FromEditor e body))
         (with_cause before (FromEditor e body)) [] (tables.new, nothing_owed) outs.new) }
@@ -258,6 +260,8 @@ fn from_served(
     ensures same_versions { tables.new.versions ≡ tables.old.versions }
     ensures does { (settings : Settings) (before : List Event) (body : List ℕ) → IsRead message.now body → is_served (desk_of e before).phase ≡ true
         → outs.old ≡ [] → Settled settings before → built_behind settings before (FromEditor e body) ≡ true
+        → (is_begun (desk_of e before).phase && is_doubled before e (message_of body)) ≡ false
+        → (is_there (desk_of e before).phase && requests (codes "lspmux/status") (message_of body)) ≡ false
         → Stands settings tables.old before → DocumentsStand settings nothing_owed tables.old before
         → OnOk result (Done (λ k events. AllStand settings k events) (row_of settings before (FromEditor e body))
         (with_cause before (FromEditor e body)) [] (tables.new, nothing_owed) outs.new) }
@@ -278,7 +282,8 @@ fn from_served(
     }
 }
 
-// A message, by where its editor stands: where its link is to be ended (J2) it gives nothing.
+// A message under no id that is open and no `lspmux/status`, by where its editor stands: where its link is to be ended (J2) it gives
+// nothing.
 fn from_phase(
     tables: &mut Tables,
     alloc: Global,
@@ -297,6 +302,8 @@ fn from_phase(
     ensures does { (settings : Settings) (before : List Event) (body : List ℕ) → IsRead message.now body
         → settings.servers ≡ servers.now → settings.default ≡ default → outs.old ≡ [] → Known settings before → Settled settings before
         → fits_behind before (FromEditor e body) ≡ true → built_behind settings before (FromEditor e body) ≡ true
+        → (is_begun (desk_of e before).phase && is_doubled before e (message_of body)) ≡ false
+        → (is_there (desk_of e before).phase && requests (codes "lspmux/status") (message_of body)) ≡ false
         → Stands settings tables.old before → DocumentsStand settings nothing_owed tables.old before
         → OnOk result (Done (λ k events. AllStand settings k events) (row_of settings before (FromEditor e body))
         (with_cause before (FromEditor e body)) [] (tables.new, nothing_owed) outs.new) }
@@ -325,6 +332,118 @@ fn from_phase(
     }
 }
 
+// E3: whether a message is a request under an id that is open at its editor.
+fn is_doubled(tables: &Tables, e: u64, message: &Message) -> bool
+    ensures { (settings : Settings) (before : List Event) (body : List ℕ) → Known settings before → Settled settings before
+        → Stands settings tables.now before → IsRead message.now body
+        → result ≡ (is_begun (desk_of e before).phase && is_doubled before e (message_of body)) }
+{
+    match message.sort() {
+        Sort::Request => doubles(tables, e, tables.phase(e), message.id_bytes()),
+        _ => false,
+    }
+}
+
+// E5: whether a message is `lspmux/status`, and its editor is there.
+fn asks_status(tables: &Tables, e: u64, message: &Message) -> bool
+    ensures { (settings : Settings) (before : List Event) (body : List ℕ) → Stands settings tables.now before → IsRead message.now body
+        → result ≡ (is_there (desk_of e before).phase && requests (codes "lspmux/status") (message_of body)) }
+{
+    tables.phase(e).is_there() && is_status(message)
+}
+
+// E3: a request under an id that is open.
+fn from_doubled(
+    tables: &mut Tables,
+    alloc: Global,
+    outs: &mut Outs,
+    e: u64,
+    message: &Message,
+) -> Result<(), Memory>
+    requires { e < length tables.old.editors }
+    ensures same_limit { tables.new.requests ≡ tables.old.requests }
+    ensures same_versions { tables.new.versions ≡ tables.old.versions }
+    ensures does { (settings : Settings) (before : List Event) (body : List ℕ) → IsRead message.now body
+        → outs.old ≡ [] → built_behind settings before (FromEditor e body) ≡ true
+        → (is_begun (desk_of e before).phase && is_doubled before e (message_of body)) ≡ true
+        → Stands settings tables.old before → DocumentsStand settings nothing_owed tables.old before
+        → OnOk result (Done (λ k events. AllStand settings k events) (row_of settings before (FromEditor e body))
+        (with_cause before (FromEditor e body)) [] (tables.new, nothing_owed) outs.new) }
+{
+    if is_status(message) {
+        take_doubled_status(tables, alloc, outs, e)?;
+        Ok(())
+    } else {
+        take_doubled(tables, alloc, outs, e, message)?;
+        Ok(())
+    }
+}
+
+// A message under no id that is open: E5 where it is `lspmux/status`.
+fn from_single(
+    tables: &mut Tables,
+    alloc: Global,
+    servers: &[Server],
+    default: u32,
+    outs: &mut Outs,
+    e: u64,
+    message: &Message,
+) -> Result<(), Memory>
+    requires editor { e < length tables.old.editors }
+    requires limit { 2 ≤ tables.old.requests }
+    requires versions { 1 ≤ tables.old.versions }
+    requires ceilings { HaveCeilings servers.now }
+    ensures same_limit { tables.new.requests ≡ tables.old.requests }
+    ensures same_versions { tables.new.versions ≡ tables.old.versions }
+    ensures does { (settings : Settings) (before : List Event) (body : List ℕ) → IsRead message.now body
+        → settings.servers ≡ servers.now → settings.default ≡ default → outs.old ≡ [] → Known settings before → Settled settings before
+        → fits_behind before (FromEditor e body) ≡ true → built_behind settings before (FromEditor e body) ≡ true
+        → (is_begun (desk_of e before).phase && is_doubled before e (message_of body)) ≡ false
+        → Stands settings tables.old before → DocumentsStand settings nothing_owed tables.old before
+        → OnOk result (Done (λ k events. AllStand settings k events) (row_of settings before (FromEditor e body))
+        (with_cause before (FromEditor e body)) [] (tables.new, nothing_owed) outs.new) }
+{
+    if asks_status(tables, e, message) {
+        take_status(tables, alloc, servers, outs, e, message)?;
+        Ok(())
+    } else {
+        from_phase(tables, alloc, servers, default, outs, e, message)?;
+        Ok(())
+    }
+}
+
+// A message: E3 where it is a request under an id that is open, which stands before all others.
+fn from_message(
+    tables: &mut Tables,
+    alloc: Global,
+    servers: &[Server],
+    default: u32,
+    outs: &mut Outs,
+    e: u64,
+    message: &Message,
+) -> Result<(), Memory>
+    requires editor { e < length tables.old.editors }
+    requires limit { 2 ≤ tables.old.requests }
+    requires versions { 1 ≤ tables.old.versions }
+    requires ceilings { HaveCeilings servers.now }
+    ensures same_limit { tables.new.requests ≡ tables.old.requests }
+    ensures same_versions { tables.new.versions ≡ tables.old.versions }
+    ensures does { (settings : Settings) (before : List Event) (body : List ℕ) → IsRead message.now body
+        → settings.servers ≡ servers.now → settings.default ≡ default → outs.old ≡ [] → Known settings before → Settled settings before
+        → fits_behind before (FromEditor e body) ≡ true → built_behind settings before (FromEditor e body) ≡ true
+        → Stands settings tables.old before → DocumentsStand settings nothing_owed tables.old before
+        → OnOk result (Done (λ k events. AllStand settings k events) (row_of settings before (FromEditor e body))
+        (with_cause before (FromEditor e body)) [] (tables.new, nothing_owed) outs.new) }
+{
+    if is_doubled(tables, e, message) {
+        from_doubled(tables, alloc, outs, e, message)?;
+        Ok(())
+    } else {
+        from_single(tables, alloc, servers, default, outs, e, message)?;
+        Ok(())
+    }
+}
+
 // E2: a body that is no message.
 fn from_malformed(
     tables: &mut Tables,
@@ -350,7 +469,8 @@ fn from_malformed(
     }
 }
 
-/// A body comes from an editor: E2 where it is no message; else E7 to E10, or E12 to E15, by where the editor stands, or nothing.
+/// A body comes from an editor: E2 where it is no message; E3 where it is a request under an id that is open; E5 where it is
+/// `lspmux/status`; else E7 to E10, or E12 to E15, by where the editor stands, or nothing.
 pub fn from_editor(
     tables: &mut Tables,
     alloc: Global,
@@ -378,7 +498,7 @@ pub fn from_editor(
     }
     match Message::read(alloc, body.bytes()) {
         Ok(message) => {
-            from_phase(tables, alloc, servers, default, outs, e, &message)?;
+            from_message(tables, alloc, servers, default, outs, e, &message)?;
             Ok(())
         }
         Err(fault) => {

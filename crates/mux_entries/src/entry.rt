@@ -19,7 +19,7 @@ use event_model::Server;
 use message_body::Memory;
 use mux_history::{Cause, Outs};
 use mux_tables::Tables;
-use mux_turns::take_started;
+use mux_turns::{take_left, take_started};
 use std::alloc::Global;
 
 // The row of a cause that is built, from the first of its outs.
@@ -62,6 +62,14 @@ fn follow(
         }
         Cause::FromServer(s, body) => {
             from_server(tables, alloc, outs, *s, body)?;
+            Ok(())
+        }
+        Cause::StartFailed(s) => {
+            take_left(tables, alloc, *s);
+            Ok(())
+        }
+        Cause::ServerGone(s) => {
+            take_left(tables, alloc, *s);
             Ok(())
         }
         // X6: bytes were written to the editor, which gives nothing.

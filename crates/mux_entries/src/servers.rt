@@ -1,20 +1,22 @@
 //! What the program of a start says: S1, S2, S4 and S5.
-ghost use Rattle.std.specs.Prelude.{◌≡◌, ◌<◌, ◌≤◌, ℕ, List, [], map, None, Some, true, length, OnOk, slice_get};
+ghost use Rattle.std.specs.Prelude.{◌≡◌, ◌<◌, ◌≤◌, ℕ, List, [], map, Some, false, true, length, OnOk, slice_get};
 ghost use Rattle.event_model.specs.declared.stage.Stage.TheVariants.{Initializing};
-ghost use Rattle.event_model.specs.Does.{Done};
+ghost use Rattle.event_model.specs.Does.{Alike, Done};
 ghost use Rattle.event_model.specs.Event.{Event, with_cause};
 ghost use Rattle.event_model.specs.Requests.{answered_id};
+ghost use Rattle.event_model.specs.Row.{nothing};
 ghost use Rattle.event_model.specs.Settings.{Settings};
-ghost use Rattle.event_model.specs.Stages.{life_of, runs};
+ghost use Rattle.event_model.specs.Stages.{is_first_result, life_of, runs};
 ghost use Rattle.group_facts.specs.Built.{built_behind};
 ghost use Rattle.group_facts.specs.Facts.{Known};
 ghost use Rattle.group_facts.specs.Settled.{Settled};
 ghost use Rattle.group_rows.specs.Rows.{row_of};
+ghost use Rattle.group_words.specs.Houses.{is_first_error};
 ghost use Rattle.mux_history.specs.declared.cause.Cause.TheVariants.{FromServer};
 ghost use Rattle.mux_model.specs.Fits.{fits_behind};
 ghost use Rattle.mux_tables.specs.declared.tables.Start.{Start};
 ghost use Rattle.mux_tables.specs.Documents.{AllStand, DocumentsStand, nothing_owed};
-ghost use Rattle.mux_tables.specs.Stands.{Stands, number_in};
+ghost use Rattle.mux_tables.specs.Stands.{NamesAt, Stands, number_in};
 ghost use Rattle.rpc_message.specs.Message.{message_of};
 ghost use Rattle.rpc_message.specs.Parsed.{IsRead};
 ghost use Rattle.rpc_message.specs.Sorts.{Refuses};
@@ -24,22 +26,26 @@ use message_body::{Body, Memory};
 use mux_history::Outs;
 use mux_members::is_first_result;
 use mux_tables::Tables;
-use mux_turns::{stage_at, take_answer, take_result};
-use rpc_message::{Malformed, Message};
+use mux_turns::{
+    answered_number, stage_at, take_answer, take_ending, take_hasty, take_result, take_stopping,
+};
+use rpc_message::{Malformed, Message, Sort};
 use std::alloc::Global;
 
-// S1 and S4: what answers nothing gives nothing.
-fn hear_quietly(tables: &mut Tables, g: usize)
+// S1 and S4: what gives nothing; `n` is the number that a response answers.
+fn hear_quietly(tables: &mut Tables, g: usize, n: Option<u32>)
     requires { g < length tables.old.lasts.items }
     ensures same_limit { tables.new.requests ≡ tables.old.requests }
     ensures same_versions { tables.new.versions ≡ tables.old.versions }
-    ensures does { (settings : Settings) (before : List Event) (body : List ℕ) (s : ℕ) → answered_id (message_of body) ≡ None
+    ensures does { (settings : Settings) (before : List Event) (body : List ℕ) (s : ℕ) → is_first_result (message_of body) ≡ false
+        → is_first_error (message_of body) ≡ false → NamesAt (answered_id (message_of body)) n
+        → Alike (row_of settings before (FromServer s body)) nothing
         → slice_get (map number_in tables.old.lasts.items) g ≡ Some s → runs (life_of s before) ≡ true → Stands settings tables.old before
         → DocumentsStand settings nothing_owed tables.old before
         → Done (λ k events. AllStand settings k events) (row_of settings before (FromServer s body))
         (with_cause before (FromServer s body)) [] (tables.new, nothing_owed) [] }
 {
-    tables.hear_answer(g, None);
+    tables.hear_answer(g, n);
 }
 
 // S1: a body that is no message gives nothing.
@@ -56,12 +62,43 @@ fn ignore(tables: &mut Tables, g: usize, fault: Malformed) -> Result<(), Memory>
     if matches!(fault, Malformed::Memory) {
         return Err(Memory);
     }
-    hear_quietly(tables, g);
+    hear_quietly(tables, g, None);
     Ok(())
 }
 
-// S2, with the replay X4, and S4: a message comes from a start that gave no result of its `initialize` yet. Of these that result
-// is built, and notifications, which give nothing.
+// S4: another message than the first response comes from a start that gave no result of its `initialize` yet. A request is answered
+// at once, all else gives nothing.
+fn take_other(
+    tables: &mut Tables,
+    alloc: Global,
+    outs: &mut Outs,
+    g: usize,
+    message: &Message,
+) -> Result<(), Memory>
+    requires group { g < length tables.old.lasts.items }
+    requires stage { (x : Start) → slice_get tables.old.lasts.items g ≡ Some x → x.life.stage ≡ Initializing }
+    ensures same_limit { tables.new.requests ≡ tables.old.requests }
+    ensures same_versions { tables.new.versions ≡ tables.old.versions }
+    ensures does { (settings : Settings) (before : List Event) (body : List ℕ) (s : ℕ) → IsRead message.now body → outs.old ≡ []
+        → slice_get (map number_in tables.old.lasts.items) g ≡ Some s → runs (life_of s before) ≡ true
+        → is_first_result (message_of body) ≡ false → is_first_error (message_of body) ≡ false
+        → Stands settings tables.old before → DocumentsStand settings nothing_owed tables.old before
+        → OnOk result (Done (λ k events. AllStand settings k events) (row_of settings before (FromServer s body))
+        (with_cause before (FromServer s body)) [] (tables.new, nothing_owed) outs.new) }
+{
+    match message.sort() {
+        Sort::Request => {
+            take_hasty(tables, alloc, outs, g, message)?;
+            Ok(())
+        }
+        _ => {
+            hear_quietly(tables, g, answered_number(message));
+            Ok(())
+        }
+    }
+}
+
+// S2, with the replay X4, and S4: a message comes from a start that gave no result of its `initialize` yet.
 fn take_first(
     tables: &mut Tables,
     alloc: Global,
@@ -84,13 +121,13 @@ fn take_first(
         take_result(tables, alloc, outs, g, message)?;
         Ok(())
     } else {
-        hear_quietly(tables, g);
+        take_other(tables, alloc, outs, g, message)?;
         Ok(())
     }
 }
 
-// A message comes from the group's last start. Behind its `shutdown` or its end what is no response gives nothing (S4); in other
-// stages than these none is built.
+// A message comes from the group's last start. Behind its `shutdown` the response to it ends the start, and all else there, as all
+// behind its end, gives nothing (S4); in other stages than these none is built.
 fn take_message(
     tables: &mut Tables,
     alloc: Global,
@@ -118,8 +155,12 @@ fn take_message(
             take_answer(tables, alloc, outs, g, message)?;
             Ok(())
         }
-        Stage::Stopping | Stage::Ending => {
-            hear_quietly(tables, g);
+        Stage::Stopping => {
+            take_stopping(tables, alloc, outs, g, message)?;
+            Ok(())
+        }
+        Stage::Ending => {
+            take_ending(tables, g, message);
             Ok(())
         }
         _ => Ok(()),
@@ -158,8 +199,8 @@ fn take_body(
 }
 
 /// The program of a start says something: where it gives the result of its `initialize`, the editors that wait are answered; where it
-/// answers an editor's request, that editor is; a body that is no message gives nothing. Only a start that is the last of its group
-/// has a program that runs.
+/// answers an editor's request, that editor is; where it answers `shutdown`, the start is to end; a body that is no message gives
+/// nothing. Only a start that is the last of its group has a program that runs.
 pub fn from_server(
     tables: &mut Tables,
     alloc: Global,

@@ -8,7 +8,7 @@ use lane_queue::LaneIn;
 use mux_history::Steps;
 use std::sync::Wait;
 
-/// Posts an item. One that was refused, for want of memory, makes the core go on no more.
+/// Posts an item. One that was refused, since memory ran out, makes the core go on no more.
 pub fn post<K: Steps + Drop, N: Naming, R: Wait>(
     rt: &R,
     board: &Switchboard<K, N>,

@@ -104,3 +104,23 @@ pub fn is_initialize(m: &Message) -> bool
         None => false,
     }
 }
+
+/// Whether it is the request `window/showMessageRequest` (LSP 3.17, ShowMessage Request).
+pub fn is_message_request(m: &Message) -> bool
+    ensures { (bytes : List ℕ) → IsRead m.now bytes → result ≡ requests (codes "window/showMessageRequest") (message_of bytes) }
+{
+    match request_method(m) {
+        Some(method) => spells(m.tape(), Some(method), "window/showMessageRequest"),
+        None => false,
+    }
+}
+
+/// Whether it is the request `lspmux/status`.
+pub fn is_status(m: &Message) -> bool
+    ensures { (bytes : List ℕ) → IsRead m.now bytes → result ≡ requests (codes "lspmux/status") (message_of bytes) }
+{
+    match request_method(m) {
+        Some(method) => spells(m.tape(), Some(method), "lspmux/status"),
+        None => false,
+    }
+}

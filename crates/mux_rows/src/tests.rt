@@ -315,6 +315,37 @@ const TURNED_AWAY: [(&str, &str); 5] = [
     ("ed 1 {\n", ""),
 ];
 
+// Where one group is the limit, an idle group ends for another: its start answers `shutdown`, is sent `exit`, and its program ends.
+// The next one ends before its program begins, which then can't be run.
+const EVICTED: [(&str, &str); 14] = [
+    ("gone 0 end\n", ""),
+    ("join 1\n", ""),
+    (
+        "ed 1 {\"jsonrpc\":\"2.0\",\"id\":0,\"method\":\"initialize\",\"params\":{\"rootUri\":\"file:///v\",\"capabilities\":{}}}\n",
+        ">sv 0 {\"jsonrpc\":\"2.0\",\"id\":2,\"method\":\"shutdown\"}\n>spawn 1 1\n",
+    ),
+    ("sv 0 {\"jsonrpc\":\"2.0\",\"id\":1,\"result\":null}\n", ""),
+    ("sv 0 {\"jsonrpc\":\"2.0\",\"id\":3,\"method\":\"x\"}\n", ""),
+    (
+        "sv 0 {\"jsonrpc\":\"2.0\",\"id\":2,\"result\":null}\n",
+        ">sv 0 {\"jsonrpc\":\"2.0\",\"method\":\"exit\"}\n>end 0\n",
+    ),
+    ("sv 0 {\"jsonrpc\":\"2.0\",\"id\":2,\"result\":null}\n", ""),
+    ("exit 0\n", ""),
+    ("gone 1 end\n", ""),
+    ("join 2\n", ""),
+    (
+        "ed 2 {\"jsonrpc\":\"2.0\",\"id\":0,\"method\":\"initialize\",\"params\":{\"rootUri\":\"file:///w\",\"capabilities\":{}}}\n",
+        ">end 1\n>spawn 2 2\n",
+    ),
+    ("nostart 1\n", ""),
+    (
+        "up 2\n",
+        ">sv 2 {\"jsonrpc\":\"2.0\",\"id\":1,\"method\":\"initialize\",\"params\":{\"processId\":null,\"clientInfo\":{\"name\":\"lspmux\"},\"rootUri\":\"file:///w\",\"capabilities\":{},\"trace\":\"off\"}}\n",
+    ),
+    ("sv 2 {\n", ""),
+];
+
 // An editor is sent a body of 75 bytes, and all of them are written: one more was never sent.
 const DRAINED: [(&str, &str); 3] = [
     ("join 0\n", ""),
@@ -360,10 +391,117 @@ const PARTING: [(&str, &str); 9] = [
     ("sv 0 {\"jsonrpc\":\"2.0\",\"id\":3,\"result\":null}\n", ""),
 ];
 
+// The first of two editors opens a document, asks, and asks again under the same id: its link is ended, and it leaves. The second
+// asks under that id too, and then sends `shutdown` under it.
+const DOUBLED: [(&str, &str); 6] = [
+    (
+        "ed 0 {\"jsonrpc\":\"2.0\",\"method\":\"textDocument/didOpen\",\"params\":{\"textDocument\":{\"uri\":\"file:///u\",\"languageId\":\"x\",\"version\":1,\"text\":\"a\"}}}\n",
+        ">sv 0 {\"jsonrpc\":\"2.0\",\"method\":\"textDocument/didOpen\",\"params\":{\"textDocument\":{\"uri\":\"file:///u\",\"languageId\":\"x\",\"version\":1,\"text\":\"a\"}}}\n",
+    ),
+    (
+        "ed 0 {\"jsonrpc\":\"2.0\",\"id\":\"k\",\"method\":\"textDocument/hover\",\"params\":{}}\n",
+        ">sv 0 {\"jsonrpc\":\"2.0\",\"id\":2,\"method\":\"textDocument/hover\",\"params\":{}}\n",
+    ),
+    (
+        "ed 1 {\"jsonrpc\":\"2.0\",\"id\":\"k\",\"method\":\"textDocument/hover\",\"params\":{}}\n",
+        ">sv 0 {\"jsonrpc\":\"2.0\",\"id\":3,\"method\":\"textDocument/hover\",\"params\":{}}\n",
+    ),
+    (
+        "ed 0 {\"jsonrpc\":\"2.0\",\"id\":\"\\u006b\",\"method\":\"x\",\"params\":{\"workDoneToken\":1}}\n",
+        ">close 0\n>sv 0 {\"jsonrpc\":\"2.0\",\"method\":\"$/cancelRequest\",\"params\":{\"id\":2}}\n>sv 0 {\"jsonrpc\":\"2.0\",\"method\":\"textDocument/didClose\",\"params\":{\"textDocument\":{\"uri\":\"file:///u\"}}}\n",
+    ),
+    (
+        "ed 1 {\"jsonrpc\":\"2.0\",\"id\":\"k\",\"method\":\"shutdown\"}\n",
+        ">close 1\n>sv 0 {\"jsonrpc\":\"2.0\",\"method\":\"$/cancelRequest\",\"params\":{\"id\":3}}\n",
+    ),
+    ("sv 0 {\"jsonrpc\":\"2.0\",\"id\":3,\"result\":null}\n", ""),
+];
+
+// A start asks before its first result, and answers what nobody asked.
+const HASTY: [(&str, &str); 7] = [
+    ("join 0\n", ""),
+    (
+        "ed 0 {\"jsonrpc\":\"2.0\",\"id\":\"a\",\"method\":\"initialize\",\"params\":{\"capabilities\":{}}}\n",
+        ">spawn 0 0\n",
+    ),
+    (
+        "up 0\n",
+        ">sv 0 {\"jsonrpc\":\"2.0\",\"id\":1,\"method\":\"initialize\",\"params\":{\"processId\":null,\"clientInfo\":{\"name\":\"lspmux\"},\"rootUri\":null,\"capabilities\":{},\"trace\":\"off\"}}\n",
+    ),
+    (
+        "sv 0 {\"jsonrpc\":\"2.0\",\"id\":1,\"method\":\"window/showMessageRequest\"}\n",
+        ">sv 0 {\"jsonrpc\":\"2.0\",\"id\":1,\"result\":null}\n",
+    ),
+    (
+        "sv 0 {\"jsonrpc\":\"2.0\",\"id\":1,\"method\":\"client/registerCapability\"}\n",
+        ">sv 0 {\"jsonrpc\":\"2.0\",\"id\":1,\"error\":{\"code\":-32600,\"message\":\"Invalid Request\"}}\n",
+    ),
+    ("sv 0 {\"jsonrpc\":\"2.0\",\"id\":2,\"result\":null}\n", ""),
+    (
+        "sv 0 {\"jsonrpc\":\"2.0\",\"id\":\"1\",\"error\":{\"code\":1,\"message\":\"\"}}\n",
+        "",
+    ),
+];
+
+// A status of a new editor, of one whose group's start is to begin, and of one while it gave no result yet; behind it, with a request
+// open; under an id that is open, which ends the link; and behind that.
+const STATUSES: [(&str, &str); 14] = [
+    ("join 0\n", ""),
+    (
+        "ed 0 {\"jsonrpc\":\"2.0\",\"id\":1,\"method\":\"lspmux/status\"}\n",
+        ">ed 0 {\"jsonrpc\":\"2.0\",\"id\":1,\"result\":{\"groups\":[]}}\n",
+    ),
+    (
+        "ed 0 {\"jsonrpc\":\"2.0\",\"id\":0,\"method\":\"initialize\",\"params\":{\"rootUri\":\"file:///w\",\"capabilities\":{}}}\n",
+        ">spawn 0 0\n",
+    ),
+    (
+        "ed 0 {\"jsonrpc\":\"2.0\",\"id\":1,\"method\":\"lspmux/status\"}\n",
+        ">ed 0 {\"jsonrpc\":\"2.0\",\"id\":1,\"result\":{\"groups\":[{\"group\":0,\"server\":\"main\",\"start\":0,\"state\":\"spawning\",\"editors\":[0],\"open\":0}]}}\n",
+    ),
+    (
+        "up 0\n",
+        ">sv 0 {\"jsonrpc\":\"2.0\",\"id\":1,\"method\":\"initialize\",\"params\":{\"processId\":null,\"clientInfo\":{\"name\":\"lspmux\"},\"rootUri\":\"file:///w\",\"capabilities\":{},\"trace\":\"off\"}}\n",
+    ),
+    ("join 1\n", ""),
+    (
+        "ed 1 {\"jsonrpc\":\"2.0\",\"id\":1,\"method\":\"lspmux/status\"}\n",
+        ">ed 1 {\"jsonrpc\":\"2.0\",\"id\":1,\"result\":{\"groups\":[{\"group\":0,\"server\":\"main\",\"start\":0,\"state\":\"initializing\",\"editors\":[0],\"open\":0}]}}\n",
+    ),
+    (
+        "sv 0 {\"jsonrpc\":\"2.0\",\"id\":1,\"result\":{\"capabilities\":{}}}\n",
+        ">sv 0 {\"jsonrpc\":\"2.0\",\"method\":\"initialized\",\"params\":{}}\n>ed 0 {\"jsonrpc\":\"2.0\",\"id\":0,\"result\":{\"capabilities\":{}}}\n",
+    ),
+    (
+        "ed 1 {\"jsonrpc\":\"2.0\",\"id\":0,\"method\":\"initialize\",\"params\":{\"rootUri\":\"file:///w\",\"capabilities\":{}}}\n",
+        ">ed 1 {\"jsonrpc\":\"2.0\",\"id\":0,\"result\":{\"capabilities\":{}}}\n",
+    ),
+    (
+        "ed 0 {\"jsonrpc\":\"2.0\",\"id\":1,\"method\":\"textDocument/hover\",\"params\":{}}\n",
+        ">sv 0 {\"jsonrpc\":\"2.0\",\"id\":2,\"method\":\"textDocument/hover\",\"params\":{}}\n",
+    ),
+    (
+        "ed 1 {\"jsonrpc\":\"2.0\",\"id\":1,\"method\":\"lspmux/status\"}\n",
+        ">ed 1 {\"jsonrpc\":\"2.0\",\"id\":1,\"result\":{\"groups\":[{\"group\":0,\"server\":\"main\",\"start\":0,\"state\":\"ready\",\"editors\":[0,1],\"open\":1}]}}\n",
+    ),
+    (
+        "ed 0 {\"jsonrpc\":\"2.0\",\"id\":1,\"method\":\"lspmux/status\"}\n",
+        ">close 0\n>sv 0 {\"jsonrpc\":\"2.0\",\"method\":\"$/cancelRequest\",\"params\":{\"id\":2}}\n",
+    ),
+    (
+        "ed 0 {\"jsonrpc\":\"2.0\",\"id\":2,\"method\":\"lspmux/status\"}\n",
+        "",
+    ),
+    (
+        "ed 1 {\"jsonrpc\":\"2.0\",\"id\":1,\"method\":\"lspmux/status\"}\n",
+        ">ed 1 {\"jsonrpc\":\"2.0\",\"id\":1,\"result\":{\"groups\":[{\"group\":0,\"server\":\"main\",\"start\":0,\"state\":\"ready\",\"editors\":[1],\"open\":0}]}}\n",
+    ),
+];
+
 // Lines that fit, and that no row takes yet.
 const UNBUILT: [&str; 5] = [
     "ed 0 {\"jsonrpc\":\"2.0\",\"id\":1,\"method\":\"initialize\"}\n",
-    "ed 0 {\"jsonrpc\":\"2.0\",\"id\":1,\"method\":\"lspmux/status\"}\n",
+    "ed 0 {\"jsonrpc\":\"2.0\",\"id\":1,\"method\":\"lspmux/stop\"}\n",
     "ed 0 {\"jsonrpc\":\"2.0\",\"id\":1,\"method\":\"x\",\"params\":{\"workDoneToken\":1}}\n",
     "sv 0 {\"jsonrpc\":\"2.0\",\"method\":\"x\"}\n",
     "tick 1\n",
@@ -392,7 +530,7 @@ fn sessions_bring_their_lines(rt: HostRuntime) -> Result<(), Fail> {
 #[test]
 fn several_editors_bring_their_lines(rt: HostRuntime) -> Result<(), Fail> {
     let alloc = rt.alloc();
-    let sessions: [&[&[(&str, &str)]]; 7] = [
+    let sessions: [&[&[(&str, &str)]]; 10] = [
         &[&TWO_EDITORS, &A_THIRD],
         &[&TWO_EDITORS, &WRONG_NAMES],
         &[&TWO_EDITORS, &BOTH_ASK],
@@ -400,6 +538,9 @@ fn several_editors_bring_their_lines(rt: HostRuntime) -> Result<(), Fail> {
         &[&TWO_EDITORS, &CLOSING],
         &[&TWO_GROUPS],
         &[&TWO_EDITORS, &PARTING],
+        &[&TWO_EDITORS, &DOUBLED],
+        &[&HASTY],
+        &[&STATUSES],
     ];
     for parts in sessions {
         play(&rt, alloc, limits(MOST, MOST), parts, Ok(()))?;
@@ -413,6 +554,14 @@ fn an_editor_too_many_is_turned_away(rt: HostRuntime) -> Result<(), Fail> {
     let mut few = limits(MOST, MOST);
     few.groups = 1;
     play(&rt, alloc, few, &[&TURNED_AWAY], Ok(()))
+}
+
+#[test]
+fn an_idle_group_ends_for_another(rt: HostRuntime) -> Result<(), Fail> {
+    let alloc = rt.alloc();
+    let mut few = limits(MOST, MOST);
+    few.groups = 1;
+    play(&rt, alloc, few, &[&OPENING, &EVICTED], Ok(()))
 }
 
 #[test]

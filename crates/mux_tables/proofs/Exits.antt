@@ -1,6 +1,6 @@
 -- A start of a group ends, or refuses; all groups end.
 use Rattle.std.proofs.Common.{◌≡◌, ℕ, zero, suc, ◌+◌, Bool, true, false, ◌&&◌, List, [], ◌∷◌, ◌++◌, length, nat_lt, refl, ap, sym, ◌∙◌}
-use Rattle.std.specs.Prelude.{Some, nat_le, slice_get}
+use Rattle.std.specs.Prelude.{Some, nat_le, slice_get, slice_set}
 use Rattle.mux_history.specs.declared.cause.Cause.TheVariants.{FromEditor, FromServer}
 use Rattle.rpc_message.specs.Message.{Message}
 use Rattle.event_model.specs.Event.{Event, took}
@@ -10,7 +10,12 @@ use Rattle.group_words.specs.declared.kept.Kept.{Kept}
 use Rattle.group_words.specs.Placing.{all_from, changed, end_where, ended, exited, is_live}
 use Rattle.group_words.specs.Houses.{House, at_group, exit_of, groups_lose, groups_next, groups_of, has_editor, house_of, is_first_error, places, stops}
 use Rattle.group_words.proofs.Frames.{groups_more}
-use Rattle.mux_tables.specs.Stands.{EditorsStand, GroupsStand, any_in, ends}
+use Rattle.mux_tables.specs.declared.tables.Start.{Start}
+use Rattle.mux_tables.specs.declared.tables.Tables.{Tables}
+use Rattle.mux_tables.specs.Stands.{EditorsStand, Exits, GroupsStand, any_in, ends}
+use Rattle.event_model.specs.declared.stage.Stage.TheVariants.{Ended}
+use Rattle.id_rewrite.specs.Tables.{IsInOrder}
+use Rattle.restart_replay.specs.Standings.{moved}
 use Rattle.editor_session.specs.declared.session.Session.{Session}
 use Rattle.group_table.specs.Tables.{Table, with_groups}
 use Rattle.event_model.specs.Phases.{desk_of, needs_server}
@@ -74,3 +79,22 @@ module _ (restarts exits : ℕ) (wanted : Bool) (t : Table) (g : ℕ) (counts : 
   pub lose_ends : (u v : Table) → (wanted && nat_le exits restarts) ≡ false → u ≡ with_groups (changed g exited t.groups) t → v ≡ with_groups (changed g ended u.groups) u → v ≡ with_groups (changed g (exit_of restarts wanted) t.groups) t
   lose_ends u v ends e f = f ∙ (ap (λ (w : Table). with_groups (changed g ended w.groups) w) e ∙ ap (λ gs. with_groups gs t) (twice ended exited t.groups g ∙ same_change (λ x. ended (exited x)) (exit_of restarts wanted) t.groups g
       (λ x at. let l : x.live ≡ true = (counts x at).0 in let n : x.exits + 1 ≡ exits = sym (counts x at).1 in rw (l, n, ends) refl)))
+
+-- what becomes of the tables where it ended, and its group lives no more
+pub left_exits : (restarts : ℕ) (t u : Tables) (g : ℕ) (z start : Start) → ((x : Kept) → slice_get t.groups.groups g ≡ Some x → x.live ≡ false) → u.groups ≡ t.groups → u.lasts.items ≡ slice_set t.lasts.items g start → start.life ≡ moved Ended z.life → start.started ≡ z.started
+    → start.ids.requests ≡ [] → start.ids.next ≡ 2 → start.ids.limit ≡ t.requests → IsInOrder start.ids → u.editors ≡ t.editors → u.time ≡ t.time → u.origins ≡ t.origins → u.requests ≡ t.requests → Exits restarts t g z u
+left_exits restarts t u g z start dead groups lasts life started gone next limit order editors time origins requests = record {
+  groups = lose_dead restarts (any_in needs_server t.editors g) t.groups u.groups g dead groups;
+  start = start;
+  lasts = lasts;
+  life = life;
+  started = started;
+  requests_gone = gone;
+  next = next;
+  limit = limit;
+  order = order;
+  editors = editors;
+  time = time;
+  origins = origins;
+  requests = requests;
+}

@@ -35,3 +35,4 @@ pub mod DocumentAsked
 pub mod DocumentNotes
 pub mod Homes
 pub mod Waits
+pub mod Live

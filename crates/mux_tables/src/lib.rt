@@ -9,6 +9,7 @@ mod requests;
 mod says;
 mod seats;
 mod serves;
+mod statuses;
 mod tables;
 
 pub use tables::{Start, Tables};

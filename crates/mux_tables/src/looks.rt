@@ -25,8 +25,8 @@ impl Start {
 }
 
 impl Tables {
-    // The number of a start's group.
-    fn origin(&self, s: u64) -> Option<u64>
+    /// The number of a start's group; none where no such start was spawned.
+    pub fn origin(&self, s: u64) -> Option<u64>
         ensures { result ≡ slice_get self.now.origins.items s }
     {
         self.origins.get(s as usize).copied()

@@ -17,7 +17,7 @@ ghost use Rattle.mux_tables.specs.declared.tables.Start.{Start};
 ghost use Rattle.mux_model.specs.Documents.{encoding_by};
 ghost use Rattle.mux_tables.specs.Documents.{DocumentsStand, Owed, nothing_owed, owes, replaying, to};
 ghost use Rattle.group_rows.specs.Forwarded.{forwarding_of, is_under};
-ghost use Rattle.mux_tables.specs.Stands.{Exits, NamesAt, Stands, any_in, begun_at, forwarded_as, is_early, number_in};
+ghost use Rattle.mux_tables.specs.Stands.{Exits, NamesAt, Stands, any_in, begun_at, forwarded_as, is_early, number_in, stage_in};
 
 use crate::documents::{ready, unready};
 use crate::requests::{answer, forget};
@@ -182,12 +182,42 @@ impl Tables {
         Ok(())
     }
 
+    /// X1 to X3 of a group that lives no more: the program of its last start ended, or couldn't be run. Its open requests are gone,
+    /// and the group stays as it is.
+    pub fn hear_left(&mut self, alloc: Global, g: usize)
+        requires limit { 2 ≤ self.old.requests }
+        requires group { g < length self.old.lasts.items }
+        requires runs { (x : Start) → slice_get self.old.lasts.items g ≡ Some x → x.life.stage ≢ Ended }
+        ensures requests { self.new.requests ≡ self.old.requests }
+        ensures versions { self.new.versions ≡ self.old.versions }
+        ensures exit { (settings : Settings) (events : List Event) (s : ℕ) → slice_get (map number_in self.old.lasts.items) g ≡ Some s
+            → ((x : Kept) → slice_get self.old.groups.groups g ≡ Some x → x.live ≡ false)
+            → Stands settings self.old events → Stands settings self.new (events ++ heard (ServerGone s) ∷ []) }
+        ensures failure { (settings : Settings) (events : List Event) (s : ℕ) → slice_get (map number_in self.old.lasts.items) g ≡ Some s
+            → ((x : Kept) → slice_get self.old.groups.groups g ≡ Some x → x.live ≡ false)
+            → Stands settings self.old events → Stands settings self.new (events ++ heard (StartFailed s) ∷ []) }
+        ensures exit_documents { (settings : Settings) (owed : Owed) (events : List Event) (s : ℕ) → DocumentsStand settings owed self.old events
+            → ((x : Kept) → slice_get self.old.groups.groups g ≡ Some x → x.live ≡ false)
+            → DocumentsStand settings owed self.new (events ++ heard (ServerGone s) ∷ []) }
+        ensures failure_documents { (settings : Settings) (owed : Owed) (events : List Event) (s : ℕ)
+            → DocumentsStand settings owed self.old events → ((x : Kept) → slice_get self.old.groups.groups g ≡ Some x → x.live ≡ false)
+            → DocumentsStand settings owed self.new (events ++ heard (StartFailed s) ∷ []) }
+    {
+        unready(&mut self.documents, g);
+        let last = &mut self.lasts[g];
+        last.life.over();
+        last.shown = None;
+        last.ids = IdTable::new(alloc, self.requests);
+    }
+
     /// A message came from the group's last start that doesn't answer its `initialize`: what was kept of the request that it
     /// answers, which isn't open any more. `n` is the number that its id writes.
     pub fn hear_answer(&mut self, g: usize, n: Option<u32>) -> Option<Pending>
         requires { g < length self.old.lasts.items }
         ensures requests { self.new.requests ≡ self.old.requests }
         ensures versions { self.new.versions ≡ self.old.versions }
+        ensures starts { map number_in self.new.lasts.items ≡ map number_in self.old.lasts.items }
+        ensures stages { map stage_in self.new.lasts.items ≡ map stage_in self.old.lasts.items }
         ensures moves { (settings : Settings) (events : List Event) (s : ℕ) (body : List ℕ) (x : Start) → slice_get self.old.lasts.items g ≡ Some x
             → slice_get (map number_in self.old.lasts.items) g ≡ Some s
             → (is_first_result (message_of body) && is_early x.life.stage) ≡ false

@@ -1,12 +1,12 @@
 -- A method of class Other is none of those that the daemon answers itself.
-use Rattle.std.proofs.Common.{◌≡◌, ℕ, List, Bool, true, false, refl, sym, ◌∙◌, ap, arith}
+use Rattle.std.proofs.Common.{◌≡◌, ℕ, List, Bool, true, false, refl, sym, subst, ◌∙◌, ap, arith}
 use Rattle.std.specs.Prelude.{codes, bytes_eq}
 use Rattle.json_text.proofs.Put.{same_name}
 use Rattle.std.proofs.lemmas.Slice.Eq.{bytes_eq-Decides}
 use Rattle.lsp_method.specs.Class.{class_of, own_request, editor_request}
 use Rattle.lsp_method.specs.declared.variants.Origin.TheVariants.{Editor}
 use Rattle.mux_model.specs.Built.{is_other}
-use Rattle.mux_model.specs.Methods.{is_wrong}
+use Rattle.mux_model.specs.Methods.{is_shutdown, is_wrong}
 use Rattle.event_model.specs.Requests.{is_own}
 
 pub record NotOwn (m : List ℕ) : Type 0 where
@@ -47,6 +47,22 @@ swap_case true xs ys e h = absurd (clash xs ys ((bytes_eq-Decides ys xs).0 e) h)
 
 pub swapped : (xs ys : List ℕ) → bytes_eq xs ys ≡ false → bytes_eq ys xs ≡ false
 swapped xs ys h = swap_case (bytes_eq ys xs) xs ys refl h
+
+-- one of class Shutdown is `shutdown`
+module _ (m : List ℕ) (h : is_shutdown (class_of m Editor false) ≡ true) where
+  shutdown_name : bytes_eq m (codes "shutdown") ≡ true
+  unfolding editor_request own_request
+  shutdown_name = grind arith
+
+  pub shutdown_named : bytes_eq (codes "shutdown") m ≡ true
+  shutdown_named = subst (λ w. bytes_eq (codes "shutdown") w ≡ true) (sym ((bytes_eq-Decides m (codes "shutdown")).0 shutdown_name)) refl
+
+  first_not : bytes_eq m (codes "initialize") ≡ false
+  unfolding editor_request own_request
+  first_not = grind arith
+
+  pub shutdown_later : bytes_eq (codes "initialize") m ≡ false
+  shutdown_later = swapped m (codes "initialize") first_not
 
 -- such a request makes an answered editor run, and is no shutdown
 pub record Serves (method : List ℕ) : Type 0 where

@@ -46,12 +46,12 @@ module _ {X Y : Type 0} (f : X → Y) where
   mapped_at (x ∷ xs) zero y h = (x, (refl, same_item h))
   mapped_at (x ∷ xs) (suc g) y h = mapped_at xs g y h
 
-  mapped_on : (xs : List X) (g : ℕ) (x : X) → slice_get xs g ≡ Some x → slice_get (map f xs) g ≡ Some (f x)
+  pub mapped_on : (xs : List X) (g : ℕ) (x : X) → slice_get xs g ≡ Some x → slice_get (map f xs) g ≡ Some (f x)
   mapped_on [] g x h = absurd (cc)
   mapped_on (y ∷ xs) zero x h = ap (λ z. Some (f z)) (same_item h)
   mapped_on (y ∷ xs) (suc g) x h = mapped_on xs g x h
 
-  mapped_is : (xs : List X) (g : ℕ) (x : X) (y : Y) → slice_get xs g ≡ Some x → slice_get (map f xs) g ≡ Some y → f x ≡ y
+  pub mapped_is : (xs : List X) (g : ℕ) (x : X) (y : Y) → slice_get xs g ≡ Some x → slice_get (map f xs) g ≡ Some y → f x ≡ y
   mapped_is xs g x y h k = same_item (sym (mapped_on xs g x h) ∙ k)
 
 -- behind no outs

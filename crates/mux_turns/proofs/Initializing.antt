@@ -32,8 +32,9 @@ use Rattle.event_model.proofs.Turns.{alike, alike_then, behind_more, does_alike,
 use Rattle.editor_session.specs.declared.session.Session.{Session}
 use Rattle.capability_meet.specs.DeclaredTree.{declared_of, declared_tree}
 use Rattle.capability_meet.specs.MeetTree.{whole_text}
-use Rattle.group_facts.specs.Facts.{Numbered, Plain}
+use Rattle.group_facts.specs.Facts.{Numbered, Plain, is_up}
 use Rattle.group_facts.specs.Settled.{Settled}
+use Rattle.mux_turns.proofs.Ready.{is_that_ready}
 use Rattle.group_rows.specs.Leaves.{leave_bodies, left}
 use Rattle.group_rows.specs.Rows.{answer_error}
 use Rattle.group_rows.specs.Texts.{texts_of}
@@ -291,9 +292,9 @@ module _ (before : List Event) (e : ℕ) (body : List ℕ) (xs : List Out) (firs
   numbered_now k = subst Numbered (sym here) (numbered_heard before e body k)
 
 -- what editors are shown of a start's result
-pub shown_by : (before : List Event) → Plain before → (s : ℕ) (given : List ℕ) → result_of s before ≡ Some given → IsShown given
-shown_by before plain s given gave =
-    let p = plain.whole s given gave in
+pub shown_by : (before : List Event) → Plain before → (s : ℕ) (given : List ℕ) → is_ready (life_of s before).stage ≡ true → result_of s before ≡ Some given → IsShown given
+shown_by before plain s given ready gave =
+    let p = plain.whole s given (ap is_up (is_that_ready (life_of s before).stage ready)) gave in
     record { value = p.r; text = subst (IsShallowText 1023 p.r) (sym p.whole) (result_bytes_law given p.id p.r p.says) }
 
 -- an editor that joins a group waits, where its start isn't ready behind the message

@@ -13,11 +13,12 @@ use Rattle.event_model.specs.declared.phase.Phase.{Phase}
 use Rattle.event_model.specs.declared.phase.Phase.TheVariants.{Absent, New, Waiting, Answered, Running, Down, Closed, Gone}
 use Rattle.event_model.specs.Does.{Does}
 use Rattle.event_model.specs.Event.{Event, said}
-use Rattle.event_model.specs.Phases.{Desk, desk_behind, desk_of, phase_told}
+use Rattle.event_model.specs.Phases.{Desk, desk_behind, desk_of, has_id, phase_told}
 use Rattle.event_model.specs.Row.{Row, choose, send}
 use Rattle.event_model.specs.Settings.{Settings}
 use Rattle.event_model.proofs.Frames.{one_more}
 use Rattle.event_model.proofs.Turns.{does_false, does_true}
+use Rattle.group_facts.proofs.OpenByPhase.{reply_told}
 use Rattle.group_facts.proofs.PartingRows.{null_value}
 use Rattle.mux_tables.specs.declared.tables.Tables.{Tables}
 use Rattle.mux_tables.specs.Stands.{Keeps, Stands}
@@ -54,6 +55,10 @@ module _ (e : ℕ) (text : List ℕ) (events : List Event) where
 
   pub keeps_result : (id : Option Id) (x : Json) → message_of text ≡ result id x → ((desk_of e events).phase ≡ Waiting → ⊥) → Keeps e text events
   keeps_result id x says stays = told (result id x) says (λ p i h. result_told p i id x (λ q. stays (sym h ∙ q)))
+
+  -- a result for another request than the `initialize` of an editor that waits
+  pub keeps_reply : (id : Id) (x : Json) → message_of text ≡ result (Some id) x → ((desk_of e events).phase ≡ Waiting → has_id id (message_of (desk_of e events).initialize) ≡ false) → Keeps e text events
+  keeps_reply id x says others = ap (λ (d : Desk). d.phase) (one_more (desk_behind e) _ _ events (said (ToEditor e text)) refl) ∙ rw (itself e, says) (reply_told (desk_of e events).phase (desk_of e events).initialize id x others)
 
 -- a text in place of one that it is
 module _ (settings : Settings) (base : List Event) (t u : Tables) (xs ys : List Out) (e : ℕ) (text : List ℕ) where

@@ -1,12 +1,15 @@
 pub mod Answering
 pub mod Asides
+pub mod Asked
 pub mod Asking
 pub mod Beginning
 pub mod Cancels
 pub mod Classes
 pub mod Departing
+pub mod Doubling
 pub mod Evictions
 pub mod Folders
+pub mod Early
 pub mod Initializing
 pub mod Joining
 pub mod Keeping
@@ -17,4 +20,6 @@ pub mod Ready
 pub mod Replies
 pub mod Rows
 pub mod Serving
+pub mod Stopped
 pub mod Welcoming
+mod Telling

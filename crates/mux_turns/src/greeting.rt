@@ -35,7 +35,7 @@ fn root_of(alloc: Global, folders: &[(Body, Body)]) -> Result<Body, Memory>
 }
 
 // A comma, where something stands in front.
-fn add_comma(text: &mut Vec<u8>, started: bool) -> Result<(), Memory>
+pub fn add_comma(text: &mut Vec<u8>, started: bool) -> Result<(), Memory>
     ensures { OnOk result (text.new.items ≡ text.old.items ++ comma started) }
 {
     if started {

@@ -2,8 +2,11 @@
 #![tactic(auto)]
 
 mod answers;
+mod doubled;
+mod ends;
 mod evicting;
 mod greeting;
+mod hasty;
 mod initializes;
 mod leaves;
 mod notices;
@@ -14,10 +17,14 @@ mod refusals;
 mod requests;
 mod results;
 mod starts;
+mod status;
 
 pub use answers::{answered_number, pass_on, take_answer};
+pub use doubled::{doubles, take_doubled};
+pub use ends::{take_ending, take_left, take_stopping};
 pub use evicting::{evict, replace, stage_at};
 pub use greeting::opening;
+pub use hasty::{is_first_error, take_hasty};
 pub use initializes::take_initialize;
 pub use leaves::{Departure, depart, leaving};
 pub use notices::take_notice;
@@ -28,3 +35,4 @@ pub use refusals::{asked_at, refuse, refuse_early, refuse_request, refuse_wrong,
 pub use requests::take_request;
 pub use results::{shown_of, take_result};
 pub use starts::take_started;
+pub use status::{take_doubled_status, take_status};

@@ -1,16 +1,16 @@
 //! X5 and E9: an editor whose link is gone, that says `exit`, or that asks to shut down, as whole entries.
-ghost use Rattle.std.specs.Prelude.{◌≡◌, ◌<◌, ℕ, List, [], Option, true, false, bytes_eq, codes, length, OnOk};
-ghost use Rattle.event_model.specs.declared.phase.Phase.TheVariants.{Down};
+ghost use Rattle.std.specs.Prelude.{◌≡◌, ◌≢◌, ◌<◌, ℕ, List, [], Option, true, false, bytes_eq, codes, length, OnOk};
+ghost use Rattle.event_model.specs.declared.phase.Phase.TheVariants.{Absent, Down};
 ghost use Rattle.event_model.specs.Does.{Done};
 ghost use Rattle.event_model.specs.Event.{Event, notifies, with_cause};
 ghost use Rattle.event_model.specs.Phases.{desk_of, is_served};
 ghost use Rattle.event_model.specs.Settings.{Settings};
 ghost use Rattle.group_rows.specs.Rows.{answer_error, closing_row, gone_row, shutdown_row, wrong_code};
-ghost use Rattle.group_words.specs.Houses.{stops};
+ghost use Rattle.group_words.specs.Houses.{places, stops};
 ghost use Rattle.json_text.specs.Json.{Json};
 ghost use Rattle.mux_history.specs.declared.cause.Cause.TheVariants.{EditorGone, FromEditor};
 ghost use Rattle.mux_history.specs.declared.cause.Why.{Why};
-ghost use Rattle.mux_tables.specs.Documents.{AllStand, DocumentsStand, nothing_owed};
+ghost use Rattle.mux_tables.specs.Documents.{AllStand, DocumentsStand, changes_documents, nothing_owed};
 ghost use Rattle.mux_tables.specs.Stands.{Stands};
 ghost use Rattle.rpc_message.specs.Message.{Id, message_of, request};
 ghost use Rattle.rpc_message.specs.Parsed.{IsRead};
@@ -49,6 +49,33 @@ pub fn take_gone(tables: &mut Tables, alloc: Global, outs: &mut Outs, e: u64) ->
     }
 }
 
+// E3 and E9: a message that places its editor nowhere, stops nothing and changes no document ends the editor's link; behind it the
+// editor is in this phase. It leaves.
+pub fn end_link(
+    tables: &mut Tables,
+    alloc: Global,
+    outs: &mut Outs,
+    e: u64,
+    phase: Phase,
+) -> Result<(), Memory>
+    requires editor { e < length tables.old.editors }
+    requires joined { phase ≢ Absent }
+    ensures requests { tables.new.requests ≡ tables.old.requests }
+    ensures versions { tables.new.versions ≡ tables.old.versions }
+    ensures does { (settings : Settings) (before : List Event) (body : List ℕ) → places (desk_of e before).phase (message_of body) ≡ false
+        → stops before e (message_of body) ≡ false → changes_documents before e (message_of body) ≡ false
+        → (desk_of e (with_cause before (FromEditor e body))).phase ≡ phase → outs.old ≡ []
+        → Stands settings tables.old before → DocumentsStand settings nothing_owed tables.old before
+        → OnOk result (Done (λ k events. AllStand settings k events) (closing_row settings before e)
+        (with_cause before (FromEditor e body)) [] (tables.new, nothing_owed) outs.new) }
+{
+    let left = leaving(tables, e)?;
+    tables.hear_editor(e, phase);
+    let owed = tables.close(alloc, outs, e)?;
+    depart(tables, alloc, outs, &left, owed)?;
+    Ok(())
+}
+
 /// E9: an editor says `exit`: its link is to be ended, and it leaves.
 pub fn take_exit(tables: &mut Tables, alloc: Global, outs: &mut Outs, e: u64) -> Result<(), Memory>
     requires { e < length tables.old.editors }
@@ -59,11 +86,8 @@ pub fn take_exit(tables: &mut Tables, alloc: Global, outs: &mut Outs, e: u64) ->
         → OnOk result (Done (λ k events. AllStand settings k events) (closing_row settings before e)
         (with_cause before (FromEditor e body)) [] (tables.new, nothing_owed) outs.new) }
 {
-    let left = leaving(tables, e)?;
     let phase = phase_of(tables, e);
-    tables.hear_editor(e, phase);
-    let owed = tables.close(alloc, outs, e)?;
-    depart(tables, alloc, outs, &left, owed)?;
+    end_link(tables, alloc, outs, e, phase)?;
     Ok(())
 }
 

@@ -29,7 +29,7 @@ use rpc_message::{Message, initialized, ok_reply};
 use std::alloc::Global;
 
 /// What editors are shown of the bytes of a start's result; nothing where they are no JSON text. Bytes longer than 268,435,456 are
-/// answered as a want of memory.
+/// answered as out of memory.
 pub fn shown_of(alloc: Global, answer: &[u8]) -> Result<Body, Memory>
     ensures { IfOk result (λ body. body ≡ shown_of answer.now) }
 {

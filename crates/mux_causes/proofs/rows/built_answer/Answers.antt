@@ -5,7 +5,7 @@ use Rattle.rpc_message.specs.Message.{message_of}
 use Rattle.event_model.specs.Stages.{life_of}
 use Rattle.group_facts.specs.Built.{built_from_server}
 use Rattle.group_rows.specs.Forwarded.{forwarding_of}
-use Rattle.mux_causes.proofs.Meant.{as_here, other_built, read_well}
+use Rattle.mux_causes.proofs.Meant.{as_here, late_built, other_built, read_well}
 use Rattle.mux_causes.proofs.rows.built_answer.Goals as goal
 
 pub returns-in-Initializing : goal.returns-in-Initializing
@@ -22,14 +22,7 @@ returns-in-Ready c = λ settings before body s at st read.
 pub returns-in-Stopping : goal.returns-in-Stopping
 returns-in-Stopping c = λ settings before body s at st read.
     let fs = (forwarding_of s before).open_requests in
-    as_here (life_of s before).stage c.stage.result fs body (message_of body) c.built_late.result (c.stage.ensures settings before s at st)
-    (c.built_late.ensures body read ∙ ap (λ stage. built_from_server stage fs body (message_of body)) (sym c.in-Stopping.is))
-
-pub returns-in-Ending : goal.returns-in-Ending
-returns-in-Ending c = λ settings before body s at st read.
-    let fs = (forwarding_of s before).open_requests in
-    as_here (life_of s before).stage c.stage.result fs body (message_of body) c.built_late-in-Ending.result (c.stage.ensures settings before s at st)
-    (c.built_late-in-Ending.ensures body read ∙ ap (λ stage. built_from_server stage fs body (message_of body)) (sym c.in-Ending.is))
+    late_built (life_of s before).stage c.stage.result fs body (message_of body) (c.stage.ensures settings before s at st) c.in-Stopping.is
 
 pub returns-in_default : goal.returns-in_default
 returns-in_default c = λ settings before body s at st read.

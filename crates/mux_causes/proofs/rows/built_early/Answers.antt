@@ -2,14 +2,14 @@
 use Rattle.std.proofs.Common.{◌≡◌, ap, sym, subst, ◌∙◌}
 use Rattle.std.specs.Prelude.{IfOk, Some}
 use Rattle.rpc_message.specs.Message.{message_of}
-use Rattle.mux_causes.proofs.Meant.{early_first, early_notice, early_other, early_refused}
+use Rattle.mux_causes.proofs.Meant.{early_call, early_error, early_first, early_other}
 use Rattle.mux_causes.proofs.rows.built_early.Goals as goal
 
-pub returns-in-Notification : goal.returns-in-Notification
-returns-in-Notification c = λ body read. early_notice body (message_of body) (c.sort.ensures body read ∙ ap (λ x. Some x) c.in-Notification.is)
-
 pub returns-in-Request : goal.returns-in-Request
-returns-in-Request c = λ body read. early_refused body (message_of body) c.sort.result (c.sort.ensures body read) c.in-Request.is
+returns-in-Request c = λ body read. early_call body (message_of body) c.sort.result (c.sort.ensures body read) c.in-Request.is
+
+pub returns-in-Error : goal.returns-in-Error
+returns-in-Error c = λ body read. early_error body (message_of body) c.is_first_error.result (c.sort.ensures body read ∙ ap (λ x. Some x) c.in-Error.is) (c.is_first_error.ensures body read)
 
 pub returns-then-is_first_result : goal.returns-then-is_first_result
 returns-then-is_first_result c = λ body read.

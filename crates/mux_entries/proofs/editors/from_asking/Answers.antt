@@ -8,9 +8,9 @@ use Rattle.event_model.proofs.Turns.{alike_then}
 use Rattle.group_facts.specs.Built.{is_standard}
 use Rattle.group_rows.specs.Rows.{is_misplaced}
 use Rattle.mux_tables.specs.Documents.{AllStand}
-use Rattle.mux_turns.proofs.Classes.{not_own, swapped}
+use Rattle.mux_turns.proofs.Classes.{not_own, shutdown_later, shutdown_named, swapped}
 use Rattle.mux_turns.proofs.Rows.{is_first, is_second}
-use Rattle.mux_entries.proofs.EditorBuilt.{other_class, other_right, shutdown_later, shutdown_named}
+use Rattle.mux_entries.proofs.EditorBuilt.{other_class, other_right}
 use Rattle.mux_entries.proofs.EditorRows.{done_alike, or_later}
 use Rattle.mux_entries.proofs.editors.from_asking.Goals as goal
 

@@ -13,10 +13,10 @@ returns-then-e-count-clause-does c = λ settings before servers default first kn
     let past : editors_of before ≤ c.args.e = omega arith in
     absurd (unlinked (desk_of c.args.e before).phase (known.editors c.args.e past) fits)
 
-pub returns-in_ok-from_phase-in-Ok-clause-does : goal.returns-in_ok-from_phase-in-Ok-clause-does
-returns-in_ok-from_phase-in-Ok-clause-does c = λ settings before servers default first known settled fits built st ds.
+pub returns-in_ok-from_message-in-Ok-clause-does : goal.returns-in_ok-from_message-in-Ok-clause-does
+returns-in_ok-from_message-in-Ok-clause-does c = λ settings before servers default first known settled fits built st ds.
     let read = subst (λ b. IsRead c.in-Ok.message b) c.bytes.ensures c.in-Ok.ensures.ok in
-    c.in_ok-from_phase-in-Ok.ensures.does settings before c.args.body.now read servers default first known settled fits built st ds
+    c.in_ok-from_message-in-Ok.ensures.does settings before c.args.body.now read servers default first known settled fits built st ds
 
 pub returns-in_ok-from_malformed-in-Err-clause-does : goal.returns-in_ok-from_malformed-in-Err-clause-does
 returns-in_ok-from_malformed-in-Err-clause-does c = λ settings before servers default first known settled fits built st ds.

@@ -11,20 +11,20 @@ use Rattle.mux_entries.proofs.EditorRows.{asks_by_name, begins, done_alike, earl
 use Rattle.mux_entries.proofs.editors.from_new.Goals as goal
 
 pub returns-in_ok-take_initialize-clause-does : goal.returns-in_ok-take_initialize-clause-does
-returns-in_ok-take_initialize-clause-does c = λ settings before body read at servers default first known settled built st ds.
+returns-in_ok-take_initialize-clause-does c = λ settings before body read at servers default first known settled built none st ds.
     let e = c.args.e in
     let m = message_of body in
     let named : requests (codes "initialize") m ≡ true = sym (c.is_initialize.ensures body read) ∙ c.if-is_initialize.true in
     let asks = asks_by_name (codes "initialize") m named in
     let placed : places (desk_of e before).phase m ≡ true = ap (λ p. places p m) at ∙ named in
-    done_alike (λ k events. AllStand settings k events) (begins settings before e body at (read_well c.args.message.now body read) named)
+    done_alike (λ k events. AllStand settings k events) (begins settings before e body at (read_well c.args.message.now body read) named none)
     (c.in_ok-take_initialize.ensures.does settings before body asks.method asks.id asks.params read asks.is placed servers default first known settled st ds)
 
 pub returns-in_ok-from_early-clause-does : goal.returns-in_ok-from_early-clause-does
-returns-in_ok-from_early-clause-does c = λ settings before body read at servers default first known settled built st ds.
+returns-in_ok-from_early-clause-does c = λ settings before body read at servers default first known settled built none st ds.
     let e = c.args.e in
     let m = message_of body in
     let other : requests (codes "initialize") m ≡ false = sym (c.is_initialize.ensures body read) ∙ c.if-is_initialize.false in
     let unplaced : places (desk_of e before).phase m ≡ false = ap (λ p. places p m) at ∙ other in
-    done_alike (λ k events. AllStand settings k events) (early_new settings before e body at (read_well c.args.message.now body read) other)
+    done_alike (λ k events. AllStand settings k events) (early_new settings before e body at (read_well c.args.message.now body read) other none)
     (c.in_ok-from_early.ensures.does settings before body read (ap is_early at) unplaced (built_stays before e (desk_of e before).phase m built) first st ds)

@@ -6,34 +6,34 @@ use Rattle.event_model.specs.Requests.{open_of}
 use Rattle.group_facts.specs.Built.{built_from_editor}
 use Rattle.rpc_message.specs.Message.{message_of, notification, request}
 use Rattle.mux_tables.specs.Documents.{AllStand}
-use Rattle.mux_entries.proofs.EditorBuilt.{answer_keeps, built_single, served_standard}
+use Rattle.mux_entries.proofs.EditorBuilt.{answer_keeps, served_standard, served_there, unasked_when}
 use Rattle.mux_entries.proofs.EditorRows.{answered, asks_by_sort, done_alike, done_quietly, notes_by_sort, read_well, served, unasking, unnoting}
 use Rattle.mux_entries.proofs.editors.from_served.Goals as goal
 
 pub returns-in_ok-from_asking-in-Request-clause-does : goal.returns-in_ok-from_asking-in-Request-clause-does
-returns-in_ok-from_asking-in-Request-clause-does c = λ settings before body read serves first settled built st ds.
+returns-in_ok-from_asking-in-Request-clause-does c = λ settings before body read serves first settled built single none st ds.
     let e = c.args.e in
     let m = message_of body in
     let p = (desk_of e before).phase in
     let asks = asks_by_sort m (c.sort.ensures body read ∙ ap (λ x. Some x) c.in-Request.is) in
-    let sort = served_standard before e p asks.id asks.method asks.params serves (ap (built_from_editor p (open_of e before)) (sym asks.is) ∙ built) in
-    done_alike (λ k events. AllStand settings k events) (served settings before e body (request asks.id asks.method asks.params) asks.is serves (read_well c.args.message.now body read) (built_single before e p m built))
+    let sort = served_standard before e p asks.id asks.method asks.params (unasked_when p m asks.id asks.method asks.params asks.is (served_there p serves) none) serves (ap (built_from_editor p (open_of e before)) (sym asks.is) ∙ built) in
+    done_alike (λ k events. AllStand settings k events) (served settings before e body (request asks.id asks.method asks.params) asks.is serves (read_well c.args.message.now body read) single none)
     (c.in_ok-from_asking-in-Request.ensures.does settings before body asks.method asks.id asks.params read asks.is sort serves first st ds)
 
 pub returns-in_ok-from_noting-in-Notification-clause-does : goal.returns-in_ok-from_noting-in-Notification-clause-does
-returns-in_ok-from_noting-in-Notification-clause-does c = λ settings before body read serves first settled built st ds.
+returns-in_ok-from_noting-in-Notification-clause-does c = λ settings before body read serves first settled built single none st ds.
     let e = c.args.e in
     let m = message_of body in
     let p = (desk_of e before).phase in
     let notes = notes_by_sort m (c.sort.ensures body read ∙ ap (λ x. Some x) c.in-Notification.is) in
-    done_alike (λ k events. AllStand settings k events) (served settings before e body (notification notes.method notes.params) notes.is serves (read_well c.args.message.now body read) (built_single before e p m built))
+    done_alike (λ k events. AllStand settings k events) (served settings before e body (notification notes.method notes.params) notes.is serves (read_well c.args.message.now body read) single none)
     (c.in_ok-from_noting-in-Notification.ensures.does settings before body notes.method notes.params read notes.is serves first settled st ds)
 
 pub returns-in-Result-clause-does : goal.returns-in-Result-clause-does
-returns-in-Result-clause-does c = λ settings before body read serves first settled built st ds.
+returns-in-Result-clause-does c = λ settings before body read serves first settled built single none st ds.
     let e = c.args.e in
     let m = message_of body in
     let unasked = unasking m c.sort.result (c.sort.ensures body read) c.in-Result.is in
     let unnoted = unnoting m c.sort.result (c.sort.ensures body read) c.in-Result.is in
-    done_alike (λ k events. AllStand settings k events) (answered settings before e body unasked unnoted serves (read_well c.args.message.now body read) (built_single before e (desk_of e before).phase m built))
+    done_alike (λ k events. AllStand settings k events) (answered settings before e body unasked unnoted serves (read_well c.args.message.now body read) single none)
     (done_quietly (λ k events. AllStand settings k events) first (c.take_quiet.ensures.does settings before body read unasked (answer_keeps before e m unasked unnoted) st ds))

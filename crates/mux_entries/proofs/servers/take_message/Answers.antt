@@ -1,5 +1,5 @@
 -- A message of a start, by where it stands.
-use Rattle.std.proofs.Common.{ap, sym, ◌∙◌}
+use Rattle.std.proofs.Common.{sym, ◌∙◌}
 use Rattle.event_model.specs.Stages.{life_of}
 use Rattle.event_model.proofs.Places.{item_at}
 use Rattle.group_facts.specs.Built.{built_from_server}
@@ -7,7 +7,7 @@ use Rattle.group_rows.specs.Forwarded.{forwarding_of}
 use Rattle.rpc_message.specs.Message.{message_of}
 use Rattle.mux_tables.specs.Documents.{AllStand, nothing_owed}
 use Rattle.mux_entries.proofs.EditorRows.{done_alike, done_quietly}
-use Rattle.mux_entries.proofs.Said.{asked, built_elsewhere, read_well, ready_row, silent_late, stage_here}
+use Rattle.mux_entries.proofs.Said.{asked, built_elsewhere, read_well, ready_row, stage_here, stopped_row}
 use Rattle.mux_entries.proofs.servers.take_message.Goals as goal
 
 pub returns-in_ok-take_first-in-Initializing-clause-does : goal.returns-in_ok-take_first-in-Initializing-clause-does
@@ -30,10 +30,13 @@ returns-in_default-clause-does c = λ settings before body s read first at known
     let here = stage_here settings t before c.args.g s x.0 x.1 at st ∙ sym (c.stage_at-stage.ensures x.0 x.1) in
     built_elsewhere (life_of s before).stage c.stage_at-stage.result (forwarding_of s before).open_requests body (message_of body) here c.in_default.not-Initializing c.in_default.not-Ready c.in_default.not-Stopping c.in_default.not-Ending (read_well c.args.message.now body read) built
 
-pub returns-in-Stopping-clause-does : goal.returns-in-Stopping-clause-does
-returns-in-Stopping-clause-does c = λ settings before body s read first at known run built st ds.
+pub returns-in_ok-take_stopping-in-Stopping-clause-does : goal.returns-in_ok-take_stopping-in-Stopping-clause-does
+returns-in_ok-take_stopping-in-Stopping-clause-does c = λ settings before body s read first at known run built st ds.
     let t = c.args.tables.now in
     let x = item_at t.lasts.items c.args.g c.requires in
-    let here = stage_here settings t before c.args.g s x.0 x.1 at st ∙ sym (c.stage_at-stage.ensures x.0 x.1) in
-    done_quietly (λ k events. AllStand settings k events) first
-    (c.hear_quietly.ensures.does settings before body s (silent_late c.stage_at-stage.result (forwarding_of s before).open_requests body (message_of body) c.in-Stopping.is (ap (λ g. built_from_server g (forwarding_of s before).open_requests body (message_of body)) (sym here) ∙ built)) at run st ds)
+    let stage = stage_here settings t before c.args.g s x.0 x.1 at st ∙ (sym (c.stage_at-stage.ensures x.0 x.1) ∙ c.in-Stopping.is) in
+    done_alike (λ k events. AllStand settings k events) (stopped_row settings before s body stage) (c.in_ok-take_stopping-in-Stopping.ensures.does settings before body s read first at (known.stopped s stage) st ds)
+
+pub returns-in-Ending-clause-does : goal.returns-in-Ending-clause-does
+returns-in-Ending-clause-does c = λ settings before body s read first at known run built st ds.
+    done_quietly (λ k events. AllStand settings k events) first (c.take_ending.ensures.does settings before body s read at st ds)

@@ -34,4 +34,4 @@ returns-in_ok-welcome-in-Some-clause-does c = λ settings before body method id 
     let starts = sym (starts_heard before e body c.args.g) ∙ c.in-Some.ensures.start settings base s.0 s.1 st.0 in
     let ready = ap (λ (l : Life). is_ready l.stage) (sym (life_heard before e body s.0)) ∙ (ap is_ready (sym (c.stage.ensures settings base s.0 s.1 st.0)) ∙ (sym c.is_ready.ensures ∙ c.if-not-is_ready.false)) in
     subst (λ g. Does (λ k events. AllStand settings k events) (placed_row e body before (Joins g)) base (t, nothing_owed) c.args.outs.now (c.welcome.new.tables, nothing_owed) c.welcome.new.outs) c.in-Some.ensures.number
-    (c.in_ok-welcome-in-Some.ensures.does settings before body method id params s.0 read says new (ap (λ g. start_of g before) c.in-Some.ensures.number ∙ starts) ready (shown_by before plain s.0) first)
+    (c.in_ok-welcome-in-Some.ensures.does settings before body method id params s.0 read says new (ap (λ g. start_of g before) c.in-Some.ensures.number ∙ starts) ready (λ given. shown_by before plain s.0 given ready) first)

@@ -1,9 +1,16 @@
 -- A message that doesn't answer `initialize`.
 use Rattle.std.proofs.Common.{refl}
+use Rattle.mux_tables.proofs.Starts.{stages_stay, starts_stay}
 use Rattle.mux_tables.proofs.Served.{answer_moves, answer_found, found_of}
 use Rattle.mux_tables.proofs.DocumentHeard.{answer_documents_by}
 use Rattle.rpc_message.specs.Message.{message_of}
 use Rattle.mux_tables.proofs.tables.Tables.hear_answer.Goals as goal
+
+pub returns-clause-starts : goal.returns-clause-starts
+returns-clause-starts c = starts_stay c.args.self.now.lasts.items c.args.g c.index_mut-last.result.now (record c.index_mut-last.result.now { ids = c.answer.new.ids }) c.requires c.index_mut-last.ensures.value refl
+
+pub returns-clause-stages : goal.returns-clause-stages
+returns-clause-stages c = stages_stay c.args.self.now.lasts.items c.args.g c.index_mut-last.result.now (record c.index_mut-last.result.now { ids = c.answer.new.ids }) c.requires c.index_mut-last.ensures.value refl
 
 pub returns-clause-moves : goal.returns-clause-moves
 returns-clause-moves c = λ settings events s body x is at result error named st.

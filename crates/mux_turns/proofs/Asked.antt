@@ -8,13 +8,15 @@ use Rattle.json_text.specs.Json.{Json}
 use Rattle.rpc_message.specs.Message.{Message, request, notification, result, error, not_json, not_message, Id, id_bytes, message_of, same_id}
 use Rattle.rpc_message.specs.ValueTexts.{IsIdText}
 use Rattle.rpc_message.proofs.Ids.{request_id_bytes}
-use Rattle.event_model.specs.declared.phase.Phase.TheVariants.{Absent, Waiting}
+use Rattle.event_model.specs.declared.phase.Phase.{Phase}
+use Rattle.event_model.specs.declared.phase.Phase.TheVariants.{Absent, New, Waiting, Answered, Running, Down, Closed, Gone}
 use Rattle.event_model.specs.Event.{Event}
 use Rattle.event_model.specs.Phases.{desk_of, has_id, needs_server}
 use Rattle.event_model.specs.Requests.{is_open, open_of}
 use Rattle.event_model.specs.Settings.{Settings}
 use Rattle.event_model.specs.Spawns.{start_of}
 use Rattle.event_model.proofs.Places.{same_item}
+use Rattle.group_facts.specs.Built.{doubles}
 use Rattle.group_facts.specs.Facts.{AllForwarded, IsForwarded}
 use Rattle.group_facts.specs.Settled.{Settled, is_answered}
 use Rattle.group_rows.specs.Forwarded.{Forwarded, forwarding_of}
@@ -128,3 +130,14 @@ module _ (settings : Settings) (t : Tables) (before : List Event) (e : ℕ) (i :
         let group : x.group ≡ g = same_item (sym x.home ∙ home) in
         let start : x.start ≡ z.life.start = same_item (sym x.last ∙ (ap (λ n. start_of n before) group ∙ last.start)) in
         open_found z.ids.requests x.place x.request (subst (λ fs. slice_get fs x.place ≡ Some x.request) (ap (λ n. (forwarding_of n before).open_requests) start ∙ opened) x.at) x.editor x.text)
+
+-- where none can be open under it
+pub alone_else : (p : Phase) (i : Id) (ids : List Id) → (p ≡ Waiting → ⊥) → (p ≡ Answered → ⊥) → (p ≡ Running → ⊥) → (p ≡ Down → ⊥) → false ≡ doubles p i ids
+alone_else New i ids w a r d = refl
+alone_else Closed i ids w a r d = refl
+alone_else Absent i ids w a r d = refl
+alone_else Gone i ids w a r d = refl
+alone_else Waiting i ids w a r d = absurd (w refl)
+alone_else Answered i ids w a r d = absurd (a refl)
+alone_else Running i ids w a r d = absurd (r refl)
+alone_else Down i ids w a r d = absurd (d refl)

@@ -1,0 +1,184 @@
+-- E5: what `lspmux/status` is answered with, and where its editor stands behind it.
+use Rattle.std.proofs.Common.{◌≡◌, ℕ, zero, suc, ◌+◌, ◌^◌, ◌<◌, ◌≤◌, Bool, true, false, ◌&&◌, ◌||◌, List, [], ◌∷◌, ◌++◌, length, map, flat_map, drop, get_or, nat_lt, codes, decimal, bytes_eq, if◌then◌else◌, IsUtf8, encode_utf8_all, refl, sym, ap, ap₂, subst, ◌∙◌, append_assoc, append-nil, arith}
+use Rattle.std.specs.Prelude.{Option, Some, None}
+use Rattle.std.specs.Option.{option_map_or}
+use Rattle.std.specs.Str.{all_scalars, chars}
+use Rattle.std.proofs.lemmas.Bool.{and_from, and_parts, lt-ltb}
+use Rattle.std.proofs.lemmas.Slice.Eq.{bytes_eq-Decides}
+use Rattle.std.proofs.lemmas.Str.{chars-encodes, encodes-chars}
+use Rattle.json.specs.Print.{quoted}
+use Rattle.json_text.specs.Json.{Json}
+use Rattle.mux_history.specs.declared.cause.Cause.TheVariants.{FromEditor}
+use Rattle.rpc_message.specs.Message.{Message, message_of, request, notification, result, error, not_json, not_message, Id}
+use Rattle.capability_meet.specs.Parts.{bracketed, comma, listed}
+use Rattle.event_model.specs.declared.phase.Phase.{Phase}
+use Rattle.event_model.specs.declared.phase.Phase.TheVariants.{Absent, New, Waiting, Answered, Running, Down, Closed, Gone}
+use Rattle.event_model.specs.Event.{Event, heard, requests, same_id, with_cause}
+use Rattle.event_model.specs.Phases.{Desk, desk_behind, desk_hears, desk_of, has_id, is_begun, is_new, is_served}
+use Rattle.event_model.specs.Requests.{is_open, open_of}
+use Rattle.event_model.specs.Settings.{Settings}
+use Rattle.event_model.proofs.Frames.{one_more}
+use Rattle.event_model.specs.Spawns.{start_of}
+use Rattle.group_facts.specs.Settled.{IsOnly, Settled}
+use Rattle.group_rows.specs.Status.{Item, is_utf8, item_at, item_in, item_text, name_text, number_text, numbers_text, state_text}
+use Rattle.group_words.specs.Houses.{is_doubled, places, stops}
+use Rattle.mux_facts.proofs.Words.{id_same}
+use Rattle.mux_tables.specs.Documents.{changes_documents}
+use Rattle.mux_tables.proofs.Frames.{itself}
+use Rattle.mux_turns.proofs.Asides.{desk_now}
+use Rattle.mux_turns.proofs.Folders.{drop_one}
+
+-- Texts
+
+pub number_written : (n : ℕ) (text : List ℕ) → n < 2 ^ 64 → text ≡ decimal n → text ≡ number_text n
+number_written n text low is = is ∙ ap (λ b. if b then decimal n else codes "null") (sym (lt-ltb n (2 ^ 64) low))
+
+utf8_so : (name : List ℕ) → IsUtf8 name → is_utf8 name ≡ true
+utf8_so name u = and_from (all_scalars (chars name)) (bytes_eq (encode_utf8_all (chars name)) name) spelt ((bytes_eq-Decides (encode_utf8_all (chars name)) name).1 (encodes-chars name u))
+  where
+    same : u.0 ≡ chars name
+    same = sym (chars-encodes u.0 u.1.0) ∙ ap chars u.1.1
+
+    spelt : all_scalars (chars name) ≡ true
+    spelt = ap all_scalars (sym same) ∙ u.1.0
+
+not_utf8 : (name : List ℕ) → (IsUtf8 name → ⊥) → is_utf8 name ≡ false
+not_utf8 name h = go (is_utf8 name) refl
+  where
+    go : (b : Bool) → is_utf8 name ≡ b → b ≡ false
+    go true e = absurd (h (let p = and_parts (all_scalars (chars name)) (bytes_eq (encode_utf8_all (chars name)) name) e in (chars name, (p.0, (bytes_eq-Decides (encode_utf8_all (chars name)) name).0 p.1))))
+    go false e = refl
+
+pub name_spelt : (name text : List ℕ) → IsUtf8 name → text ≡ quoted name → text ≡ name_text name
+name_spelt name text u is = is ∙ ap (λ b. quoted (if b then name else [])) (sym (utf8_so name u))
+
+pub name_unspelt : (name text : List ℕ) → (IsUtf8 name → ⊥) → text ≡ quoted [] → text ≡ name_text name
+name_unspelt name text u is = is ∙ ap (λ b. quoted (if b then name else [])) (sym (not_utf8 name u))
+
+module _ (x : Item) (a b c d e t1 t2 t3 t4 t5 t6 t7 t8 : List ℕ) where
+  pub item_written : a ≡ number_text x.group → b ≡ name_text x.server → c ≡ number_text x.start → d ≡ numbers_text x.editors → e ≡ number_text x.asked
+      → t1 ≡ codes "{\"group\":" ++ a → t2 ≡ t1 ++ codes ",\"server\":" ++ b → t3 ≡ t2 ++ codes ",\"start\":" ++ c → t4 ≡ t3 ++ codes ",\"state\":" → t5 ≡ t4 ++ state_text x.stage
+      → t6 ≡ t5 ++ codes ",\"editors\":" ++ d → t7 ≡ t6 ++ codes ",\"open\":" ++ e → t8 ≡ t7 ++ codes "}" → t8 ≡ item_text x
+  item_written ea eb ec ed ee e1 e2 e3 e4 e5 e6 e7 e8 =
+      let s1 = e1 ∙ ap (λ v. codes "{\"group\":" ++ v) ea in
+      let s2 = e2 ∙ ap₂ (λ w v. w ++ codes ",\"server\":" ++ v) s1 eb in
+      let s3 = e3 ∙ ap₂ (λ w v. w ++ codes ",\"start\":" ++ v) s2 ec in
+      let s4 = e4 ∙ ap (λ w. w ++ codes ",\"state\":") s3 in
+      let s5 = e5 ∙ ap (λ w. w ++ state_text x.stage) s4 in
+      let s6 = e6 ∙ ap₂ (λ w v. w ++ codes ",\"editors\":" ++ v) s5 ed in
+      let s7 = e7 ∙ ap₂ (λ w v. w ++ codes ",\"open\":" ++ v) s6 ee in
+      e8 ∙ ap (λ w. w ++ codes "}") s7
+
+-- Lists of parts: what is written, and what is left to write
+
+abbrev pub Left : List ℕ → Bool → ℕ → List (List ℕ) → Type 0
+Left text started i parts = text ++ (listed started (drop i parts) ++ 93 ∷ []) ≡ bracketed parts
+
+pub left_next : (text mid new : List ℕ) (started : Bool) (i : ℕ) (d : List ℕ) (parts : List (List ℕ)) → i < length parts → mid ≡ text ++ comma started → new ≡ mid ++ get_or parts i d → Left text started i parts → Left new true (i + 1) parts
+left_next text mid new started i d parts h e f left =
+    let x = get_or parts i d in
+    let rest = listed true (drop (i + 1) parts) in
+    ap (λ ws. ws ++ (rest ++ 93 ∷ [])) (f ∙ ap (λ ws. ws ++ x) e) ∙ (shift text (comma started) x rest ∙ (ap (λ ps. text ++ (listed started ps ++ 93 ∷ [])) (sym (drop_one d parts i h)) ∙ left))
+  where
+    shift : (a b c e : List ℕ) → ((a ++ b) ++ c) ++ (e ++ 93 ∷ []) ≡ a ++ ((b ++ (c ++ e)) ++ 93 ∷ [])
+    shift a b c e = simp append_assoc
+
+-- Lists of groups
+
+map_both : {A B : Type 0} (f : A → B) (xs ys : List A) → map f (xs ++ ys) ≡ map f xs ++ map f ys
+map_both f [] ys = refl
+map_both f (x ∷ xs) ys = ap (λ zs. f x ∷ zs) (map_both f xs ys)
+
+module _ (settings : Settings) (before : List Event) where
+  pub none_told : (g : ℕ) (xs : List (List ℕ)) → start_of g before ≡ None → xs ≡ xs ++ map item_text (item_in settings before g)
+  none_told g xs none = sym (append-nil xs) ∙ ap (λ o. xs ++ map item_text (option_map_or (λ s. item_at settings before g s ∷ []) o [])) (sym none)
+
+  pub one_told : (g s : ℕ) (xs new : List (List ℕ)) (body : List ℕ) → start_of g before ≡ Some s → new ≡ xs ++ body ∷ [] → body ≡ item_text (item_at settings before g s) → new ≡ xs ++ map item_text (item_in settings before g)
+  one_told g s xs new body start is text = is ∙ ap (λ w. xs ++ w ∷ []) text ∙ ap (λ o. xs ++ map item_text (option_map_or (λ s. item_at settings before g s ∷ []) o [])) (sym start)
+
+  pub told_next : (gs : List ℕ) (i d g : ℕ) (xs new whole : List (List ℕ)) → i < length gs → g ≡ get_or gs i d → new ≡ xs ++ map item_text (item_in settings before g)
+      → whole ≡ xs ++ map item_text (flat_map (item_in settings before) (drop i gs)) → whole ≡ new ++ map item_text (flat_map (item_in settings before) (drop (i + 1) gs))
+  told_next gs i d g xs new whole l at is h = h
+      ∙ ap (λ ns. xs ++ map item_text (flat_map (item_in settings before) ns)) (drop_one d gs i l ∙ ap (λ n. n ∷ drop (i + 1) gs) (sym at))
+      ∙ ap (λ zs. xs ++ zs) (map_both item_text (item_in settings before g) (flat_map (item_in settings before) (drop (i + 1) gs)))
+      ∙ sym (append_assoc xs (map item_text (item_in settings before g)) (map item_text (flat_map (item_in settings before) (drop (i + 1) gs))))
+      ∙ ap (λ zs. zs ++ map item_text (flat_map (item_in settings before) (drop (i + 1) gs))) (sym is)
+
+none_left : (parts : List (List ℕ)) (i : ℕ) → length parts ≤ i → drop i parts ≡ []
+none_left [] zero h = refl
+none_left [] (suc i) h = refl
+none_left (x ∷ xs) zero h = absurd (omega arith)
+none_left (x ∷ xs) (suc i) h = none_left xs i (omega arith)
+
+pub left_none : (text new : List ℕ) (started : Bool) (i : ℕ) (parts : List (List ℕ)) → length parts ≤ i → new ≡ text ++ 93 ∷ [] → Left text started i parts → new ≡ bracketed parts
+left_none text new started i parts h e left = e ∙ (ap (λ ps. text ++ (listed started ps ++ 93 ∷ [])) (sym (none_left parts i h)) ∙ left)
+
+-- `lspmux/status`
+
+pub record IsStatus (m : Message) : Type 0 where
+  pub id : Id
+  pub params : Option Json
+  pub is : m ≡ request id (codes "lspmux/status") params
+
+pub status_is : (m : Message) → requests (codes "lspmux/status") m ≡ true → IsStatus m
+status_is (request id method params) h = record { id = id; params = params; is = ap (λ w. request id w params) (sym ((bytes_eq-Decides (codes "lspmux/status") method).0 h)) }
+status_is (notification method params) h = absurd (cc)
+status_is (result id r) h = absurd (cc)
+status_is (error id x) h = absurd (cc)
+status_is not_json h = absurd (cc)
+status_is not_message h = absurd (cc)
+
+and_off : (a : Bool) → (a && false) ≡ false
+and_off true = refl
+and_off false = refl
+
+hears_stays : (p : Phase) (i body : List ℕ) (id : Id) (params : Option Json) → (desk_hears p i body (request id (codes "lspmux/status") params)).phase ≡ p
+hears_stays Absent i body id params = refl
+hears_stays New i body id params = refl
+hears_stays Waiting i body id params = refl
+hears_stays Answered i body id params = refl
+hears_stays Running i body id params = refl
+hears_stays Down i body id params = refl
+hears_stays Closed i body id params = refl
+hears_stays Gone i body id params = refl
+
+module _ (before : List Event) (e : ℕ) (body : List ℕ) (asks : requests (codes "lspmux/status") (message_of body) ≡ true) where
+  abbrev k : IsStatus (message_of body)
+  k = status_is (message_of body) asks
+
+  pub status_stays : (desk_of e (with_cause before (FromEditor e body))).phase ≡ (desk_of e before).phase
+  status_stays = desk_now before e body (desk_of e before).phase (ap (λ m. (desk_hears (desk_of e before).phase (desk_of e before).initialize body m).phase) k.is ∙ hears_stays (desk_of e before).phase (desk_of e before).initialize body k.id k.params)
+
+  pub status_placed : places (desk_of e before).phase (message_of body) ≡ false
+  status_placed = ap (places (desk_of e before).phase) k.is ∙ and_off (is_new (desk_of e before).phase)
+
+  pub status_stops : stops before e (message_of body) ≡ false
+  status_stops = ap (stops before e) k.is
+
+  pub status_keeps : changes_documents before e (message_of body) ≡ false
+  status_keeps = ap (changes_documents before e) k.is ∙ and_off (is_served (desk_of e before).phase)
+
+  -- where its editor waits, its `initialize` is open under another id
+  apart : (id first : Id) (m : Message) → has_id first m ≡ true → same_id id first ≡ false → has_id id m ≡ false
+  apart id first (request other method params) own h = ap (same_id id) (sym (id_same first other own)) ∙ h
+  apart id first (notification method params) own h = absurd (cc)
+  apart id first (result other r) own h = absurd (cc)
+  apart id first (error other x) own h = absurd (cc)
+  apart id first not_json own h = absurd (cc)
+  apart id first not_message own h = absurd (cc)
+
+  or_off : (b : Bool) → (b || false) ≡ false → b ≡ false
+  or_off true h = h
+  or_off false h = refl
+
+  desk_stays : (desk_of e before).phase ≡ Waiting → (desk_of e (with_cause before (FromEditor e body))).initialize ≡ (desk_of e before).initialize
+  desk_stays at = ap (λ (d : Desk). d.initialize) (one_more (desk_behind e) _ _ before (heard (FromEditor e body)) refl) ∙ rw (itself e) (ap (λ p. (desk_hears p (desk_of e before).initialize body (message_of body)).initialize) at)
+
+  pub status_others : (settings : Settings) → (is_begun (desk_of e before).phase && is_doubled before e (message_of body)) ≡ false → Settled settings before
+      → (desk_of e (with_cause before (FromEditor e body))).phase ≡ Waiting → has_id k.id (message_of (desk_of e (with_cause before (FromEditor e body))).initialize) ≡ false
+  status_others settings single known at =
+      let waits : (desk_of e before).phase ≡ Waiting = sym status_stays ∙ at in
+      let only : IsOnly before e = known.waiting e waits in
+      let fresh : is_open k.id (open_of e before) ≡ false = ap (λ m. is_doubled before e m) (sym k.is) ∙ (ap (λ p. is_begun p && is_doubled before e (message_of body)) (sym waits) ∙ single) in
+      let other : same_id k.id only.id ≡ false = or_off (same_id k.id only.id) (ap (is_open k.id) (sym only.ids) ∙ fresh) in
+      ap (λ i. has_id k.id (message_of i)) (desk_stays waits) ∙ apart k.id only.id (message_of (desk_of e before).initialize) only.asked other
