@@ -13,7 +13,7 @@ use std::marker::Model;
 
 /// The editors that joined (LSP 3.17, Lifecycle Messages), numbered from 0 in the order in which they did.
 ///
-/// Of one whose link ended nothing is kept but that its number was given, so the memory is that of the editors that are linked. A
+/// Of one whose link ended nothing is kept but that its number was given, so the memory is that of the most editors that were linked at once. A
 /// look-up by number takes a bisection of them, and a list of numbers a walk over them.
 #[derive(Debug, Drop)]
 pub struct Editors {

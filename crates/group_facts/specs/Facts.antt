@@ -86,7 +86,7 @@ Housed settings events = (s : ℕ) → s < starts_of events → IsHoused setting
 
 -- Starts, by their stages, and their open requests
 
--- a start whose program never ran was sent no request
+-- a start whose program doesn't run yet was sent no request
 abbrev pub is_unbegun : Stage → Bool
 is_unbegun Unspawned = true
 is_unbegun Spawning = true
@@ -95,7 +95,7 @@ is_unbegun other = false
 abbrev pub Unbegun : List Event → Type 0
 Unbegun events = (s : ℕ) → is_unbegun (life_of s events).stage ≡ true → (next_number s events ≡ 1) × ((forwarding_of s events).next ≡ 2)
 
--- a start that gave no result has no document
+-- a start that isn't ready yet holds no document
 abbrev pub is_unready : Stage → Bool
 is_unready Unspawned = true
 is_unready Spawning = true
@@ -105,7 +105,7 @@ is_unready other = false
 abbrev pub Untold : List Event → Type 0
 Untold events = (s : ℕ) → is_unready (life_of s events).stage ≡ true → (u : List ℕ) → held_at s u events ≡ None
 
--- until a start is to end, its next number is at most the limit and two
+-- while a start is up, the number of its next request by editors' requests is at most the limit and two, and that by all is no greater
 abbrev pub Bounded : Settings → List Event → Type 0
 Bounded settings events = (s : ℕ) → is_up (life_of s events).stage ≡ true → (next_number s events ≤ (forwarding_of s events).next) × ((forwarding_of s events).next ≤ settings.limits.requests + 2)
 
@@ -117,14 +117,14 @@ Numbered events = (s : ℕ) → (life_of s events).stage ≡ Ready → next_numb
 abbrev pub Stopped : List Event → Type 0
 Stopped events = (s : ℕ) → (life_of s events).stage ≡ Stopping → next_number s events ≡ (forwarding_of s events).next + 1
 
--- it got no result to its `initialize` yet
+-- it is there before its `initialize` is answered, or didn't join
 abbrev pub is_early : Phase → Bool
 is_early Absent = true
 is_early New = true
 is_early Waiting = true
 is_early _ = false
 
--- an editor that got its result, and the bytes of the id of an open request of it
+-- an editor that joined and neither is new nor waits, and the bytes of the id of an open request of it
 pub record IsAsker (events : List Event) (e : ℕ) (bytes : List ℕ) : Type 0 where
   pub id : Id
   pub text : IsIdText id bytes

@@ -1,4 +1,4 @@
--- The routing table over several editors and groups, in part: J2, E2, E3, E5, E7 to E10, E12 to E15, S2 of a group's first start, S4, S5 without versions, X5, and the start of a server's program.
+-- The routing table over several editors and groups, in part: J1, J2, E2, E3, E5, E7 to E10, E12 to E15, E19, S1, S2 with X4, S4, S5 without versions, X1 to X3 of groups that live no more, X5 and X6.
 use Rattle.std.specs.Prelude.{ℕ, Bool, false, ◌&&◌, ◌||◌, List, [], ◌∷◌, ◌++◌, filter, find, flat_map, codes, nat_eq, nat_lt, decimal, bytes_eq, if◌then◌else◌}
 use Rattle.std.specs.Prelude.{Option, Some, None, slice_get}
 use Rattle.std.specs.List.{list_any}

@@ -37,8 +37,8 @@ fn same_characters(a: &[u8], b: &[u8]) -> bool
     next_character(other).is_none()
 }
 
-/// Whether two identifiers stand for the same, by what their bytes are: strings by their characters, where bytes that
-/// are no UTF-8 count as U+FFFD, and all others byte by byte.
+/// Whether two identifiers stand for the same, by what their bytes are: strings by the characters that are read of them, and
+/// all others byte by byte.
 pub fn same_form(a: &[u8], b: &[u8]) -> bool
     ensures { result ≡ same_form a.now b.now }
 {

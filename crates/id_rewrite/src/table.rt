@@ -141,7 +141,7 @@ impl IdTable {
     /// The number of the open request of an editor under an id, the lowest where there are more.
     ///
     /// `id` is the text of an id, as the kept ones are. Other bytes that begin with a quotation mark count as a
-    /// string, whose bytes that are no UTF-8 stand for U+FFFD; all others count by themselves. A look-up takes time that
+    /// string, by the characters that are read of them; all others count by themselves. A look-up takes time that
     /// is linear in `id`; it is a walk over the open requests as long as an editor has two open under one id.
     pub fn find(&self, editor: u64, id: &[u8]) -> Option<u32>
         ensures exact { result ≡ number_under editor id.now self.now.requests }

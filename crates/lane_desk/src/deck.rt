@@ -157,8 +157,8 @@ pub struct Closed<K: Steps + Drop> {
     pub done: bool,
     /// No lane of an editor has a session. This is said of a core that went on.
     pub no_editor: bool,
-    /// The last editor that joined is of the last lane of editors, and each other one had gone before. This is said of a core
-    /// that went on.
+    /// The last editor that joined is of the last lane of editors, no other one is of that lane, and each other one had gone
+    /// before it joined. This is said of a core that went on.
     pub own_last: bool,
 }
 

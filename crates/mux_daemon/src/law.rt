@@ -7,8 +7,8 @@ use lane_lists::{origins_law, sessions_law, start_sessions_law};
 use mux_history::Steps;
 use outside_io::{Berth, Clock, MemPort, Port};
 
-/// The links of a served port are, in their order, those of the editors that the history has from its lane, and of at most one
-/// more. The bodies from an editor are the first frames that were read, and what was written are the frames of the bodies to it.
+/// The links of a served port are, in their order, those of the editors that the history has from its lane, perhaps one whose
+/// editor the history doesn't have, and perhaps one that was refused. The bodies from an editor are the first frames that were read, and what was written are the frames of the bodies to it.
 pub fn port_law<P: Port>()
     ensures { PortLaw P.sessions P.links P.faults }
 {

@@ -15,7 +15,7 @@ is_response Result = true
 is_response Error = true
 is_response _ = false
 
--- its id is the text of one, and the `initialize` of its editor was answered
+-- its id is the text of one, and its editor doesn't wait
 pub record IsAsked (before : List Event) (f : Forwarded) : Type 0 where
   pub name : Id
   pub text : IsIdText name f.id

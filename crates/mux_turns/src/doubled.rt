@@ -57,7 +57,8 @@ fn is_sent(tables: &Tables, e: u64, id: &[u8]) -> bool
     }
 }
 
-/// E3: whether a request of an editor in this phase is open under this id (JSON-RPC 2.0, section 4). The time is that of one look-up.
+/// E3: whether an editor in this phase has begun, and a request of it is open under this id (JSON-RPC 2.0, section 4). The time is that
+/// of one look-up.
 pub fn doubles(tables: &Tables, e: u64, phase: Phase, id: &[u8]) -> bool
     ensures { (settings : Settings) (before : List Event) (i : Id) → Known settings before → Settled settings before
         → Stands settings tables.now before → IsIdText i id.now → phase ≡ (desk_of e before).phase → result ≡ doubles phase i (open_of e before) }
@@ -90,8 +91,8 @@ fn end_served(tables: &mut Tables, alloc: Global, outs: &mut Outs, e: u64) -> Re
     Ok(())
 }
 
-/// E3: a request of the standard comes under an id that is open: its editor's link is to be ended, and the editor leaves. Which of the
-/// two an answer under this id would be for, nobody could tell (JSON-RPC 2.0, section 4).
+/// E3: a request that goes on, is `shutdown` or is one that only a server asks comes under an id that is open: its editor's link is to
+/// be ended, and the editor leaves. Which of the two an answer under this id would be for, nobody could tell (JSON-RPC 2.0, section 4).
 pub fn take_doubled(
     tables: &mut Tables,
     alloc: Global,

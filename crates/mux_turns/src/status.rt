@@ -216,7 +216,7 @@ fn status_text(alloc: Global, tables: &Tables, servers: &[Server]) -> Result<Bod
     Ok(Body::new(text))
 }
 
-/// E5: `lspmux/status` comes from an editor that is there, under an id that isn't open: it is told of each live group, by a walk over
+/// E5: `lspmux/status` comes from an editor, under an id that isn't open where it has begun: it is told of each live group, by a walk over
 /// the live groups, the editors that are linked, for each group, and the open requests of the groups' last starts.
 pub fn take_status(
     tables: &mut Tables,
