@@ -345,18 +345,17 @@ not_stopping method h = go (bytes_eq (codes "lspmux/stop") method) refl
     go true e = absurd (let k : is_standard (class_of (codes "lspmux/stop") Editor false) ≡ true = subst (λ m. is_standard (class_of m Editor false) ≡ true) (sym ((bytes_eq-Decides (codes "lspmux/stop") method).0 e)) h in cc)
     go false e = refl
 
-built_on : (phase : Phase) (ids : List Id) (m : Message) → places phase m ≡ false → built_from_editor phase ids m ≡ true → requests (codes "lspmux/stop") m ≡ false
-built_on phase ids (request id method params) off built = go (bytes_eq (codes "lspmux/status") method) refl
-    (sym (ap (λ b. b || (bytes_eq (codes "lspmux/status") method || (is_standard (class_of method Editor false) && (doubles phase id ids || not (is_served phase && is_marked method params))))) off) ∙ built)
+built_on : (phase : Phase) (ids : List Id) (m : Message) → built_from_editor phase ids m ≡ true → requests (codes "lspmux/stop") m ≡ false
+built_on phase ids (request id method params) built = go (bytes_eq (codes "lspmux/status") method) refl built
   where
     go : (b : Bool) → bytes_eq (codes "lspmux/status") method ≡ b → (b || (is_standard (class_of method Editor false) && (doubles phase id ids || not (is_served phase && is_marked method params)))) ≡ true → bytes_eq (codes "lspmux/stop") method ≡ false
     go true is k = ap (bytes_eq (codes "lspmux/stop")) (sym ((bytes_eq-Decides (codes "lspmux/status") method).0 is))
     go false is k = not_stopping method (and_parts (is_standard (class_of method Editor false)) (doubles phase id ids || not (is_served phase && is_marked method params)) k).0
-built_on phase ids (notification method params) off built = refl
-built_on phase ids (result id r) off built = refl
-built_on phase ids (error id x) off built = refl
-built_on phase ids not_json off built = refl
-built_on phase ids not_message off built = refl
+built_on phase ids (notification method params) built = refl
+built_on phase ids (result id r) built = refl
+built_on phase ids (error id x) built = refl
+built_on phase ids not_json built = refl
+built_on phase ids not_message built = refl
 
 -- and of a start, refuses nothing
 early_fine : (body : List ℕ) (m : Message) → built_early body m ≡ true → is_first_error m ≡ false
@@ -389,7 +388,7 @@ took settings before (FromEditor n body) fits built absent after begun h = go (p
   where
     go : (b : Bool) → places (desk_of n before).phase (message_of body) ≡ b → Lively settings (with_cause before (FromEditor n body))
     go true here = placing settings before h n body begun here
-    go false off = heard_on settings before h n body off (ap (λ b. b && (is_there (desk_of n before).phase && not (is_doubled before n (message_of body)))) (built_on (desk_of n before).phase (open_of n before) (message_of body) off built))
+    go false off = heard_on settings before h n body off (ap (λ b. b && (is_there (desk_of n before).phase && not (is_doubled before n (message_of body)))) (built_on (desk_of n before).phase (open_of n before) (message_of body) built))
 took settings before (StartFailed n) fits built absent after begun h = failed settings before h n built
 took settings before (ServerGone n) fits built absent after begun h = exited settings before h n built
 took settings before cause fits built absent after begun h = absurd (cc)

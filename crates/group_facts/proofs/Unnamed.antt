@@ -15,7 +15,7 @@ use Rattle.event_model.specs.declared.phase.Phase.{Phase}
 use Rattle.event_model.specs.declared.settings.Server.{Server}
 use Rattle.event_model.specs.Event.{Event, heard, said, with_cause}
 use Rattle.event_model.specs.Members.{named_of, string_of}
-use Rattle.event_model.specs.Phases.{desk_of, is_new, is_served}
+use Rattle.event_model.specs.Phases.{desk_of, is_served}
 use Rattle.event_model.specs.Requests.{open_of}
 use Rattle.event_model.specs.Settings.{Settings}
 use Rattle.document_model.proofs.ScalarTrees.{either_way}
@@ -36,15 +36,11 @@ unfolding editor_request own_request
 standard_unnamed method h = not_named method (λ same. let k : is_standard (class_of (codes "lspmux/open") Editor false) ≡ true = subst (λ m. is_standard (class_of m Editor false) ≡ true) same h in cc)
 
 request_unnamed : (phase : Phase) (doubled : Bool) (method : List ℕ) (params : Option Json) → built_request phase doubled method params ≡ true → bytes_eq (codes "lspmux/open") method ≡ false
-request_unnamed phase doubled method params h = go (is_new phase && bytes_eq (codes "initialize") method) refl h
+request_unnamed phase doubled method params h = go (bytes_eq (codes "lspmux/status") method) refl h
   where
-    status : (b : Bool) → bytes_eq (codes "lspmux/status") method ≡ b → (b || (is_standard (class_of method Editor false) && (doubled || not (is_served phase && is_marked method params)))) ≡ true → bytes_eq (codes "lspmux/open") method ≡ false
-    status true is k = ap (λ m. bytes_eq (codes "lspmux/open") m) (sym ((bytes_eq-Decides (codes "lspmux/status") method).0 is))
-    status false is k = standard_unnamed method (and_parts (is_standard (class_of method Editor false)) (doubled || not (is_served phase && is_marked method params)) k).0
-
-    go : (b : Bool) → (is_new phase && bytes_eq (codes "initialize") method) ≡ b → (b || (bytes_eq (codes "lspmux/status") method || (is_standard (class_of method Editor false) && (doubled || not (is_served phase && is_marked method params))))) ≡ true → bytes_eq (codes "lspmux/open") method ≡ false
-    go true first k = ap (λ m. bytes_eq (codes "lspmux/open") m) (sym ((bytes_eq-Decides (codes "initialize") method).0 (and_parts (is_new phase) (bytes_eq (codes "initialize") method) first).1))
-    go false first k = status (bytes_eq (codes "lspmux/status") method) refl k
+    go : (b : Bool) → bytes_eq (codes "lspmux/status") method ≡ b → (b || (is_standard (class_of method Editor false) && (doubled || not (is_served phase && is_marked method params)))) ≡ true → bytes_eq (codes "lspmux/open") method ≡ false
+    go true is k = ap (λ m. bytes_eq (codes "lspmux/open") m) (sym ((bytes_eq-Decides (codes "lspmux/status") method).0 is))
+    go false is k = standard_unnamed method (and_parts (is_standard (class_of method Editor false)) (doubled || not (is_served phase && is_marked method params)) k).0
 
 abbrev server_in : Meant → Option ℕ
 server_in x = x.server

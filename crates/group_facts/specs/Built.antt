@@ -1,5 +1,5 @@
 -- Which causes meet only rows of the table over several editors and groups that are built, until all are.
--- Not built of an editor: requests of the multiplexer's own but `lspmux/status` (E4 and E6), `initialize` in another phase than New (E8), and while it is served requests that go on with tokens (E10), and the notifications that go on (E11, E16, E17).
+-- Not built of an editor: requests of the multiplexer's own but `lspmux/status` (E4 and E6), and while it is served requests that go on with tokens (E10), and the notifications that go on (E11, E16, E17).
 -- Not built of a start: its requests and notifications while it is ready, results that read versions (S5), and before that a refused `initialize` (S3). Nor the end of a program whose group lives, and ticks.
 -- Of S2, what is read back must be what was meant: editors are shown all of the result.
 use Rattle.std.specs.Prelude.{ℕ, Bool, true, false, not, ◌&&◌, ◌||◌, List, find, codes, bytes_eq}
@@ -12,7 +12,7 @@ use Rattle.json_text.specs.Json.{Json}
 use Rattle.document_model.specs.Sayings.{speaks, saying_by}
 use Rattle.lsp_method.specs.Class.{class_of}
 use Rattle.lsp_method.specs.declared.variants.Class.{Class}
-use Rattle.lsp_method.specs.declared.variants.Class.TheVariants.{Shutdown, Wrong, Other}
+use Rattle.lsp_method.specs.declared.variants.Class.TheVariants.{Initialize, Shutdown, Wrong, Other}
 use Rattle.lsp_method.specs.declared.variants.Origin.TheVariants.{Editor}
 use Rattle.rpc_message.specs.Message.{Message, request, notification, result, error, Id, message_of, result_bytes}
 use Rattle.event_model.specs.declared.phase.Phase.{Phase}
@@ -20,7 +20,7 @@ use Rattle.event_model.specs.declared.stage.Stage.{Stage}
 use Rattle.event_model.specs.declared.stage.Stage.TheVariants.{Initializing, Ready, Stopping, Ending}
 use Rattle.event_model.specs.Event.{Event, events_of}
 use Rattle.event_model.specs.Members.{has_token, reads_versions}
-use Rattle.event_model.specs.Phases.{desk_of, is_begun, is_malformed, is_new, is_served}
+use Rattle.event_model.specs.Phases.{desk_of, is_begun, is_malformed, is_served}
 use Rattle.event_model.specs.Requests.{is_open, open_of}
 use Rattle.event_model.specs.Settings.{Settings}
 use Rattle.event_model.specs.Spawns.{group_of}
@@ -36,8 +36,9 @@ use Rattle.group_facts.specs.Lively.{lives_at}
 abbrev pub is_plain : List ℕ → Bool
 is_plain method = is_other (class_of method Editor false)
 
--- a method of the standard, not of the multiplexer, and not `initialize`
+-- a method of the standard, not of the multiplexer
 abbrev pub is_standard : Class → Bool
+is_standard Initialize = true
 is_standard Shutdown = true
 is_standard Wrong = true
 is_standard Other = true
@@ -53,8 +54,7 @@ doubles phase id ids = is_begun phase && is_open id ids
 
 -- E3, E5, E7, E8 and J2, and behind the answer to `initialize` E9 and E10
 abbrev pub built_request : Phase → Bool → List ℕ → Option Json → Bool
-built_request phase doubled method params = (is_new phase && bytes_eq (codes "initialize") method)
-    || (bytes_eq (codes "lspmux/status") method || (is_standard (class_of method Editor false) && (doubled || not (is_served phase && is_marked method params))))
+built_request phase doubled method params = bytes_eq (codes "lspmux/status") method || (is_standard (class_of method Editor false) && (doubled || not (is_served phase && is_marked method params)))
 
 -- E9, E12 to E15: `exit`, `initialized`, what is on documents, and class Dropped
 abbrev pub is_quiet : List ℕ → Option Json → Bool

@@ -1,24 +1,20 @@
 -- An editor hears nothing but responses before its session is open, and one `initialize` of it gets a result.
 use Rattle.std.proofs.Common.{◌≡◌, ℕ, Bool, true, false, not, ◌&&◌, ◌||◌, cond, List, [], ◌∷◌, ◌++◌, nat_eq, codes, bytes_eq, if◌then◌else◌, Option, None, Some, refl, sym, ◌∙◌, ap, subst, subst₂}
-use Rattle.std.proofs.lemmas.Bool.{and_parts}
-use Rattle.std.proofs.lemmas.Slice.Eq.{bytes_eq-Decides}
 use Rattle.json_text.specs.Json.{Json}
-use Rattle.lsp_method.specs.Class.{class_of, editor_request, own_request}
-use Rattle.lsp_method.specs.declared.variants.Origin.TheVariants.{Editor}
 use Rattle.mux_history.specs.declared.cause.Cause.{Cause}
-use Rattle.mux_history.specs.declared.cause.Cause.TheVariants.{FromEditor}
 use Rattle.mux_history.specs.declared.entry.Entry.{Entry}
 use Rattle.mux_history.specs.declared.out.Out.TheVariants.{ToEditor, ToServer, CloseEditor, EndServer, Spawn}
 use Rattle.rpc_message.specs.Message.{Message, request, notification, result, error, not_json, not_message, Id, message_of}
 use Rattle.event_model.specs.declared.phase.Phase.{Phase}
 use Rattle.event_model.specs.declared.phase.Phase.TheVariants.{Absent, New, Waiting, Answered, Running, Down, Closed, Gone}
-use Rattle.event_model.specs.Event.{Event, requests, said, same_id, with_cause}
+use Rattle.event_model.specs.Event.{Event, behind, said, same_id, with_cause}
 use Rattle.event_model.specs.Always.{Always}
 use Rattle.event_model.specs.Parts.{editor_part, is_of_editor}
-use Rattle.event_model.specs.Phases.{Desk, desk_of, desk_behind, has_id, is_new, is_served, is_there, phase_closed, phase_told}
+use Rattle.event_model.specs.Phases.{Desk, desk_of, desk_behind, has_id, is_there, phase_closed, phase_told}
 use Rattle.event_model.specs.Requests.{answered_id, is_open, open_behind, open_of, without}
 use Rattle.event_model.specs.Settings.{Settings}
 use Rattle.event_model.specs.Spawns.{starts_of}
+use Rattle.mux_model.specs.Fits.{fits_behind}
 use Rattle.mux_facts.specs.Ranges.{InRange}
 use Rattle.mux_facts.proofs.Bodies.{IsResponseTo, is_result}
 use Rattle.mux_facts.proofs.Folds.{desk_more, opens_more}
@@ -28,43 +24,13 @@ use Rattle.mux_facts.proofs.Why.{is_early}
 use Rattle.mux_facts.proofs.Words.{id_same, number_same}
 use Rattle.session_laws.specs.ClientRules.{ClientRule3, KeepsClient3, Opening, may_hear, opening_behind, opening_told}
 use Rattle.session_laws.proofs.Client3Law as client_3
-use Rattle.session_laws.proofs.Client3Law.{AsksOnce, Expects, Link, LinkAt, closed_link, late_told, may_answer, may_welcome, none_open, opening, same_request, took_it, welcomed}
-use Rattle.group_facts.specs.Built.{built_behind, built_from_editor, doubles, is_marked, is_standard}
-use Rattle.group_facts.proofs.Waiting.{new_is}
+use Rattle.session_laws.proofs.Client3Law.{Expects, Link, LinkAt, asks_again, closed_link, late_told, may_answer, may_welcome, none_open, opening, same_request, took_it, welcomed}
+use Rattle.group_rows.specs.Rows.{outs_of}
 use Rattle.group_facts.specs.Legal.{Legal}
 use Rattle.group_facts.specs.Why.{IsBeside, WhyToEditor, rejects, refuses, answers, turns_away, welcomes, passes}
-use Rattle.group_facts.proofs.RestLaws.{Law, law_holds}
+use Rattle.group_facts.proofs.RestLaws.{RestLaw, rest_holds}
+use Rattle.group_sessions.proofs.Again.{again_rests}
 use Rattle.group_sessions.proofs.Client2Law.{response_to}
-
--- A request `initialize` is one of a new editor
-
-standard_other : (method : List ℕ) → is_standard (class_of method Editor false) ≡ true → bytes_eq (codes "initialize") method ≡ false
-unfolding editor_request own_request
-standard_other method h = go (bytes_eq (codes "initialize") method) refl
-  where
-    go : (b : Bool) → bytes_eq (codes "initialize") method ≡ b → b ≡ false
-    go true e = absurd (let k : is_standard (class_of (codes "initialize") Editor false) ≡ true = subst (λ m. is_standard (class_of m Editor false) ≡ true) (sym ((bytes_eq-Decides (codes "initialize") method).0 e)) h in cc)
-    go false e = refl
-
-no_initialize : (phase : Phase) (ids : List Id) (m : Message) → (phase ≡ New → ⊥) → built_from_editor phase ids m ≡ true → requests (codes "initialize") m ≡ false
-no_initialize phase ids (request id method params) other h = go (is_new phase && bytes_eq (codes "initialize") method) refl h
-  where
-    status : (b : Bool) → bytes_eq (codes "lspmux/status") method ≡ b → (b || (is_standard (class_of method Editor false) && (doubles phase id ids || not (is_served phase && is_marked method params)))) ≡ true → bytes_eq (codes "initialize") method ≡ false
-    status true is k = ap (bytes_eq (codes "initialize")) (sym ((bytes_eq-Decides (codes "lspmux/status") method).0 is))
-    status false is k = standard_other method (and_parts (is_standard (class_of method Editor false)) (doubles phase id ids || not (is_served phase && is_marked method params)) k).0
-
-    go : (b : Bool) → (is_new phase && bytes_eq (codes "initialize") method) ≡ b → (b || (bytes_eq (codes "lspmux/status") method || (is_standard (class_of method Editor false) && (doubles phase id ids || not (is_served phase && is_marked method params))))) ≡ true → bytes_eq (codes "initialize") method ≡ false
-    go true first k = absurd (other (new_is phase (and_parts (is_new phase) (bytes_eq (codes "initialize") method) first).0))
-    go false first k = status (bytes_eq (codes "lspmux/status") method) refl k
-no_initialize phase ids (notification method params) other h = refl
-no_initialize phase ids (result id r) other h = refl
-no_initialize phase ids (error id x) other h = refl
-no_initialize phase ids not_json other h = refl
-no_initialize phase ids not_message other h = refl
-
-built_once : (settings : Settings) (before : List Event) (cause : Cause) → built_behind settings before cause ≡ true → AsksOnce before cause
-built_once settings before (FromEditor n body) built = λ other. no_initialize (desk_of n before).phase (open_of n before) (message_of body) other built
-built_once settings before cause built = tt
 
 -- Ids that were answered
 
@@ -190,6 +156,10 @@ record Here (e : ℕ) (events : List Event) : Type 0 where
 abbrev Everywhere : List Event → Type 0
 Everywhere events = (e : ℕ) → Here e events
 
+-- inside of an entry, each editor but one that sent a second `initialize` in it
+abbrev Within : List Event → Cause → List Event → Type 0
+Within before cause events = (e : ℕ) → asks_again before cause e ≡ false → Here e events
+
 one_more : (e : ℕ) (events : List Event) (event : Event) → Here e events → (is_of_editor e event ≡ true → ClientRule3 (editor_part e events) event)
     → (WaitsAt (desk_behind e (desk_of e events) event) (open_behind e (open_of e events) event) → LinkAt (desk_behind e (desk_of e events) event) (cond (is_of_editor e event) (opening_behind (opening e events) event) (opening e events)))
     → Here e (events ++ event ∷ [])
@@ -200,11 +170,11 @@ one_more e events event h rule link = record {
 }
 
 -- between entries each editor that waits has its `initialize` open
-now : (events : List Event) → AllWaiting events → Everywhere events → client_3.Everywhere events
-now events waits h e = record { always = (h e).always; link = (h e).link (waits e) }
+now : (e : ℕ) (events : List Event) → AllWaiting events → Here e events → client_3.Here e events
+now e events waits h = record { always = h.always; link = h.link (waits e) }
 
-later : (events : List Event) → client_3.Everywhere events → Everywhere events
-later events h e = record { always = (h e).always; link = λ waits. (h e).link }
+later : (e : ℕ) (events : List Event) → client_3.Here e events → Here e events
+later e events h = record { always = h.always; link = λ waits. h.link }
 
 -- A body to an editor
 
@@ -217,40 +187,56 @@ module _ (events : List Event) (n : ℕ) (body : List ℕ) where
   abbrev Told : ℕ → Message → Type 0
   Told k m = WaitsIf (phase_told (desk_of k events).phase (desk_of k events).initialize m) (desk_of k events).initialize (without (answered_id m) (open_of k events)) → Link (phase_told (desk_of k events).phase (desk_of k events).initialize m) (desk_of k events).initialize (opening_told (opening k events) m)
 
-  to_editor : Everywhere events → may_hear (opening n events) (message_of body) ≡ true → Told n (message_of body) → Everywhere (events ++ said (ToEditor n body) ∷ [])
-  to_editor h may link e = one_more e events (said (ToEditor n body)) (h e) (λ same. subst (λ k. may_hear (opening k events) (message_of body) ≡ true) (number_same n e same) may)
+  -- n may hear it, and is tied behind it
+  record Heard : Type 0 where
+    may : may_hear (opening n events) (message_of body) ≡ true
+    link : Told n (message_of body)
+
+  to_editor : (e : ℕ) → (Here n events → Heard) → Here e events → Here e (events ++ said (ToEditor n body) ∷ [])
+  to_editor e f h = one_more e events (said (ToEditor n body)) h (λ same. subst (λ k. may_hear (opening k events) (message_of body) ≡ true) (number_same n e same) (heard same).may)
       (pick (nat_eq n e) (record { phase = phase_told (desk_of e events).phase (desk_of e events).initialize (message_of body); initialize = (desk_of e events).initialize }) (desk_of e events)
       (without (answered_id (message_of body)) (open_of e events)) (open_of e events) (opening_told (opening e events) (message_of body)) (opening e events)
-      (λ same. subst (λ k. Told k (message_of body)) (number_same n e same) link) (h e).link)
+      (λ same. subst (λ k. Told k (message_of body)) (number_same n e same) (heard same).link) h.link)
+    where
+      heard : nat_eq n e ≡ true → Heard
+      heard same = f (subst (λ k. Here k events) (sym (number_same n e same)) h)
 
-  error_told : (k : Option Id) (x : Json) → message_of body ≡ error k x → Everywhere events → Everywhere (events ++ said (ToEditor n body) ∷ [])
-  error_told k x says h = to_editor h (ap (may_hear (opening n events)) says)
-      (subst (Told n) (sym says) (error_link (desk_of n events).phase (desk_of n events).initialize (open_of n events) (opening n events) k x (h n).link))
+  error_told : (k : Option Id) (x : Json) → message_of body ≡ error k x → Here n events → Heard
+  error_told k x says h = record {
+    may = ap (may_hear (opening n events)) says;
+    link = subst (Told n) (sym says) (error_link (desk_of n events).phase (desk_of n events).initialize (open_of n events) (opening n events) k x h.link);
+  }
 
   welcome_told : (id : Id) (params : Option Json) (r : Json) → (desk_of n events).phase ≡ Waiting → message_of (desk_of n events).initialize ≡ request id (codes "initialize") params → is_open id (open_of n events) ≡ true → message_of body ≡ result (Some id) r
-      → Everywhere events → Everywhere (events ++ said (ToEditor n body) ∷ [])
+      → Here n events → Heard
   welcome_told id params r at asks waits says h =
       let w : Expects (desk_of n events).initialize (opening n events) = subst (λ z. Link z (desk_of n events).initialize (opening n events)) at
-      ((h n).link (subst (λ z. WaitsIf z (desk_of n events).initialize (open_of n events)) (sym at) (record { id = id; params = params; asks = asks; waits = waits }))) in
+      (h.link (subst (λ z. WaitsIf z (desk_of n events).initialize (open_of n events)) (sym at) (record { id = id; params = params; asks = asks; waits = waits }))) in
       let result_is : message_of body ≡ result (Some w.id) r = says ∙ ap (λ z. result (Some z) r) (same_request (sym asks ∙ w.asks)) in
-      to_editor h (may_welcome (desk_of n events).initialize (opening n events) w (message_of body) r result_is)
-      (λ left. subst (λ z. Link (phase_told z (desk_of n events).initialize (message_of body)) (desk_of n events).initialize (opening_told (opening n events) (message_of body))) (sym at)
-      (welcomed (desk_of n events).initialize (opening n events) w (message_of body) r result_is))
+      record {
+        may = may_welcome (desk_of n events).initialize (opening n events) w (message_of body) r result_is;
+        link = λ left. subst (λ z. Link (phase_told z (desk_of n events).initialize (message_of body)) (desk_of n events).initialize (opening_told (opening n events) (message_of body))) (sym at)
+            (welcomed (desk_of n events).initialize (opening n events) w (message_of body) r result_is);
+      }
 
-  answer_told : (id : Id) → is_there (desk_of n events).phase ≡ true → is_early (desk_of n events).phase ≡ false → IsResponseTo id (message_of body) → Everywhere events → Everywhere (events ++ said (ToEditor n body) ∷ [])
+  answer_told : (id : Id) → is_there (desk_of n events).phase ≡ true → is_early (desk_of n events).phase ≡ false → IsResponseTo id (message_of body) → Here n events → Heard
   answer_told id there late response h =
-      let link : LinkAt (desk_of n events) (opening n events) = (h n).link (late_waits (desk_of n events).phase (desk_of n events).initialize (open_of n events) late) in
-      to_editor h (may_answer (opening n events) id (message_of body) response (none_open (desk_of n events).phase (desk_of n events).initialize (opening n events) there late link))
-      (λ left. late_told (desk_of n events).phase (desk_of n events).initialize (opening n events) id (message_of body) response late link)
+      let link : LinkAt (desk_of n events) (opening n events) = h.link (late_waits (desk_of n events).phase (desk_of n events).initialize (open_of n events) late) in
+      record {
+        may = may_answer (opening n events) id (message_of body) response (none_open (desk_of n events).phase (desk_of n events).initialize (opening n events) there late link);
+        link = λ left. late_told (desk_of n events).phase (desk_of n events).initialize (opening n events) id (message_of body) response late link;
+      }
 
-  reply_told : (id : Id) (r : Json) → is_there (desk_of n events).phase ≡ true → ((desk_of n events).phase ≡ Waiting → IsBeside events n id) → message_of body ≡ result (Some id) r → Everywhere events → Everywhere (events ++ said (ToEditor n body) ∷ [])
+  reply_told : (id : Id) (r : Json) → is_there (desk_of n events).phase ≡ true → ((desk_of n events).phase ≡ Waiting → IsBeside events n id) → message_of body ≡ result (Some id) r → Here n events → Heard
   reply_told id r there others says h =
       let waits : WaitsIf (desk_of n events).phase (desk_of n events).initialize (open_of n events) = beside_waits (desk_of n events).phase refl (λ at. others at) in
       let apart : Apart (desk_of n events).phase (desk_of n events).initialize id = beside_apart (desk_of n events).phase refl (λ at. others at) in
-      let link : LinkAt (desk_of n events) (opening n events) = (h n).link waits in
-      to_editor h (ap (may_hear (opening n events)) says ∙ may_reply (desk_of n events).phase (desk_of n events).initialize (opening n events) id r there apart link)
-      (λ left. subst (λ m. Link (phase_told (desk_of n events).phase (desk_of n events).initialize m) (desk_of n events).initialize (opening_told (opening n events) m)) (sym says)
-      (reply_link (desk_of n events).phase (desk_of n events).initialize (opening n events) id r apart link))
+      let link : LinkAt (desk_of n events) (opening n events) = h.link waits in
+      record {
+        may = ap (may_hear (opening n events)) says ∙ may_reply (desk_of n events).phase (desk_of n events).initialize (opening n events) id r there apart link;
+        link = λ left. subst (λ m. Link (phase_told (desk_of n events).phase (desk_of n events).initialize m) (desk_of n events).initialize (opening_told (opening n events) m)) (sym says)
+            (reply_link (desk_of n events).phase (desk_of n events).initialize (opening n events) id r apart link);
+      }
     where
       beside_waits : (phase : Phase) → (desk_of n events).phase ≡ phase → (phase ≡ Waiting → IsBeside events n id) → WaitsIf phase (desk_of n events).initialize (open_of n events)
       beside_waits Waiting at f = let k : IsBeside events n id = f refl in record { id = k.first; params = (k.waiting).params; asks = (k.waiting).asks; waits = (k.waiting).waits }
@@ -272,13 +258,13 @@ module _ (events : List Event) (n : ℕ) (body : List ℕ) where
       beside_apart Closed at f = tt
       beside_apart Gone at f = tt
 
-  told_it : (settings : Settings) (before : List Event) (cause : Cause) → WhyToEditor settings before cause events n body → Everywhere events → Everywhere (events ++ said (ToEditor n body) ∷ [])
-  told_it settings before cause (rejects k) h = error_told None k.x k.says h
-  told_it settings before cause (refuses k) h = error_told (Some k.id) k.x k.says h
-  told_it settings before cause (answers k) h = reply_told k.id k.r k.there k.others k.says h
-  told_it settings before cause (turns_away k) h = error_told (Some k.id) k.x k.says h
-  told_it settings before cause (welcomes k) h = welcome_told k.id (k.waiting).params k.r (k.waiting).phase (k.waiting).asks (k.waiting).waits k.says h
-  told_it settings before cause (passes k) h = answer_told k.id k.there k.late (response_to k.id (message_of body) k.response k.answers) h
+  heard_it : (settings : Settings) (before : List Event) (cause : Cause) → WhyToEditor settings before cause events n body → Here n events → Heard
+  heard_it settings before cause (rejects k) h = error_told None k.x k.says h
+  heard_it settings before cause (refuses k) h = error_told (Some k.id) k.x k.says h
+  heard_it settings before cause (answers k) h = reply_told k.id k.r k.there k.others k.says h
+  heard_it settings before cause (turns_away k) h = error_told (Some k.id) k.x k.says h
+  heard_it settings before cause (welcomes k) h = welcome_told k.id (k.waiting).params k.r (k.waiting).phase (k.waiting).asks (k.waiting).waits k.says h
+  heard_it settings before cause (passes k) h = answer_told k.id k.there k.late (response_to k.id (message_of body) k.response k.answers) h
 
 -- Other outs
 
@@ -286,21 +272,31 @@ pick_closed : (b : Bool) (x y : Desk) (p : List Id) (v : Opening) → LinkAt x v
 pick_closed true x y p v f g h = f
 pick_closed false x y p v f g h = g h
 
-closed : (events : List Event) (n : ℕ) → Everywhere events → Everywhere (events ++ said (CloseEditor n) ∷ [])
-closed events n h e = one_more e events (said (CloseEditor n)) (h e) (λ same. tt)
+closed : (events : List Event) (n e : ℕ) → Here e events → Here e (events ++ said (CloseEditor n) ∷ [])
+closed events n e h = one_more e events (said (CloseEditor n)) h (λ same. tt)
     (pick_closed (nat_eq n e) (record { phase = phase_closed (desk_of e events).phase; initialize = (desk_of e events).initialize }) (desk_of e events) (open_of e events) (opening e events)
-    (closed_link (desk_of e events).phase (desk_of e events).initialize (opening e events)) (h e).link)
+    (closed_link (desk_of e events).phase (desk_of e events).initialize (opening e events)) h.link)
 
-law : (settings : Settings) → Law settings Everywhere
+-- Behind the entry the one that sent it is tied as well
+
+rests : (settings : Settings) (before : List Event) (cause : Cause) → fits_behind before cause ≡ true → AllWaiting before → Everywhere before → Within before cause (behind (with_cause before cause) (outs_of settings before cause))
+    → Everywhere (behind (with_cause before cause) (outs_of settings before cause))
+rests settings before cause fits waiting h i e = go (asks_again before cause e) refl
+  where
+    go : (b : Bool) → asks_again before cause e ≡ b → Here e (behind (with_cause before cause) (outs_of settings before cause))
+    go true again = later e (behind (with_cause before cause) (outs_of settings before cause)) (again_rests settings before cause e fits waiting again (now e before waiting (h e)))
+    go false other = i e other
+
+law : (settings : Settings) → RestLaw settings Everywhere Within
 law settings = record {
-  took = λ before cause fits built known h. later (with_cause before cause) (took_it before cause fits (built_once settings before cause built) (known.steady).editors (now before known.waiting h));
-  to_editor = λ before cause events e body why known here h i. told_it events e body settings before cause why i;
-  to_server = λ before cause events s body why known here h i. λ e. one_more e events (said (ToServer s body)) (i e) (λ same. absurd (cc)) (i e).link;
-  close = λ before cause events e turned there known here h i. closed events e i;
-  end = λ before cause events s starting known here h i. λ e. one_more e events (said (EndServer s)) (i e) (λ same. tt) (i e).link;
-  spawn = λ before cause events g inside known here h i. λ e. one_more e events (said (Spawn (starts_of events) g)) (i e) (λ same. tt) (i e).link;
-  rest = λ before cause fits known h i. i;
+  took = λ before cause fits built known h. λ e other. later e (with_cause before cause) (took_it before cause fits (known.steady).editors e other (now e before known.waiting (h e)));
+  to_editor = λ before cause events n body why known here h i. λ e other. to_editor events n body e (heard_it events n body settings before cause why) (i e other);
+  to_server = λ before cause events s body why known here h i. λ e other. one_more e events (said (ToServer s body)) (i e other) (λ same. absurd (cc)) (i e other).link;
+  close = λ before cause events n turned there known here h i. λ e other. closed events n e (i e other);
+  end = λ before cause events s starting known here h i. λ e other. one_more e events (said (EndServer s)) (i e other) (λ same. tt) (i e other).link;
+  spawn = λ before cause events g inside known here h i. λ e other. one_more e events (said (Spawn (starts_of events) g)) (i e other) (λ same. tt) (i e other).link;
+  rest = λ before cause fits known h i. rests settings before cause fits known.waiting h i;
 }
 
 pub client_3_law : (settings : Settings) → InRange settings → (history : List Entry) → Legal settings history → KeepsClient3 history
-client_3_law settings range history legal e = (law_holds settings range Everywhere (law settings) (λ n. record { always = tt; link = λ waits. (refl, refl) }) history legal e).always
+client_3_law settings range history legal e = (rest_holds settings range Everywhere Within (law settings) (λ n. record { always = tt; link = λ waits. (refl, refl) }) history legal e).always

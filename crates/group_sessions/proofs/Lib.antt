@@ -1,3 +1,4 @@
+pub mod Again
 pub mod Client2Law
 pub mod Client3Law
 pub mod PartLaws
@@ -5,6 +6,7 @@ pub mod Server1Law
 pub mod Server2Law
 pub mod Server3Law
 pub mod Server4Law
+pub mod Server8Law
 pub mod Sessions
 pub mod SpawnedLaw
 pub mod Worked

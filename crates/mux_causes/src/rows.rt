@@ -2,7 +2,7 @@
 ghost use Rattle.std.specs.Prelude.{◌≡◌, ◌≤◌, ◌<◌, ◌&&◌, ◌||◌, ℕ, not, true, false, bytes_eq, codes, length, map, find, is_some, List, Option, Some, IfOk, slice_get};
 ghost use Rattle.event_model.specs.Event.{Event};
 ghost use Rattle.event_model.specs.Members.{has_token, reads_versions};
-ghost use Rattle.event_model.specs.Phases.{desk_of, is_new, is_served};
+ghost use Rattle.event_model.specs.Phases.{desk_of, is_served};
 ghost use Rattle.event_model.specs.Requests.{answered_id, is_open, open_of};
 ghost use Rattle.event_model.specs.Settings.{Settings};
 ghost use Rattle.event_model.specs.Stages.{is_first_result, life_of};
@@ -26,8 +26,8 @@ use lsp_method::Class;
 use message_body::{Body, Memory};
 use mux_history::Cause;
 use mux_members::{
-    class_in, has_token, is_dropped, is_exit, is_first_result, is_initialize, is_initialized,
-    is_status, is_wrong, reads_versions, speaks,
+    class_in, has_token, is_dropped, is_exit, is_first_result, is_initialized, is_status,
+    reads_versions, speaks,
 };
 use mux_tables::Tables;
 use mux_turns::{answered_number, doubles, is_first_error, shown_of};
@@ -57,11 +57,14 @@ fn is_marked(message: &Message) -> bool
     is_plain(message) && has_token(message)
 }
 
-// Whether this is a class of methods of the standard, other than `initialize`.
+// Whether this is a class of methods of the standard.
 fn is_standard_class(class: Class) -> bool
     ensures { result ≡ is_standard class }
 {
-    matches!(class, Class::Shutdown | Class::Wrong | Class::Other)
+    matches!(
+        class,
+        Class::Initialize | Class::Shutdown | Class::Wrong | Class::Other
+    )
 }
 
 fn is_standard(message: &Message) -> bool
@@ -69,17 +72,6 @@ fn is_standard(message: &Message) -> bool
         → result ≡ is_standard (class_of method Editor false) }
 {
     is_standard_class(class_in(message))
-}
-
-// E7: whether a request places a new editor.
-fn is_first(phase: Phase, message: &Message) -> bool
-    ensures { (body method : List ℕ) (id : Id) (params : Option Json) → IsRead message.now body → message_of body ≡ request id method params
-        → result ≡ (is_new phase && bytes_eq (codes "initialize") method) }
-{
-    match phase {
-        Phase::New => is_initialize(message),
-        _ => false,
-    }
 }
 
 // E10: whether a request of an editor that is served has a token.
@@ -98,7 +90,7 @@ fn is_tokenless(phase: Phase, doubled: bool, message: &Message) -> bool
     doubled || !is_marked_here(phase, message)
 }
 
-// E3 and E8 to E10: whether a request of the standard is built, which doesn't place its editor.
+// E3 and E7 to E10: whether a request of the standard is built.
 fn is_taken(phase: Phase, doubled: bool, message: &Message) -> bool
     ensures { (body method : List ℕ) (id : Id) (params : Option Json) → IsRead message.now body → message_of body ≡ request id method params
         → result ≡ (is_standard (class_of method Editor false) && (doubled || not (is_served phase && is_marked method params))) }
@@ -114,21 +106,12 @@ fn names_status(message: &Message) -> bool
     is_status(message)
 }
 
-// E3, E5 and E8 to E10: whether a request is built, which doesn't place its editor.
-fn is_met(phase: Phase, doubled: bool, message: &Message) -> bool
-    ensures { (body method : List ℕ) (id : Id) (params : Option Json) → IsRead message.now body → message_of body ≡ request id method params
-        → result ≡ (bytes_eq (codes "lspmux/status") method
-        || (is_standard (class_of method Editor false) && (doubled || not (is_served phase && is_marked method params)))) }
-{
-    names_status(message) || is_taken(phase, doubled, message)
-}
-
-// Whether a request of an editor in this phase is built, under an id that is open or not.
+// E3, E5 and E7 to E10: whether a request of an editor in this phase is built, under an id that is open or not.
 fn built_request(phase: Phase, doubled: bool, message: &Message) -> bool
     ensures { (body method : List ℕ) (id : Id) (params : Option Json) → IsRead message.now body → message_of body ≡ request id method params
         → result ≡ built_request phase doubled method params }
 {
-    is_first(phase, message) || is_met(phase, doubled, message)
+    names_status(message) || is_taken(phase, doubled, message)
 }
 
 // E9, E12 to E15: whether a notification behind the answer to `initialize` is built.

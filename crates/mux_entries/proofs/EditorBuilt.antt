@@ -1,5 +1,5 @@
 -- What the causes that are built say of a message of an editor.
-use Rattle.std.proofs.Common.{◌≡◌, ℕ, Bool, true, false, not, ◌&&◌, ◌||◌, List, refl, ap, sym, subst, ◌∙◌, codes, bytes_eq, arith}
+use Rattle.std.proofs.Common.{◌≡◌, ℕ, Bool, true, false, not, ◌&&◌, ◌||◌, List, refl, ap, sym, subst, ◌∙◌, ◌⊎◌, inl, inr, codes, bytes_eq, arith}
 use Rattle.std.specs.Prelude.{Option, Some}
 use Rattle.std.proofs.lemmas.Slice.Eq.{bytes_eq-Decides}
 use Rattle.json_text.specs.Json.{Json}
@@ -16,13 +16,14 @@ use Rattle.document_model.specs.Sayings.{saying_of, speaks}
 use Rattle.event_model.specs.declared.phase.Phase.{Phase}
 use Rattle.event_model.specs.declared.phase.Phase.TheVariants.{Absent, New, Waiting, Answered, Running, Down, Closed, Gone}
 use Rattle.event_model.specs.Event.{Event, requests}
-use Rattle.event_model.specs.Phases.{desk_of, is_begun, is_new, is_served, is_there, needs_server}
+use Rattle.event_model.specs.Phases.{desk_of, is_begun, is_served, is_there, needs_server}
 use Rattle.event_model.specs.Requests.{is_open, open_of}
 use Rattle.group_facts.specs.Built.{built_from_editor, built_request, doubles, is_marked, is_standard}
 use Rattle.group_facts.specs.Facts.{is_early}
 use Rattle.group_words.specs.Houses.{is_doubled, stops}
+use Rattle.group_rows.specs.Rows.{is_misplaced}
 use Rattle.mux_tables.specs.Documents.{changes_documents}
-use Rattle.mux_turns.proofs.Classes.{swapped}
+use Rattle.mux_turns.proofs.Classes.{first_named, is_initialize}
 
 pub second_of : (a b : Bool) → (a && b) ≡ true → b ≡ true
 second_of true b h = h
@@ -52,22 +53,15 @@ standard_stays : (method : List ℕ) → is_standard (class_of method Editor fal
 unfolding editor_request own_request
 standard_stays method h same = let own : is_standard (class_of (codes "lspmux/stop") Editor false) ≡ true = subst (λ m. is_standard (class_of m Editor false) ≡ true) (sym same) h in cc
 
-first_stays : (method : List ℕ) → bytes_eq (codes "initialize") method ≡ true → (codes "lspmux/stop" ≡ method) → ⊥
-first_stays method h same = let clash : bytes_eq (codes "initialize") (codes "lspmux/stop") ≡ true = subst (λ m. bytes_eq (codes "initialize") m ≡ true) (sym same) h in cc
-
 status_stays : (method : List ℕ) → bytes_eq (codes "lspmux/status") method ≡ true → (codes "lspmux/stop" ≡ method) → ⊥
 status_stays method h same = let clash : bytes_eq (codes "lspmux/status") (codes "lspmux/stop") ≡ true = subst (λ m. bytes_eq (codes "lspmux/status") m ≡ true) (sym same) h in cc
 
 request_stays : (p : Phase) (doubled : Bool) (method : List ℕ) (params : Option Json) → built_request p doubled method params ≡ true → (codes "lspmux/stop" ≡ method) → ⊥
-request_stays p doubled method params h = go (is_new p && bytes_eq (codes "initialize") method) refl h
+request_stays p doubled method params h = go (bytes_eq (codes "lspmux/status") method) refl h
   where
-    status : (b : Bool) → bytes_eq (codes "lspmux/status") method ≡ b → (b || (is_standard (class_of method Editor false) && (doubled || not (is_served p && is_marked method params)))) ≡ true → (codes "lspmux/stop" ≡ method) → ⊥
-    status true k s = status_stays method k
-    status false k s = standard_stays method (first_of (is_standard (class_of method Editor false)) (doubled || not (is_served p && is_marked method params)) s)
-
-    go : (b : Bool) → (is_new p && bytes_eq (codes "initialize") method) ≡ b → (b || (bytes_eq (codes "lspmux/status") method || (is_standard (class_of method Editor false) && (doubled || not (is_served p && is_marked method params))))) ≡ true → (codes "lspmux/stop" ≡ method) → ⊥
-    go true k s = first_stays method (second_of (is_new p) (bytes_eq (codes "initialize") method) k)
-    go false k s = status (bytes_eq (codes "lspmux/status") method) refl s
+    go : (b : Bool) → bytes_eq (codes "lspmux/status") method ≡ b → (b || (is_standard (class_of method Editor false) && (doubled || not (is_served p && is_marked method params)))) ≡ true → (codes "lspmux/stop" ≡ method) → ⊥
+    go true k s = status_stays method k
+    go false k s = standard_stays method (first_of (is_standard (class_of method Editor false)) (doubled || not (is_served p && is_marked method params)) s)
 
 -- a request other than `lspmux/status`
 other_built : (b c : Bool) → b ≡ false → (b || c) ≡ true → c ≡ true
@@ -128,12 +122,21 @@ served_there Down h = absurd (cc)
 served_there Closed h = absurd (cc)
 served_there Gone h = absurd (cc)
 
--- such a request is of class Wrong, is `shutdown`, or goes on
-pub other_class : (k : Class) → is_standard k ≡ true → (k ≡ class.Wrong → ⊥) → (k ≡ class.Shutdown → ⊥) → is_other k ≡ true
-other_class class.Other h w s = refl
-other_class class.Wrong h w s = absurd (w refl)
-other_class class.Shutdown h w s = absurd (s refl)
-other_class k h w s = absurd (cc)
+-- such a request is refused by its method, is `shutdown`, or goes on
+pub other_class : (k : Class) → is_standard k ≡ true → (k ≡ class.Initialize → ⊥) → (k ≡ class.Wrong → ⊥) → (k ≡ class.Shutdown → ⊥) → is_other k ≡ true
+other_class class.Other h i w s = refl
+other_class class.Initialize h i w s = absurd (i refl)
+other_class class.Wrong h i w s = absurd (w refl)
+other_class class.Shutdown h i w s = absurd (s refl)
+other_class k h i w s = absurd (cc)
+
+or_later : (a b : Bool) → b ≡ true → (a || b) ≡ true
+or_later true b h = refl
+or_later false b h = h
+
+pub misplaced_class : (method : List ℕ) (k : Class) → k ≡ class_of method Editor false → (k ≡ class.Wrong) ⊎ (k ≡ class.Initialize) → is_misplaced method ≡ true
+misplaced_class method k is (inl wrong) = or_later (bytes_eq (codes "initialize") method) (is_wrong (class_of method Editor false)) (ap is_wrong (sym is ∙ wrong))
+misplaced_class method k is (inr first) = ap (λ b. b || is_wrong (class_of method Editor false)) (first_named method (ap is_initialize (sym is ∙ first)))
 
 pub other_right : (k : Class) → is_other k ≡ true → is_wrong k ≡ false
 other_right class.Other h = refl

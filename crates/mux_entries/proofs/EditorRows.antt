@@ -238,10 +238,6 @@ aside_down settings before e body (error id r) h = refl
 aside_down settings before e body not_json h = refl
 aside_down settings before e body not_message h = refl
 
-pub or_later : (a b : Bool) → b ≡ true → (a || b) ≡ true
-or_later true b h = refl
-or_later false b h = h
-
 -- of another sort it is no request
 pub not_request : (m : Message) (x : Sort) → sort_of m ≡ Some x → (x ≡ sort.Request → ⊥) → sort_of m ≡ Some sort.Request → ⊥
 not_request m x at other h = other (cc)

@@ -206,7 +206,7 @@ fn from_asking(
         (with_cause before (FromEditor e body)) [] (tables.new, nothing_owed) outs.new) }
 {
     match class_in(message) {
-        Class::Wrong => {
+        Class::Wrong | Class::Initialize => {
             take_wrong(tables, alloc, outs, e, message)?;
             Ok(())
         }

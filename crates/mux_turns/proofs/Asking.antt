@@ -47,7 +47,7 @@ sync_same versions e h k os same = flat_same (λ (o : Open). synced versions o (
 
 module _ (settings : Settings) (t : Tables) (before : List Event) (body method : List ℕ) (id : Id) (params : Option Json) (e g s n : ℕ) (x : Start) (xs : List Out) (first : xs ≡ [])
     (at : slice_get t.lasts.items g ≡ Some x) (number : slice_get (map number_in t.lasts.items) g ≡ Some s) (ready : x.life.stage ≡ Ready) (next : n ≡ x.ids.next) (left : x.ids.next < x.ids.limit)
-    (says : message_of body ≡ request id method params) (serves : Serves method) where
+    (says : message_of body ≡ request id method params) (serves : Serves method) (passed : is_own method ≡ false) where
   abbrev base : List Event
   base = with_cause before (FromEditor e body)
 
@@ -104,8 +104,8 @@ module _ (settings : Settings) (t : Tables) (before : List Event) (body method :
     next_told k =
         let d = documents_at settings nothing_owed t now g x at k.1 in
         let goes = text_says (bound k.0) in
-        let row = row_bodies settings t now g e x d.0 text method (integer (decimal n)) params at d.1 ready goes serves.passed works k.0 k.1 in
-        let speak : AllTell (syncing settings now g x.life.start e) = subst AllTell (sym row) (tell settings t now g e x d.0 text method (integer (decimal n)) params at d.1 ready goes serves.passed works k.0 k.1) in
+        let row = row_bodies settings t now g e x d.0 text method (integer (decimal n)) params at d.1 ready goes passed works k.0 k.1 in
+        let speak : AllTell (syncing settings now g x.life.start e) = subst AllTell (sym row) (tell settings t now g e x d.0 text method (integer (decimal n)) params at d.1 ready goes passed works k.0 k.1) in
         let st = stands_told settings t g x at (syncing settings now g x.life.start e) now speak k.0 in
         let told : (forwarding_of s (behind now (to s (syncing settings now g s e)))).next ≡ x.ids.next = subst (λ m. (forwarding_of m (behind now (to m (syncing settings now g m e)))).next ≡ x.ids.next) own ((st.lasts.each g x at).parts of_ids).next in
         ap (λ bs. (forwarding_of s (behind now (to s bs))).next) (sym same_bodies) ∙ (told ∙ sym next)

@@ -1,13 +1,16 @@
 -- A method of class Other is none of those that the daemon answers itself.
-use Rattle.std.proofs.Common.{◌≡◌, ℕ, List, Bool, true, false, refl, sym, subst, ◌∙◌, ap, arith}
+use Rattle.std.proofs.Common.{◌≡◌, ℕ, List, Bool, true, false, ◌||◌, refl, sym, subst, ◌∙◌, ap, arith}
 use Rattle.std.specs.Prelude.{codes, bytes_eq}
 use Rattle.json_text.proofs.Put.{same_name}
 use Rattle.std.proofs.lemmas.Slice.Eq.{bytes_eq-Decides}
 use Rattle.lsp_method.specs.Class.{class_of, own_request, editor_request}
+use Rattle.lsp_method.specs.declared.variants.Class.{Class}
+use Rattle.lsp_method.specs.declared.variants.Class.TheVariants as class
 use Rattle.lsp_method.specs.declared.variants.Origin.TheVariants.{Editor}
 use Rattle.mux_model.specs.Built.{is_other}
 use Rattle.mux_model.specs.Methods.{is_shutdown, is_wrong}
 use Rattle.event_model.specs.Requests.{is_own}
+use Rattle.group_rows.specs.Rows.{is_misplaced}
 
 pub record NotOwn (m : List ℕ) : Type 0 where
   pub initialize : bytes_eq m (codes "initialize") ≡ false
@@ -70,7 +73,6 @@ pub record Serves (method : List ℕ) : Type 0 where
   pub opens : bytes_eq (codes "lspmux/open") method ≡ false
   pub status : bytes_eq (codes "lspmux/status") method ≡ false
   pub stops : bytes_eq (codes "lspmux/stop") method ≡ false
-  pub passed : is_own method ≡ false
 
 pub serves : (method : List ℕ) → NotOwn method → Serves method
 serves method n = record {
@@ -78,5 +80,32 @@ serves method n = record {
   opens = swapped method (codes "lspmux/open") n.opens;
   status = swapped method (codes "lspmux/status") n.status;
   stops = swapped method (codes "lspmux/stop") n.stops;
-  passed = let a = n.initialize in let b = n.shutdown in rw (a, b) refl;
 }
+
+-- and isn't the daemon's own
+pub passes : (method : List ℕ) → NotOwn method → is_own method ≡ false
+passes method n = let a = n.initialize in let b = n.shutdown in rw (a, b) refl
+
+-- so does a second `initialize`
+abbrev pub is_initialize : Class → Bool
+is_initialize class.Initialize = true
+is_initialize _ = false
+
+module _ (m : List ℕ) (h : is_initialize (class_of m Editor false) ≡ true) where
+  first_name : bytes_eq m (codes "initialize") ≡ true
+  unfolding editor_request own_request
+  first_name = grind arith
+
+  pub first_named : bytes_eq (codes "initialize") m ≡ true
+  first_named = subst (λ w. bytes_eq (codes "initialize") w ≡ true) (sym ((bytes_eq-Decides m (codes "initialize")).0 first_name)) refl
+
+pub first_serves : (method : List ℕ) → bytes_eq (codes "initialize") method ≡ true → Serves method
+first_serves method h = subst Serves ((bytes_eq-Decides (codes "initialize") method).0 h) (record { stays = refl; opens = refl; status = refl; stops = refl })
+
+-- and one that is refused by its method
+pub misplaced_serves : (method : List ℕ) → is_misplaced method ≡ true → Serves method
+misplaced_serves method h = go (bytes_eq (codes "initialize") method) refl h
+  where
+    go : (b : Bool) → bytes_eq (codes "initialize") method ≡ b → (b || is_wrong (class_of method Editor false)) ≡ true → Serves method
+    go true first k = first_serves method first
+    go false other k = serves method (wrong_not_own method k)

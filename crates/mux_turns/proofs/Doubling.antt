@@ -18,7 +18,7 @@ use Rattle.event_model.specs.Requests.{is_open, open_of}
 use Rattle.group_facts.specs.Built.{doubles, is_standard}
 use Rattle.group_words.specs.Houses.{places, stops}
 use Rattle.mux_turns.proofs.Asides.{desk_now}
-use Rattle.mux_turns.proofs.Classes.{Serves, not_own, serves, wrong_not_own}
+use Rattle.mux_turns.proofs.Classes.{Serves, first_named, first_serves, is_initialize, not_own, serves, wrong_not_own}
 use Rattle.mux_turns.proofs.Serving.{shutdown_downs}
 
 both : (a b : Bool) → (a && b) ≡ true → (a ≡ true) × (b ≡ true)
@@ -65,6 +65,7 @@ pub serves_standard : (method : List ℕ) → is_standard (class_of method Edito
 serves_standard method standard other = go (class_of method Editor false) refl standard
   where
     go : (k : Class) → class_of method Editor false ≡ k → is_standard k ≡ true → Serves method
+    go class.Initialize is h = first_serves method (first_named method (ap is_initialize is))
     go class.Other is h = serves method (not_own method (ap is_other is))
     go class.Wrong is h = serves method (wrong_not_own method (ap is_wrong is))
     go class.Shutdown is h = absurd (other is)

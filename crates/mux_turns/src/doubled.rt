@@ -91,8 +91,8 @@ fn end_served(tables: &mut Tables, alloc: Global, outs: &mut Outs, e: u64) -> Re
     Ok(())
 }
 
-/// E3: a request that goes on, is `shutdown` or is one that only a server asks comes under an id that is open: its editor's link is to
-/// be ended, and the editor leaves. Which of the two an answer under this id would be for, nobody could tell (JSON-RPC 2.0, section 4).
+/// E3: a request of the standard, a second `initialize` too, comes under an id that is open: its editor's link is to be ended, and the
+/// editor leaves. Which of the two an answer under this id would be for, nobody could tell (JSON-RPC 2.0, section 4).
 pub fn take_doubled(
     tables: &mut Tables,
     alloc: Global,

@@ -7,13 +7,10 @@ ghost use Rattle.event_model.specs.Phases.{desk_of, is_served};
 ghost use Rattle.event_model.specs.Row.{nothing};
 ghost use Rattle.event_model.specs.Settings.{Settings};
 ghost use Rattle.group_facts.specs.Facts.{is_early};
-ghost use Rattle.group_rows.specs.Rows.{answer_error, early_code, wrong_code};
+ghost use Rattle.group_rows.specs.Rows.{answer_error, early_code, is_misplaced, wrong_code};
 ghost use Rattle.group_words.specs.Houses.{places, stops};
 ghost use Rattle.json_text.specs.Json.{Json};
-ghost use Rattle.lsp_method.specs.Class.{class_of};
-ghost use Rattle.lsp_method.specs.declared.variants.Origin.TheVariants.{Editor};
 ghost use Rattle.mux_history.specs.declared.cause.Cause.TheVariants.{FromEditor};
-ghost use Rattle.mux_model.specs.Methods.{is_wrong};
 ghost use Rattle.mux_model.specs.Rows.{malformed_row};
 ghost use Rattle.mux_tables.specs.Documents.{AllStand, DocumentsStand, changes_documents, nothing_owed};
 ghost use Rattle.mux_tables.specs.Stands.{Stands};
@@ -92,8 +89,8 @@ pub fn take_early(
     Ok(())
 }
 
-/// E8: a request under the name of a notification comes from an editor that is served: it is answered with an error (LSP 3.17, $
-/// Notifications and Requests; JSON-RPC 2.0, section 5.1: Invalid Request).
+/// E8: a second `initialize`, or a request under the name of a notification, comes from an editor that is served: it is answered with
+/// an error (LSP 3.17, Initialize Request, and $ Notifications and Requests; JSON-RPC 2.0, section 5.1: Invalid Request).
 pub fn take_wrong(
     tables: &mut Tables,
     alloc: Global,
@@ -105,7 +102,7 @@ pub fn take_wrong(
     ensures requests { tables.new.requests ≡ tables.old.requests }
     ensures versions { tables.new.versions ≡ tables.old.versions }
     ensures does { (settings : Settings) (before : List Event) (body method : List ℕ) (id : Id) (params : Option Json) → IsRead message.now body
-        → message_of body ≡ request id method params → is_wrong (class_of method Editor false) ≡ true → is_served (desk_of e before).phase ≡ true
+        → message_of body ≡ request id method params → is_misplaced method ≡ true → is_served (desk_of e before).phase ≡ true
         → outs.old ≡ [] → Stands settings tables.old before → DocumentsStand settings nothing_owed tables.old before
         → OnOk result (Done (λ k events. AllStand settings k events) (answer_error e body (wrong_code method invalid_request))
         (with_cause before (FromEditor e body)) [] (tables.new, nothing_owed) outs.new) }

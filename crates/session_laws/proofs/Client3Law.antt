@@ -7,7 +7,7 @@ use Rattle.rpc_message.specs.Message.{Message, request, notification, result, er
 use Rattle.event_model.specs.declared.phase.Phase.{Phase}
 use Rattle.event_model.specs.declared.phase.Phase.TheVariants.{Absent, New, Waiting, Answered, Running, Down, Closed, Gone}
 use Rattle.event_model.specs.Event.{Event, took, requests, heard, with_cause}
-use Rattle.event_model.specs.Phases.{Desk, desk_of, desk_behind, desk_hears, has_id, phase_told, is_there, makes_running, phase_closed, editors_of}
+use Rattle.event_model.specs.Phases.{Desk, desk_of, desk_behind, desk_hears, has_id, phase_told, is_new, is_there, makes_running, phase_closed, editors_of}
 use Rattle.event_model.specs.Requests.{is_open, with_request, without}
 use Rattle.event_model.specs.Always.{Always}
 use Rattle.session_laws.specs.ClientRules.{Opening, opening_hears, opening_told, opening_behind, opening_of, may_hear, ClientRule3}
@@ -65,27 +65,27 @@ founds body o (error id x) says e h = absurd (cc)
 founds body o not_json says e h = absurd (cc)
 founds body o not_message says e h = absurd (cc)
 
--- only a new editor may ask for it
-hears : (phase : Phase) (i body : List ℕ) (o : Opening) (m : Message) → message_of body ≡ m → ((phase ≡ New → ⊥) → requests (codes "initialize") m ≡ false) → Link phase i o → LinkAt (desk_hears phase i body m) (opening_hears o m)
-hears Absent i body o m says none h = (same_initializes o m [] (none (λ e. cc)) h.0, h.1)
+-- which isn't a second `initialize`
+hears : (phase : Phase) (i body : List ℕ) (o : Opening) (m : Message) → message_of body ≡ m → (not (is_new phase) && requests (codes "initialize") m) ≡ false → Link phase i o → LinkAt (desk_hears phase i body m) (opening_hears o m)
+hears Absent i body o m says none h = (same_initializes o m [] none h.0, h.1)
 hears New i body o m says none h = go (requests (codes "initialize") m) refl
   where
     go : (b : Bool) → requests (codes "initialize") m ≡ b → LinkAt (if b then record { phase = Waiting; initialize = body } else record { phase = New; initialize = i }) (opening_hears o m)
     go true e = founds body o m says e h
     go false e = (same_initializes o m [] e h.0, h.1)
-hears Waiting i body o m says none h = record { id = h.id; params = h.params; asks = h.asks; only = same_initializes o m (h.id ∷ []) (none (λ e. cc)) h.only; not_yet = h.not_yet }
-hears Answered i body o m says none h = go (requests (codes "shutdown") m) (makes_running m) (same_initializes o m [] (none (λ e. cc)) h)
+hears Waiting i body o m says none h = record { id = h.id; params = h.params; asks = h.asks; only = same_initializes o m (h.id ∷ []) none h.only; not_yet = h.not_yet }
+hears Answered i body o m says none h = go (requests (codes "shutdown") m) (makes_running m) (same_initializes o m [] none h)
   where
     go : (a b : Bool) → (opening_hears o m).initializes ≡ [] → Link (if a then Down else if b then Running else Answered) i (opening_hears o m)
     go true b e = e
     go false true e = e
     go false false e = e
-hears Running i body o m says none h = go (requests (codes "shutdown") m) (same_initializes o m [] (none (λ e. cc)) h)
+hears Running i body o m says none h = go (requests (codes "shutdown") m) (same_initializes o m [] none h)
   where
     go : (a : Bool) → (opening_hears o m).initializes ≡ [] → Link (if a then Down else Running) i (opening_hears o m)
     go true e = e
     go false e = e
-hears Down i body o m says none h = same_initializes o m [] (none (λ e. cc)) h
+hears Down i body o m says none h = same_initializes o m [] none h
 hears Closed i body o m says none h = tt
 hears Gone i body o m says none h = tt
 
@@ -139,16 +139,13 @@ pub record Here (e : ℕ) (events : List Event) : Type 0 where
   pub always : Always ClientRule3 (editor_part e events)
   pub link : LinkAt (desk_of e events) (opening_of (editor_part e events))
 
-abbrev pub Everywhere : List Event → Type 0
-Everywhere events = (e : ℕ) → Here e events
-
 abbrev pub opening : ℕ → List Event → Opening
 opening e events = opening_of (editor_part e events)
 
-pub one_more : (e : ℕ) (events : List Event) (event : Event) → Here e events → (is_of_editor e event ≡ true → ClientRule3 (editor_part e events) event)
+pub one_more : (e : ℕ) (events : List Event) (event : Event) → Always ClientRule3 (editor_part e events) → (is_of_editor e event ≡ true → ClientRule3 (editor_part e events) event)
     → LinkAt (desk_behind e (desk_of e events) event) (cond (is_of_editor e event) (opening_behind (opening e events) event) (opening e events)) → Here e (events ++ event ∷ [])
 one_more e events event h rule link = record {
-  always = rule_more ClientRule3 (is_of_editor e) events event h.always rule;
+  always = rule_more ClientRule3 (is_of_editor e) events event h rule;
   link = subst₂ LinkAt (sym (desk_more e events event)) (sym (word_more opening_behind (record { initializes = []; answered = false; spoke = false }) (is_of_editor e) events event)) link;
 }
 
@@ -160,24 +157,26 @@ pub pick_desk : (b : Bool) (x y : Desk) (w : Opening) → (b ≡ true → LinkAt
 pick_desk true x y w f g = f refl
 pick_desk false x y w f g = g
 
--- a cause that is a request `initialize` is one of a new editor
-abbrev pub AsksOnce : List Event → Cause → Type 0
-AsksOnce before (FromEditor n body) = ((desk_of n before).phase ≡ New → ⊥) → requests (codes "initialize") (message_of body) ≡ false
-AsksOnce before other = Unit {0}
+-- a second `initialize` of an editor: a request of this method by one that isn't new
+abbrev pub asks_again : List Event → Cause → ℕ → Bool
+asks_again before (FromEditor n body) e = nat_eq n e && (not (is_new (desk_of n before).phase) && requests (codes "initialize") (message_of body))
+asks_again before other e = false
 
-pub from_editor : (events : List Event) (n : ℕ) (body : List ℕ) → AsksOnce events (FromEditor n body) → Everywhere events → Everywhere (events ++ took (FromEditor n body) (message_of body) ∷ [])
-from_editor events n body once h e = one_more e events (took (FromEditor n body) (message_of body)) (h e) (λ same. tt)
+from_editor : (events : List Event) (n : ℕ) (body : List ℕ) (e : ℕ) → asks_again events (FromEditor n body) e ≡ false → Here e events → Here e (events ++ took (FromEditor n body) (message_of body) ∷ [])
+from_editor events n body e none h = one_more e events (took (FromEditor n body) (message_of body)) h.always (λ same. tt)
     (pick (nat_eq n e) (desk_hears (desk_of e events).phase (desk_of e events).initialize body (message_of body)) (desk_of e events) (opening_hears (opening e events) (message_of body)) (opening e events)
     (λ same. hears (desk_of e events).phase (desk_of e events).initialize body (opening e events) (message_of body) refl
-    (subst (λ k. AsksOnce events (FromEditor k body)) (number_same n e same) once) (h e).link) (h e).link)
+    (subst (λ k. (not (is_new (desk_of k events).phase) && requests (codes "initialize") (message_of body)) ≡ false) (number_same n e same)
+    (ap (λ b. b && (not (is_new (desk_of n events).phase) && requests (codes "initialize") (message_of body))) (sym same) ∙ none)) h.link) h.link)
 
-pub took_it : (before : List Event) (cause : Cause) → fits_behind before cause ≡ true → AsksOnce before cause → Editors before → Everywhere before → Everywhere (with_cause before cause)
-took_it events (Joined n) fits once none h e = one_more e events (took (Joined n) not_message) (h e) (λ same. tt) (pick_desk (nat_eq n e) (record { phase = New; initialize = [] }) (desk_of e events) (opening e events)
-    (λ same. subst (λ z. Link z (desk_of e events).initialize (opening e events)) (none e (omega (arith, number_same n e same, number_same n (editors_of events) fits))) (h e).link) (h e).link)
-took_it events (FromEditor n body) fits once none h j = from_editor events n body once h j
-took_it events (EditorGone n why) fits once none h e = one_more e events (took (EditorGone n why) not_message) (h e) (λ same. tt)
-    (pick (nat_eq n e) (record { phase = Gone; initialize = (desk_of e events).initialize }) (desk_of e events) (opening e events) (opening e events) (λ same. tt) (h e).link)
-took_it events cause fits once none h e = one_more e events (heard cause) (h e) (λ same. tt) (h e).link
+-- each editor but one that asks again
+pub took_it : (before : List Event) (cause : Cause) → fits_behind before cause ≡ true → Editors before → (e : ℕ) → asks_again before cause e ≡ false → Here e before → Here e (with_cause before cause)
+took_it events (Joined n) fits none e once h = one_more e events (took (Joined n) not_message) h.always (λ same. tt) (pick_desk (nat_eq n e) (record { phase = New; initialize = [] }) (desk_of e events) (opening e events)
+    (λ same. subst (λ z. Link z (desk_of e events).initialize (opening e events)) (none e (omega (arith, number_same n e same, number_same n (editors_of events) fits))) h.link) h.link)
+took_it events (FromEditor n body) fits none e once h = from_editor events n body e once h
+took_it events (EditorGone n why) fits none e once h = one_more e events (took (EditorGone n why) not_message) h.always (λ same. tt)
+    (pick (nat_eq n e) (record { phase = Gone; initialize = (desk_of e events).initialize }) (desk_of e events) (opening e events) (opening e events) (λ same. tt) h.link)
+took_it events cause fits none e once h = one_more e events (heard cause) h.always (λ same. tt) h.link
 
 pub same_request : {i k : Id} {m : List ℕ} {p q : Option Json} → request i m p ≡ request k m q → i ≡ k
 same_request h = cc

@@ -7,7 +7,7 @@ use Rattle.document_model.specs.Sayings.{Saying, opens, changes, closes, misshap
 use Rattle.mux_history.specs.declared.cause.Cause.TheVariants.{Started, FromServer, ServerGone}
 use Rattle.mux_history.specs.declared.entry.Entry.{Entry}
 use Rattle.mux_history.specs.declared.out.Out.TheVariants.{ToServer, EndServer}
-use Rattle.rpc_message.specs.Message.{Message, request, integer}
+use Rattle.rpc_message.specs.Message.{Message, Id, request, notification, result, error, integer}
 use Rattle.event_model.specs.Event.{Event, took, did, events_of, same_id, requests, notifies}
 use Rattle.event_model.specs.Stages.{is_first_result}
 use Rattle.event_model.specs.Always.{Always}
@@ -103,6 +103,49 @@ abbrev pub ServerRule4 : List Event → Event → Type 0
 ServerRule4 before (did (ToServer s body) m) = AllowsSaying (λ u. version_of u before) (saying_of m)
 ServerRule4 before other = Unit {0}
 
+-- Rule 8 (LSP 3.17, Shutdown Request and Exit Notification): behind the request `shutdown` only the notification `exit` follows, once the
+-- response to `shutdown` came; behind `exit` nothing follows. And `exit` doesn't come without `shutdown`.
+pub data Farewell : Type 0 where
+  serving : Farewell
+  -- `shutdown` was sent under this id
+  shut_down : Id → Farewell
+  -- its response came
+  may_exit : Farewell
+  exited : Farewell
+
+abbrev pub farewell_told : Farewell → Message → Farewell
+farewell_told f (request id method params) = if bytes_eq (codes "shutdown") method then shut_down id else f
+farewell_told f (notification method params) = if bytes_eq (codes "exit") method then exited else f
+farewell_told f other = f
+
+-- a response under this id
+abbrev pub responds_to : Id → Message → Bool
+responds_to id (result (Some other) r) = same_id id other
+responds_to id (error (Some other) e) = same_id id other
+responds_to id other = false
+
+abbrev pub farewell_heard : Farewell → Message → Farewell
+farewell_heard (shut_down id) m = if responds_to id m then may_exit else shut_down id
+farewell_heard f m = f
+
+abbrev pub farewell_behind : Farewell → Event → Farewell
+farewell_behind f (did (ToServer s body) m) = farewell_told f m
+farewell_behind f (took (FromServer s body) m) = farewell_heard f m
+farewell_behind f other = f
+
+abbrev pub farewell_of : List Event → Farewell
+farewell_of part = fold farewell_behind serving part
+
+abbrev pub may_say : Farewell → Message → Bool
+may_say serving m = not (notifies (codes "exit") m)
+may_say (shut_down id) m = false
+may_say may_exit m = notifies (codes "exit") m
+may_say exited m = false
+
+abbrev pub ServerRule8 : List Event → Event → Type 0
+ServerRule8 before (did (ToServer s body) m) = IsTrue (may_say (farewell_of before) m)
+ServerRule8 before other = Unit {0}
+
 -- the parts of all starts keep the rule
 abbrev pub KeepsServer : (List Event → Event → Type 0) → List Entry → Type 0
 KeepsServer Rule history = (s : ℕ) → Always Rule (server_part s (events_of history))
@@ -118,3 +161,6 @@ KeepsServer3 history = KeepsServer ServerRule3 history
 
 abbrev pub KeepsServer4 : List Entry → Type 0
 KeepsServer4 history = KeepsServer ServerRule4 history
+
+abbrev pub KeepsServer8 : List Entry → Type 0
+KeepsServer8 history = KeepsServer ServerRule8 history

@@ -10,14 +10,14 @@ use Rattle.group_rows.specs.Rows.{is_misplaced}
 use Rattle.mux_tables.specs.Documents.{AllStand}
 use Rattle.mux_turns.proofs.Classes.{not_own, shutdown_later, shutdown_named, swapped}
 use Rattle.mux_turns.proofs.Rows.{is_first, is_second}
-use Rattle.mux_entries.proofs.EditorBuilt.{other_class, other_right}
-use Rattle.mux_entries.proofs.EditorRows.{done_alike, or_later}
+use Rattle.mux_entries.proofs.EditorBuilt.{misplaced_class, other_class, other_right}
+use Rattle.mux_entries.proofs.EditorRows.{done_alike}
 use Rattle.mux_entries.proofs.editors.from_asking.Goals as goal
 
 pub returns-in_ok-take_wrong-in-Wrong-clause-does : goal.returns-in_ok-take_wrong-in-Wrong-clause-does
 returns-in_ok-take_wrong-in-Wrong-clause-does c = λ settings before body method id params read says sort served first st ds.
-    let wrong : is_wrong (class_of method Editor false) ≡ true = ap is_wrong (sym (c.class_in.ensures body method id params read says) ∙ c.in-Wrong.is) in
-    done_alike (λ k events. AllStand settings k events) (is_first refl (or_later (bytes_eq (codes "initialize") method) (is_wrong (class_of method Editor false)) wrong)) (c.in_ok-take_wrong-in-Wrong.ensures.does settings before body method id params read says wrong served first st ds)
+    let wrong = misplaced_class method c.class_in.result (c.class_in.ensures body method id params read says) c.in-Wrong.is in
+    done_alike (λ k events. AllStand settings k events) (is_first refl wrong) (c.in_ok-take_wrong-in-Wrong.ensures.does settings before body method id params read says wrong served first st ds)
 
 pub returns-in_ok-take_shutdown-in-Shutdown-clause-does : goal.returns-in_ok-take_shutdown-in-Shutdown-clause-does
 returns-in_ok-take_shutdown-in-Shutdown-clause-does c = λ settings before body method id params read says sort served first st ds.
@@ -29,7 +29,7 @@ returns-in_ok-take_shutdown-in-Shutdown-clause-does c = λ settings before body 
 pub returns-in_ok-take_request-in_default-clause-does : goal.returns-in_ok-take_request-in_default-clause-does
 returns-in_ok-take_request-in_default-clause-does c = λ settings before body method id params read says sort served first st ds.
     let is = c.class_in.ensures body method id params read says in
-    let other : is_other (class_of method Editor false) ≡ true = ap is_other (sym is) ∙ other_class c.class_in.result (ap is_standard is ∙ sort) c.in_default.not-Wrong c.in_default.not-Shutdown in
+    let other : is_other (class_of method Editor false) ≡ true = ap is_other (sym is) ∙ other_class c.class_in.result (ap is_standard is ∙ sort) c.in_default.not-Initialize c.in_default.not-Wrong c.in_default.not-Shutdown in
     let n = not_own method other in
     let placed : is_misplaced method ≡ false = ap₂ (λ a b. a || b) (swapped method (codes "initialize") n.initialize) (other_right (class_of method Editor false) other) in
     done_alike (λ k events. AllStand settings k events) (alike_then (is_second refl placed) (is_second refl (swapped method (codes "shutdown") n.shutdown)))

@@ -1,0 +1,211 @@
+-- A second `initialize` of an editor: it gets an error for it, or its link is to be ended, and what it heard is tied to its phase again behind the entry.
+use Rattle.std.proofs.Common.{◌≡◌, ℕ, Bool, true, false, not, ◌&&◌, ◌||◌, cond, List, [], ◌∷◌, ◌++◌, map, nat_eq, codes, bytes_eq, if◌then◌else◌, Option, Some, refl, sym, ◌∙◌, ap, ap₂, subst, subst₂, append-nil, append_assoc}
+use Rattle.std.specs.List.{AllByRecursion}
+use Rattle.std.proofs.lemmas.Bool.{and_parts}
+use Rattle.std.proofs.lemmas.Slice.Eq.{bytes_eq-Decides}
+use Rattle.json_text.specs.Json.{Json}
+use Rattle.mux_history.specs.declared.cause.Cause.{Cause}
+use Rattle.mux_history.specs.declared.cause.Cause.TheVariants.{FromEditor}
+use Rattle.mux_history.specs.declared.out.Out.{Out}
+use Rattle.mux_history.specs.declared.out.Out.TheVariants.{ToEditor, ToServer, CloseEditor, EndServer, Spawn}
+use Rattle.rpc_message.specs.Message.{Message, request, notification, result, error, not_json, not_message, Id, id_bytes, message_of}
+use Rattle.rpc_message.specs.Texts.{Code, error_text, error_tree, invalid_request}
+use Rattle.event_model.specs.declared.phase.Phase.{Phase}
+use Rattle.event_model.specs.declared.phase.Phase.TheVariants.{Absent, New, Waiting, Answered, Running, Down, Closed, Gone}
+use Rattle.event_model.specs.Always.{Always}
+use Rattle.event_model.specs.Event.{Event, behind, heard, requests, said, same_id, with_cause}
+use Rattle.event_model.specs.Parts.{editor_part, is_of_editor}
+use Rattle.event_model.specs.Phases.{Desk, desk_of, desk_hears, is_begun, is_linked, is_new, phase_closed, phase_told}
+use Rattle.event_model.specs.Requests.{is_open, open_of}
+use Rattle.event_model.specs.Row.{Row, choose, outs}
+use Rattle.event_model.specs.Settings.{Settings}
+use Rattle.mux_model.specs.Fits.{fits_behind}
+use Rattle.mux_facts.proofs.Bodies.{refusal_says}
+use Rattle.mux_facts.proofs.Keeps.{behind_both}
+use Rattle.mux_facts.proofs.Rules.{rule_more, word_more}
+use Rattle.mux_facts.proofs.Waits.{AllWaiting, Waits, waits_at}
+use Rattle.mux_facts.proofs.Words.{id_same, number_same, same_number}
+use Rattle.session_laws.specs.ClientRules.{ClientRule3, Opening, may_hear, opening_behind, opening_hears, opening_told}
+use Rattle.session_laws.proofs.Client3Law.{Expects, Here, Link, LinkAt, asks_again, closed_link, one_more, opening, same_request}
+use Rattle.group_rows.specs.Leaves.{leave_row}
+use Rattle.group_rows.specs.Rows.{answer_error, closing_row, from_editor, outs_of}
+use Rattle.group_facts.proofs.Begun.{all_outs, leave_by}
+use Rattle.group_facts.proofs.OpenByPhase.{without_last}
+use Rattle.group_facts.proofs.RequestRow.{desk_taken}
+
+-- Outs that are bodies to starts
+
+abbrev ToStart : Out → Type 0
+ToStart (ToServer s body) = Unit {0}
+ToStart other = ⊥
+
+bodies_rest : (e : ℕ) (events : List Event) (xs : List Out) → AllByRecursion ToStart xs → Here e events → Here e (behind events xs)
+bodies_rest e events [] all h = subst (Here e) (sym (append-nil events)) h
+bodies_rest e events (ToServer s body ∷ xs) all h = subst (Here e) (append_assoc events (said (ToServer s body) ∷ []) (map said xs))
+    (bodies_rest e (events ++ said (ToServer s body) ∷ []) xs all.1 (one_more e events (said (ToServer s body)) h.always (λ same. absurd (cc)) h.link))
+bodies_rest e events (ToEditor n body ∷ xs) all h = absurd (all.0)
+bodies_rest e events (Spawn s g ∷ xs) all h = absurd (all.0)
+bodies_rest e events (CloseEditor n ∷ xs) all h = absurd (all.0)
+bodies_rest e events (EndServer s ∷ xs) all h = absurd (all.0)
+
+-- What is tied to a phase behind the request and its error is what was tied to it before
+
+module _ (body : List ℕ) (id : Id) (params : Option Json) (x : Json) where
+  abbrev asked : Message
+  asked = request id (codes "initialize") params
+
+  abbrev refused : Message
+  refused = error (Some id) x
+
+  abbrev Linked : Phase → List ℕ → Opening → Type 0
+  Linked p i o = Link (phase_told (desk_hears p i body asked).phase (desk_hears p i body asked).initialize refused) (desk_hears p i body asked).initialize (opening_told (opening_hears o asked) refused)
+
+  linked : (p : Phase) (i : List ℕ) (o : Opening) → is_begun p ≡ true → is_open id o.initializes ≡ false → Link p i o → Linked p i o
+  linked Waiting i o begun fresh h = record { id = h.id; params = h.params; asks = h.asks; only = without_last id o.initializes fresh ∙ h.only; not_yet = h.not_yet }
+  linked Answered i o begun fresh h = without_last id o.initializes fresh ∙ h
+  linked Running i o begun fresh h = without_last id o.initializes fresh ∙ h
+  linked Down i o begun fresh h = without_last id o.initializes fresh ∙ h
+  linked Absent i o begun fresh h = absurd (cc)
+  linked New i o begun fresh h = absurd (cc)
+  linked Closed i o begun fresh h = absurd (cc)
+  linked Gone i o begun fresh h = absurd (cc)
+
+module _ (settings : Settings) (before : List Event) (n : ℕ) (body : List ℕ) (id : Id) (params : Option Json) (says : message_of body ≡ request id (codes "initialize") params)
+    (h : Here n before) (waits : (desk_of n before).phase ≡ Waiting → Waits (desk_of n before).initialize (open_of n before)) where
+  abbrev now : List Event
+  now = with_cause before (FromEditor n body)
+
+  abbrev ids : List Id
+  ids = open_of n before
+
+  abbrev Rests : List Out → Type 0
+  Rests xs = Here n (behind now xs)
+
+  always_now : Always ClientRule3 (editor_part n now)
+  always_now = rule_more ClientRule3 (is_of_editor n) before (heard (FromEditor n body)) h.always (λ same. tt)
+
+  opening_now : opening n now ≡ opening_hears (opening n before) (asked body id params (error_tree invalid_request))
+  opening_now = word_more opening_behind (record { initializes = []; answered = false; spoke = false }) (is_of_editor n) before (heard (FromEditor n body))
+      ∙ ap (λ b. cond b (opening_hears (opening n before) (message_of body)) (opening n before)) (same_number n)
+      ∙ ap (opening_hears (opening n before)) says
+
+  -- its own `initialize` was under another id
+  other_id : (w : Waits (desk_of n before).initialize ids) (o : Expects (desk_of n before).initialize (opening n before)) → is_open id ids ≡ false → same_id id o.id ≡ false
+  other_id w o fresh = go (same_id id o.id) refl
+    where
+      go : (b : Bool) → same_id id o.id ≡ b → b ≡ false
+      go true same = absurd (let named : id ≡ w.id = id_same id o.id same ∙ same_request (sym o.asks ∙ w.asks) in let found : is_open id ids ≡ true = ap (λ z. is_open z ids) named ∙ w.waits in let clash : true ≡ false = sym found ∙ fresh in cc)
+      go false e = refl
+
+  fresh_here : (p : Phase) → (desk_of n before).phase ≡ p → is_begun p ≡ true → is_open id ids ≡ false → is_open id (opening n before).initializes ≡ false
+  fresh_here p at begun fresh = go p at begun (subst (λ z. Link z (desk_of n before).initialize (opening n before)) at h.link)
+    where
+      go : (p : Phase) → (desk_of n before).phase ≡ p → is_begun p ≡ true → Link p (desk_of n before).initialize (opening n before) → is_open id (opening n before).initializes ≡ false
+      go Waiting at b k = ap (is_open id) k.only ∙ ap (λ b. b || false) (other_id (waits at) k fresh)
+      go Answered at b k = ap (is_open id) k
+      go Running at b k = ap (is_open id) k
+      go Down at b k = ap (is_open id) k
+      go Absent at b k = absurd (cc)
+      go New at b k = absurd (cc)
+      go Closed at b k = absurd (cc)
+      go Gone at b k = absurd (cc)
+
+  -- it gets an error for it
+  module _ (p : Phase) (at : (desk_of n before).phase ≡ p) (begun : is_begun p ≡ true) (fresh : is_open id ids ≡ false) (code : Code) where
+    abbrev text : List ℕ
+    text = error_text (id_bytes body) code
+
+    abbrev told : Message
+    told = error (Some id) (error_tree code)
+
+    text_says : message_of text ≡ told
+    text_says = refusal_says body id (codes "initialize") params code says
+
+    desk_now : desk_of n now ≡ desk_hears p (desk_of n before).initialize body (request id (codes "initialize") params)
+    desk_now = desk_taken settings before n body ∙ ap₂ (λ q m. desk_hears q (desk_of n before).initialize body m) at says
+
+    abbrev TiedTo : Desk → Opening → Message → Type 0
+    TiedTo d o m = Link (phase_told d.phase d.initialize m) d.initialize (opening_told o m)
+
+    tied : TiedTo (desk_of n now) (opening n now) (message_of text)
+    tied = subst (TiedTo (desk_of n now) (opening n now)) (sym text_says) (subst₂ (λ (d : Desk) o. TiedTo d o told) (sym desk_now) (sym opening_now)
+        (linked body id params (error_tree code) p (desk_of n before).initialize (opening n before) begun (fresh_here p at begun fresh) (subst (λ z. Link z (desk_of n before).initialize (opening n before)) at h.link)))
+
+    refused_rests : Rests (ToEditor n text ∷ [])
+    refused_rests = one_more n now (said (ToEditor n text)) always_now (λ same. ap (may_hear (opening n now)) text_says) (go (nat_eq n n) (same_number n))
+      where
+        go : (b : Bool) → b ≡ true → LinkAt (if b then record { phase = phase_told (desk_of n now).phase (desk_of n now).initialize (message_of text); initialize = (desk_of n now).initialize } else desk_of n now) (cond b (opening_told (opening n now) (message_of text)) (opening n now))
+        go true same = tied
+        go false same = absurd (cc)
+
+  -- or its link is to be ended, and it leaves
+  closed_now : Here n (now ++ said (CloseEditor n) ∷ [])
+  closed_now = one_more n now (said (CloseEditor n)) always_now (λ same. tt) (go (nat_eq n n) (same_number n))
+    where
+      go : (b : Bool) → b ≡ true → LinkAt (if b then record { phase = phase_closed (desk_of n now).phase; initialize = (desk_of n now).initialize } else desk_of n now) (cond b (opening n now) (opening n now))
+      go true same = closed_link (desk_of n now).phase (desk_of n now).initialize (opening n now)
+      go false same = absurd (cc)
+
+  abbrev parted : List Out
+  parted = outs (leave_row settings before n) (now ++ said (CloseEditor n) ∷ [])
+
+  closing_rests : Rests (outs (closing_row settings before n) now)
+  closing_rests = subst (Here n) (sym (behind_both now (CloseEditor n ∷ []) parted))
+      (bodies_rest n (now ++ said (CloseEditor n) ∷ []) parted (all_outs ToStart (now ++ said (CloseEditor n) ∷ []) parted (leave_by (λ places out. ToStart out) (λ places s b. tt) settings before n (now ++ said (CloseEditor n) ∷ [])).why) closed_now)
+
+  by_double : (b : Bool) → is_open id ids ≡ b → (row : Row) → (is_open id ids ≡ false → Rests (outs row now)) → Rests (outs (choose b (closing_row settings before n) row) now)
+  by_double true twice row f = closing_rests
+  by_double false fresh row f = f fresh
+
+  -- one that is closed gets nothing
+  silent_rests : (desk_of n before).phase ≡ Closed → Rests []
+  silent_rests at = subst (Here n) (sym (append-nil now)) (record { always = always_now; link = subst (λ (d : Desk). LinkAt d (opening n now)) (sym (desk_taken settings before n body ∙ ap (λ q. desk_hears q (desk_of n before).initialize body (message_of body)) at)) tt })
+
+  row_rests : (p : Phase) → (desk_of n before).phase ≡ p → is_new p ≡ false → is_linked p ≡ true → Rests (outs (from_editor settings before n body (request id (codes "initialize") params) p) now)
+  row_rests Waiting at old there = by_double (is_open id ids) refl _ (λ fresh. refused_rests Waiting at refl fresh invalid_request)
+  row_rests Answered at old there = by_double (is_open id ids) refl _ (λ fresh. refused_rests Answered at refl fresh invalid_request)
+  row_rests Running at old there = by_double (is_open id ids) refl _ (λ fresh. refused_rests Running at refl fresh invalid_request)
+  row_rests Down at old there = by_double (is_open id ids) refl _ (λ fresh. refused_rests Down at refl fresh invalid_request)
+  row_rests Closed at old there = silent_rests at
+  row_rests New at old there = absurd (cc)
+  row_rests Absent at old there = absurd (cc)
+  row_rests Gone at old there = absurd (cc)
+
+-- Behind the entry
+
+never : {A : Type 0} (b : Bool) → (not b && false) ≡ true → A
+never true h = absurd (cc)
+never false h = absurd (cc)
+
+module _ (settings : Settings) (before : List Event) (n : ℕ) (body : List ℕ) (there : is_linked (desk_of n before).phase ≡ true) (h : Here n before) (waits : (desk_of n before).phase ≡ Waiting → Waits (desk_of n before).initialize (open_of n before)) where
+  abbrev Behind : Message → Type 0
+  Behind m = Here n (behind (with_cause before (FromEditor n body)) (outs (from_editor settings before n body m (desk_of n before).phase) (with_cause before (FromEditor n body))))
+
+  by_message : (m : Message) → message_of body ≡ m → (not (is_new (desk_of n before).phase) && requests (codes "initialize") m) ≡ true → Behind m
+  by_message (request id method params) says again = subst (λ w. Behind (request id w params)) named
+      (row_rests settings before n body id params (says ∙ ap (λ w. request id w params) (sym named)) h waits (desk_of n before).phase refl (not_so (is_new (desk_of n before).phase) p.0) there)
+    where
+      p : (not (is_new (desk_of n before).phase) ≡ true) × (bytes_eq (codes "initialize") method ≡ true)
+      p = and_parts (not (is_new (desk_of n before).phase)) (bytes_eq (codes "initialize") method) again
+
+      named : codes "initialize" ≡ method
+      named = (bytes_eq-Decides (codes "initialize") method).0 p.1
+
+      not_so : (b : Bool) → not b ≡ true → b ≡ false
+      not_so true k = absurd (cc)
+      not_so false k = refl
+  by_message (notification method params) says again = never (is_new (desk_of n before).phase) again
+  by_message (result i r) says again = never (is_new (desk_of n before).phase) again
+  by_message (error i r) says again = never (is_new (desk_of n before).phase) again
+  by_message not_json says again = never (is_new (desk_of n before).phase) again
+  by_message not_message says again = never (is_new (desk_of n before).phase) again
+
+-- of the editor whose second `initialize` it was
+pub again_rests : (settings : Settings) (before : List Event) (cause : Cause) (e : ℕ) → fits_behind before cause ≡ true → AllWaiting before → asks_again before cause e ≡ true → Here e before
+    → Here e (behind (with_cause before cause) (outs_of settings before cause))
+again_rests settings before (FromEditor n body) e fits waiting again h =
+    let p = and_parts (nat_eq n e) (not (is_new (desk_of n before).phase) && requests (codes "initialize") (message_of body)) again in
+    let same : n ≡ e = number_same n e p.0 in
+    subst (λ k. Here k (behind (with_cause before (FromEditor n body)) (outs_of settings before (FromEditor n body)))) same
+    (by_message settings before n body fits (subst (λ k. Here k before) (sym same) h) (λ at. waits_at before n at waiting) (message_of body) refl p.1)
+again_rests settings before cause e fits waiting again h = absurd (cc)
