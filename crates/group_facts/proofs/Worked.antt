@@ -11,16 +11,17 @@ use Rattle.mux_history.specs.declared.entry.Entry.{Entry}
 use Rattle.rpc_message.specs.Message.{integer, message_of, no_name_twice, is_integer, member_bytes}
 use Rattle.rpc_message.specs.Texts.{with_id_text}
 use Rattle.event_model.specs.Event.{Event, behind, events_of, with_cause}
+use Rattle.event_model.specs.Phases.{desk_of}
 use Rattle.event_model.specs.Requests.{open_of}
 use Rattle.event_model.specs.Settings.{Settings}
 use Rattle.mux_model.specs.Fits.{fits_behind}
 use Rattle.mux_facts.proofs.Keeps.{events_more}
 use Rattle.group_words.specs.Example.{with_groups}
-use Rattle.group_rows.specs.Example.{both_ask, closing, switching, two_groups}
+use Rattle.group_rows.specs.Example.{all_outs, both_ask, closing, switching, two_groups}
 use Rattle.group_rows.specs.Forwarded.{forwarding_of}
 use Rattle.group_rows.specs.Rows.{outs_of}
 use Rattle.group_facts.specs.Built.{built_behind}
-use Rattle.group_facts.specs.Example.{one_group, one_waits, played, played_from, taken_from, two_ask}
+use Rattle.group_facts.specs.Example.{asking_again, asking_again_outs, one_group, one_waits, played, played_from, taken_from, two_ask}
 use Rattle.group_facts.specs.Legal.{Legal, LegalFrom}
 
 -- what is taken is legal
@@ -77,3 +78,17 @@ the_second_asks = refl
 both_are_sent : (forwarding_of 0 (events_of (played (with_groups 8) two_ask))).open_requests ≡ record { number = 2; editor = 0; id = codes "1"; cancelled = false } ∷ record { number = 3; editor = 1; id = codes "1"; cancelled = false } ∷ []
 unfolding computes message_of named no_name_twice is_integer member_bytes with_id_text escape_byte digits own_request own_notification goes_nowhere editor_request editor_notification
 both_are_sent = refl
+
+-- A second `initialize`
+
+asking_again_is_legal : Legal (with_groups 8) (played (with_groups 8) asking_again)
+unfolding computes message_of named no_name_twice is_integer member_bytes with_id_text escape_byte digits own_request own_notification goes_nowhere editor_request editor_notification
+asking_again_is_legal = legal (with_groups 8) asking_again refl
+
+it_is_refused : all_outs asking_again ≡ asking_again_outs
+unfolding computes message_of named no_name_twice is_integer member_bytes with_id_text escape_byte digits own_request own_notification goes_nowhere editor_request editor_notification
+it_is_refused = refl
+
+its_first_is_kept : message_of (desk_of 0 (events_of (played (with_groups 8) asking_again))).initialize ≡ message_of (codes "{\"jsonrpc\":\"2.0\",\"id\":0,\"method\":\"initialize\",\"params\":{\"rootUri\":\"file:///w\",\"capabilities\":{}}}")
+unfolding computes message_of named no_name_twice is_integer member_bytes with_id_text escape_byte digits own_request own_notification goes_nowhere editor_request editor_notification
+its_first_is_kept = refl
