@@ -28,7 +28,7 @@ use Rattle.mux_facts.proofs.Words.{id_same, number_same, same_number}
 use Rattle.session_laws.specs.ClientRules.{ClientRule3, Opening, may_hear, opening_behind, opening_hears, opening_told}
 use Rattle.session_laws.proofs.Client3Law.{Expects, Here, Link, LinkAt, asks_again, closed_link, one_more, opening, same_request}
 use Rattle.group_rows.specs.Leaves.{leave_row}
-use Rattle.group_rows.specs.Rows.{answer_error, closing_row, from_editor, outs_of}
+use Rattle.group_rows.specs.Rows.{closing_row, from_editor, outs_of}
 use Rattle.group_facts.proofs.Begun.{all_outs, leave_by}
 use Rattle.group_facts.proofs.OpenByPhase.{without_last}
 use Rattle.group_facts.proofs.RequestRow.{desk_taken}

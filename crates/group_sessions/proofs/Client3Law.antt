@@ -1,10 +1,10 @@
 -- An editor hears nothing but responses before its session is open, and one `initialize` of it gets a result.
-use Rattle.std.proofs.Common.{◌≡◌, ℕ, Bool, true, false, not, ◌&&◌, ◌||◌, cond, List, [], ◌∷◌, ◌++◌, nat_eq, codes, bytes_eq, if◌then◌else◌, Option, None, Some, refl, sym, ◌∙◌, ap, subst, subst₂}
+use Rattle.std.proofs.Common.{◌≡◌, ℕ, Bool, true, false, not, ◌&&◌, ◌||◌, cond, List, [], ◌∷◌, ◌++◌, nat_eq, codes, if◌then◌else◌, Option, None, Some, refl, sym, ◌∙◌, ap, subst, subst₂}
 use Rattle.json_text.specs.Json.{Json}
 use Rattle.mux_history.specs.declared.cause.Cause.{Cause}
 use Rattle.mux_history.specs.declared.entry.Entry.{Entry}
 use Rattle.mux_history.specs.declared.out.Out.TheVariants.{ToEditor, ToServer, CloseEditor, EndServer, Spawn}
-use Rattle.rpc_message.specs.Message.{Message, request, notification, result, error, not_json, not_message, Id, message_of}
+use Rattle.rpc_message.specs.Message.{Message, request, result, error, Id, message_of}
 use Rattle.event_model.specs.declared.phase.Phase.{Phase}
 use Rattle.event_model.specs.declared.phase.Phase.TheVariants.{Absent, New, Waiting, Answered, Running, Down, Closed, Gone}
 use Rattle.event_model.specs.Event.{Event, behind, said, same_id, with_cause}
@@ -16,7 +16,7 @@ use Rattle.event_model.specs.Settings.{Settings}
 use Rattle.event_model.specs.Spawns.{starts_of}
 use Rattle.mux_model.specs.Fits.{fits_behind}
 use Rattle.mux_facts.specs.Ranges.{InRange}
-use Rattle.mux_facts.proofs.Bodies.{IsResponseTo, is_result}
+use Rattle.mux_facts.proofs.Bodies.{IsResponseTo}
 use Rattle.mux_facts.proofs.Folds.{desk_more, opens_more}
 use Rattle.mux_facts.proofs.Rules.{rule_more, word_more}
 use Rattle.mux_facts.proofs.Waits.{AllWaiting, WaitsAt, WaitsIf}

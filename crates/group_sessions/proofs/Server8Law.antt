@@ -1,16 +1,15 @@
 -- The end of a session with a start: `shutdown`, its response, and `exit`.
-use Rattle.std.proofs.Common.{◌≡◌, ℕ, ◌+◌, ◌-◌, Bool, true, false, not, ◌&&◌, ◌||◌, List, [], ◌∷◌, ◌++◌, map, nat_eq, codes, decimal, bytes_eq, if◌then◌else◌, Option, Some, None, IsTrue, refl, sym, ◌∙◌, ap, ap₂, subst, append_assoc, arith}
+use Rattle.std.proofs.Common.{◌≡◌, ℕ, ◌+◌, ◌-◌, Bool, true, false, ◌&&◌, List, [], ◌∷◌, ◌++◌, nat_eq, codes, decimal, bytes_eq, if◌then◌else◌, Some, None, IsTrue, refl, sym, ◌∙◌, ap, ap₂, subst, append_assoc, arith}
 use Rattle.std.proofs.lemmas.Bool.{and_parts}
 use Rattle.std.proofs.lemmas.Slice.Eq.{bytes_eq-Decides}
 use Rattle.mux_history.specs.declared.cause.Cause.{Cause}
-use Rattle.mux_history.specs.declared.cause.Cause.TheVariants.{Joined, FromEditor, EditorGone, Started, StartFailed, FromServer, ServerGone, Drained, Tick}
+use Rattle.mux_history.specs.declared.cause.Cause.TheVariants.{FromServer}
 use Rattle.mux_history.specs.declared.entry.Entry.{Entry}
 use Rattle.mux_history.specs.declared.out.Out.TheVariants.{ToEditor, ToServer, CloseEditor, EndServer, Spawn}
-use Rattle.rpc_message.specs.Message.{Message, request, notification, result, error, not_json, not_message, Id, integer, text, message_of}
+use Rattle.rpc_message.specs.Message.{Message, request, notification, result, error, not_json, not_message, integer, text, message_of}
 use Rattle.event_model.specs.declared.stage.Stage.{Stage}
 use Rattle.event_model.specs.declared.stage.Stage.TheVariants.{Unspawned, Spawning, Initializing, Ready, Stopping, Ending, Ended}
-use Rattle.event_model.specs.Event.{Event, behind, heard, notifies, requests, said, with_cause}
-use Rattle.event_model.specs.Parts.{server_part}
+use Rattle.event_model.specs.Event.{Event, behind, heard, requests, said, with_cause}
 use Rattle.event_model.specs.Requests.{answered_id, is_own, next_number, number_told}
 use Rattle.event_model.specs.Settings.{Settings}
 use Rattle.event_model.specs.Spawns.{starts_of}
@@ -22,12 +21,11 @@ use Rattle.mux_facts.proofs.Words.{number_same, same_number}
 use Rattle.session_laws.specs.ServerRules.{KeepsServer8, ServerRule8, farewell_told, may_say, responds_to, serving, shut_down}
 use Rattle.session_laws.proofs.Server2Law.{begun_stage}
 use Rattle.session_laws.proofs.Server8Law.{IsCalm, Link, TiedAt, calm_says, calm_told, end_more, ended_more, farewell, free, is_stopping, last_id, may_exit_now, more, parts_now, response_calm, spawned_more, spoken_calm, told_more, took_it}
-use Rattle.group_rows.specs.Ends.{answers_shutdown, exit_text, last_number}
+use Rattle.group_rows.specs.Ends.{answers_shutdown, exit_text}
 use Rattle.group_rows.specs.Forwarded.{names}
 use Rattle.group_rows.specs.Rows.{outs_of}
 use Rattle.group_facts.specs.Legal.{Legal}
 use Rattle.group_facts.specs.Why.{IsExit, IsShutting, WhyToServer, begins, greets, forwarded, tells, shuts, cancels, responds, exits}
-use Rattle.group_facts.proofs.Facts.{Facts, Mid}
 use Rattle.group_facts.proofs.RestLaws.{RestLaw}
 use Rattle.group_sessions.proofs.PartLaws.{ServerRule, server_history}
 
