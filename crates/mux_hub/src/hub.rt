@@ -1,5 +1,5 @@
 // The hub: the tables, the journal, and whether a step had a fault.
-ghost use Rattle.std.specs.Prelude.{◌≡◌, ℕ, ◌^◌, ◌≤◌, ◌<◌, ◌↔◌, List, [], ◌∷◌, ◌++◌, Bool, true, false, length, IsTrue, IfOk, OnOk, OnErr, IsErrOf, IfErr, slice_get};
+ghost use Rattle.std.specs.Prelude.{◌≡◌, ℕ, ◌+◌, ◌^◌, ◌≤◌, ◌<◌, ◌↔◌, List, [], ◌∷◌, ◌++◌, Bool, true, false, length, nat_lt, if◌then◌else◌, Some, None, IsTrue, IfOk, OnOk, OnErr, IsErrOf, IfErr, slice_get};
 ghost use Rattle.std.specs.Option.{option_map_or};
 ghost use Rattle.outside_io.specs.Faults.{Rose};
 ghost use Rattle.mux_history.specs.declared.entry.Entry.{Entry};
@@ -16,7 +16,8 @@ ghost use Rattle.group_facts.specs.Facts.{Known};
 ghost use Rattle.group_facts.specs.Settled.{Settled};
 ghost use Rattle.mux_tables.specs.Stands.{Stands};
 ghost use Rattle.mux_turns.specs.Ceilings.{HaveCeilings};
-ghost use Rattle.mux_hub.specs.Entries.{emits, entry_of};
+ghost use Rattle.mux_hub.specs.Entries.{emits, entry_of, most_events, passes};
+ghost use Rattle.mux_hub.specs.Faults.{Counted};
 ghost use Rattle.mux_hub.specs.Hubs.{HubView, HubStands, TablesStand, Tells};
 
 use crate::fault::StepFault;
@@ -54,6 +55,19 @@ fn turn(
     Ok(outs)
 }
 
+// How many causes and outs there are behind an entry with so many outs; none where they would be more than 2^63 - 1.
+fn counted(events: u64, outs: usize) -> Option<u64>
+    ensures { result ≡ (if nat_lt most_events (events + (1 + outs)) then None else Some (events + (1 + outs))) }
+{
+    let more = (outs as u64).checked_add(1)?;
+    let count = events.checked_add(more)?;
+    if count > 9_223_372_036_854_775_807 {
+        None
+    } else {
+        Some(count)
+    }
+}
+
 // The place of the server that the starts of a group run.
 fn server_in(tables: &Tables, default: u32, group: u64) -> u32
     ensures { (settings : Settings) (events : List Event) → Stands settings tables.now events
@@ -74,6 +88,7 @@ pub struct Hub<J: Journal> {
     default: u32,
     tables: Tables,
     backlogs: Backlogs,
+    events: u64,
     spent: bool,
     journal: J,
 }
@@ -83,7 +98,7 @@ impl<J: Journal> Model for Hub<J> {
 
     ghost Value = { HubView J };
 
-    ghost view = { λ h. record { settings = record { limits = h.limits; servers = h.servers.items; default = h.default }; tables = h.tables; backlogs = h.backlogs; spent = h.spent; journal = h.journal } };
+    ghost view = { λ h. record { settings = record { limits = h.limits; servers = h.servers.items; default = h.default }; tables = h.tables; backlogs = h.backlogs; events = h.events; spent = h.spent; journal = h.journal } };
 
     ghost invariant = { λ h. IsSound (record { limits = h.limits; servers = h.servers.items; default = h.default }) h.tables };
 }
@@ -123,6 +138,7 @@ impl<J: Journal> Hub<J> {
             default,
             tables,
             backlogs: Backlogs::new(alloc),
+            events: 0,
             spent: false,
             journal,
         })
@@ -152,7 +168,8 @@ impl<J: Journal> Hub<J> {
         mux_causes::built(&self.tables, self.alloc, cause)
     }
 
-    /// Takes a cause and gives its outs: those of the routing table. The entry was appended to the journal.
+    /// Takes a cause and gives its outs: those of the routing table. The entry was appended to the journal. Where the causes and outs
+    /// would be more than 2^63 - 1, the answer is `Numbers`, and nothing is appended.
     pub fn step(&mut self, cause: Cause) -> Result<Outs, StepFault>
         requires small { body_length cause ≤ 268435456 }
         requires fits { (history : List Entry) → HubStands J.told self.old history → self.old.spent ≡ false → IsTrue (fits history cause) }
@@ -166,6 +183,8 @@ impl<J: Journal> Hub<J> {
         ensures ready { OnOk result (self.new.spent ≡ false) }
         ensures spent { OnErr result (self.new.spent ≡ true) }
         ensures spent_only { IsErrOf result StepFault.Spent ↔ (self.old.spent ≡ true) }
+        ensures numbers { (history : List Entry) → HubStands J.told self.old history → self.old.spent ≡ false
+            → Counted (passes self.old.settings history cause) result }
         ensures journal_only { IsErrOf result StepFault.Journal → Rose (J.faults self.old.journal) (J.faults self.new.journal) }
         ensures later { J.faults self.old.journal ≤ J.faults self.new.journal }
     {
@@ -181,8 +200,12 @@ impl<J: Journal> Hub<J> {
             &mut self.backlogs,
             &cause,
         )?;
+        let Some(events) = counted(self.events, outs.len()) else {
+            return Err(StepFault::Numbers);
+        };
         let entry = Entry { cause, outs };
         self.journal.append(&entry)?;
+        self.events = events;
         self.spent = false;
         Ok(entry.outs)
     }
@@ -240,6 +263,7 @@ impl<J: Journal> Steps for Hub<J> {
             Ok(outs) => Ok(outs),
             Err(StepFault::Memory) => Err(CoreFault::Memory),
             Err(StepFault::Journal) => Err(CoreFault::Journal),
+            Err(StepFault::Numbers) => Err(CoreFault::Numbers),
             Err(StepFault::Spent) => Err(CoreFault::Spent),
         }
     }
