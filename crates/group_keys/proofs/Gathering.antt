@@ -71,7 +71,7 @@ module _ (doc : Doc) (list : Option ℕ) where
 
 pub texts_at : (folders : List (List ℕ × List ℕ)) (i : ℕ) (f : List ℕ × List ℕ) → AreTexts folders → slice_get folders i ≡ Some f → IsUtf8 f.0
 texts_at [] i f t e = absurd cc
-texts_at (x ∷ folders) zero f t e = subst (λ (y : List ℕ × List ℕ). IsUtf8 y.0) cc t.0
+texts_at (x ∷ folders) zero f t e = let same : x ≡ f = cc in subst (λ (y : List ℕ × List ℕ). IsUtf8 y.0) same t.0
 texts_at (x ∷ folders) (suc i) f t e = texts_at folders i f t.1 e
 
 pub texts_more : (folders : List (List ℕ × List ℕ)) (f : List ℕ × List ℕ) → AreTexts folders → IsUtf8 f.0 → AreTexts (folders ++ f ∷ [])

@@ -1,5 +1,5 @@
 //! The folders that an `initialize` names (LSP 3.17, InitializeParams and WorkspaceFolder).
-ghost use Rattle.std.specs.Prelude.{◌≡◌, ◌++◌, ℕ, List, Option, codes, encode_utf8_all, map, IfOk, OnOk, option_map};
+ghost use Rattle.std.specs.Prelude.{◌≡◌, ◌++◌, ℕ, List, Option, codes, encode_utf8_all, map, IfOk, IsUtf8, OnOk, option_map};
 ghost use Rattle.mux_members.specs.Notices.{IsTextIf};
 ghost use Rattle.event_model.specs.Members.{listed, named_of, string_of};
 ghost use Rattle.group_keys.specs.Uris.{AreTexts};
@@ -119,16 +119,24 @@ fn normalised(alloc: Global, text: &str) -> Result<Vec<u8>, Memory>
     }
 }
 
+// The normal form of a folder. Bytes that are no text stay as they are but for the slash.
+fn normal_form(alloc: Global, uri: &[u8]) -> Result<Body, Memory>
+    ensures { IsUtf8 uri.now → IfOk result (λ form. form ≡ without_slash (normalised uri.now)) }
+{
+    let form = match std::str::from_utf8(uri) {
+        Ok(text) => normalised(alloc, text)?,
+        Err(_) => Vec::from_slice(alloc, uri)?,
+    };
+    Ok(Body::new(Vec::from_slice(alloc, without_slash(&form))?))
+}
+
 /// The normal forms of folders, in time that is linear in their URIs.
 pub fn normal_forms(alloc: Global, folders: &[(Body, Body)]) -> Result<Vec<Body>, Memory>
-    requires { AreTexts folders.now }
-    ensures { IfOk result (λ forms. forms.items ≡ map normal_of folders.now) }
+    ensures { AreTexts folders.now → IfOk result (λ forms. forms.items ≡ map normal_of folders.now) }
 {
     let mut forms = Vec::new(alloc);
     for folder in folders {
-        let text = std::str::from_utf8(folder.0.bytes()).unwrap();
-        let form = normalised(alloc, text)?;
-        forms.push(Body::new(Vec::from_slice(alloc, without_slash(&form))?))?;
+        forms.push(normal_form(alloc, folder.0.bytes())?)?;
     }
     Ok(forms)
 }
