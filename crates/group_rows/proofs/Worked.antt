@@ -3,6 +3,7 @@ use Rattle.std.proofs.Common.{◌≡◌, ℕ, List, [], ◌∷◌, codes, refl}
 use Rattle.std.specs.Prelude.{Some}
 use Rattle.std.specs.Fmt.{digits}
 use Rattle.std.specs.Str.{chars}
+use Rattle.url.proofs.OnLiterals.{url_on_literals}
 use Rattle.json.specs.Print.{escape_byte}
 use Rattle.json_text.specs.Computes.{computes}
 use Rattle.json_text.specs.Named.{named}
@@ -19,55 +20,55 @@ use Rattle.group_rows.specs.Leaves.{leave_bodies}
 use Rattle.group_rows.specs.Texts.{encoding_of, texts_of}
 
 requests_come_too_early : all_outs too_early ≡ too_early_outs
-unfolding computes message_of named no_name_twice is_integer member_bytes with_id_text escape_byte digits own_request own_notification goes_nowhere editor_request
+unfolding computes url_on_literals message_of named no_name_twice is_integer member_bytes with_id_text escape_byte digits own_request own_notification goes_nowhere editor_request
 requests_come_too_early = refl
 
 requests_that_are_not_taken : all_outs refused_early ≡ refused_early_outs
-unfolding computes message_of named no_name_twice is_integer member_bytes with_id_text escape_byte digits own_request own_notification goes_nowhere editor_request
+unfolding computes url_on_literals message_of named no_name_twice is_integer member_bytes with_id_text escape_byte digits own_request own_notification goes_nowhere editor_request
 requests_that_are_not_taken = refl
 
 names_of_notifications : all_outs wrong_names ≡ wrong_names_outs
-unfolding computes message_of named no_name_twice is_integer member_bytes with_id_text escape_byte digits own_request own_notification goes_nowhere editor_request
+unfolding computes url_on_literals message_of named no_name_twice is_integer member_bytes with_id_text escape_byte digits own_request own_notification goes_nowhere editor_request
 names_of_notifications = refl
 
 two_editors_share_a_start : all_outs two_editors ≡ two_editors_outs
-unfolding computes message_of named no_name_twice is_integer member_bytes with_id_text escape_byte digits own_request own_notification goes_nowhere editor_request
+unfolding computes url_on_literals message_of named no_name_twice is_integer member_bytes with_id_text escape_byte digits own_request own_notification goes_nowhere editor_request
 two_editors_share_a_start = refl
 
 both_are_answered : all_outs both_ask ≡ both_ask_outs
-unfolding computes message_of named no_name_twice is_integer member_bytes with_id_text escape_byte digits own_request own_notification goes_nowhere editor_request
+unfolding computes url_on_literals message_of named no_name_twice is_integer member_bytes with_id_text escape_byte digits own_request own_notification goes_nowhere editor_request
 both_are_answered = refl
 
 the_start_is_switched : all_outs switching ≡ switching_outs
-unfolding computes message_of named no_name_twice is_integer member_bytes with_id_text escape_byte digits own_request own_notification goes_nowhere editor_request
+unfolding computes url_on_literals message_of named no_name_twice is_integer member_bytes with_id_text escape_byte digits own_request own_notification goes_nowhere editor_request
 the_start_is_switched = refl
 
 changes_of_two_texts : all_outs changing ≡ changing_outs
-unfolding computes message_of named no_name_twice is_integer member_bytes with_id_text escape_byte digits own_request own_notification goes_nowhere editor_request chars
+unfolding computes url_on_literals message_of named no_name_twice is_integer member_bytes with_id_text escape_byte digits own_request own_notification goes_nowhere editor_request chars
 changes_of_two_texts = refl
 
 the_holder_counts : all_outs closing ≡ closing_outs
-unfolding computes message_of named no_name_twice is_integer member_bytes with_id_text escape_byte digits own_request own_notification goes_nowhere editor_request
+unfolding computes url_on_literals message_of named no_name_twice is_integer member_bytes with_id_text escape_byte digits own_request own_notification goes_nowhere editor_request
 the_holder_counts = refl
 
 a_request_touches : touches_in (texts_of (with_groups 8) 0 (events_behind (with_groups 8) [] switching)).opens ≡ 2 ∷ 4 ∷ []
-unfolding computes message_of named no_name_twice is_integer member_bytes with_id_text escape_byte digits own_request own_notification goes_nowhere editor_request
+unfolding computes url_on_literals message_of named no_name_twice is_integer member_bytes with_id_text escape_byte digits own_request own_notification goes_nowhere editor_request
 a_request_touches = refl
 
 texts_of_the_first_group : texts_in (texts_of (with_groups 8) 0 (events_behind (with_groups 8) [] two_groups)).opens ≡ codes "a" ∷ []
-unfolding computes message_of named no_name_twice is_integer member_bytes with_id_text escape_byte digits own_request own_notification goes_nowhere editor_request
+unfolding computes url_on_literals message_of named no_name_twice is_integer member_bytes with_id_text escape_byte digits own_request own_notification goes_nowhere editor_request
 texts_of_the_first_group = refl
 
 texts_of_the_second_group : texts_in (texts_of (with_groups 8) 1 (events_behind (with_groups 8) [] two_groups)).opens ≡ codes "b" ∷ []
-unfolding computes message_of named no_name_twice is_integer member_bytes with_id_text escape_byte digits own_request own_notification goes_nowhere editor_request
+unfolding computes url_on_literals message_of named no_name_twice is_integer member_bytes with_id_text escape_byte digits own_request own_notification goes_nowhere editor_request
 texts_of_the_second_group = refl
 
 each_group_has_its_encoding : encoding_of 1 (events_behind (with_groups 8) [] two_groups) ≡ Some Utf16
-unfolding computes message_of named no_name_twice is_integer member_bytes with_id_text escape_byte digits own_request own_notification goes_nowhere editor_request
+unfolding computes url_on_literals message_of named no_name_twice is_integer member_bytes with_id_text escape_byte digits own_request own_notification goes_nowhere editor_request
 each_group_has_its_encoding = refl
 
 the_encoding_outlives_the_start : encoding_of 0 an_exit ≡ Some Utf8
-unfolding computes message_of named no_name_twice is_integer member_bytes with_id_text escape_byte digits own_request own_notification goes_nowhere editor_request
+unfolding computes url_on_literals message_of named no_name_twice is_integer member_bytes with_id_text escape_byte digits own_request own_notification goes_nowhere editor_request
 the_encoding_outlives_the_start = refl
 
 -- what a start is told where an editor of its group leaves
@@ -75,36 +76,36 @@ abbrev left_bodies : ℕ → ℕ → ℕ → List Event → List (List ℕ)
 left_bodies g s e events = let os = (texts_of (with_groups 8) g events).opens in leave_bodies (with_groups 8).limits.versions (λ u. held_at s u events) e os os
 
 the_holder_leaves : left_bodies 0 0 1 (events_behind (with_groups 8) [] switching) ≡ codes "{\"jsonrpc\":\"2.0\",\"method\":\"textDocument/didChange\",\"params\":{\"textDocument\":{\"uri\":\"file:///u\",\"version\":5},\"contentChanges\":[{\"text\":\"a\"}]}}" ∷ []
-unfolding computes message_of named no_name_twice is_integer member_bytes with_id_text escape_byte digits own_request own_notification goes_nowhere editor_request
+unfolding computes url_on_literals message_of named no_name_twice is_integer member_bytes with_id_text escape_byte digits own_request own_notification goes_nowhere editor_request
 the_holder_leaves = refl
 
 another_editor_leaves : left_bodies 0 0 0 (events_behind (with_groups 8) [] switching) ≡ []
-unfolding computes message_of named no_name_twice is_integer member_bytes with_id_text escape_byte digits own_request own_notification goes_nowhere editor_request
+unfolding computes url_on_literals message_of named no_name_twice is_integer member_bytes with_id_text escape_byte digits own_request own_notification goes_nowhere editor_request
 another_editor_leaves = refl
 
 the_last_one_leaves : left_bodies 1 1 1 (events_behind (with_groups 8) [] two_groups) ≡ codes "{\"jsonrpc\":\"2.0\",\"method\":\"textDocument/didClose\",\"params\":{\"textDocument\":{\"uri\":\"file:///u\"}}}" ∷ []
-unfolding computes message_of named no_name_twice is_integer member_bytes with_id_text escape_byte digits own_request own_notification goes_nowhere editor_request
+unfolding computes url_on_literals message_of named no_name_twice is_integer member_bytes with_id_text escape_byte digits own_request own_notification goes_nowhere editor_request
 the_last_one_leaves = refl
 
 its_open_requests_are_cancelled : left_outs 0 one_cancelled
     ≡ ToServer 0 (codes "{\"jsonrpc\":\"2.0\",\"method\":\"$/cancelRequest\",\"params\":{\"id\":4}}")
     ∷ ToServer 0 (codes "{\"jsonrpc\":\"2.0\",\"method\":\"textDocument/didClose\",\"params\":{\"textDocument\":{\"uri\":\"file:///u\"}}}")
     ∷ []
-unfolding computes message_of named no_name_twice is_integer member_bytes with_id_text escape_byte digits own_request own_notification goes_nowhere editor_request
+unfolding computes url_on_literals message_of named no_name_twice is_integer member_bytes with_id_text escape_byte digits own_request own_notification goes_nowhere editor_request
 its_open_requests_are_cancelled = refl
 
 editors_part : all_outs parting ≡ parting_outs
-unfolding computes message_of named no_name_twice is_integer member_bytes with_id_text escape_byte digits own_request own_notification goes_nowhere editor_request
+unfolding computes url_on_literals message_of named no_name_twice is_integer member_bytes with_id_text escape_byte digits own_request own_notification goes_nowhere editor_request
 editors_part = refl
 
 leaving_where_a_link_ends : all_outs links_end ≡ links_end_outs
-unfolding computes message_of named no_name_twice is_integer member_bytes with_id_text escape_byte digits own_request own_notification goes_nowhere editor_request
+unfolding computes url_on_literals message_of named no_name_twice is_integer member_bytes with_id_text escape_byte digits own_request own_notification goes_nowhere editor_request
 leaving_where_a_link_ends = refl
 
 statuses_are_told : all_outs asking_status ≡ asking_status_outs
-unfolding computes message_of named no_name_twice is_integer member_bytes with_id_text escape_byte digits own_request own_notification goes_nowhere editor_request chars
+unfolding computes url_on_literals message_of named no_name_twice is_integer member_bytes with_id_text escape_byte digits own_request own_notification goes_nowhere editor_request chars
 statuses_are_told = refl
 
 a_group_ends_for_another : outs_with 1 evicted ≡ evicted_outs
-unfolding computes message_of named no_name_twice is_integer member_bytes with_id_text escape_byte digits own_request own_notification goes_nowhere editor_request
+unfolding computes url_on_literals message_of named no_name_twice is_integer member_bytes with_id_text escape_byte digits own_request own_notification goes_nowhere editor_request
 a_group_ends_for_another = refl

@@ -3,6 +3,7 @@ use Rattle.std.proofs.Common.{◌≡◌, List, [], ◌∷◌, refl}
 use Rattle.std.specs.Prelude.{codes}
 use Rattle.mux_history.specs.declared.cause.Cause.TheVariants.{Joined, FromEditor}
 use Rattle.mux_history.specs.declared.out.Out.TheVariants.{ToEditor}
+use Rattle.url.proofs.OnLiterals.{url_on_literals}
 use Rattle.json_text.specs.Computes.{computes}
 use Rattle.json_text.specs.Named.{named}
 use Rattle.rpc_message.specs.Message.{message_of, no_name_twice, is_integer}
@@ -21,9 +22,9 @@ abbrev told_of_its_own : List Event
 told_of_its_own = behind told_of_another (ToEditor 0 (codes "{\"jsonrpc\":\"2.0\",\"id\":\"\\u0061\",\"result\":{\"capabilities\":{}}}") ∷ [])
 
 another_answer : (desk_of 0 told_of_another).phase ≡ Waiting
-unfolding computes message_of named no_name_twice is_integer
+unfolding computes url_on_literals message_of named no_name_twice is_integer
 another_answer = refl
 
 its_own_answer : (desk_of 0 told_of_its_own).phase ≡ Answered
-unfolding computes message_of named no_name_twice is_integer
+unfolding computes url_on_literals message_of named no_name_twice is_integer
 its_own_answer = refl

@@ -1,8 +1,10 @@
 -- The groups, and which editor is in which, by the history: one fold, since an editor is placed by what the groups were before.
 use Rattle.std.specs.Prelude.{ℕ, ◌+◌, max, Bool, true, false, not, ◌&&◌, List, [], ◌∷◌, ◌++◌, length, map, fold, codes, nat_eq, nat_lt, nat_le, bytes_eq, if◌then◌else◌, encode_utf8_all}
-use Rattle.std.specs.Prelude.{Option, Some, None}
+use Rattle.std.specs.Prelude.{Option, Some, None, Ok, Err}
 use Rattle.std.specs.List.{filter, range_with_len, slice_get}
 use Rattle.json_text.specs.Json.{Json, object}
+use Rattle.url.specs.Parser.{Parsed, parse_url}
+use Rattle.url.specs.Parts.{Parts, serialize}
 use Rattle.mux_history.specs.declared.cause.Cause.TheVariants.{FromEditor, EditorGone, StartFailed, FromServer, ServerGone, Tick}
 use Rattle.mux_history.specs.declared.out.Out.TheVariants.{CloseEditor}
 use Rattle.rpc_message.specs.Message.{Message, request, error, integer}
@@ -77,14 +79,23 @@ or_root [] root = folder_of root None
 abbrev pub folders_of : Option Json → List (List ℕ × List ℕ)
 folders_of params = or_root (folders_in (listed (named_of (codes "workspaceFolders") params))) (string_of (named_of (codes "rootUri") params))
 
--- one trailing slash is removed (of the URL's normal form)
+-- the normal form of a URI: of a text of at most 65,536 bytes that is a URL, the URL as it is written (URL Standard, sections 4.4 and
+-- 4.5); else the text
+abbrev pub serialized_or : List ℕ → Parsed Parts → List ℕ
+serialized_or text (Ok url) = serialize url
+serialized_or text (Err e) = text
+
+abbrev pub normalised : List ℕ → List ℕ
+normalised text = if nat_lt 65536 (length text) then text else serialized_or text (parse_url None text)
+
+-- of which one trailing slash is removed
 abbrev pub without_slash : List ℕ → List ℕ
 without_slash [] = []
 without_slash (b ∷ []) = if nat_eq b 47 then [] else b ∷ []
 without_slash (b ∷ c ∷ bs) = b ∷ without_slash (c ∷ bs)
 
 abbrev pub normal_of : List ℕ × List ℕ → List ℕ
-normal_of folder = without_slash folder.0
+normal_of folder = without_slash (normalised folder.0)
 
 abbrev pub key_for : Settings → List Event → ℕ → List ℕ → Common
 key_for settings before e body = record {

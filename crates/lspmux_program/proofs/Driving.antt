@@ -23,14 +23,14 @@ use Rattle.lspmux_program.specs.Buffers.{BufferView, known_lines, onto_known, Fi
 use Rattle.lspmux_program.specs.Faults.{LeavesWritten}
 use Rattle.lspmux_program.specs.Lines.{Line, lines_of, longest}
 use Rattle.drive_text.specs.Outs.{out_lines, outs_text}
-use Rattle.lspmux_program.specs.Runs.{Refused, Outcome, on_reading, reading, reading_bytes, after, drive_from, IsRunOf, TakesFirst, WroteFront}
-use Rattle.lspmux_program.specs.Steps.{IsTaken, LineTaken, LineLeft, untouched, stepped}
+use Rattle.lspmux_program.specs.Runs.{Refused, Outcome, on_reading, reading, reading_bytes, after, drive_from, IsRunOf, PassesFirst, TakesFirst, WroteFront}
+use Rattle.lspmux_program.specs.Steps.{IsTaken, IsTooMany, LineTaken, LineLeft, untouched, stepped}
 use Rattle.lspmux_program.specs.Stops.{stop_at, fault_at, Consumed, Driving, Gives, StopsAt, Driven}
 use Rattle.lspmux_program.proofs.Longest.{long_bytes}
 use Rattle.lspmux_program.proofs.Consumes.{consumed_none, consumed_more, consumed_read}
 
 -- a line with this reading, and the lines behind it
-abbrev driven_by : Settings → ℕ → List Entry → List Line → Result Cause Refusal → Outcome
+abbrev pub driven_by : Settings → ℕ → List Entry → List Line → Result Cause Refusal → Outcome
 driven_by settings k before lines read = on_reading read
     (λ refusal. record { history = before; refused = Some (record { line = k; refusal = refusal }) })
     (λ cause. drive_from settings (k + 1) (after settings before cause) lines)
@@ -46,7 +46,7 @@ behind_line settings k before h front rest (Err r) ih e =
 behind_line settings k before h front rest (Ok c) ih e = ih c e
 
 -- driving lines goes on behind the first of them
-drive_append : (settings : Settings) (k : ℕ) (before h : List Entry) (front rest : List Line) → drive_from settings k before front ≡ record { history = h; refused = None }
+pub drive_append : (settings : Settings) (k : ℕ) (before h : List Entry) (front rest : List Line) → drive_from settings k before front ≡ record { history = h; refused = None }
     → drive_from settings k before (front ++ rest) ≡ drive_from settings (k + length front) h rest
 drive_append settings k before h [] rest e =
     let i : before ≡ h = ap (λ (o : Outcome). o.history) e in
@@ -279,15 +279,23 @@ module _ {J : Type 0} (told : J → Option (List Entry)) (settings : Settings) (
   first_taken None t = tt
   first_taken (Some lines) t = (t.cause, reading_near settings d.history bytes next_buffer.used near ∙ t.reads)
 
+  -- the line with which the causes and outs would be too many
+  first_passes : (rest : Option (List Line)) → IsTooMany settings d.history bytes → IfSome (onto_known (record { bytes = bytes; upto = next_buffer.used }) rest) (PassesFirst settings d.history)
+  first_passes None t = tt
+  first_passes (Some lines) t = (t.cause, reading_near settings d.history bytes next_buffer.used near ∙ t.reads, t.passes)
+
   pub faults : (number : ℕ) (fault : TakeFault) → number ≡ taken + 1 → LineLeft told d.history bytes hub next v u → (LeavesWritten fault → HubStands told next d.history × (u ≡ v))
-      → ((r : Refusal) → fault ≡ take_fault.Refused r → reading_bytes hub.settings d.history bytes ≡ Err r) → (fault ≡ take_fault.Journal → IsTaken hub.settings d.history bytes)
+      → ((r : Refusal) → fault ≡ take_fault.Refused r → reading_bytes hub.settings d.history bytes ≡ Err r) → (fault ≡ take_fault.Journal → IsTaken hub.settings d.history bytes) → (fault ≡ take_fault.Numbers → IsTooMany hub.settings d.history bytes)
       → Driven told settings input next_left w u next (Err (fault_at number fault))
-  faults number take_fault.Memory n left_line kept refused taken_line = left_at stop.Memory (λ h r. tt) left_line
-  faults number take_fault.Output n left_line kept refused taken_line = left_at stop.Output (λ h r. tt) left_line
-  faults number take_fault.Journal n left_line kept refused taken_line =
+  faults number take_fault.Memory n left_line kept refused taken_line passing = left_at stop.Memory (λ h r. tt) left_line
+  faults number take_fault.Output n left_line kept refused taken_line passing = left_at stop.Output (λ h r. tt) left_line
+  faults number take_fault.Journal n left_line kept refused taken_line passing =
       let k : HubStands told next d.history × (u ≡ v) = kept tt in
       kept_at stop.Journal k.0 k.1 (k.1 ∙ d.wrote, subst (λ rest. IfSome rest (TakesFirst settings d.history)) (sym first) (first_taken (known_lines next_buffer next_left) (subst (λ q. IsTaken q d.history bytes) same (taken_line refl))))
-  faults number (take_fault.Refused r) n left_line kept refused taken_line =
+  faults number take_fault.Numbers n left_line kept refused taken_line passing =
+      let k : HubStands told next d.history × (u ≡ v) = kept tt in
+      kept_at stop.Numbers k.0 k.1 (k.1 ∙ d.wrote, subst (λ rest. IfSome rest (PassesFirst settings d.history)) (sym first) (first_passes (known_lines next_buffer next_left) (subst (λ q. IsTooMany q d.history bytes) same (passing refl))))
+  faults number (take_fault.Refused r) n left_line kept refused taken_line passing =
       let k : HubStands told next d.history × (u ≡ v) = kept tt in
       kept_at (stop.Refused number r) k.0 k.1 (
         k.1 ∙ d.wrote,

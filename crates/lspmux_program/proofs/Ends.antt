@@ -12,12 +12,13 @@ use Rattle.lspmux_program.specs.declared.refusal.Refusal.{Refusal}
 use Rattle.lspmux_program.specs.declared.stop.Stop.{Stop}
 use Rattle.lspmux_program.specs.declared.stop.Stop.TheVariants as stop
 use Rattle.lspmux_program.proofs.Driving.{append_both, take_more}
+use Rattle.lspmux_program.proofs.Passing.{not_too_many}
 use Rattle.lspmux_program.specs.Lines.{lines_of}
 use Rattle.drive_text.specs.Outs.{outs_text}
 use Rattle.group_sessions.proofs.Sessions.{sessions_kept}
 use Rattle.lspmux_program.specs.Program.{status_of, fault_line, status_line, refused_line, Ran, Drove, JournalTells, words_line, IsUnrefused, Undisturbed}
 use Rattle.lspmux_program.specs.Reports.{Wrote, Reported, said, unsaid}
-use Rattle.lspmux_program.specs.Runs.{built_in, Refused, Outcome, drive_of, IsRunOfRead, TakesFirst, WroteFront}
+use Rattle.lspmux_program.specs.Runs.{built_in, Refused, Outcome, drive_of, IsRunOfRead, PassesFirst, TakesFirst, WroteFront}
 use Rattle.lspmux_program.specs.Stops.{Gives, Driven}
 
 ran_built_in : {J : Type 0} (told : J → Option (List Entry)) (journal : J) (input left w v : Option (List ℕ)) (hub : HubView J) (result : Result (Unit {0}) Stop)
@@ -25,6 +26,7 @@ ran_built_in : {J : Type 0} (told : J → Option (List Entry)) (journal : J) (in
 ran_built_in told journal input left w v hub result d s j = record {
   history = d.history;
   legal = subst (λ q. Legal q d.history) s d.stands.legal;
+  few = d.stands.few;
   told_by = subst (λ q. Tells (told q) d.history) (sym j) d.stands.told_by;
   rest = d.rest;
   run = d.run;
@@ -51,6 +53,7 @@ pub never_ran : {J : Type 0} (told : J → Option (List Entry)) (journal : J) (i
 never_ran told journal input w t = record {
   history = [];
   legal = tt;
+  few = lit≤ tt;
   told_by = t;
   rest = option_map lines_of input;
   run = record { front = []; whole = unread input; runs = refl };
@@ -69,6 +72,7 @@ drove_done told journal input left w v failed r = record {
   history = r.history;
   legal = r.legal;
   sessions = sessions_kept built_in (record { requests = lit< tt; versions = lit< tt }) r.history r.legal;
+  few = r.few;
   told_by = r.told_by;
   finished = λ _. record { gives = given_input input (record { history = r.history; refused = None }) r.done.1; wrote = r.done.0 };
   refused = λ e. absurd (omega (arith, e));
@@ -99,11 +103,12 @@ nothing_written v u f = f.wrote ∙ by v f.count
 
 -- a stop without a fault line
 silent : {J : Type 0} (told : J → Option (List Entry)) (journal : J) (input left w v u : Option (List ℕ)) (failed : Type 0) (s : Stop) (status : ℕ) → Ran told journal input left w v (Err s)
-    → 5 ≤ status → (status ≡ 6 → ⊥) → (status ≡ 7 → ⊥) → status_line status ≡ [] → u ≡ v → Drove told (Some journal) input left w u failed status
-silent told journal input left w v u failed s status r m six seven l e = record {
+    → 5 ≤ status → (status ≡ 6 → ⊥) → (status ≡ 7 → ⊥) → (status ≡ 9 → ⊥) → status_line status ≡ [] → u ≡ v → Drove told (Some journal) input left w u failed status
+silent told journal input left w v u failed s status r m six seven nine l e = record {
   history = r.history;
   legal = r.legal;
   sessions = sessions_kept built_in (record { requests = lit< tt; versions = lit< tt }) r.history r.legal;
+  few = r.few;
   told_by = r.told_by;
   finished = λ e. absurd (omega (arith, e, m));
   refused = λ e. absurd (omega (arith, e, m));
@@ -115,12 +120,14 @@ silent told journal input left w v u failed s status r m six seven l e = record 
     whole = neither;
     journal_failed = λ e. absurd (six e);
     input_failed = λ e. absurd (seven e);
+    too_many = λ e. absurd (nine e);
   };
 }
   where
-    neither : (status ≡ 6) ⊎ (status ≡ 7) → (u ≡ append_known w (outs_text r.history ++ status_line status)) ⊎ failed
+    neither : (status ≡ 6) ⊎ (status ≡ 7) ⊎ (status ≡ 9) → (u ≡ append_known w (outs_text r.history ++ status_line status)) ⊎ failed
     neither (inl e) = absurd (six e)
-    neither (inr e) = absurd (seven e)
+    neither (inr (inl e)) = absurd (seven e)
+    neither (inr (inr e)) = absurd (nine e)
 
 whole_behind : (w v u : Option (List ℕ)) (a b : List ℕ) (failed : Type 0) → v ≡ append_known w a → (u ≡ append_known v b) ⊎ failed → (u ≡ append_known w (a ++ b)) ⊎ failed
 whole_behind w v u a b failed e (inl o) = inl (o ∙ (ap (λ q. append_known q b) e ∙ append_both w a b))
@@ -129,11 +136,13 @@ whole_behind w v u a b failed e (inr f) = inr f
 -- a stop with one, behind all outs
 spoken : {J : Type 0} (told : J → Option (List Entry)) (journal : J) (input left w v u : Option (List ℕ)) (failed : Type 0) (s : Stop) (status : ℕ) (r : Ran told journal input left w v (Err s))
     → 5 ≤ status → v ≡ append_known w (outs_text r.history) → Wrote v u (status_line status) failed → (status ≡ 6 → IfSome r.rest (TakesFirst built_in r.history)) → (status ≡ 7 → IsRunOfRead built_in input left r.history)
+    → (status ≡ 9 → IfSome r.rest (PassesFirst built_in r.history))
     → Drove told (Some journal) input left w u failed status
-spoken told journal input left w v u failed s status r m o f six seven = record {
+spoken told journal input left w v u failed s status r m o f six seven nine = record {
   history = r.history;
   legal = r.legal;
   sessions = sessions_kept built_in (record { requests = lit< tt; versions = lit< tt }) r.history r.legal;
+  few = r.few;
   told_by = r.told_by;
   finished = λ e. absurd (omega (arith, e, m));
   refused = λ e. absurd (omega (arith, e, m));
@@ -145,6 +154,7 @@ spoken told journal input left w v u failed s status r m o f six seven = record 
     whole = λ _. whole_behind w v u (outs_text r.history) (status_line status) failed o f.whole;
     journal_failed = six;
     input_failed = seven;
+    too_many = nine;
   };
 }
 
@@ -154,6 +164,7 @@ refused_at told journal input left w v u failed k refusal r f = record {
   history = r.history;
   legal = r.legal;
   sessions = sessions_kept built_in (record { requests = lit< tt; versions = lit< tt }) r.history r.legal;
+  few = r.few;
   told_by = r.told_by;
   finished = λ e. absurd (omega (arith, e));
   refused = λ _. record {
@@ -170,17 +181,18 @@ refused_at told journal input left w v u failed k refusal r f = record {
 said_of : {J : Type 0} (told : J → Option (List Entry)) (journal : J) (input left w v u : Option (List ℕ)) (failed : Type 0) (s : Stop)
     → Ran told journal input left w v (Err s) → Wrote v u (fault_line s) failed → Drove told (Some journal) input left w u failed (status_of s)
 said_of told journal input left w v u failed (stop.Refused k refusal) r f = refused_at told journal input left w v u failed k refusal r f
-said_of told journal input left w v u failed stop.Memory r f = silent told journal input left w v u failed stop.Memory 5 r (omega arith) (λ e. omega (arith, e)) (λ e. omega (arith, e)) refl (nothing_written v u f.front)
-said_of told journal input left w v u failed stop.Journal r f = spoken told journal input left w v u failed stop.Journal 6 r (omega arith) r.stopped.0 f (λ _. r.stopped.1) (λ e. absurd (omega (arith, e)))
-said_of told journal input left w v u failed stop.Input r f = spoken told journal input left w v u failed stop.Input 7 r (omega arith) r.stopped.0 f (λ e. absurd (omega (arith, e))) (λ _. r.stopped.1)
-said_of told journal input left w v u failed stop.Output r f = silent told journal input left w v u failed stop.Output 8 r (omega arith) (λ e. omega (arith, e)) (λ e. omega (arith, e)) refl (nothing_written v u f.front)
+said_of told journal input left w v u failed stop.Memory r f = silent told journal input left w v u failed stop.Memory 5 r (omega arith) (λ e. omega (arith, e)) (λ e. omega (arith, e)) (λ e. omega (arith, e)) refl (nothing_written v u f.front)
+said_of told journal input left w v u failed stop.Journal r f = spoken told journal input left w v u failed stop.Journal 6 r (omega arith) r.stopped.0 f (λ _. r.stopped.1) (λ e. absurd (omega (arith, e))) (λ e. absurd (omega (arith, e)))
+said_of told journal input left w v u failed stop.Input r f = spoken told journal input left w v u failed stop.Input 7 r (omega arith) r.stopped.0 f (λ e. absurd (omega (arith, e))) (λ _. r.stopped.1) (λ e. absurd (omega (arith, e)))
+said_of told journal input left w v u failed stop.Output r f = silent told journal input left w v u failed stop.Output 8 r (omega arith) (λ e. omega (arith, e)) (λ e. omega (arith, e)) (λ e. omega (arith, e)) refl (nothing_written v u f.front)
+said_of told journal input left w v u failed stop.Numbers r f = spoken told journal input left w v u failed stop.Numbers 9 r (omega arith) r.stopped.0 f (λ e. absurd (omega (arith, e))) (λ e. absurd (omega (arith, e))) (λ _. r.stopped.1)
 
 drove_stopped : {J : Type 0} (told : J → Option (List Entry)) (journal : J) (input left w v u : Option (List ℕ)) (failed : Type 0) (s : Stop) (status : ℕ)
     → Ran told journal input left w v (Err s) → Reported status (status_of s) v u (fault_line s) failed → Drove told (Some journal) input left w u failed status
 drove_stopped told journal input left w v u failed s status r (said e f) =
     subst (λ n. Drove told (Some journal) input left w u failed n) (sym e) (said_of told journal input left w v u failed s r f)
 drove_stopped told journal input left w v u failed s status r (unsaid e f) =
-    subst (λ n. Drove told (Some journal) input left w u failed n) (sym e) (silent told journal input left w v u failed s 5 r (omega arith) (λ e. omega (arith, e)) (λ e. omega (arith, e)) refl f)
+    subst (λ n. Drove told (Some journal) input left w u failed n) (sym e) (silent told journal input left w v u failed s 5 r (omega arith) (λ e. omega (arith, e)) (λ e. omega (arith, e)) (λ e. omega (arith, e)) refl f)
 
 -- other words
 pub drove_words : {J : Type 0} (told : J → Option (List Entry)) (journal : Option J) (input left w v : Option (List ℕ)) (failed : Type 0) → JournalTells told journal [] → Wrote w v words_line failed → Drove told journal input left w v failed 2
@@ -188,6 +200,7 @@ drove_words told journal input left w v failed t f = record {
   history = [];
   legal = tt;
   sessions = sessions_kept built_in (record { requests = lit< tt; versions = lit< tt }) [] tt;
+  few = lit≤ tt;
   told_by = t;
   finished = λ e. absurd (omega (arith, e));
   refused = λ e. absurd (omega (arith, e));
@@ -229,6 +242,7 @@ complete_said told journal words input left w v journal_rose input_rose output_r
 complete_said told journal words input left w v journal_rose input_rose output_rose stop.Journal r j i o u = absurd (u.journal (j refl))
 complete_said told journal words input left w v journal_rose input_rose output_rose stop.Input r j i o u = absurd (u.input (i refl))
 complete_said told journal words input left w v journal_rose input_rose output_rose stop.Output r j i o u = absurd (u.output (o refl))
+complete_said told journal words input left w v journal_rose input_rose output_rose stop.Numbers r j i o u = absurd (not_too_many input r.rest r.history r.run u.few r.stopped.1)
 
 pub complete : {J : Type 0} (told : J → Option (List Entry)) (journal : J) (words : List (List ℕ)) (input left w v u : Option (List ℕ)) (journal_rose input_rose output_rose failed : Type 0) (s : Stop) (status : ℕ)
     → Ran told journal input left w v (Err s) → Reported status (status_of s) v u (fault_line s) failed

@@ -3,6 +3,7 @@ pub mod Cuts
 pub mod Driving
 pub mod Ends
 pub mod Longest
+pub mod Passing
 pub mod Reports
 pub mod Steps
 pub mod Windows

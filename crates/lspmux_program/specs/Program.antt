@@ -1,9 +1,11 @@
 -- What the program answers and writes.
-use Rattle.std.specs.Prelude.{◌≡◌, ℕ, ◌≤◌, List, [], ◌∷◌, ◌++◌, codes, decimal, IfSome, OnOk, IfErr, take, nat_eq, option_map, if◌then◌else◌}
+use Rattle.std.specs.Prelude.{◌≡◌, ℕ, ◌≤◌, List, [], ◌∷◌, ◌++◌, codes, decimal, length, IfSome, OnOk, IfErr, take, nat_eq, option_map, if◌then◌else◌}
 use Rattle.std.specs.Prelude.{Option, Some, None, Result, ◌⊎◌}
 use Rattle.std.specs.Io.KnownBytes.{append_known}
 use Rattle.mux_history.specs.declared.entry.Entry.{Entry}
+use Rattle.mux_hub.specs.Entries.{most_events}
 use Rattle.mux_hub.specs.Hubs.{Tells}
+use Rattle.event_model.specs.Event.{events_of}
 use Rattle.session_laws.specs.Sessions.{KeepsSessions}
 use Rattle.group_facts.specs.Legal.{Legal}
 use Rattle.outside_io.specs.Faults.{Rose}
@@ -15,7 +17,7 @@ use Rattle.lspmux_program.specs.Lines.{Line, lines_of}
 use Rattle.drive_text.specs.Outs.{outs_text}
 use Rattle.lspmux_program.specs.Reports.{Wrote}
 use Rattle.lspmux_program.specs.Stops.{Gives, StopsAt}
-use Rattle.lspmux_program.specs.Runs.{built_in, Refused, drive_of, IsRunOf, IsRunOfRead, TakesFirst, WroteFront}
+use Rattle.lspmux_program.specs.Runs.{built_in, Refused, drive_of, IsRunOf, IsRunOfRead, PassesFirst, TakesFirst, WroteFront}
 
 abbrev pub status_of : Stop → ℕ
 status_of (stop.Refused k r) = 1
@@ -23,6 +25,7 @@ status_of stop.Memory = 5
 status_of stop.Journal = 6
 status_of stop.Input = 7
 status_of stop.Output = 8
+status_of stop.Numbers = 9
 
 abbrev pub refusal_word : Refusal → List ℕ
 refusal_word Form = codes "form"
@@ -39,6 +42,9 @@ journal_line = codes "!journal" ++ 10 ∷ []
 abbrev pub input_line : List ℕ
 input_line = codes "!input" ++ 10 ∷ []
 
+abbrev pub numbers_line : List ℕ
+numbers_line = codes "!numbers" ++ 10 ∷ []
+
 abbrev pub words_line : List ℕ
 words_line = codes "!words" ++ 10 ∷ []
 
@@ -49,10 +55,11 @@ fault_line stop.Memory = []
 fault_line stop.Journal = journal_line
 fault_line stop.Input = input_line
 fault_line stop.Output = []
+fault_line stop.Numbers = numbers_line
 
 -- the fault line of a status from 5 on
 abbrev pub status_line : ℕ → List ℕ
-status_line status = if nat_eq status 6 then journal_line else (if nat_eq status 7 then input_line else [])
+status_line status = if nat_eq status 6 then journal_line else (if nat_eq status 7 then input_line else (if nat_eq status 9 then numbers_line else []))
 
 abbrev pub drive_words : List (List ℕ)
 drive_words = codes "drive" ∷ []
@@ -71,6 +78,7 @@ JournalRose faults _ _ = ⊥
 pub record Ran {J : Type 0} (told : J → Option (List Entry)) (journal : J) (input left : Option (List ℕ)) (written now : Option (List ℕ)) (result : Result (Unit {0}) Stop) : Type 0 where
   pub history : List Entry
   pub legal : Legal built_in history
+  pub few : length (events_of history) ≤ most_events
   pub told_by : Tells (told journal) history
   pub rest : Option (List Line)
   pub run : IsRunOf built_in (option_map lines_of input) rest history
@@ -92,23 +100,27 @@ pub record RefusedAt (input before now : Option (List ℕ)) (failed : Type 0) (h
   pub front : now ≡ append_known before (outs_text history ++ take count (refused_line at))
   pub whole : (now ≡ append_known before (outs_text history ++ refused_line at)) ⊎ failed
 
--- status 5 to 8: the history is that of some first lines, and a front of their outs and the fault line was written
+-- status 5 to 9: the history is that of some first lines, and a front of their outs and the fault line was written
 pub record CutOff (input left before now : Option (List ℕ)) (failed : Type 0) (status : ℕ) (history : List Entry) : Type 0 where
   pub rest : Option (List Line)
   pub run : IsRunOf built_in (option_map lines_of input) rest history
   pub wrote : WroteFront before now (outs_text history ++ status_line status)
-  -- status 6 and 7: all of it, unless the output failed
-  pub whole : (status ≡ 6) ⊎ (status ≡ 7) → (now ≡ append_known before (outs_text history ++ status_line status)) ⊎ failed
+  -- status 6, 7 and 9: all of it, unless the output failed
+  pub whole : (status ≡ 6) ⊎ (status ≡ 7) ⊎ (status ≡ 9) → (now ≡ append_known before (outs_text history ++ status_line status)) ⊎ failed
   -- status 6: the next line isn't refused; its entry was not appended
   pub journal_failed : status ≡ 6 → IfSome rest (TakesFirst built_in history)
   -- status 7: the lines are all that end in what was read
   pub input_failed : status ≡ 7 → IsRunOfRead built_in input left history
+  -- status 9: the next line isn't refused; with its entry the causes and outs would be more than 2^63 - 1
+  pub too_many : status ≡ 9 → IfSome rest (PassesFirst built_in history)
 
--- a run of the program: there is a legal history of conforming sessions, which the journal tells where it tells
+-- a run of the program: there is a legal history of conforming sessions, of at most 2^63 - 1 causes and outs, which the journal tells
+-- where it tells
 pub record Drove {J : Type 0} (told : J → Option (List Entry)) (journal : Option J) (input left before now : Option (List ℕ)) (failed : Type 0) (status : ℕ) : Type 0 where
   pub history : List Entry
   pub legal : Legal built_in history
   pub sessions : KeepsSessions history
+  pub few : length (events_of history) ≤ most_events
   pub told_by : JournalTells told journal history
   pub finished : status ≡ 0 → Finished input before now history
   pub refused : status ≡ 1 → RefusedAt input before now failed history
@@ -117,17 +129,23 @@ pub record Drove {J : Type 0} (told : J → Option (List Entry)) (journal : Opti
 
 -- the statuses
 abbrev pub IsStatus : ℕ → Type 0
-IsStatus status = (status ≡ 0) ⊎ (status ≡ 1) ⊎ (status ≡ 2) ⊎ (status ≡ 5) ⊎ (status ≡ 6) ⊎ (status ≡ 7) ⊎ (status ≡ 8)
+IsStatus status = (status ≡ 0) ⊎ (status ≡ 1) ⊎ (status ≡ 2) ⊎ (status ≡ 5) ⊎ (status ≡ 6) ⊎ (status ≡ 7) ⊎ (status ≡ 8) ⊎ (status ≡ 9)
 
 -- the input is told, and none of its lines is refused
 abbrev pub IsUnrefused : Option (List ℕ) → Type 0
 IsUnrefused None = ⊥
 IsUnrefused (Some bytes) = (drive_of built_in bytes).refused ≡ None
 
--- the words are taken, nothing outside failed, and no line is refused
+-- the input is told, and the causes and outs of its lines are at most 2^63 - 1
+abbrev pub IsCounted : Option (List ℕ) → Type 0
+IsCounted None = ⊥
+IsCounted (Some bytes) = length (events_of (drive_of built_in bytes).history) ≤ most_events
+
+-- the words are taken, nothing outside failed, no line is refused, and the causes and outs are not too many
 pub record Undisturbed (given : List (List ℕ)) (told : Option (List ℕ)) (journal_rose input_rose output_rose : Type 0) : Type 0 where
   pub words : given ≡ drive_words
   pub journal : journal_rose → ⊥
   pub input : input_rose → ⊥
   pub output : output_rose → ⊥
   pub lines : IsUnrefused told
+  pub few : IsCounted told

@@ -1,5 +1,5 @@
 -- What driving the lines of an input gives: a history, and the first line that is refused.
-use Rattle.std.specs.Prelude.{◌≡◌, ℕ, ◌+◌, ◌^◌, List, [], ◌∷◌, ◌++◌, nat_lt, codes, if◌then◌else◌, option_map, take}
+use Rattle.std.specs.Prelude.{◌≡◌, ℕ, ◌+◌, ◌^◌, true, List, [], ◌∷◌, ◌++◌, nat_lt, codes, if◌then◌else◌, option_map, take}
 use Rattle.std.specs.Prelude.{Option, Some, None, Result, Ok, Err}
 use Rattle.std.specs.Io.KnownBytes.{append_known, prepend_known}
 use Rattle.mux_history.specs.declared.cause.Cause.{Cause}
@@ -7,7 +7,7 @@ use Rattle.mux_history.specs.declared.entry.Entry.{Entry}
 use Rattle.mux_model.specs.Fits.{fits}
 use Rattle.event_model.specs.Settings.{Settings}
 use Rattle.group_facts.specs.Built.{built}
-use Rattle.mux_hub.specs.Entries.{entry_of}
+use Rattle.mux_hub.specs.Entries.{entry_of, passes}
 use Rattle.lspmux_program.specs.declared.refusal.Refusal.{Refusal}
 use Rattle.lspmux_program.specs.declared.refusal.Refusal.TheVariants.{Form, Absent, Unbuilt}
 use Rattle.drive_text.specs.Forms.{cause_within}
@@ -74,6 +74,11 @@ pub record IsRunOf (settings : Settings) (all rest : Option (List Line)) (histor
 abbrev pub TakesFirst : Settings → List Entry → List Line → Type 0
 TakesFirst settings history [] = ⊥
 TakesFirst settings history (line ∷ lines) = (cause : Cause) × (reading settings history line ≡ Ok cause)
+
+-- nor is it, but with its entry the causes and outs would be more than 2^63 - 1
+abbrev pub PassesFirst : Settings → List Entry → List Line → Type 0
+PassesFirst settings history [] = ⊥
+PassesFirst settings history (line ∷ lines) = (cause : Cause) × (reading settings history line ≡ Ok cause) × (passes settings history cause ≡ true)
 
 -- the history is that of all lines that end in the bytes which were read of the input, and none of them is refused
 pub record IsRunOfRead (settings : Settings) (input left : Option (List ℕ)) (history : List Entry) : Type 0 where

@@ -1,11 +1,11 @@
 -- What one line does to a hub and an output.
-use Rattle.std.specs.Prelude.{◌≡◌, ℕ, List, take}
+use Rattle.std.specs.Prelude.{◌≡◌, ℕ, List, take, true}
 use Rattle.std.specs.Prelude.{Option, Ok}
 use Rattle.std.specs.Io.KnownBytes.{append_known}
 use Rattle.mux_history.specs.declared.cause.Cause.{Cause}
 use Rattle.mux_history.specs.declared.entry.Entry.{Entry}
 use Rattle.event_model.specs.Settings.{Settings}
-use Rattle.mux_hub.specs.Entries.{emits}
+use Rattle.mux_hub.specs.Entries.{emits, passes}
 use Rattle.mux_hub.specs.Hubs.{HubView, HubStands}
 use Rattle.drive_text.specs.Outs.{out_lines}
 use Rattle.lspmux_program.specs.Runs.{reading_bytes, after}
@@ -21,6 +21,12 @@ pub record LineTaken {J : Type 0} (told : J → Option (List Entry)) (history : 
 pub record IsTaken (settings : Settings) (history : List Entry) (line : List ℕ) : Type 0 where
   pub cause : Cause
   pub reads : reading_bytes settings history line ≡ Ok cause
+
+-- nor is it refused, but with its entry the causes and outs would be too many
+pub record IsTooMany (settings : Settings) (history : List Entry) (line : List ℕ) : Type 0 where
+  pub cause : Cause
+  pub reads : reading_bytes settings history line ≡ Ok cause
+  pub passes : passes settings history cause ≡ true
 
 -- nothing was done, or its cause was taken and a front of its outs was written
 pub data LineLeft {J : Type 0} (told : J → Option (List Entry)) (history : List Entry) (line : List ℕ) (hub now : HubView J) (written written_now : Option (List ℕ)) : Type 0 where

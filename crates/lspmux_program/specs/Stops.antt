@@ -15,7 +15,7 @@ use Rattle.lspmux_program.specs.declared.stop.Stop.TheVariants as stop
 use Rattle.lspmux_program.specs.Buffers.{BufferView, unused, known_lines}
 use Rattle.lspmux_program.specs.Lines.{Line, lines_of, ended_lines, ended_from}
 use Rattle.drive_text.specs.Outs.{outs_text}
-use Rattle.lspmux_program.specs.Runs.{Outcome, drive_from, IsRunOf, IsRunOfRead, TakesFirst, WroteFront}
+use Rattle.lspmux_program.specs.Runs.{Outcome, drive_from, IsRunOf, IsRunOfRead, PassesFirst, TakesFirst, WroteFront}
 
 abbrev pub stop_at : ℕ → LineStop → Stop
 stop_at number line_stop.Memory = stop.Memory
@@ -25,6 +25,7 @@ stop_at number line_stop.Passed = stop.Refused number Form
 abbrev pub fault_at : ℕ → TakeFault → Stop
 fault_at number take_fault.Memory = stop.Memory
 fault_at number take_fault.Journal = stop.Journal
+fault_at number take_fault.Numbers = stop.Numbers
 fault_at number take_fault.Output = stop.Output
 fault_at number (take_fault.Refused refusal) = stop.Refused number refusal
 
@@ -48,12 +49,14 @@ pub record Driving {J : Type 0} (told : J → Option (List Entry)) (settings : S
 abbrev pub Gives : Settings → Option (List Line) → Outcome → Type 0
 Gives settings all outcome = IfSome all (λ lines. drive_from settings 1 [] lines ≡ outcome)
 
--- what a stop says of the history and of what was written: the journal failed at the entry of a line that isn't refused;
+-- what a stop says of the history and of what was written: the journal failed at the entry of a line that isn't refused, or with
+-- that entry the causes and outs would be too many;
 -- the input failed behind the lines that end in what was read
 abbrev pub StopsAt : Settings → Option (List ℕ) → Option (List ℕ) → Option (List Line) → Option (List ℕ) → Option (List ℕ) → List Entry → Stop → Type 0
 StopsAt settings input left rest written now history stop.Memory = Unit {0}
 StopsAt settings input left rest written now history stop.Output = Unit {0}
 StopsAt settings input left rest written now history stop.Journal = (now ≡ append_known written (outs_text history)) × IfSome rest (TakesFirst settings history)
+StopsAt settings input left rest written now history stop.Numbers = (now ≡ append_known written (outs_text history)) × IfSome rest (PassesFirst settings history)
 StopsAt settings input left rest written now history stop.Input = (now ≡ append_known written (outs_text history)) × IsRunOfRead settings input left history
 StopsAt settings input left rest written now history (stop.Refused k r) =
     (now ≡ append_known written (outs_text history)) × Gives settings (option_map lines_of input) (record { history = history; refused = Some (record { line = k; refusal = r }) })

@@ -2,7 +2,7 @@
 ghost use Rattle.std.specs.Prelude.{◌≡◌, ◌≢◌, ℕ, ◌≤◌, ◌++◌, List, IfOk, string_bytes, ◌⊎◌};
 ghost use Rattle.std.specs.Io.KnownBytes.{append_known};
 ghost use Rattle.outside_io.specs.Faults.{Rose};
-ghost use Rattle.lspmux_program.specs.Program.{status_of, refusal_word, refused_line, journal_line, input_line, fault_line};
+ghost use Rattle.lspmux_program.specs.Program.{status_of, refusal_word, refused_line, journal_line, input_line, numbers_line, fault_line};
 ghost use Rattle.lspmux_program.specs.Runs.{WroteFront};
 ghost use Rattle.lspmux_program.specs.Reports.{Wrote, Reported};
 
@@ -51,7 +51,7 @@ fn write_refused<O: Sink>(alloc: Global, output: &mut O, line: u64, refusal: Ref
 }
 
 /// Writes the fault line of a stop and answers the status: 1 and the number of a refused line, 5 when memory runs out,
-/// 6, 7 and 8 for faults of journal, input and output.
+/// 6, 7 and 8 for faults of journal, input and output, and 9 where the causes and outs would be more than 2^63 - 1.
 pub fn report<O: Sink>(alloc: Global, output: &mut O, stop: Stop) -> u8
     ensures reported { Reported result (status_of stop) (O.written output.old) (O.written output.new) (fault_line stop)
         (Rose (O.faults output.old) (O.faults output.new)) }
@@ -69,5 +69,9 @@ pub fn report<O: Sink>(alloc: Global, output: &mut O, stop: Stop) -> u8
             7
         }
         Stop::Output => 8,
+        Stop::Numbers => {
+            write_fault(output, b"!numbers\n");
+            9
+        }
     }
 }

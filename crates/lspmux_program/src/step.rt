@@ -7,7 +7,7 @@ ghost use Rattle.mux_hub.specs.Hubs.{HubView, HubStands};
 ghost use Rattle.mux_model.specs.Fits.{fits};
 ghost use Rattle.group_facts.specs.Built.{built};
 ghost use Rattle.lspmux_program.specs.Runs.{reading_bytes};
-ghost use Rattle.lspmux_program.specs.Steps.{IsTaken, LineTaken, LineLeft};
+ghost use Rattle.lspmux_program.specs.Steps.{IsTaken, IsTooMany, LineTaken, LineLeft};
 ghost use Rattle.lspmux_program.specs.Faults.{LeavesWritten};
 ghost use Rattle.lspmux_program.specs.declared.refusal.Refusal.{Refusal};
 
@@ -26,6 +26,8 @@ pub enum TakeFault {
     Memory,
     /// The journal's append failed.
     Journal,
+    /// The causes and outs would be more than 2^63 - 1.
+    Numbers,
     /// A write to the output failed.
     Output,
     /// The line is refused.
@@ -53,6 +55,7 @@ impl From<StepFault> for TakeFault {
         match fault {
             StepFault::Memory | StepFault::Spent => TakeFault::Memory,
             StepFault::Journal => TakeFault::Journal,
+            StepFault::Numbers => TakeFault::Numbers,
         }
     }
 }
@@ -106,6 +109,7 @@ pub fn take_line<J: Journal, O: Sink>(
     ensures refused { (history : List Entry) (r : Refusal) → HubStands J.told hub.old history → IsErrOf result (TakeFault.Refused r)
         → reading_bytes hub.old.settings history line.items ≡ Err r }
     ensures entry { (history : List Entry) → HubStands J.told hub.old history → IsErrOf result TakeFault.Journal → IsTaken hub.old.settings history line.items }
+    ensures numbers { (history : List Entry) → HubStands J.told hub.old history → IsErrOf result TakeFault.Numbers → IsTooMany hub.old.settings history line.items }
     ensures left { (history : List Entry) → HubStands J.told hub.old history
         → OnErr result (LineLeft J.told history line.items hub.old hub.new (O.written output.old) (O.written output.new)) }
     ensures kept { (history : List Entry) → HubStands J.told hub.old history

@@ -14,6 +14,8 @@ pub enum Stop {
     Memory,
     /// The journal's append failed.
     Journal,
+    /// The causes and outs would be more than 2^63 - 1.
+    Numbers,
     /// A read of the input failed.
     Input,
     /// A write to the output failed.
@@ -51,6 +53,7 @@ pub fn fault_at(number: u64, fault: TakeFault) -> Stop
     match fault {
         TakeFault::Memory => Stop::Memory,
         TakeFault::Journal => Stop::Journal,
+        TakeFault::Numbers => Stop::Numbers,
         TakeFault::Output => Stop::Output,
         TakeFault::Refused(refusal) => Stop::Refused(number, refusal),
     }

@@ -15,6 +15,8 @@ use Rattle.mux_facts.specs.Ranges.{InRange}
 use Rattle.session_laws.proofs.SpawnedLaw.{counts_above, counts_below}
 use Rattle.group_facts.specs.Legal.{Legal}
 use Rattle.group_sessions.proofs.SpawnedLaw.{numbered, spawned_once_law}
+use Rattle.event_model.specs.Spawns.{starts_of}
+use Rattle.mux_hub.proofs.Starts.{servers_count}
 use Rattle.mux_hub.specs.Entries.{emits, entry_of}
 use Rattle.mux_hub.specs.Hubs.{HubView, HubStands}
 
@@ -52,17 +54,19 @@ next_joins told hub history h s =
     let r : editors_of (events_of history) ≡ 0 + joined history = history_joins history [] in
     omega (arith, e, r)
 
--- whether a start has a place, by the number of those that were spawned
-pub place_given : {J : Type 0} (told : J → Option (List Entry)) (hub : HubView J) (history : List Entry) (s n : ℕ) → InRange hub.settings → HubStands told hub history → hub.spent ≡ false → n ≡ length hub.tables.origins.items → s < n
+-- a start has a server just where it was spawned
+pub server_given : {J : Type 0} (told : J → Option (List Entry)) (hub : HubView J) (history : List Entry) (s : ℕ) → InRange hub.settings → HubStands told hub history → hub.spent ≡ false → s < length hub.starts
     → (true ≡ false → spawns s history ≡ 0) × (spawns s history ≡ 0 → true ≡ false)
-place_given told hub history s n range h fresh e l =
-    let one : spawns s history ≡ 1 = counts_below history s (numbered hub.settings range history h.legal) (subst (λ m. s < m) (e ∙ sym (h.tables fresh).tables.origins.count) l) in
+server_given told hub history s range h fresh l =
+    let count : length hub.starts ≡ starts_of (events_of history) = ap length (h.tables fresh).servers ∙ servers_count hub.settings (events_of history) in
+    let one : spawns s history ≡ 1 = counts_below history s (numbered hub.settings range history h.legal) (subst (λ m. s < m) count l) in
     (λ no. absurd cc, λ zeros. absurd (omega (arith, one, zeros)))
 
-pub place_missing : {J : Type 0} (told : J → Option (List Entry)) (hub : HubView J) (history : List Entry) (s n : ℕ) → InRange hub.settings → HubStands told hub history → hub.spent ≡ false → n ≡ length hub.tables.origins.items → n ≤ s
+pub server_missing : {J : Type 0} (told : J → Option (List Entry)) (hub : HubView J) (history : List Entry) (s : ℕ) → InRange hub.settings → HubStands told hub history → hub.spent ≡ false → length hub.starts ≤ s
     → (false ≡ false → spawns s history ≡ 0) × (spawns s history ≡ 0 → false ≡ false)
-place_missing told hub history s n range h fresh e l =
-    (λ same. counts_above history s (numbered hub.settings range history h.legal) (subst (λ m. m ≤ s) (e ∙ sym (h.tables fresh).tables.origins.count) l), λ zeros. refl)
+server_missing told hub history s range h fresh l =
+    let count : length hub.starts ≡ starts_of (events_of history) = ap length (h.tables fresh).servers ∙ servers_count hub.settings (events_of history) in
+    (λ same. counts_above history s (numbered hub.settings range history h.legal) (subst (λ m. m ≤ s) count l), λ zeros. refl)
 
 -- behind one more entry no start was spawned twice
 pub once_more : {J : Type 0} (told : J → Option (List Entry)) (settings : Settings) (hub : HubView J) (history : List Entry) (cause : Cause) (xs : List Out) → InRange settings → hub.settings ≡ settings → xs ≡ emits settings history cause

@@ -1,5 +1,5 @@
 -- A step of the hub leads from a history to the longer one.
-use Rattle.std.proofs.Common.{◌≡◌, ℕ, ◌^◌, ◌<◌, ◌≤◌, List, [], ◌∷◌, ◌++◌, ap, sym, subst, ◌∙◌, append_assoc, append-nil, refl, Bool, true, false}
+use Rattle.std.proofs.Common.{◌≡◌, ℕ, ◌+◌, ◌^◌, ◌<◌, ◌≤◌, List, [], ◌∷◌, ◌++◌, length, nat_lt, if◌then◌else◌, ap, sym, subst, ◌∙◌, append_assoc, append-nil, refl, arith, Bool, true, false}
 use Rattle.std.specs.Prelude.{Option, Some, None, Result, IsTrue, IfOk}
 use Rattle.std.proofs.lemmas.List.Sums.{fold-append}
 use Rattle.message_body.specs.declared.Memory.{Memory}
@@ -23,7 +23,8 @@ use Rattle.mux_tables.specs.Documents.{DocumentsStand, nothing_owed}
 use Rattle.mux_tables.specs.Stands.{Stands}
 use Rattle.mux_turns.specs.Ceilings.{HaveCeilings}
 use Rattle.mux_causes.specs.Backlogs.{BacklogsStand}
-use Rattle.mux_hub.specs.Entries.{emits, entry_of}
+use Rattle.mux_hub.specs.Entries.{emits, entry_of, most_events}
+use Rattle.mux_hub.proofs.Counting.{at_most, entry_counts, few_of, passes_by}
 use Rattle.mux_hub.specs.Hubs.{HubView, HubStands, IsSound, TablesStand, Tells}
 
 legal_from : (settings : Settings) (before rest : List Entry) (cause : Cause) → LegalFrom settings before rest → IsTrue (fits (before ++ rest) cause) → IsTrue (built settings (before ++ rest) cause)
@@ -53,23 +54,28 @@ abbrev entry_record : Cause → List Out → Entry
 entry_record cause xs = record { cause = cause; outs = xs }
 
 -- the outs of a turn, and what the tables stand for behind it
-abbrev pub Turns : Settings → List Event → Cause → List Out → Tables → List ℕ → Type 0
-Turns settings before cause xs now counts = (xs ≡ outs_of settings before cause) × TablesStand settings now counts (behind (with_cause before cause) xs)
+abbrev pub Turns : Settings → List Event → Cause → List Out → Tables → List ℕ → List ℕ → Type 0
+Turns settings before cause xs now counts servers = (xs ≡ outs_of settings before cause) × TablesStand settings now counts servers (behind (with_cause before cause) xs)
 
-pub record Stepped {J : Type 0} (told : J → Option (List Entry)) (hub : HubView J) (cause : Cause) (xs : List Out) (now : Tables) (counts : List ℕ) (journal : J) (history : List Entry) : Type 0 where
+pub record Stepped {J : Type 0} (told : J → Option (List Entry)) (hub : HubView J) (cause : Cause) (xs : List Out) (now : Tables) (counts servers : List ℕ) (count : ℕ) (journal : J) (history : List Entry) : Type 0 where
   pub outs : xs ≡ emits hub.settings history cause
-  pub stands : HubStands told (record { settings = hub.settings; tables = now; backlogs = counts; spent = false; journal = journal }) (history ++ entry_of hub.settings history cause ∷ [])
+  pub stands : HubStands told (record { settings = hub.settings; tables = now; backlogs = counts; starts = servers; events = count; spent = false; journal = journal }) (history ++ entry_of hub.settings history cause ∷ [])
 
-pub stepped : {J : Type 0} (told : J → Option (List Entry)) (hub : HubView J) (cause : Cause) (xs : List Out) (now : Tables) (counts : List ℕ) (journal : J) (history : List Entry) → HubStands told hub history → hub.spent ≡ false
+pub stepped : {J : Type 0} (told : J → Option (List Entry)) (hub : HubView J) (cause : Cause) (xs : List Out) (now : Tables) (counts servers : List ℕ) (count : ℕ) (journal : J) (history : List Entry) → HubStands told hub history → hub.spent ≡ false
     → InRange hub.settings → IsTrue (fits history cause) → IsTrue (built hub.settings history cause)
     → ((settings : Settings) (before : List Event) → settings.servers ≡ hub.settings.servers → settings.default ≡ hub.settings.default → Known settings before → Settled settings before
-    → fits_behind before cause ≡ true → built_behind settings before cause ≡ true → TablesStand settings hub.tables hub.backlogs before → Turns settings before cause xs now counts)
-    → told journal ≡ append_told (told hub.journal) (record { cause = cause; outs = xs } ∷ []) → Stepped told hub cause xs now counts journal history
-stepped told hub cause xs now counts journal history h s range f b takes t =
+    → fits_behind before cause ≡ true → built_behind settings before cause ≡ true → TablesStand settings hub.tables hub.backlogs hub.starts before → Turns settings before cause xs now counts servers)
+    → told journal ≡ append_told (told hub.journal) (record { cause = cause; outs = xs } ∷ []) → Some count ≡ (if nat_lt most_events (hub.events + (1 + length xs)) then None else Some (hub.events + (1 + length xs)))
+    → Stepped told hub cause xs now counts servers count journal history
+stepped told hub cause xs now counts servers count journal history h s range f b takes t n =
     let events : List Event = events_of history in
-    let turned : Turns hub.settings events cause xs now counts =
+    let turned : Turns hub.settings events cause xs now counts servers =
     takes hub.settings events refl refl (known_holds hub.settings range history h.legal) (settled_holds hub.settings range history h.legal) f b (h.tables s) in
     let outs : xs ≡ emits hub.settings history cause = turned.0 in
+    let kept : (count ≡ hub.events + (1 + length xs)) × (nat_lt most_events (hub.events + (1 + length xs)) ≡ false) = at_most (hub.events + (1 + length xs)) count n in
+    let more : length (events_of (history ++ entry_of hub.settings history cause ∷ [])) ≡ length (events_of history) + (1 + length (emits hub.settings history cause)) = entry_counts history (entry_of hub.settings history cause) in
+    let same_outs : length xs ≡ length (emits hub.settings history cause) = ap length outs in
+    let old : hub.events ≡ length (events_of history) = h.count s in
     let longer : events_of (history ++ entry_of hub.settings history cause ∷ []) ≡ with_entry events (entry_of hub.settings history cause) = fold-append with_entry [] history (entry_of hub.settings history cause ∷ []) in
     let same : with_entry events (entry_record cause xs) ≡ with_entry events (entry_of hub.settings history cause) = ap (λ ys. with_entry events (entry_record cause ys)) outs in
     record {
@@ -77,7 +83,9 @@ stepped told hub cause xs now counts journal history h s range f b takes t =
       stands = record {
         legal = legal_more hub.settings history cause h.legal f b;
         told_by = told_more (told journal) (told hub.journal) history (entry_of hub.settings history cause) (entry_record cause xs) h.told_by t (ap (entry_record cause) outs);
-        tables = λ n. subst (λ evs. TablesStand hub.settings now counts evs) (same ∙ sym longer) turned.1;
+        few = few_of (length (events_of (history ++ entry_of hub.settings history cause ∷ []))) (ap (nat_lt most_events) more ∙ passes_by hub.settings history cause hub.events xs false old outs kept.1);
+        count = λ _. omega (arith, kept.0, more, same_outs, old);
+        tables = λ n. subst (λ evs. TablesStand hub.settings now counts servers evs) (same ∙ sym longer) turned.1;
       };
     }
 
@@ -90,8 +98,8 @@ built_answer told hub history cause result range says h s =
 
 -- tables and counts of nothing stand for the empty history, and are sound
 pub begins : {J : Type 0} (told : J → Option (List Entry)) (settings : Settings) (kept : Tables) (counts : List ℕ) (journal : J) → Tells (told journal) [] → Stands settings kept [] → DocumentsStand settings nothing_owed kept []
-    → BacklogsStand counts [] → HubStands told (record { settings = settings; tables = kept; backlogs = counts; spent = false; journal = journal }) []
-begins told settings kept counts journal t s d b = record { legal = tt; told_by = t; tables = λ _. record { tables = s; documents = d; backlogs = b } }
+    → BacklogsStand counts [] → HubStands told (record { settings = settings; tables = kept; backlogs = counts; starts = []; events = 0; spent = false; journal = journal }) []
+begins told settings kept counts journal t s d b = record { legal = tt; told_by = t; few = lit≤ tt; count = λ _. refl; tables = λ _. record { tables = s; documents = d; backlogs = b; servers = refl } }
 
 pub begins_sound : (settings : Settings) (kept : Tables) → 2 ≤ settings.limits.requests → 1 ≤ settings.limits.versions → HaveCeilings settings.servers → Stands settings kept [] → DocumentsStand settings nothing_owed kept []
     → IsSound settings kept

@@ -1,5 +1,5 @@
 -- What a hub says to a cause behind a history: the outs of the routing table over several editors and groups.
-use Rattle.std.specs.Prelude.{List}
+use Rattle.std.specs.Prelude.{ℕ, ◌+◌, Bool, List, length, nat_lt}
 use Rattle.mux_history.specs.declared.cause.Cause.{Cause}
 use Rattle.mux_history.specs.declared.entry.Entry.{Entry}
 use Rattle.mux_history.specs.declared.out.Out.{Out}
@@ -12,3 +12,11 @@ emits settings history cause = outs_of settings (events_of history) cause
 
 abbrev pub entry_of : Settings → List Entry → Cause → Entry
 entry_of settings history cause = record { cause = cause; outs = emits settings history cause }
+
+-- the most causes and outs of a history, 2^63 - 1
+abbrev pub most_events : ℕ
+most_events = 9223372036854775807
+
+-- with this cause and its outs the causes and outs of the history would be more
+abbrev pub passes : Settings → List Entry → Cause → Bool
+passes settings history cause = nat_lt most_events (length (events_of history) + (1 + length (emits settings history cause)))

@@ -1,5 +1,5 @@
 -- What contracts see of a hub, and when it stands for a history.
-use Rattle.std.specs.Prelude.{◌≡◌, ℕ, ◌≤◌, List, Bool, false, Option, Some, None}
+use Rattle.std.specs.Prelude.{◌≡◌, ℕ, ◌≤◌, List, Bool, false, length, Option, Some, None}
 use Rattle.mux_history.specs.declared.entry.Entry.{Entry}
 use Rattle.event_model.specs.Event.{Event, events_of}
 use Rattle.event_model.specs.Settings.{Settings}
@@ -10,11 +10,15 @@ use Rattle.mux_tables.specs.Documents.{DocumentsStand, nothing_owed}
 use Rattle.mux_tables.specs.Stands.{Stands}
 use Rattle.mux_turns.specs.Ceilings.{HaveCeilings}
 use Rattle.mux_causes.specs.Backlogs.{BacklogsStand}
+use Rattle.mux_hub.specs.Entries.{most_events}
+use Rattle.mux_hub.specs.Starts.{servers_of}
 
 pub record HubView (J : Type 0) : Type 0 where
   pub settings : Settings
   pub tables : Tables
   pub backlogs : List ℕ
+  pub starts : List ℕ
+  pub events : ℕ
   pub spent : Bool
   pub journal : J
 
@@ -23,17 +27,21 @@ abbrev pub Tells : Option (List Entry) → List Entry → Type 0
 Tells None history = Unit {0}
 Tells (Some entries) history = entries ≡ history
 
--- the tables owe nothing of documents, and the counts are those of what is on its way
-pub record TablesStand (settings : Settings) (kept : Tables) (counts : List ℕ) (events : List Event) : Type 0 where
+-- the tables owe nothing of documents, the counts are those of what is on its way, and the servers those of the starts
+pub record TablesStand (settings : Settings) (kept : Tables) (counts servers : List ℕ) (events : List Event) : Type 0 where
   pub tables : Stands settings kept events
   pub documents : DocumentsStand settings nothing_owed kept events
   pub backlogs : BacklogsStand counts events
+  pub servers : servers ≡ servers_of settings events
 
--- the history is legal and the journal's, and the tables of a hub that isn't spent stand for it
+-- the history is legal and the journal's, its causes and outs are at most 2^63 - 1, and the tables and the count of a hub that isn't
+-- spent are those of it
 pub record HubStands {J : Type 0} (told : J → Option (List Entry)) (hub : HubView J) (history : List Entry) : Type 0 where
   pub legal : Legal hub.settings history
   pub told_by : Tells (told hub.journal) history
-  pub tables : hub.spent ≡ false → TablesStand hub.settings hub.tables hub.backlogs (events_of history)
+  pub few : length (events_of history) ≤ most_events
+  pub count : hub.spent ≡ false → hub.events ≡ length (events_of history)
+  pub tables : hub.spent ≡ false → TablesStand hub.settings hub.tables hub.backlogs hub.starts (events_of history)
 
 -- the settings are numbers of the machine, and leave room for the requests and versions of the multiplexer's own; each ceiling is
 -- the text of an object

@@ -9,6 +9,8 @@ pub enum StepFault {
     Memory,
     /// The journal's append failed.
     Journal,
+    /// The causes and outs would be more than 2^63 - 1.
+    Numbers,
     /// An earlier step had a fault.
     Spent,
 }

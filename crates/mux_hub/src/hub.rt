@@ -1,25 +1,24 @@
 // The hub: the tables, the journal, and whether a step had a fault.
-ghost use Rattle.std.specs.Prelude.{◌≡◌, ℕ, ◌^◌, ◌≤◌, ◌<◌, ◌↔◌, List, [], ◌∷◌, ◌++◌, Bool, true, false, length, IsTrue, IfOk, OnOk, OnErr, IsErrOf, IfErr, slice_get};
-ghost use Rattle.std.specs.Option.{option_map_or};
+ghost use Rattle.std.specs.Prelude.{◌≡◌, ℕ, ◌+◌, ◌^◌, ◌≤◌, ◌<◌, ◌↔◌, List, [], ◌∷◌, ◌++◌, Bool, true, false, length, nat_lt, if◌then◌else◌, Some, None, IsTrue, IsNone, IfOk, OnOk, OnErr, IsErrOf, IfErr, slice_get};
 ghost use Rattle.outside_io.specs.Faults.{Rose};
 ghost use Rattle.mux_history.specs.declared.entry.Entry.{Entry};
-ghost use Rattle.mux_history.specs.Cores.{body_length};
+ghost use Rattle.mux_history.specs.Cores.{body_length, joined, spawns};
 ghost use Rattle.mux_history.specs.Journals.{append_told};
-ghost use Rattle.event_model.specs.Event.{Event, behind, with_cause};
+ghost use Rattle.event_model.specs.Event.{Event, behind, events_of, with_cause};
 ghost use Rattle.event_model.specs.Settings.{Settings};
 ghost use Rattle.mux_model.specs.Fits.{fits, fits_behind};
-ghost use Rattle.group_words.specs.declared.kept.Kept.{Kept};
-ghost use Rattle.group_words.specs.Houses.{groups_of};
 ghost use Rattle.group_rows.specs.Rows.{outs_of};
 ghost use Rattle.group_facts.specs.Built.{built, built_behind};
 ghost use Rattle.group_facts.specs.Facts.{Known};
 ghost use Rattle.group_facts.specs.Settled.{Settled};
-ghost use Rattle.mux_tables.specs.Stands.{Stands};
 ghost use Rattle.mux_turns.specs.Ceilings.{HaveCeilings};
-ghost use Rattle.mux_hub.specs.Entries.{emits, entry_of};
+ghost use Rattle.mux_hub.specs.Entries.{emits, entry_of, most_events, passes};
+ghost use Rattle.mux_hub.specs.Faults.{Counted};
 ghost use Rattle.mux_hub.specs.Hubs.{HubView, HubStands, TablesStand, Tells};
+ghost use Rattle.mux_hub.specs.Starts.{servers_of};
 
 use crate::fault::StepFault;
+use crate::starts::note_spawns;
 use event_model::{Limits, Server};
 use message_body::Memory;
 use mux_causes::Backlogs;
@@ -35,6 +34,7 @@ fn turn(
     default: u32,
     tables: &mut Tables,
     backlogs: &mut Backlogs,
+    starts: &mut Vec<u32>,
     cause: &Cause,
 ) -> Result<Outs, Memory>
     requires small { body_length cause.now ≤ 268435456 }
@@ -45,23 +45,26 @@ fn turn(
     ensures same_versions { tables.new.versions ≡ tables.old.versions }
     ensures takes { (settings : Settings) (before : List Event) → settings.servers ≡ servers.now → settings.default ≡ default
         → Known settings before → Settled settings before → fits_behind before cause.now ≡ true → built_behind settings before cause.now ≡ true
-        → TablesStand settings tables.old backlogs.old before
+        → TablesStand settings tables.old backlogs.old starts.old.items before
         → IfOk result (λ outs. (outs ≡ outs_of settings before cause.now)
-        × TablesStand settings tables.new backlogs.new (behind (with_cause before cause.now) outs)) }
+        × TablesStand settings tables.new backlogs.new starts.new.items (behind (with_cause before cause.now) outs)) }
 {
     let outs = mux_entries::take(tables, alloc, servers, default, cause)?;
     backlogs.take(cause, &outs)?;
+    note_spawns(starts, tables, default, &outs)?;
     Ok(outs)
 }
 
-// The place of the server that the starts of a group run.
-fn server_in(tables: &Tables, default: u32, group: u64) -> u32
-    ensures { (settings : Settings) (events : List Event) → Stands settings tables.now events
-        → result ≡ option_map_or (λ (x : Kept). x.key.server) (slice_get (groups_of settings events) group) default }
+// How many causes and outs there are behind an entry with so many outs; none where they would be more than 2^63 - 1.
+fn counted(events: u64, outs: usize) -> Option<u64>
+    ensures { result ≡ (if nat_lt most_events (events + (1 + outs)) then None else Some (events + (1 + outs))) }
 {
-    match tables.kept(group) {
-        Some(kept) => kept.key.server,
-        None => default,
+    let more = (outs as u64).checked_add(1)?;
+    let count = events.checked_add(more)?;
+    if count > 9_223_372_036_854_775_807 {
+        None
+    } else {
+        Some(count)
     }
 }
 
@@ -74,6 +77,8 @@ pub struct Hub<J: Journal> {
     default: u32,
     tables: Tables,
     backlogs: Backlogs,
+    starts: Vec<u32>,
+    events: u64,
     spent: bool,
     journal: J,
 }
@@ -83,7 +88,7 @@ impl<J: Journal> Model for Hub<J> {
 
     ghost Value = { HubView J };
 
-    ghost view = { λ h. record { settings = record { limits = h.limits; servers = h.servers.items; default = h.default }; tables = h.tables; backlogs = h.backlogs; spent = h.spent; journal = h.journal } };
+    ghost view = { λ h. record { settings = record { limits = h.limits; servers = h.servers.items; default = h.default }; tables = h.tables; backlogs = h.backlogs; starts = h.starts.items; events = h.events; spent = h.spent; journal = h.journal } };
 
     ghost invariant = { λ h. IsSound (record { limits = h.limits; servers = h.servers.items; default = h.default }) h.tables };
 }
@@ -123,6 +128,8 @@ impl<J: Journal> Hub<J> {
             default,
             tables,
             backlogs: Backlogs::new(alloc),
+            starts: Vec::new(alloc),
+            events: 0,
             spent: false,
             journal,
         })
@@ -143,6 +150,26 @@ impl<J: Journal> Hub<J> {
         mux_causes::fits(&self.tables, &self.backlogs, cause)
     }
 
+    /// The number of the editor that joins next.
+    pub fn next_editor(&self) -> u64
+        ensures { (history : List Entry) → HubStands J.told self.now history → self.now.spent ≡ false → result ≡ joined history }
+    {
+        self.tables.editors.count()
+    }
+
+    /// The place of the server of a start's group, among the settings' servers; none just of a start that wasn't spawned.
+    pub fn server_of(&self, start: u64) -> Option<u32>
+        ensures server { (history : List Entry) → HubStands J.told self.now history → self.now.spent ≡ false
+            → result ≡ slice_get (servers_of self.now.settings (events_of history)) start }
+        ensures none { (history : List Entry) → HubStands J.told self.now history → self.now.spent ≡ false → IsNone result ↔ (spawns start history ≡ 0) }
+    {
+        if start < self.starts.len() as u64 {
+            Some(self.starts[start as usize])
+        } else {
+            None
+        }
+    }
+
     /// Whether this cause, which fits, meets only rows of the routing table that are built.
     pub fn built(&self, cause: &Cause) -> Result<bool, Memory>
         requires { body_length cause.now ≤ 268435456 }
@@ -152,7 +179,8 @@ impl<J: Journal> Hub<J> {
         mux_causes::built(&self.tables, self.alloc, cause)
     }
 
-    /// Takes a cause and gives its outs: those of the routing table. The entry was appended to the journal.
+    /// Takes a cause and gives its outs: those of the routing table. The entry was appended to the journal. Where the causes and outs
+    /// would be more than 2^63 - 1, the answer is `Numbers`, and nothing is appended.
     pub fn step(&mut self, cause: Cause) -> Result<Outs, StepFault>
         requires small { body_length cause ≤ 268435456 }
         requires fits { (history : List Entry) → HubStands J.told self.old history → self.old.spent ≡ false → IsTrue (fits history cause) }
@@ -166,6 +194,8 @@ impl<J: Journal> Hub<J> {
         ensures ready { OnOk result (self.new.spent ≡ false) }
         ensures spent { OnErr result (self.new.spent ≡ true) }
         ensures spent_only { IsErrOf result StepFault.Spent ↔ (self.old.spent ≡ true) }
+        ensures numbers { (history : List Entry) → HubStands J.told self.old history → self.old.spent ≡ false
+            → Counted (passes self.old.settings history cause) result }
         ensures journal_only { IsErrOf result StepFault.Journal → Rose (J.faults self.old.journal) (J.faults self.new.journal) }
         ensures later { J.faults self.old.journal ≤ J.faults self.new.journal }
     {
@@ -179,10 +209,15 @@ impl<J: Journal> Hub<J> {
             self.default,
             &mut self.tables,
             &mut self.backlogs,
+            &mut self.starts,
             &cause,
         )?;
+        let Some(events) = counted(self.events, outs.len()) else {
+            return Err(StepFault::Numbers);
+        };
         let entry = Entry { cause, outs };
         self.journal.append(&entry)?;
+        self.events = events;
         self.spent = false;
         Ok(entry.outs)
     }
@@ -212,7 +247,7 @@ impl<J: Journal> Steps for Hub<J> {
     }
 
     fn next_editor(&self) -> u64 {
-        self.tables.editors.count()
+        Hub::next_editor(self)
     }
 
     fn stopped(&self) -> bool {
@@ -220,12 +255,7 @@ impl<J: Journal> Steps for Hub<J> {
     }
 
     fn server_of(&self, start: u64) -> Option<u32> {
-        if start < self.tables.origins.len() as u64 {
-            let group = self.tables.origins[start as usize];
-            Some(server_in(&self.tables, self.default, group))
-        } else {
-            None
-        }
+        Hub::server_of(self, start)
     }
 
     fn step(&mut self, cause: Cause) -> Result<Outs, CoreFault> {
@@ -240,6 +270,7 @@ impl<J: Journal> Steps for Hub<J> {
             Ok(outs) => Ok(outs),
             Err(StepFault::Memory) => Err(CoreFault::Memory),
             Err(StepFault::Journal) => Err(CoreFault::Journal),
+            Err(StepFault::Numbers) => Err(CoreFault::Numbers),
             Err(StepFault::Spent) => Err(CoreFault::Spent),
         }
     }

@@ -3,6 +3,7 @@
 
 mod fault;
 mod hub;
+mod starts;
 
 pub use event_model::{Limits, Server};
 pub use fault::StepFault;

@@ -48,7 +48,8 @@ returns-in-Err-take_line-clause-driven g c =
     small (c.lines.taken + 1) c.in-Err-take_line.fault refl (c.in-Err-take_line.ensures.left c.lines.invariant.driving.history c.lines.invariant.driving.stands)
     (c.in-Err-take_line.ensures.kept c.lines.invariant.driving.history c.lines.invariant.driving.stands)
     (λ r e. c.in-Err-take_line.ensures.refused c.lines.invariant.driving.history r c.lines.invariant.driving.stands (ap (λ (s : TakeFault). Err s) e))
-    (λ e. c.in-Err-take_line.ensures.entry c.lines.invariant.driving.history c.lines.invariant.driving.stands (ap (λ (s : TakeFault). Err s) e)))
+    (λ e. c.in-Err-take_line.ensures.entry c.lines.invariant.driving.history c.lines.invariant.driving.stands (ap (λ (s : TakeFault). Err s) e))
+    (λ e. c.in-Err-take_line.ensures.numbers c.lines.invariant.driving.history c.lines.invariant.driving.stands (ap (λ (s : TakeFault). Err s) e)))
 
 pub returns-then-is_last-clause-driven : goal.returns-then-is_last-clause-driven
 returns-then-is_last-clause-driven g c =

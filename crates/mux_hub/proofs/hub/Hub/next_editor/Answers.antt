@@ -2,7 +2,7 @@ use Rattle.std.proofs.Common.{◌≡◌, subst, ◌∙◌, false}
 use Rattle.mux_history.specs.Cores.{joined}
 use Rattle.mux_hub.specs.Hubs.{HubView, HubStands}
 use Rattle.mux_hub.proofs.Counts.{next_joins}
-use Rattle.mux_hub.proofs.hub.HubSteps.next_editor.Goals as goal
+use Rattle.mux_hub.proofs.hub.Hub.next_editor.Goals as goal
 
 pub returns : goal.returns
 returns g c = λ history h s.

@@ -1,0 +1,142 @@
+//! Sends bodies through the lanes of a small core, which gives each back, for `bench/lanes`. With the words `lanes PORTS COUNT` each of
+//! so many ports has one link that sends so many bodies, beside the link of the own lane, which sends one; with `loop PORTS COUNT` one
+//! thread takes the same steps one after the other. It writes how many bytes were written. Without words it sends three bodies to each of
+//! two ports.
+#![tactic(auto)]
+
+use base_frame::{FrameReader, Next, frame};
+use lane_echo::{Echo, run_side};
+use message_body::Body;
+use mux_history::{Cause, Out, Steps};
+use outside_io::{MemBerth, MemPort, MemSink, MemSource, SetClock, write_whole};
+use std::alloc::Global;
+use std::env;
+use std::io::Write;
+use std::process::ExitCode;
+use std::sync::Wait;
+use std::thread::Threads;
+
+const HOVER: &[u8] = b"Content-Length: 5\r\n\r\nhover";
+
+// The limit of a content.
+const LIMIT: u32 = 1024;
+
+#[derive(Clone, Copy)]
+enum Way {
+    Lanes,
+    Loop,
+}
+
+// What a link sends: so many frames.
+fn frames(alloc: Global, count: u64) -> Option<Vec<u8>> {
+    let mut bytes = Vec::new(alloc);
+    for _ in 0..count {
+        bytes.extend_from_slice(HOVER).ok()?;
+    }
+    Some(bytes)
+}
+
+fn port(alloc: Global, count: u64) -> Option<MemPort> {
+    let source = MemSource::new(frames(alloc, count)?, Vec::new(alloc), None);
+    let sink = MemSink::new(alloc, Vec::new(alloc), None);
+    let mut links = Vec::new(alloc);
+    links.push((source, sink)).ok()?;
+    Some(MemPort::new(alloc, links))
+}
+
+// The bytes that the only link of a port was written.
+fn written(port: &MemPort) -> u64 {
+    match port.session(0) {
+        Some(session) => session.1.bytes().len() as u64,
+        None => 0,
+    }
+}
+
+fn run_lanes<R: Threads + Wait + Sync>(
+    rt: &R,
+    alloc: Global,
+    ports: u64,
+    count: u64,
+) -> Option<u64> {
+    let mut links = Vec::new(alloc);
+    for _ in 0..ports {
+        links.push(port(alloc, count)?).ok()?;
+    }
+    let berths: Vec<MemBerth> = Vec::new(alloc);
+    let clock = SetClock::new(Vec::new(alloc));
+    let ran = run_side(rt, alloc, links, port(alloc, 1)?, berths, clock)?;
+    let mut bytes = written(&ran.own.outside);
+    for lane in &ran.ports {
+        bytes = bytes.saturating_add(written(&lane.outside));
+    }
+    Some(bytes)
+}
+
+// One body of an editor: what the core says goes to its sink.
+fn answer(alloc: Global, core: &mut Echo, sink: &mut MemSink, editor: u64, body: Body) -> Option<()> {
+    let outs = core.step(Cause::FromEditor(editor, body)).ok()?;
+    for out in outs.as_slice() {
+        if let Out::ToEditor(_, body) = out {
+            let text = frame(alloc, body.bytes()).ok()?;
+            write_whole(sink, text.bytes()).ok()?;
+        }
+    }
+    core.step(Cause::Drained(editor, 5)).ok()?;
+    Some(())
+}
+
+// One link after the other, in pieces of at most 4,096 bytes.
+fn run_link(alloc: Global, core: &mut Echo, editor: u64, count: u64) -> Option<u64> {
+    let bytes = frames(alloc, count)?;
+    let mut reader = FrameReader::new(alloc, LIMIT);
+    let mut sink = MemSink::new(alloc, Vec::new(alloc), None);
+    core.step(Cause::Joined(editor)).ok()?;
+    for piece in bytes.chunks(4096) {
+        reader.feed(piece).ok()?;
+        while let Next::Frame(body) = reader.next() {
+            answer(alloc, core, &mut sink, editor, body)?;
+        }
+    }
+    Some(sink.bytes().len() as u64)
+}
+
+fn run_loop(alloc: Global, ports: u64, count: u64) -> Option<u64> {
+    let mut core = Echo::new(alloc);
+    let mut bytes: u64 = 0;
+    for editor in 0..ports {
+        bytes = bytes.saturating_add(run_link(alloc, &mut core, editor, count)?);
+    }
+    Some(bytes.saturating_add(run_link(alloc, &mut core, ports, 1)?))
+}
+
+fn way_of(word: &str) -> Option<Way> {
+    match word {
+        "lanes" => Some(Way::Lanes),
+        "loop" => Some(Way::Loop),
+        _ => None,
+    }
+}
+
+// What the three words behind the program's name ask for.
+fn asked(rt: &HostRuntime) -> Option<(Way, u64, u64)> {
+    let mut words = env::args(rt).ok()?.skip(1);
+    let way = way_of(words.next()?.as_str())?;
+    let ports = words.next()?.as_str().parse::<u64>().ok()?;
+    let count = words.next()?.as_str().parse::<u64>().ok()?;
+    Some((way, ports, count))
+}
+
+fn main(rt: HostRuntime) -> ExitCode {
+    let (way, ports, count) = asked(&rt).unwrap_or((Way::Lanes, 2, 3));
+    let ran = match way {
+        Way::Lanes => run_lanes(&rt, rt.alloc(), ports, count),
+        Way::Loop => run_loop(rt.alloc(), ports, count),
+    };
+    let Some(bytes) = ran else {
+        return ExitCode::from(1);
+    };
+    match writeln!(rt.stdout(), "{bytes}") {
+        Ok(_) => ExitCode::SUCCESS,
+        Err(_) => ExitCode::from(2),
+    }
+}
