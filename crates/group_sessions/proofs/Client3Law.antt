@@ -29,6 +29,8 @@ use Rattle.mux_facts.proofs.Words.{id_same, number_same}
 use Rattle.session_laws.specs.ClientRules.{ClientRule3, KeepsClient3, Opening, may_hear, opening_behind, opening_told}
 use Rattle.session_laws.proofs.Client3Law as client_3
 use Rattle.session_laws.proofs.Client3Law.{AsksOnce, Expects, Link, LinkAt, closed_link, late_told, may_answer, may_welcome, none_open, opening, same_request, took_it, welcomed}
+use Rattle.group_rows.specs.Rows.{names_lspmux}
+use Rattle.group_facts.proofs.Multiplexer.{lspmux_apart}
 use Rattle.group_facts.specs.Built.{built_behind, built_from_editor, doubles, is_marked, is_standard}
 use Rattle.group_facts.proofs.Waiting.{new_is}
 use Rattle.group_facts.specs.Legal.{Legal}
@@ -49,13 +51,13 @@ standard_other method h = go (bytes_eq (codes "initialize") method) refl
 no_initialize : (phase : Phase) (ids : List Id) (m : Message) → (phase ≡ New → ⊥) → built_from_editor phase ids m ≡ true → requests (codes "initialize") m ≡ false
 no_initialize phase ids (request id method params) other h = go (is_new phase && bytes_eq (codes "initialize") method) refl h
   where
-    status : (b : Bool) → bytes_eq (codes "lspmux/status") method ≡ b → (b || (is_standard (class_of method Editor false) && (doubles phase id ids || not (is_served phase && is_marked method params)))) ≡ true → bytes_eq (codes "initialize") method ≡ false
-    status true is k = ap (bytes_eq (codes "initialize")) (sym ((bytes_eq-Decides (codes "lspmux/status") method).0 is))
-    status false is k = standard_other method (and_parts (is_standard (class_of method Editor false)) (doubles phase id ids || not (is_served phase && is_marked method params)) k).0
+    own : (b : Bool) → names_lspmux method ≡ b → (b || (is_standard (class_of method Editor false) && (doubles phase id ids || not (is_served phase && is_marked method params)))) ≡ true → bytes_eq (codes "initialize") method ≡ false
+    own true is k = lspmux_apart (codes "initialize") method refl refl is
+    own false is k = standard_other method (and_parts (is_standard (class_of method Editor false)) (doubles phase id ids || not (is_served phase && is_marked method params)) k).0
 
-    go : (b : Bool) → (is_new phase && bytes_eq (codes "initialize") method) ≡ b → (b || (bytes_eq (codes "lspmux/status") method || (is_standard (class_of method Editor false) && (doubles phase id ids || not (is_served phase && is_marked method params))))) ≡ true → bytes_eq (codes "initialize") method ≡ false
+    go : (b : Bool) → (is_new phase && bytes_eq (codes "initialize") method) ≡ b → (b || (names_lspmux method || (is_standard (class_of method Editor false) && (doubles phase id ids || not (is_served phase && is_marked method params))))) ≡ true → bytes_eq (codes "initialize") method ≡ false
     go true first k = absurd (other (new_is phase (and_parts (is_new phase) (bytes_eq (codes "initialize") method) first).0))
-    go false first k = status (bytes_eq (codes "lspmux/status") method) refl k
+    go false first k = own (names_lspmux method) refl k
 no_initialize phase ids (notification method params) other h = refl
 no_initialize phase ids (result id r) other h = refl
 no_initialize phase ids (error id x) other h = refl
