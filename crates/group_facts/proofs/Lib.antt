@@ -16,6 +16,7 @@ pub mod Levels
 pub mod LiveGroups
 pub mod Lively
 pub mod Multiplexer
+pub mod Nulls
 pub mod Numbered
 pub mod Numbers
 pub mod OpenByOut

@@ -54,7 +54,7 @@ use Rattle.group_facts.proofs.Facts.{Facts}
 use Rattle.group_facts.proofs.Forwards.{more_requests}
 use Rattle.group_facts.proofs.Numbers.{forwarding_sent}
 use Rattle.group_facts.proofs.Multiplexer.{lspmux_apart}
-use Rattle.group_facts.proofs.PartingRows.{null_said}
+use Rattle.group_facts.proofs.Nulls.{null_said}
 use Rattle.group_facts.proofs.RequestRow.{beside, beside_other, desk_taken, goes_on, not_own, status_said, synced_sender}
 use Rattle.group_facts.proofs.Sent.{IsOf, OneOf, SentAt, one_last, sent_did, sent_heard}
 use Rattle.group_facts.proofs.OpenByPhase.{OpenDesk, OpenIf, if_asked, if_hears, if_null, if_other, reply_told, without_last}
@@ -297,13 +297,13 @@ module _ (settings : Settings) (before : List Event) (n : ℕ) (body : List ℕ)
 
       -- E4 and E5: a request of the multiplexer's own is answered
       module _ (other : requests (codes "initialize") (message_of body) ≡ false) (others : here.phase ≡ Waiting → has_id id (message_of here.initialize) ≡ false) where
+        abbrev said_text : List ℕ → List ℕ
+        said_text text = ok_text (id_bytes body) text
+
         replied : (text : List ℕ) (r : Json) → message_of (ok_text (id_bytes body) text) ≡ result (Some id) r → Rests (ToEditor n (ok_text (id_bytes body) text) ∷ [])
-        replied text r is = open_told Nobody now said_text (result (Some id) r) is
-            (subst₂ (λ p z. OpenIf (S settings n Nobody (told_now said_text)) p here.initialize z) (sym (reply_told here.phase here.initialize id r others)) (sym (ap (without (Some id)) asked_now ∙ without_last id ids fresh))
-            (if_other (S settings n Nobody now) (S settings n Nobody (told_now said_text)) here.phase here.initialize ids (λ sent i is. or_later settings n Nobody now (told_now said_text) i (sent_did settings n i now (ToEditor n said_text) tt)) (heard_if Nobody (λ new. other))))
-          where
-            abbrev said_text : List ℕ
-            said_text = ok_text (id_bytes body) text
+        replied text r is = open_told Nobody now (said_text text) (result (Some id) r) is
+            (subst₂ (λ p z. OpenIf (S settings n Nobody (told_now (said_text text))) p here.initialize z) (sym (reply_told here.phase here.initialize id r others)) (sym (ap (without (Some id)) asked_now ∙ without_last id ids fresh))
+            (if_other (S settings n Nobody now) (S settings n Nobody (told_now (said_text text))) here.phase here.initialize ids (λ sent i is. or_later settings n Nobody now (told_now (said_text text)) i (sent_did settings n i now (ToEditor n (said_text text)) tt)) (heard_if Nobody (λ new. other))))
 
         named_rests : (o : Option ℕ) → Rests (outs (named_row n body o) now)
         named_rests None = refused (λ new. other) invalid_params

@@ -6,11 +6,8 @@ use Rattle.mux_history.specs.declared.cause.Cause.TheVariants.{EditorGone, FromE
 use Rattle.mux_history.specs.declared.cause.Why as link
 use Rattle.mux_history.specs.declared.out.Out.{Out}
 use Rattle.mux_history.specs.declared.out.Out.TheVariants.{CloseEditor, ToEditor}
-use Rattle.rpc_message.specs.Message.{request, result, Id, id_bytes, message_of}
+use Rattle.rpc_message.specs.Message.{request, Id, id_bytes, message_of}
 use Rattle.rpc_message.specs.Texts.{ok_text}
-use Rattle.rpc_message.specs.ValueTexts.{IsValueText}
-use Rattle.rpc_message.proofs.Fixed.{id_as_response, ok_law}
-use Rattle.rpc_message.proofs.Ids.{request_id_bytes}
 use Rattle.event_model.specs.declared.phase.Phase.{Phase}
 use Rattle.event_model.specs.Event.{Event, heard, said, with_cause}
 use Rattle.event_model.specs.Phases.{desk_of, is_there}
@@ -31,17 +28,11 @@ use Rattle.group_facts.specs.Why.{Why, answers}
 use Rattle.group_facts.proofs.Apart.{asks_fewer}
 use Rattle.group_facts.proofs.Forwards.{alone_fewer}
 use Rattle.group_facts.proofs.LeaveRows.{leave_why}
+use Rattle.group_facts.proofs.Nulls.{null_said}
 
 pub or_second : (a b : Bool) → b ≡ true → (a || b) ≡ true
 or_second true b h = refl
 or_second false b h = h
-
-pub null_value : IsValueText (word (record { from = 0; to = 0 }) Null) (codes "null")
-null_value = record { tree = word (record { from = 0; to = 4 }) Null; stands = (refl, refl); same = refl }
-
-pub null_said : (body : List ℕ) (id : Id) (method : List ℕ) (params : Option Json) → message_of body ≡ request id method params
-    → message_of (ok_text (id_bytes body) (codes "null")) ≡ result (Some id) (word (record { from = 0; to = 0 }) Null)
-null_said body id method params says = ok_law (Some id) (word (record { from = 0; to = 0 }) Null) (id_bytes body) (codes "null") (id_as_response id (id_bytes body) (request_id_bytes body id method params says)) null_value (omega arith)
 
 -- X5
 

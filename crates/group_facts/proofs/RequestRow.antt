@@ -43,7 +43,7 @@ use Rattle.group_facts.specs.Facts.{IsAlone, Opened}
 use Rattle.group_facts.proofs.Apart.{asks_fewer}
 use Rattle.group_facts.proofs.DocumentRow.{calm_now, held_still}
 use Rattle.group_facts.proofs.Forwards.{alone_fewer, forwarding_more}
-use Rattle.group_facts.proofs.PartingRows.{null_said}
+use Rattle.group_facts.proofs.Nulls.{null_said}
 use Rattle.group_facts.proofs.SharedRows.{AllTold, Held, sync_told}
 use Rattle.group_facts.proofs.Tellings.{Calm, tells_row}
 use Rattle.group_facts.specs.Why.{IsBeside, IsForward, Why, answers, forwarded, refuses}
