@@ -44,5 +44,6 @@ pub fn server_asked(
     let tape = message.tape();
     let params = member(tape, Some(tape.root()), "params");
     let name = string(alloc, tape, params, "server")?;
-    server_named(servers, name)
+    let place = server_named(servers, name)?;
+    Ok(place)
 }

@@ -44,7 +44,8 @@ impl Tables {
         Ok(())
     }
 
-    /// A body came from the editor that places it in no group, doesn't stop all and says of no server that it is meant; behind it the editor is in this phase.
+    /// A body came from the editor that places it in no group, doesn't stop all and says of no server that it is meant; behind it the
+    /// editor is in this phase.
     pub fn hear_editor(&mut self, e: u64, phase: Phase)
         requires editor { e < length self.old.editors }
         requires joined { phase ≢ Absent }

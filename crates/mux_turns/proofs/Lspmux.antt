@@ -24,6 +24,14 @@ use Rattle.mux_tables.proofs.Frames.{itself}
 use Rattle.mux_turns.proofs.Asides.{desk_now}
 
 -- as the code tells them apart
+pub or_first : (a b : Bool) → a ≡ true → a ≡ (a || b)
+or_first true b h = refl
+or_first false b h = absurd (cc)
+
+pub or_second : (a b : Bool) → a ≡ false → b ≡ (a || b)
+or_second false b h = refl
+or_second true b h = absurd (cc)
+
 by_either : (a b : Bool) (m : Message) → requests (codes "lspmux/open") m ≡ a → requests (codes "lspmux/status") m ≡ b → asks_lspmux m ≡ (a || b)
 by_either a b (request id method params) h k = ap (λ x. x || bytes_eq (codes "lspmux/status") method) h ∙ ap (λ x. a || x) k
 by_either a b (notification method params) h k = ap (λ x. x || b) h ∙ k
@@ -84,16 +92,12 @@ and_off true = refl
 and_off false = refl
 
 -- it leaves its editor where it is
-Stays : Phase → List ℕ → List ℕ → Id → Option Json → List ℕ → Type 0
-Stays p i body id params method = (desk_hears p i body (request id method params)).phase ≡ p
-
 hears_stays : (p : Phase) (i body : List ℕ) (id : Id) (params : Option Json) (method : List ℕ) → names_lspmux method ≡ true → (desk_hears p i body (request id method params)).phase ≡ p
-unfolding Stays
 hears_stays Absent i body id params method h = refl
-hears_stays New i body id params method h = by_names (Stays New i body id params) method refl refl h
+hears_stays New i body id params method h = by_names (λ m. (desk_hears New i body (request id m params)).phase ≡ New) method refl refl h
 hears_stays Waiting i body id params method h = refl
-hears_stays Answered i body id params method h = by_names (Stays Answered i body id params) method refl refl h
-hears_stays Running i body id params method h = by_names (Stays Running i body id params) method refl refl h
+hears_stays Answered i body id params method h = by_names (λ m. (desk_hears Answered i body (request id m params)).phase ≡ Answered) method refl refl h
+hears_stays Running i body id params method h = by_names (λ m. (desk_hears Running i body (request id m params)).phase ≡ Running) method refl refl h
 hears_stays Down i body id params method h = refl
 hears_stays Closed i body id params method h = refl
 hears_stays Gone i body id params method h = refl

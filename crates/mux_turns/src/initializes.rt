@@ -104,8 +104,9 @@ fn join(
     }
 }
 
-/// E7: an editor's `initialize` comes. The editor joins the group of its key, of the server that it means, that takes it, and is answered where that group's last
-/// start is ready; or a group is founded for it, perhaps in place of one that has no editor; or it is turned away.
+/// E7: an editor's `initialize` comes. The editor joins the group of its key, which has the server that it means, that takes it, and is
+/// answered where that group's last start is ready; or a group is founded for it, perhaps in place of one that has no editor; or it is
+/// turned away.
 pub fn take_initialize(
     tables: &mut Tables,
     alloc: Global,

@@ -49,8 +49,8 @@ pub fn take_gone(tables: &mut Tables, alloc: Global, outs: &mut Outs, e: u64) ->
     }
 }
 
-// E3 and E9: a message that places its editor nowhere, stops nothing, says of no server that it is meant and changes no document ends the editor's link; behind it the
-// editor is in this phase. It leaves.
+// E3 and E9: a message that places its editor nowhere, stops nothing, says of no server that it is meant and changes no document ends
+// the editor's link; behind it the editor is in this phase. It leaves.
 pub fn end_link(
     tables: &mut Tables,
     alloc: Global,

@@ -67,8 +67,8 @@ pub fn take_malformed(
     Ok(())
 }
 
-/// E8: a request that places its editor nowhere, and isn't the multiplexer's own, comes before the answer to `initialize`: it is answered with an error (LSP 3.17,
-/// Lifecycle Messages: ServerNotInitialized).
+/// E8: a request that places its editor nowhere, and isn't the multiplexer's own, comes before the answer to `initialize`: it is
+/// answered with an error (LSP 3.17, Lifecycle Messages: ServerNotInitialized).
 pub fn take_early(
     tables: &mut Tables,
     alloc: Global,

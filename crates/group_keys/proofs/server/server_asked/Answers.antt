@@ -13,5 +13,5 @@ returns c = λ body read.
     let holds : Holds c.tape-tape.result.now read.tree = subst (λ d. Holds d read.tree) (sym c.tape-tape.ensures) read.holds in
     let params : Option Json = named_of (codes "params") (Some read.tree) in
     let found : Found c.tape-tape.result.now params c.member-params.result = c.member-params.ensures refl (Some read.tree) (c.root.ensures.value read.tree holds) in
-    c.server_named.ensures (string_of (named_of (codes "server") params)) (c.in_ok-name.ensures.said refl params found ∙ string_so (codes "server") params)
+    c.in_ok-place.ensures (string_of (named_of (codes "server") params)) (c.in_ok-name.ensures.said refl params found ∙ string_so (codes "server") params)
     ∙ ap (λ ps. server_named c.args.servers.now (string_of (named_of (codes "server") ps))) (sym (read_params c.args.message.now body read))
