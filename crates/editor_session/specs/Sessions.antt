@@ -11,15 +11,15 @@ use Rattle.editor_session.specs.declared.session.Wanted.TheVariants as wanted
 
 -- an editor as it joins
 abbrev pub joined : Session
-joined = record { phase = New; group = None; id = None; asks = 0 }
+joined = record { phase = New; group = None; id = None; asks = 0; opened = false; server = None }
 
 -- one that never joined
 abbrev pub absent : Session
-absent = record { phase = Absent; group = None; id = None; asks = 0 }
+absent = record { phase = Absent; group = None; id = None; asks = 0; opened = false; server = None }
 
 -- one whose link ended: nothing of it is kept
 abbrev pub gone : Session
-gone = record { phase = Gone; group = None; id = None; asks = 0 }
+gone = record { phase = Gone; group = None; id = None; asks = 0; opened = false; server = None }
 
 -- the editor of a number; one past the end never joined
 abbrev pub session_of : List Session → ℕ → Session
@@ -44,6 +44,10 @@ in_phase phase session = if is_gone phase then gone else record session { phase 
 -- it was placed in this group by an `initialize` of this id
 abbrev pub in_group : ℕ → List ℕ → Session → Session
 in_group group id session = record session { group = Some group; id = Some id }
+
+-- its first `lspmux/open` came, and named this server
+abbrev pub meaning : Option ℕ → Session → Session
+meaning server session = record session { opened = true; server = server }
 
 -- it was asked once more
 abbrev pub asked : Session → Session

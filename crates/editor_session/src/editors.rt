@@ -2,7 +2,7 @@
 ghost use Rattle.std.specs.Prelude.{◌≡◌, ◌≢◌, ◌+◌, ◌^◌, ◌<◌, ◌≤◌, ℕ, [], ◌∷◌, ◌++◌, length, true, None, Some, IfNone, IfOk, IfSome, OnErr, OnOk, option_copied};
 ghost use Rattle.event_model.specs.declared.phase.Phase.TheVariants.{Absent};
 ghost use Rattle.event_model.specs.Phases.{is_linked, is_there};
-ghost use Rattle.editor_session.specs.Sessions.{asked, gone, in_group, in_phase, is_gone, is_of, is_wanted, joined, needs_in, next_ask, numbers_of, runs_in, session_of, unless_gone, waits_in, with_session};
+ghost use Rattle.editor_session.specs.Sessions.{asked, gone, in_group, in_phase, is_gone, is_of, is_wanted, joined, meaning, needs_in, next_ask, numbers_of, runs_in, session_of, unless_gone, waits_in, with_session};
 
 use crate::session::{Session, Wanted};
 use event_model::Phase;
@@ -139,6 +139,39 @@ impl Editors {
         if let Some(at) = place_of(&self.linked, e) {
             let kept = &mut self.linked[at];
             kept.item.place(group, id);
+        }
+    }
+
+    /// Its first `lspmux/open` came, and names this server, or none; not where it is gone.
+    pub fn mean(&mut self, e: u64, server: Option<u32>)
+        requires { e < length self.old }
+        ensures { self.new ≡ with_session self.old e (unless_gone (meaning server) (session_of self.old e)) }
+    {
+        if let Some(at) = place_of(&self.linked, e) {
+            let kept = &mut self.linked[at];
+            kept.item.mean(server);
+        }
+    }
+
+    /// Whether it sent `lspmux/open`; not told of one that is gone.
+    pub fn is_opened(&self, e: u64) -> bool
+        requires { e < length self.now }
+        ensures { result ≡ (session_of self.now e).opened }
+    {
+        match self.find(e) {
+            Some(session) => session.opened,
+            None => false,
+        }
+    }
+
+    /// The place, among the servers of the settings, of the one that its first `lspmux/open` names; none where it is gone.
+    pub fn server(&self, e: u64) -> Option<u32>
+        requires { e < length self.now }
+        ensures { result ≡ (session_of self.now e).server }
+    {
+        match self.find(e) {
+            Some(session) => session.server,
+            None => None,
         }
     }
 

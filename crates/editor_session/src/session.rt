@@ -1,7 +1,7 @@
 // One editor.
 ghost use Rattle.std.specs.Prelude.{◌≡◌};
 ghost use Rattle.event_model.specs.Phases.{is_there};
-ghost use Rattle.editor_session.specs.Sessions.{in_group, is_in, is_of, is_wanted, joined, needs_in, runs_in, waits_in};
+ghost use Rattle.editor_session.specs.Sessions.{in_group, is_in, is_of, is_wanted, joined, meaning, needs_in, runs_in, waits_in};
 
 use event_model::Phase;
 use message_body::Body;
@@ -17,6 +17,10 @@ pub struct Session {
     pub id: Option<Body>,
     /// The number of the last request that it was asked; 0 before the first.
     pub asks: u128,
+    /// Whether it sent `lspmux/open`.
+    pub opened: bool,
+    /// The place, among the servers of the settings, of the one that its first `lspmux/open` names.
+    pub server: Option<u32>,
 }
 
 /// Which editors are looked for.
@@ -44,6 +48,8 @@ impl Session {
             group: None,
             id: None,
             asks: 0,
+            opened: false,
+            server: None,
         }
     }
 
@@ -53,6 +59,14 @@ impl Session {
     {
         self.group = Some(group);
         self.id = Some(id);
+    }
+
+    /// Its first `lspmux/open` came, and names this server, or none.
+    pub fn mean(&mut self, server: Option<u32>)
+        ensures { self.new ≡ meaning server self.old }
+    {
+        self.opened = true;
+        self.server = server;
     }
 
     // Whether it was placed in this group.

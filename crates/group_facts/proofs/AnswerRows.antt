@@ -54,7 +54,7 @@ use Rattle.group_facts.proofs.Tellings.{Calm, tells_row}
 use Rattle.group_facts.specs.Why.{IsPassing, Why, begins, greeted, greets, passes, welcomes, responds, exits, stopped}
 use Rattle.rpc_message.proofs.Ids.{request_id_bytes}
 use Rattle.json_text.specs.declared.kind.Word.TheVariants.{Null}
-use Rattle.group_facts.proofs.PartingRows.{null_value}
+use Rattle.group_facts.proofs.Nulls.{null_said}
 use Rattle.group_rows.proofs.Exits.{exit_says}
 
 -- the numbers below, counted up
@@ -222,7 +222,7 @@ module _ (settings : Settings) (range : InRange settings) (before : List Event) 
   -- S4
 
   null_says : (id : Id) (method : List ℕ) (params : Option Json) → message_of body ≡ request id method params → message_of (ok_text (id_bytes body) (codes "null")) ≡ result (Some id) (word (record { from = 0; to = 0 }) Null)
-  null_says id method params says = ok_law (Some id) (word (record { from = 0; to = 0 }) Null) (id_bytes body) (codes "null") (id_as_response id (id_bytes body) (request_id_bytes body id method params says)) null_value (omega arith)
+  null_says id method params says = null_said body id method params says
 
   and_off : (a : Bool) → (a && false) ≡ false
   and_off true = refl

@@ -31,13 +31,13 @@ use Rattle.mux_facts.proofs.Words.{number_same, same_number}
 use Rattle.group_words.specs.declared.kept.Kept.{Kept}
 use Rattle.group_words.specs.declared.placed.Placed.{Placed}
 use Rattle.group_words.specs.declared.placed.Placed.TheVariants.{Joins, New as Founds, Evicts, TooMany}
-use Rattle.group_words.specs.Houses.{at_group, declared_for, emptied, groups_hear, groups_of, house_of, idle_if_live, is_first_error, key_for, placed_for, places, stops}
+use Rattle.group_words.specs.Houses.{at_group, declared_for, emptied, groups_hear, groups_of, house_of, idle_if_live, is_first_error, key_for, placed_for, places, server_asked, stops}
 use Rattle.group_words.specs.Placing.{busy, changed, end_where, ended, founded, is_live, with_editor}
 use Rattle.group_words.specs.Rows.{end_group, end_start, initialize_row, placed_row}
 use Rattle.group_words.proofs.Frames.{changed_length, groups_more, groups_stay, touches_groups}
 use Rattle.group_rows.specs.Forwarded.{Forwarded, forwarding_of}
 use Rattle.group_rows.specs.Leaves.{cancel, cancel_text, cancels, closings, leave_bodies, leave_row, uncancelled_of}
-use Rattle.group_rows.specs.Rows.{answer_error, begin_in, closing_row, document_at, document_bodies, document_row, down_row, early_row, exit_row, first_result, from_server, gone_row, message_row, outs_of, pass_on, replay_bodies, request_at, request_row, response_row, result_in, row_of, served_request, served_row, started, sync_bodies, taken_row, waiting_in, welcome, hasty_row}
+use Rattle.group_rows.specs.Rows.{answer_error, begin_in, closing_row, document_at, document_bodies, document_row, down_row, early_row, exit_row, first_result, from_server, gone_row, lspmux_row, message_row, named_row, open_row, outs_of, pass_on, replay_bodies, request_at, request_row, response_row, result_in, row_of, served_request, served_row, started, sync_bodies, taken_row, waiting_in, welcome, hasty_row}
 use Rattle.group_rows.specs.Texts.{encoding_of, texts_of}
 use Rattle.group_facts.specs.Built.{built_behind}
 use Rattle.group_facts.proofs.Exits.{failed_groups, gone_groups}
@@ -185,8 +185,18 @@ module _ (settings : Settings) (before : List Event) where
   quiet_taken e body m Down events h = quiet_down e body m events
   quiet_taken e body m other events h = by_nothing
 
+  quiet_named : (e : ℕ) (body : List ℕ) (o : Option ℕ) (events : List Event) → Quiet events (named_row e body o)
+  quiet_named e body None events = by_send tt
+  quiet_named e body (Some server) events = by_send tt
+
+  quiet_open : (e : ℕ) (body : List ℕ) (m : Message) (events : List Event) → Quiet events (open_row settings before e body m)
+  quiet_open e body m events = by_choose (λ first. quiet_named e body (server_asked settings.servers body) events) (λ late. by_send tt)
+
+  quiet_lspmux : (e : ℕ) (body : List ℕ) (m : Message) (events : List Event) → Quiet events (lspmux_row settings before e body m)
+  quiet_lspmux e body m events = by_choose (λ names. quiet_open e body m events) (λ tells. by_send tt)
+
   quiet_message : (e : ℕ) (body : List ℕ) (m : Message) (phase : Phase) (events : List Event) → places phase m ≡ false → Quiet events (message_row settings before e body m phase)
-  quiet_message e body m phase events h = by_choose (λ twice. quiet_closing e events) (λ single. by_choose (λ asks. by_send tt) (λ other. quiet_taken e body m phase events h))
+  quiet_message e body m phase events h = by_choose (λ twice. quiet_closing e events) (λ single. by_choose (λ asks. quiet_lspmux e body m events) (λ other. quiet_taken e body m phase events h))
 
   quiet_gone : (e : ℕ) (phase : Phase) (events : List Event) → Quiet events (gone_row settings before e phase)
   quiet_gone e phase events = by_choose (λ served. quiet_leave e events) (λ off. by_nothing)

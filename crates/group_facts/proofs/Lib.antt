@@ -15,6 +15,8 @@ pub mod LeaveRows
 pub mod Levels
 pub mod LiveGroups
 pub mod Lively
+pub mod Multiplexer
+pub mod Nulls
 pub mod Numbered
 pub mod Numbers
 pub mod OpenByOut
@@ -32,7 +34,6 @@ pub mod Settling
 pub mod SharedRows
 pub mod Table
 pub mod Tellings
-pub mod Unnamed
 pub mod Waiting
 mod Worked
 pub mod Written

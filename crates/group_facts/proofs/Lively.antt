@@ -36,12 +36,13 @@ use Rattle.group_words.specs.Houses.{at_group, declared_for, groups_lose, groups
 use Rattle.group_words.specs.Placing.{end_where, ended, home_by, is_live, with_editor}
 use Rattle.group_words.proofs.Frames.{groups_more, home_more}
 use Rattle.group_rows.specs.Forwarded.{forwarding_of}
-use Rattle.group_rows.specs.Rows.{outs_of}
+use Rattle.group_rows.specs.Rows.{names_lspmux, outs_of}
 use Rattle.group_facts.specs.Built.{built_behind, built_early, built_from_editor, built_from_server, doubles, is_left, is_marked, is_standard}
 use Rattle.group_facts.specs.Facts.{is_up}
 use Rattle.group_facts.specs.Lively.{IsDying, Lively, is_busy_at, is_unplaced, lives_at}
 use Rattle.group_facts.specs.Settled.{is_answered}
 use Rattle.group_facts.specs.Why.{Why, WhyEnd, WhyToServer, begins, greets, forwarded, tells, shuts, cancels, exits, starting, stopped, responds}
+use Rattle.group_facts.proofs.Multiplexer.{lspmux_apart}
 use Rattle.group_facts.proofs.Begun.{Begun, start_more}
 use Rattle.group_facts.proofs.Exits.{left_groups, left_over}
 use Rattle.group_facts.proofs.Facts.{Facts}
@@ -346,10 +347,10 @@ not_stopping method h = go (bytes_eq (codes "lspmux/stop") method) refl
     go false e = refl
 
 built_on : (phase : Phase) (ids : List Id) (m : Message) → built_from_editor phase ids m ≡ true → requests (codes "lspmux/stop") m ≡ false
-built_on phase ids (request id method params) built = go (bytes_eq (codes "lspmux/status") method) refl built
+built_on phase ids (request id method params) built = go (names_lspmux method) refl built
   where
-    go : (b : Bool) → bytes_eq (codes "lspmux/status") method ≡ b → (b || (is_standard (class_of method Editor false) && (doubles phase id ids || not (is_served phase && is_marked method params)))) ≡ true → bytes_eq (codes "lspmux/stop") method ≡ false
-    go true is k = ap (bytes_eq (codes "lspmux/stop")) (sym ((bytes_eq-Decides (codes "lspmux/status") method).0 is))
+    go : (b : Bool) → names_lspmux method ≡ b → (b || (is_standard (class_of method Editor false) && (doubles phase id ids || not (is_served phase && is_marked method params)))) ≡ true → bytes_eq (codes "lspmux/stop") method ≡ false
+    go true is k = lspmux_apart (codes "lspmux/stop") method refl refl is
     go false is k = not_stopping method (and_parts (is_standard (class_of method Editor false)) (doubles phase id ids || not (is_served phase && is_marked method params)) k).0
 built_on phase ids (notification method params) built = refl
 built_on phase ids (result id r) built = refl

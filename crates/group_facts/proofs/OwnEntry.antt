@@ -12,8 +12,7 @@ use Rattle.mux_history.specs.declared.cause.Cause.TheVariants.{FromEditor}
 use Rattle.mux_history.specs.declared.out.Out.{Out}
 use Rattle.mux_history.specs.declared.out.Out.TheVariants.{ToEditor, ToServer, Spawn, CloseEditor, EndServer}
 use Rattle.rpc_message.specs.Message.{Message, request, notification, result, error, not_json, not_message, Id, id_bytes, integer, message_of}
-use Rattle.rpc_message.specs.Texts.{Code, error_text, error_tree, invalid_request, ok_text, request_failed, with_id_text}
-use Rattle.rpc_message.proofs.Fixed.{id_as_response, ok_law}
+use Rattle.rpc_message.specs.Texts.{Code, error_text, error_tree, invalid_params, invalid_request, ok_text, request_failed, with_id_text}
 use Rattle.rpc_message.proofs.Ids.{request_id_bytes}
 use Rattle.event_model.specs.declared.phase.Phase.{Phase}
 use Rattle.event_model.specs.declared.phase.Phase.TheVariants.{Absent, New, Waiting, Answered, Running, Down, Closed, Gone}
@@ -36,13 +35,13 @@ use Rattle.mux_facts.proofs.Reasons.{Because, by_nothing, by_choose, by_on}
 use Rattle.mux_facts.proofs.Table.{late_taken}
 use Rattle.mux_facts.proofs.Why.{is_early}
 use Rattle.mux_facts.proofs.Words.{same_id_itself, same_number}
-use Rattle.group_words.specs.Houses.{home_of, house_of, is_doubled, placed_for, places}
+use Rattle.group_words.specs.Houses.{home_of, house_of, is_doubled, is_first_open, placed_for, places, server_asked}
 use Rattle.group_words.specs.Placing.{home_by}
 use Rattle.group_words.specs.Rows.{initialize_row}
 use Rattle.group_words.proofs.Frames.{home_more, home_stays}
 use Rattle.group_rows.specs.Forwarded.{Forwarding, forwarding_of, numbered}
 use Rattle.group_rows.specs.Leaves.{leave_row}
-use Rattle.group_rows.specs.Rows.{answer_error, can_ask, closing_row, document_at, document_bodies, document_row, early_code, early_row, exit_row, forward, from_editor, is_misplaced, message_row, outs_of, request_at, request_row, served_request, served_row, shutdown_row, status_row, sync_row, taken_row, told_row, wrong_code}
+use Rattle.group_rows.specs.Rows.{answer_error, asks_lspmux, can_ask, closing_row, document_at, document_bodies, document_row, early_code, early_row, exit_row, forward, from_editor, is_misplaced, lspmux_row, message_row, named_row, names_lspmux, open_row, outs_of, request_at, request_row, served_request, served_row, shutdown_row, status_row, sync_row, taken_row, told_row, wrong_code}
 use Rattle.group_rows.specs.Status.{items_of, status_text}
 use Rattle.group_rows.proofs.Statuses.{told_tree}
 use Rattle.group_rows.specs.Texts.{encoding_of, texts_of}
@@ -54,7 +53,8 @@ use Rattle.group_facts.proofs.Begun.{NoSpawn, all_outs, bodies_by, leave_by, qui
 use Rattle.group_facts.proofs.Facts.{Facts}
 use Rattle.group_facts.proofs.Forwards.{more_requests}
 use Rattle.group_facts.proofs.Numbers.{forwarding_sent}
-use Rattle.group_facts.proofs.PartingRows.{null_value}
+use Rattle.group_facts.proofs.Multiplexer.{lspmux_apart}
+use Rattle.group_facts.proofs.Nulls.{null_said}
 use Rattle.group_facts.proofs.RequestRow.{beside, beside_other, desk_taken, goes_on, not_own, status_said, synced_sender}
 use Rattle.group_facts.proofs.Sent.{IsOf, OneOf, SentAt, one_last, sent_did, sent_heard}
 use Rattle.group_facts.proofs.OpenByPhase.{OpenDesk, OpenIf, if_asked, if_hears, if_null, if_other, reply_told, without_last}
@@ -129,9 +129,9 @@ module _ (settings : Settings) (before : List Event) (n : ℕ) (body : List ℕ)
   open_now : open_of n now ≡ with_request (message_of body) ids
   open_now = opens_more n before (heard (FromEditor n body)) ∙ ap (λ b. if b then with_request (message_of body) ids else ids) (same_number n)
 
-  -- `lspmux/status`, or what this row gives
-  abbrev or_status : List ℕ → Row → Row
-  or_status method row = choose (bytes_eq (codes "lspmux/status") method) (status_row settings before n body) row
+  -- a request of the multiplexer's own, or what this row gives
+  abbrev or_lspmux : Id → List ℕ → Option Json → Row → Row
+  or_lspmux id method params row = choose (names_lspmux method) (lspmux_row settings before n body (request id method params)) row
 
   -- a body to it
   open_told : (E : Id → Type 0) (events : List Event) (text : List ℕ) (m : Message) → message_of text ≡ m
@@ -288,21 +288,37 @@ module _ (settings : Settings) (before : List Event) (n : ℕ) (body : List ℕ)
       null_tree = word (record { from = 0; to = 0 }) Null
 
       done_rests : is_early (desk_of n before).phase ≡ false → OpenAt settings n Nobody (told_now done)
-      done_rests late = open_told Nobody now done (result (Some id) null_tree) (ok_law (Some id) null_tree (id_bytes body) (codes "null") (id_as_response id (id_bytes body) (request_id_bytes body id method params says)) null_value (omega arith))
+      done_rests late = open_told Nobody now done (result (Some id) null_tree) (null_said body id method params says)
           (subst₂ (λ p z. OpenIf (S settings n Nobody (told_now done)) p here.initialize z) (sym (told_late here.phase here.initialize (result (Some id) null_tree) (late_taken before n body late))) (sym (ap (without (Some id)) asked_now ∙ without_last id ids fresh))
           (if_other (S settings n Nobody now) (S settings n Nobody (told_now done)) here.phase here.initialize ids (λ sent i is. or_later settings n Nobody now (told_now done) i (sent_did settings n i now (ToEditor n done) tt)) (heard_if Nobody (λ new. never (sym (ap is_early new) ∙ late)))))
 
       shutdown_rests : is_early (desk_of n before).phase ≡ false → Rests (outs (shutdown_row settings before n body) now)
       shutdown_rests late = left_rests (ToEditor n done) (done_rests late)
 
-      -- E5: `lspmux/status` is answered
-      abbrev told_text : List ℕ
-      told_text = ok_text (id_bytes body) (status_text (items_of settings before))
+      -- E4 and E5: a request of the multiplexer's own is answered
+      module _ (other : requests (codes "initialize") (message_of body) ≡ false) (others : here.phase ≡ Waiting → has_id id (message_of here.initialize) ≡ false) where
+        abbrev said_text : List ℕ → List ℕ
+        said_text text = ok_text (id_bytes body) text
 
-      status_rests : ((desk_of n before).phase ≡ New → requests (codes "initialize") (message_of body) ≡ false) → (here.phase ≡ Waiting → has_id id (message_of here.initialize) ≡ false) → Rests (outs (status_row settings before n body) now)
-      status_rests other others = open_told Nobody now told_text (result (Some id) (told_tree (items_of settings before))) (status_said settings before body id method params says)
-          (subst₂ (λ p z. OpenIf (S settings n Nobody (told_now told_text)) p here.initialize z) (sym (reply_told here.phase here.initialize id (told_tree (items_of settings before)) others)) (sym (ap (without (Some id)) asked_now ∙ without_last id ids fresh))
-          (if_other (S settings n Nobody now) (S settings n Nobody (told_now told_text)) here.phase here.initialize ids (λ sent i is. or_later settings n Nobody now (told_now told_text) i (sent_did settings n i now (ToEditor n told_text) tt)) (heard_if Nobody other)))
+        replied : (text : List ℕ) (r : Json) → message_of (ok_text (id_bytes body) text) ≡ result (Some id) r → Rests (ToEditor n (ok_text (id_bytes body) text) ∷ [])
+        replied text r is = open_told Nobody now (said_text text) (result (Some id) r) is
+            (subst₂ (λ p z. OpenIf (S settings n Nobody (told_now (said_text text))) p here.initialize z) (sym (reply_told here.phase here.initialize id r others)) (sym (ap (without (Some id)) asked_now ∙ without_last id ids fresh))
+            (if_other (S settings n Nobody now) (S settings n Nobody (told_now (said_text text))) here.phase here.initialize ids (λ sent i is. or_later settings n Nobody now (told_now (said_text text)) i (sent_did settings n i now (ToEditor n (said_text text)) tt)) (heard_if Nobody (λ new. other))))
+
+        named_rests : (o : Option ℕ) → Rests (outs (named_row n body o) now)
+        named_rests None = refused (λ new. other) invalid_params
+        named_rests (Some server) = replied (codes "null") null_tree (null_said body id method params says)
+
+        lspmux_rests : (m : Message) → Rests (outs (lspmux_row settings before n body m) now)
+        lspmux_rests m = go (requests (codes "lspmux/open") m)
+          where
+            opens : (b : Bool) → Rests (outs (choose b (named_row n body (server_asked settings.servers body)) (answer_error n body invalid_request)) now)
+            opens true = named_rests (server_asked settings.servers body)
+            opens false = refused (λ new. other) invalid_request
+
+            go : (b : Bool) → Rests (outs (choose b (open_row settings before n body m) (status_row settings before n body)) now)
+            go true = opens (is_first_open settings.servers before n m)
+            go false = replied (status_text (items_of settings before)) (told_tree (items_of settings before)) (status_said settings before body id method params says)
 
     -- E3 and E9: its link is to be ended
     closing_rests : Rests (outs (closing_row settings before n) now)
@@ -322,17 +338,17 @@ module _ (settings : Settings) (before : List Event) (n : ℕ) (body : List ℕ)
         go true h = h
         go false h = refl
 
-    -- nor is it `lspmux/status`
-    unasked : (phase : Phase) (m : Message) → requests (codes "lspmux/status") m ≡ false → (is_there phase && requests (codes "lspmux/status") m) ≡ false
+    -- nor is it one of the multiplexer's own
+    unasked : (phase : Phase) (m : Message) → asks_lspmux m ≡ false → (is_there phase && asks_lspmux m) ≡ false
     unasked phase m h = go (is_there phase) h
       where
-        go : (b : Bool) → requests (codes "lspmux/status") m ≡ false → (b && requests (codes "lspmux/status") m) ≡ false
+        go : (b : Bool) → asks_lspmux m ≡ false → (b && asks_lspmux m) ≡ false
         go true h = h
         go false h = refl
 
-    by_single : (m : Message) (phase : Phase) → is_doubled before n m ≡ false → requests (codes "lspmux/status") m ≡ false → outs (message_row settings before n body m phase) now ≡ outs (taken_row settings before n body m phase) now
+    by_single : (m : Message) (phase : Phase) → is_doubled before n m ≡ false → asks_lspmux m ≡ false → outs (message_row settings before n body m phase) now ≡ outs (taken_row settings before n body m phase) now
     by_single m phase h g = ap (λ b. outs (choose b (closing_row settings before n) (told_row settings before n body m phase)) now) (single phase m h)
-        ∙ ap (λ b. outs (choose b (status_row settings before n body) (taken_row settings before n body m phase)) now) (unasked phase m g)
+        ∙ ap (λ b. outs (choose b (lspmux_row settings before n body m) (taken_row settings before n body m phase)) now) (unasked phase m g)
 
     result_silent : (id : Option Id) (r : Json) (phase : Phase) → outs (from_editor settings before n body (result id r) phase) now ≡ []
     result_silent id r phase = by_single (result id r) phase refl refl ∙ silent phase
@@ -414,30 +430,30 @@ module _ (settings : Settings) (before : List Event) (n : ℕ) (body : List ℕ)
           by_double true twice row f = closing_rests
           by_double false fresh row f = f fresh
 
-          -- `lspmux/status`, or another request
-          by_status : is_open id ids ≡ false → is_there (desk_of n before).phase ≡ true → (row : Row) → Rests (outs row now) → Rests (outs (choose (bytes_eq (codes "lspmux/status") method) (status_row settings before n body) row) now)
-          by_status fresh there row rest = go (bytes_eq (codes "lspmux/status") method) refl
+          -- a request of the multiplexer's own, or another one
+          by_lspmux : is_open id ids ≡ false → is_there (desk_of n before).phase ≡ true → (row : Row) → Rests (outs row now) → Rests (outs (or_lspmux id method params row) now)
+          by_lspmux fresh there row rest = go (names_lspmux method) refl
             where
-              other : bytes_eq (codes "lspmux/status") method ≡ true → requests (codes "initialize") (message_of body) ≡ false
-              other is = ap (requests (codes "initialize")) says ∙ ap (bytes_eq (codes "initialize")) (sym ((bytes_eq-Decides (codes "lspmux/status") method).0 is))
+              other : names_lspmux method ≡ true → requests (codes "initialize") (message_of body) ≡ false
+              other is = ap (requests (codes "initialize")) says ∙ lspmux_apart (codes "initialize") method refl refl is
 
-              go : (b : Bool) → bytes_eq (codes "lspmux/status") method ≡ b → Rests (outs (choose b (status_row settings before n body) row) now)
-              go true is = status_rests id method params says fresh (λ new. other is) (λ at. beside_other now n id (beside settings before n body id method params says there (alone_by before (facts.steady).asked n id fresh) (other is) (λ waits. fresh) facts.waiting at))
+              go : (b : Bool) → names_lspmux method ≡ b → Rests (outs (choose b (lspmux_row settings before n body (request id method params)) row) now)
+              go true is = lspmux_rests id method params says fresh (other is) (λ at. beside_other now n id (beside settings before n body id method params says there (alone_by before (facts.steady).asked n id fresh) (other is) (λ waits. fresh) facts.waiting at)) (request id method params)
               go false is = rest
 
           early_old : (phase : Phase) → (desk_of n before).phase ≡ phase → is_new phase ≡ false → (desk_of n before).phase ≡ New → requests (codes "initialize") (message_of body) ≡ false
           early_old phase at old new = never (sym (ap is_new (sym at ∙ new)) ∙ old)
 
           go : (phase : Phase) → (desk_of n before).phase ≡ phase → places phase (request id method params) ≡ false → Rests (outs (message_row settings before n body (request id method params) phase) now)
-          go New at off = subst (λ b. Rests (outs (choose (bytes_eq (codes "lspmux/status") method) (status_row settings before n body) (choose b (initialize_row settings before n body) (early_row settings before n body (request id method params)))) now)) (sym off)
-              (by_status none (ap is_there at) (choose false (initialize_row settings before n body) (early_row settings before n body (request id method params))) (refused id method params says none (λ new. ap (requests (codes "initialize")) says ∙ off) (early_code method)))
+          go New at off = subst (λ b. Rests (outs (or_lspmux id method params (choose b (initialize_row settings before n body) (early_row settings before n body (request id method params)))) now)) (sym off)
+              (by_lspmux none (ap is_there at) (choose false (initialize_row settings before n body) (early_row settings before n body (request id method params))) (refused id method params says none (λ new. ap (requests (codes "initialize")) says ∙ off) (early_code method)))
             where
               none : is_open id ids ≡ false
               none = ap (is_open id) (subst (λ p. OpenIf (S settings n Nobody before) p (desk_of n before).initialize ids) at h)
-          go Waiting at off = by_double (is_open id ids) refl (or_status method (answer_error n body (early_code method))) (λ fresh. by_status fresh (ap is_there at) (answer_error n body (early_code method)) (refused id method params says fresh (early_old Waiting at refl) (early_code method)))
-          go Answered at off = by_double (is_open id ids) refl (or_status method (served_request settings before n body method)) (λ fresh. by_status fresh (ap is_there at) (served_request settings before n body method) (late_request fresh (ap is_there at) (ap is_early at)))
-          go Running at off = by_double (is_open id ids) refl (or_status method (served_request settings before n body method)) (λ fresh. by_status fresh (ap is_there at) (served_request settings before n body method) (late_request fresh (ap is_there at) (ap is_early at)))
-          go Down at off = by_double (is_open id ids) refl (or_status method (answer_error n body (wrong_code method invalid_request))) (λ fresh. by_status fresh (ap is_there at) (answer_error n body (wrong_code method invalid_request)) (refused id method params says fresh (early_old Down at refl) (wrong_code method invalid_request)))
+          go Waiting at off = by_double (is_open id ids) refl (or_lspmux id method params (answer_error n body (early_code method))) (λ fresh. by_lspmux fresh (ap is_there at) (answer_error n body (early_code method)) (refused id method params says fresh (early_old Waiting at refl) (early_code method)))
+          go Answered at off = by_double (is_open id ids) refl (or_lspmux id method params (served_request settings before n body method)) (λ fresh. by_lspmux fresh (ap is_there at) (served_request settings before n body method) (late_request fresh (ap is_there at) (ap is_early at)))
+          go Running at off = by_double (is_open id ids) refl (or_lspmux id method params (served_request settings before n body method)) (λ fresh. by_lspmux fresh (ap is_there at) (served_request settings before n body method) (late_request fresh (ap is_there at) (ap is_early at)))
+          go Down at off = by_double (is_open id ids) refl (or_lspmux id method params (answer_error n body (wrong_code method invalid_request))) (λ fresh. by_lspmux fresh (ap is_there at) (answer_error n body (wrong_code method invalid_request)) (refused id method params says fresh (early_old Down at refl) (wrong_code method invalid_request)))
           go Absent at off = never (sym linked ∙ ap is_linked at)
           go Closed at off = rests_here (asked_closed Closed at (λ i m. tt))
           go Gone at off = rests_here (asked_closed Gone at (λ i m. tt))

@@ -8,9 +8,6 @@ use Rattle.mux_history.specs.declared.out.Out.{Out}
 use Rattle.mux_history.specs.declared.out.Out.TheVariants.{CloseEditor, ToEditor}
 use Rattle.rpc_message.specs.Message.{request, Id, id_bytes, message_of}
 use Rattle.rpc_message.specs.Texts.{ok_text}
-use Rattle.rpc_message.specs.ValueTexts.{IsValueText}
-use Rattle.rpc_message.proofs.Fixed.{id_as_response, ok_law}
-use Rattle.rpc_message.proofs.Ids.{request_id_bytes}
 use Rattle.event_model.specs.declared.phase.Phase.{Phase}
 use Rattle.event_model.specs.Event.{Event, heard, said, with_cause}
 use Rattle.event_model.specs.Phases.{desk_of, is_there}
@@ -31,13 +28,11 @@ use Rattle.group_facts.specs.Why.{Why, answers}
 use Rattle.group_facts.proofs.Apart.{asks_fewer}
 use Rattle.group_facts.proofs.Forwards.{alone_fewer}
 use Rattle.group_facts.proofs.LeaveRows.{leave_why}
+use Rattle.group_facts.proofs.Nulls.{null_said}
 
 pub or_second : (a b : Bool) → b ≡ true → (a || b) ≡ true
 or_second true b h = refl
 or_second false b h = h
-
-pub null_value : IsValueText (word (record { from = 0; to = 0 }) Null) (codes "null")
-null_value = record { tree = word (record { from = 0; to = 4 }) Null; stands = (refl, refl); same = refl }
 
 -- X5
 
@@ -83,7 +78,7 @@ module _ (settings : Settings) (range : InRange settings) (before : List Event) 
           others = λ at. absurd (late_not (desk_of e asked).phase (late_taken before e body late) at);
           waits = open_taken before e body id method params says;
           alone = alone_fewer before asked (asks_fewer before e body) e id lonely;
-          says = ok_law (Some id) (word (record { from = 0; to = 0 }) Null) (id_bytes body) (codes "null") (id_as_response id (id_bytes body) (request_id_bytes body id method params says)) null_value (omega arith);
+          says = null_said body id method params says;
         })))
         (leave_why settings range before (FromEditor e body) opened bounded (asked ++ said (ToEditor e text) ∷ []) (λ s. refl)
         (stage_still (ToEditor e text) (λ s. ap (λ (l : Life). l.stage) (life_more s asked (said (ToEditor e text)))) (λ s u. ap (λ (x : Sent). x.held) (sent_more s u asked (said (ToEditor e text)))))

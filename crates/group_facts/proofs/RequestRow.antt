@@ -1,13 +1,14 @@
 -- E8 and E10: a request of an editor comes too early, or goes on behind a sync, or is refused.
-use Rattle.std.proofs.Common.{◌≡◌, ℕ, Bool, true, false, ◌||◌, List, [], ◌∷◌, ◌<◌, ◌^◌, nat_lt, codes, bytes_eq, decimal, if◌then◌else◌, Option, Some, refl, sym, ◌∙◌, ap, ap₂, subst, arith, ltb-true}
+use Rattle.std.proofs.Common.{◌≡◌, ℕ, Bool, true, false, ◌||◌, List, [], ◌∷◌, ◌<◌, ◌^◌, nat_lt, codes, bytes_eq, decimal, if◌then◌else◌, Option, None, Some, refl, sym, ◌∙◌, ap, ap₂, subst, arith, ltb-true}
 use Rattle.std.proofs.lemmas.Bool.{and_parts}
 use Rattle.std.proofs.lemmas.Slice.Eq.{bytes_eq-Decides}
-use Rattle.json_text.specs.Json.{Json}
+use Rattle.json_text.specs.declared.kind.Word.TheVariants.{Null}
+use Rattle.json_text.specs.Json.{Json, word}
 use Rattle.document_model.specs.Opens.{Open}
 use Rattle.mux_history.specs.declared.cause.Cause.TheVariants.{FromEditor}
 use Rattle.mux_history.specs.declared.out.Out.{Out}
 use Rattle.rpc_message.specs.Message.{Message, request, result, Id, integer, message_of, id_bytes}
-use Rattle.rpc_message.specs.Texts.{Code, ok_text, with_id_text, request_failed, error_tree}
+use Rattle.rpc_message.specs.Texts.{Code, invalid_params, invalid_request, ok_text, with_id_text, request_failed, error_tree}
 use Rattle.rpc_message.proofs.Decimals.{decimal_law}
 use Rattle.rpc_message.proofs.Fixed.{id_as_response, ok_law}
 use Rattle.rpc_message.proofs.Ids.{request_with_id, request_id_bytes}
@@ -32,8 +33,9 @@ use Rattle.mux_facts.proofs.Table.{late_taken, open_taken, there_taken}
 use Rattle.mux_facts.proofs.Waits.{AllWaiting, Waits, late_not, waits_at}
 use Rattle.mux_facts.proofs.Why.{is_early}
 use Rattle.mux_facts.proofs.Words.{id_same, same_number}
+use Rattle.group_words.specs.Houses.{server_asked}
 use Rattle.group_rows.specs.Forwarded.{Forwarding, forwarding_of, sender_of}
-use Rattle.group_rows.specs.Rows.{answer_error, can_ask, forward, request_at, request_row, status_row, sync_bodies, sync_row}
+use Rattle.group_rows.specs.Rows.{answer_error, can_ask, forward, named_row, open_row, request_at, request_row, status_row, sync_bodies, sync_row}
 use Rattle.group_rows.specs.Status.{items_of, status_text}
 use Rattle.group_rows.proofs.Statuses.{status_deep, status_value, told_tree}
 use Rattle.group_rows.specs.Texts.{texts_of}
@@ -41,6 +43,7 @@ use Rattle.group_facts.specs.Facts.{IsAlone, Opened}
 use Rattle.group_facts.proofs.Apart.{asks_fewer}
 use Rattle.group_facts.proofs.DocumentRow.{calm_now, held_still}
 use Rattle.group_facts.proofs.Forwards.{alone_fewer, forwarding_more}
+use Rattle.group_facts.proofs.Nulls.{null_said}
 use Rattle.group_facts.proofs.SharedRows.{AllTold, Held, sync_told}
 use Rattle.group_facts.proofs.Tellings.{Calm, tells_row}
 use Rattle.group_facts.specs.Why.{IsBeside, IsForward, Why, answers, forwarded, refuses}
@@ -160,6 +163,25 @@ module _ (settings : Settings) (before : List Event) (e : ℕ) (body : List ℕ)
           apart : (b : Bool) → same_id id w.id ≡ b → b ≡ false
           apart true k = absurd (let o : is_open id (open_of e before) ≡ true = subst (λ i. is_open i (open_of e before) ≡ true) (sym (id_same id w.id k)) w.waits in let f : is_open id (open_of e before) ≡ false = fresh (waited at) in cc)
           apart false k = refl
+
+      -- E4
+      pub own_refused : (code : Code) → Because R asked (answer_error e body code)
+      own_refused code = early code (λ at. beside_other asked e id (beside at))
+
+      named_why : (o : Option ℕ) → Because R asked (named_row e body o)
+      named_why None = own_refused invalid_params
+      named_why (Some server) = by_send (answers (record {
+        id = id;
+        r = word (record { from = 0; to = 0 }) Null;
+        there = there_taken settings before e body there;
+        others = beside;
+        waits = open_taken before e body id method params says;
+        alone = alone;
+        says = null_said body id method params says;
+      }))
+
+      pub open_why : (m : Message) → Because R asked (open_row settings before e body m)
+      open_why m = by_choose (λ first. named_why (server_asked settings.servers body)) (λ late. own_refused invalid_request)
 
       -- E5
       pub status_why : Because R asked (status_row settings before e body)

@@ -31,7 +31,6 @@ use Rattle.group_facts.proofs.Lively.{lively_rests, no_lively}
 use Rattle.group_facts.proofs.OwnEntry.{Nobody}
 use Rattle.group_facts.proofs.Seated.{AllPlaced, placed_rests, seat}
 use Rattle.group_facts.proofs.Sent.{SentAt, sent_is}
-use Rattle.group_facts.proofs.Unnamed.{Unnamed, unnamed_did, unnamed_took}
 use Rattle.group_facts.proofs.OpenByPhase.{IsOne, OpenIf, if_answered}
 use Rattle.group_facts.proofs.OpenByOut.{S}
 
@@ -51,7 +50,6 @@ spelt_keeps = record { ends = λ x h. tt; busies = λ x h. h; idles = λ now x h
 module _ (settings : Settings) (range : InRange settings) where
   pub record Rests (events : List Event) : Type 0 where
     facts : Facts settings events
-    unnamed : Unnamed settings events
     spelt : AllSpelt settings events
     begun : Begun settings events
     lively : Lively settings events
@@ -66,7 +64,6 @@ module _ (settings : Settings) (range : InRange settings) where
   entry_rests : (before : List Event) (cause : Cause) → fits_behind before cause ≡ true → built_behind settings before cause ≡ true → Rests before → Rests (behind (with_cause before cause) (outs_of settings before cause))
   entry_rests before cause fits built h = record {
     facts = entry_keeps settings range before cause fits built h.facts;
-    unnamed = entry_all (Unnamed settings) (unnamed_did settings) (with_cause before cause) (outs_of settings before cause) (unnamed_took settings before cause built h.unnamed);
     spelt = entry_all (AllSpelt settings) (all_did Spelt spelt_keeps settings) (with_cause before cause) (outs_of settings before cause) (all_took Spelt spelt_keeps settings before cause built (λ e body. folders_utf8 body) h.spelt);
     begun = begun_rests settings before cause built h.begun;
     lively = lively_rests settings range before h.facts h.begun h.lively cause fits built;
@@ -77,7 +74,6 @@ module _ (settings : Settings) (range : InRange settings) where
   no_rests : Rests []
   no_rests = record {
     facts = no_facts settings range;
-    unnamed = λ e. refl;
     spelt = tt;
     begun = λ g. (λ none. omega arith, λ le. refl);
     lively = no_lively settings;
@@ -106,7 +102,6 @@ module _ (settings : Settings) (range : InRange settings) where
 
   pub settled_of : (events : List Event) → Rests events → Settled settings events
   settled_of events h = record {
-    unnamed = h.unnamed;
     spelt = h.spelt;
     begun = h.begun;
     lively = h.lively;

@@ -27,16 +27,17 @@ use Rattle.mux_facts.proofs.Why.{is_early}
 use Rattle.group_words.specs.Houses.{is_doubled}
 use Rattle.group_words.specs.Rows.{shown_of}
 use Rattle.group_rows.specs.Forwarded.{forwarding_of}
-use Rattle.group_rows.specs.Rows.{closing_row, down_row, early_code, early_row, exit_row, from_editor, message_row, row_of, served_request, served_row, status_row, taken_row, wrong_code}
+use Rattle.group_rows.specs.Rows.{asks_lspmux, closing_row, down_row, early_code, early_row, exit_row, from_editor, lspmux_row, message_row, row_of, served_request, served_row, taken_row, wrong_code}
 use Rattle.group_facts.specs.Built.{built_behind, built_early, built_from_server, is_shown_whole}
 use Rattle.group_facts.specs.Facts.{IsAlone, is_parting}
 use Rattle.group_facts.proofs.AnswerRows.{server_why, start_why}
 use Rattle.group_facts.proofs.Apart.{alone_by, alone_early}
 use Rattle.group_facts.proofs.DocumentRow.{document_why}
 use Rattle.group_facts.proofs.Facts.{Facts}
+use Rattle.group_facts.proofs.Multiplexer.{lspmux_apart}
 use Rattle.group_facts.proofs.PartingRows.{closing_why, gone_why, or_second, shutdown_why}
 use Rattle.group_facts.proofs.PlacingRow.{initialize_why}
-use Rattle.group_facts.proofs.RequestRow.{R, asked, early_new, early_waiting, late_refused, not_own, request_why, status_why}
+use Rattle.group_facts.proofs.RequestRow.{R, asked, early_new, early_waiting, late_refused, not_own, open_why, request_why, status_why}
 use Rattle.group_facts.proofs.SharedRows.{off_first}
 use Rattle.group_facts.specs.Why.{Why, rejects}
 
@@ -122,20 +123,29 @@ module _ (settings : Settings) (range : InRange settings) (before : List Event) 
   unbegun_early Closed there h = absurd (cc)
   unbegun_early Gone there h = absurd (cc)
 
-  -- E5: `lspmux/status` of an editor that is there
-  told_why : (m : Message) → message_of body ≡ m → is_there (desk_of e before).phase ≡ true → requests (codes "lspmux/status") m ≡ true → (is_begun (desk_of e before).phase && is_doubled before e m) ≡ false → Mine (status_row settings before e body)
-  told_why (request id method params) says there asks single = status_why settings before e body id method params says there (lonely (is_begun (desk_of e before).phase) refl)
-      (ap (requests (codes "initialize")) says ∙ ap (bytes_eq (codes "initialize")) (sym ((bytes_eq-Decides (codes "lspmux/status") method).0 asks)))
-      (λ at. ap (λ p. is_begun p && is_open id (open_of e before)) (sym at) ∙ single) facts.waiting
+  -- E4 and E5: a request of the multiplexer's own, of an editor that is there
+  lspmux_why : (m : Message) → message_of body ≡ m → is_there (desk_of e before).phase ≡ true → asks_lspmux m ≡ true → (is_begun (desk_of e before).phase && is_doubled before e m) ≡ false → Mine (lspmux_row settings before e body m)
+  lspmux_why (request id method params) says there asks single = by_choose
+      (λ names. open_why settings before e body id method params says there alone_here other fresh facts.waiting (request id method params))
+      (λ tells. status_why settings before e body id method params says there alone_here other fresh facts.waiting)
     where
       lonely : (b : Bool) → is_begun (desk_of e before).phase ≡ b → IsAlone before e id
       lonely true begun = alone_by before (facts.steady).asked e id (ap (λ b. b && is_open id (open_of e before)) (sym begun) ∙ single)
       lonely false unbegun = alone_early before (facts.steady).asked e id (unbegun_early (desk_of e before).phase there unbegun)
-  told_why (notification method params) says there asks single = absurd (cc)
-  told_why (result id r) says there asks single = absurd (cc)
-  told_why (error id x) says there asks single = absurd (cc)
-  told_why not_json says there asks single = absurd (cc)
-  told_why not_message says there asks single = absurd (cc)
+
+      alone_here : IsAlone before e id
+      alone_here = lonely (is_begun (desk_of e before).phase) refl
+
+      other : requests (codes "initialize") (message_of body) ≡ false
+      other = ap (requests (codes "initialize")) says ∙ lspmux_apart (codes "initialize") method refl refl asks
+
+      fresh : (desk_of e before).phase ≡ Waiting → is_open id (open_of e before) ≡ false
+      fresh at = ap (λ p. is_begun p && is_open id (open_of e before)) (sym at) ∙ single
+  lspmux_why (notification method params) says there asks single = absurd (cc)
+  lspmux_why (result id r) says there asks single = absurd (cc)
+  lspmux_why (error id x) says there asks single = absurd (cc)
+  lspmux_why not_json says there asks single = absurd (cc)
+  lspmux_why not_message says there asks single = absurd (cc)
 
   taken_why : (phase : Phase) → (desk_of e before).phase ≡ phase → (is_begun phase && is_doubled before e (message_of body)) ≡ false → Mine (taken_row settings before e body (message_of body) phase)
   taken_why New at single = new_why (message_of body) refl at
@@ -151,7 +161,7 @@ module _ (settings : Settings) (range : InRange settings) (before : List Event) 
   message_why phase at = by_choose
       (λ twice. let p = and_parts (is_begun phase) (is_doubled before e (message_of body)) twice in parting (ap is_there at ∙ begun_there phase p.0) (or_second (notifies (codes "exit") (message_of body)) (is_doubled before e (message_of body)) p.1))
       (λ single. by_choose
-      (λ asks. let p = and_parts (is_there phase) (requests (codes "lspmux/status") (message_of body)) asks in told_why (message_of body) refl (ap is_there at ∙ p.0) p.1 (ap (λ p. is_begun p && is_doubled before e (message_of body)) at ∙ single))
+      (λ asks. let p = and_parts (is_there phase) (asks_lspmux (message_of body)) asks in lspmux_why (message_of body) refl (ap is_there at ∙ p.0) p.1 (ap (λ p. is_begun p && is_doubled before e (message_of body)) at ∙ single))
       (λ other. taken_why phase at single))
 
   editor_why : Mine (from_editor settings before e body (message_of body) (desk_of e before).phase)

@@ -23,7 +23,7 @@ use Rattle.mux_facts.proofs.Words.{number_same, still_open}
 use Rattle.group_words.specs.declared.placed.Placed.{Placed}
 use Rattle.group_words.specs.declared.placed.Placed.TheVariants.{Joins, New as Founds, Evicts, TooMany}
 use Rattle.group_words.specs.Houses.{groups_of, placed_for, places}
-use Rattle.group_rows.specs.Rows.{outs_of}
+use Rattle.group_rows.specs.Rows.{asks_lspmux, names_lspmux, outs_of}
 use Rattle.group_facts.specs.Facts.{is_too_many, turned_away}
 use Rattle.group_facts.proofs.Facts.{OthersWait}
 use Rattle.group_facts.specs.Why.{IsRefusal, WhyToEditor, rejects, refuses, answers, turns_away, welcomes, passes}
@@ -113,9 +113,9 @@ whole_is (error id x) h = refl
 whole_is not_json h = absurd (cc)
 whole_is not_message h = absurd (cc)
 
--- it is no `lspmux/status`
-pub first_unasked : (m : Message) → requests (codes "initialize") m ≡ true → requests (codes "lspmux/status") m ≡ false
-first_unasked (request id method params) h = ap (bytes_eq (codes "lspmux/status")) (sym ((bytes_eq-Decides (codes "initialize") method).0 h))
+-- it is none of the multiplexer's own
+pub first_unasked : (m : Message) → requests (codes "initialize") m ≡ true → asks_lspmux m ≡ false
+first_unasked (request id method params) h = ap names_lspmux (sym ((bytes_eq-Decides (codes "initialize") method).0 h))
 first_unasked (notification method params) h = absurd (cc)
 first_unasked (result id r) h = absurd (cc)
 first_unasked (error id x) h = absurd (cc)

@@ -1,5 +1,5 @@
 -- Which causes meet only rows of the table over several editors and groups that are built, until all are.
--- Not built of an editor: requests of the multiplexer's own but `lspmux/status` (E4 and E6), and while it is served requests that go on with tokens (E10), and the notifications that go on (E11, E16, E17).
+-- Not built of an editor: `lspmux/stop` (E6), and while it is served requests that go on with tokens (E10), and the notifications that go on (E11, E16, E17).
 -- Not built of a start: its requests and notifications while it is ready, results that read versions (S5), and before that a refused `initialize` (S3). Nor the end of a program whose group lives, and ticks.
 -- Of S2, what is read back must be what was meant: editors are shown all of the result.
 use Rattle.std.specs.Prelude.{ℕ, Bool, true, false, not, ◌&&◌, ◌||◌, List, find, codes, bytes_eq}
@@ -30,6 +30,7 @@ use Rattle.mux_model.specs.Methods.{is_dropped}
 use Rattle.group_words.specs.Houses.{is_first_error, groups_of}
 use Rattle.group_words.specs.Rows.{shown_of}
 use Rattle.group_rows.specs.Forwarded.{Forwarded, answered_by, forwarding_of}
+use Rattle.group_rows.specs.Rows.{names_lspmux}
 use Rattle.group_facts.specs.Lively.{lives_at}
 
 -- E10: the request is of class Other
@@ -52,9 +53,9 @@ is_marked method params = is_plain method && has_token params
 abbrev pub doubles : Phase → Id → List Id → Bool
 doubles phase id ids = is_begun phase && is_open id ids
 
--- E3, E5, E7, E8 and J2, and behind the answer to `initialize` E9 and E10
+-- E3 to E5, E7, E8 and J2, and behind the answer to `initialize` E9 and E10
 abbrev pub built_request : Phase → Bool → List ℕ → Option Json → Bool
-built_request phase doubled method params = bytes_eq (codes "lspmux/status") method || (is_standard (class_of method Editor false) && (doubled || not (is_served phase && is_marked method params)))
+built_request phase doubled method params = names_lspmux method || (is_standard (class_of method Editor false) && (doubled || not (is_served phase && is_marked method params)))
 
 -- E9, E12 to E15: `exit`, `initialized`, what is on documents, and class Dropped
 abbrev pub is_quiet : List ℕ → Option Json → Bool

@@ -12,7 +12,7 @@ use Rattle.event_model.specs.Requests.{is_open, open_of}
 use Rattle.event_model.specs.Settings.{Settings}
 use Rattle.event_model.specs.Spawns.{start_of}
 use Rattle.group_words.specs.declared.kept.Kept.{Kept}
-use Rattle.group_words.specs.Houses.{groups_of, home_of, meant_of}
+use Rattle.group_words.specs.Houses.{groups_of, home_of}
 use Rattle.group_rows.specs.Forwarded.{Forwarded, forwarding_of}
 use Rattle.group_facts.specs.Lively.{Lively}
 
@@ -52,10 +52,9 @@ is_answered Running = true
 is_answered Down = true
 is_answered _ = false
 
--- no editor named a server, each group has a start, an editor's group lives until the editor leaves it, each open request of an editor that got its result was sent on, and an editor that
+-- each group has a start, an editor's group lives until the editor leaves it, each open request of an editor that got its result was sent on, and an editor that
 -- needs a server is in a group that has a start
 pub record Settled (settings : Settings) (events : List Event) : Type 0 where
-  pub unnamed : (e : ℕ) → (meant_of settings.servers e events).server ≡ None
   pub spelt : AllByRecursion (λ (x : Kept). AreUtf8 x.key.folders) (groups_of settings events)
   pub begun : (g : ℕ) → (start_of g events ≡ None) ↔ (length (groups_of settings events) ≤ g)
   pub lively : Lively settings events

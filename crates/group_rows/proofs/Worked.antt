@@ -1,5 +1,5 @@
 -- What the routing table gives over two editors and over two groups, worked out by the checker.
-use Rattle.std.proofs.Common.{◌≡◌, ℕ, List, [], ◌∷◌, codes, refl}
+use Rattle.std.proofs.Common.{◌≡◌, ℕ, List, [], ◌∷◌, codes, refl, flat_map, map, take, drop}
 use Rattle.std.specs.Prelude.{Some}
 use Rattle.std.specs.Fmt.{digits}
 use Rattle.std.specs.Str.{chars}
@@ -12,9 +12,13 @@ use Rattle.position_codec.specs.declared.Encoding.TheVariants.{Utf8, Utf16}
 use Rattle.rpc_message.specs.Message.{message_of, no_name_twice, is_integer, member_bytes}
 use Rattle.rpc_message.specs.Texts.{with_id_text}
 use Rattle.group_words.specs.Example.{with_groups}
-use Rattle.group_rows.specs.Example.{all_outs, events_behind, too_early, too_early_outs, refused_early, refused_early_outs, wrong_names, wrong_names_outs, two_editors, two_editors_outs, both_ask, both_ask_outs, switching, switching_outs, changing, changing_outs, closing, closing_outs, two_groups, an_exit, texts_in, touches_in, one_cancelled, left_outs, parting, parting_outs, links_end, links_end_outs, asking_status, asking_status_outs, evicted, evicted_outs, outs_with}
+use Rattle.group_rows.specs.Example.{all_outs, events_behind, too_early, too_early_outs, refused_early, refused_early_outs, wrong_names, wrong_names_outs, two_editors, two_editors_outs, both_ask, both_ask_outs, switching, switching_outs, changing, changing_outs, closing, closing_outs, two_groups, an_exit, texts_in, touches_in, one_cancelled, left_outs, parting, parting_outs, links_end, links_end_outs, asking_status, asking_status_outs, opening_servers, opening_servers_outs, opening_late, opening_late_out, two_servers, evicted, evicted_outs, outs_with}
 use Rattle.mux_history.specs.declared.out.Out.TheVariants.{ToServer}
+use Rattle.event_model.specs.declared.phase.Phase.TheVariants.{Answered}
 use Rattle.event_model.specs.Event.{Event}
+use Rattle.event_model.specs.Phases.{desk_of}
+use Rattle.group_words.specs.Houses.{home_of}
+use Rattle.group_rows.specs.Rows.{outs_from}
 use Rattle.mux_model.specs.Documents.{held_at}
 use Rattle.group_rows.specs.Leaves.{leave_bodies}
 use Rattle.group_rows.specs.Texts.{encoding_of, texts_of}
@@ -105,6 +109,22 @@ leaving_where_a_link_ends = refl
 statuses_are_told : all_outs asking_status ≡ asking_status_outs
 unfolding computes url_on_literals message_of named no_name_twice is_integer member_bytes with_id_text escape_byte digits own_request own_notification goes_nowhere editor_request chars
 statuses_are_told = refl
+
+another_server_is_meant : flat_map (λ xs. xs) (outs_from two_servers [] opening_servers) ≡ opening_servers_outs
+unfolding computes message_of named no_name_twice is_integer member_bytes with_id_text escape_byte digits own_request own_notification goes_nowhere editor_request
+another_server_is_meant = refl
+
+it_makes_another_group : map (λ e. home_of two_servers e (events_behind two_servers [] (opening_servers))) (0 ∷ 1 ∷ 2 ∷ []) ≡ Some 0 ∷ Some 1 ∷ Some 0 ∷ []
+unfolding computes message_of named no_name_twice is_integer member_bytes with_id_text escape_byte digits own_request own_notification goes_nowhere editor_request
+it_makes_another_group = refl
+
+opening_late_is_refused : drop 4 (flat_map (λ xs. xs) (outs_from two_servers [] opening_late)) ≡ opening_late_out ∷ []
+unfolding computes message_of named no_name_twice is_integer member_bytes with_id_text escape_byte digits own_request own_notification goes_nowhere editor_request
+opening_late_is_refused = refl
+
+it_still_is_answered : (desk_of 0 (events_behind two_servers [] opening_late)).phase ≡ Answered
+unfolding computes message_of named no_name_twice is_integer member_bytes with_id_text escape_byte digits own_request own_notification goes_nowhere editor_request
+it_still_is_answered = refl
 
 a_group_ends_for_another : outs_with 1 evicted ≡ evicted_outs
 unfolding computes url_on_literals message_of named no_name_twice is_integer member_bytes with_id_text escape_byte digits own_request own_notification goes_nowhere editor_request

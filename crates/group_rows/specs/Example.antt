@@ -1,5 +1,6 @@
 -- Worked histories of two editors that share a start, and of two groups.
 use Rattle.std.specs.Prelude.{ℕ, List, [], ◌∷◌, ◌++◌, codes, flat_map, map}
+use Rattle.std.specs.Prelude.{None}
 use Rattle.mux_history.specs.declared.cause.Cause.{Cause}
 use Rattle.mux_history.specs.declared.cause.Cause.TheVariants.{Joined, FromEditor, EditorGone, Started, FromServer, ServerGone}
 use Rattle.mux_history.specs.declared.cause.Why.TheVariants.{End}
@@ -279,6 +280,57 @@ asking_status_outs = ToEditor 0 (codes "{\"jsonrpc\":\"2.0\",\"id\":1,\"result\"
     ∷ ToEditor 1 (codes "{\"jsonrpc\":\"2.0\",\"id\":3,\"result\":{\"groups\":[{\"group\":0,\"server\":\"main\",\"start\":0,\"state\":\"ready\",\"editors\":[0,1],\"open\":2}]}}")
     ∷ ToEditor 0 (codes "{\"jsonrpc\":\"2.0\",\"id\":2,\"result\":{\"groups\":[{\"group\":0,\"server\":\"main\",\"start\":0,\"state\":\"ready\",\"editors\":[0],\"open\":1}]}}")
     ∷ []
+
+-- two servers, of which the first is the default
+abbrev pub two_servers : Settings
+two_servers = record {
+  limits = record { groups = 8; restarts = 5; idle = 300; grace = 5; backlog = 134217728; requests = 2147483647; versions = 2147483647 };
+  servers = record { name = codes "main"; ceiling = None } ∷ record { name = codes "aux"; ceiling = None } ∷ [];
+  default = 0;
+}
+
+-- the first editor means the default server, the second another one, which it names by an escape; the third names no server, and a list of params names none
+abbrev pub opening_servers : List Cause
+opening_servers = Joined 0
+    ∷ FromEditor 0 (codes "{\"jsonrpc\":\"2.0\",\"id\":0,\"method\":\"initialize\",\"params\":{\"rootUri\":\"file:///w\",\"capabilities\":{}}}")
+    ∷ Joined 1
+    ∷ FromEditor 1 (codes "{\"jsonrpc\":\"2.0\",\"id\":1,\"method\":\"lspmux/open\",\"params\":{\"server\":\"\\u0061ux\"}}")
+    ∷ FromEditor 1 (codes "{\"jsonrpc\":\"2.0\",\"id\":2,\"method\":\"lspmux/open\",\"params\":{\"server\":\"main\"}}")
+    ∷ FromEditor 1 (codes "{\"jsonrpc\":\"2.0\",\"id\":0,\"method\":\"initialize\",\"params\":{\"rootUri\":\"file:///w\",\"capabilities\":{}}}")
+    ∷ FromEditor 1 (codes "{\"jsonrpc\":\"2.0\",\"id\":3,\"method\":\"lspmux/open\",\"params\":{\"server\":\"main\"}}")
+    ∷ Joined 2
+    ∷ FromEditor 2 (codes "{\"jsonrpc\":\"2.0\",\"id\":1,\"method\":\"lspmux/open\",\"params\":{\"server\":\"none\"}}")
+    ∷ FromEditor 2 (codes "{\"jsonrpc\":\"2.0\",\"id\":2,\"method\":\"lspmux/open\",\"params\":{\"server\":\"aux\"}}")
+    ∷ FromEditor 2 (codes "{\"jsonrpc\":\"2.0\",\"id\":0,\"method\":\"initialize\",\"params\":{\"rootUri\":\"file:///w\",\"capabilities\":{}}}")
+    ∷ Joined 3
+    ∷ FromEditor 3 (codes "{\"jsonrpc\":\"2.0\",\"id\":1,\"method\":\"lspmux/open\",\"params\":[\"aux\"]}")
+    ∷ FromEditor 1 (codes "{\"jsonrpc\":\"2.0\",\"id\":0,\"method\":\"lspmux/open\"}")
+    ∷ FromEditor 1 (codes "{\"jsonrpc\":\"2.0\",\"id\":4,\"method\":\"lspmux/open\"}")
+    ∷ []
+
+abbrev pub opening_servers_outs : List Out
+opening_servers_outs = Spawn 0 0
+    ∷ ToEditor 1 (codes "{\"jsonrpc\":\"2.0\",\"id\":1,\"result\":null}")
+    ∷ ToEditor 1 (codes "{\"jsonrpc\":\"2.0\",\"id\":2,\"error\":{\"code\":-32600,\"message\":\"Invalid Request\"}}")
+    ∷ Spawn 1 1
+    ∷ ToEditor 1 (codes "{\"jsonrpc\":\"2.0\",\"id\":3,\"error\":{\"code\":-32600,\"message\":\"Invalid Request\"}}")
+    ∷ ToEditor 2 (codes "{\"jsonrpc\":\"2.0\",\"id\":1,\"error\":{\"code\":-32602,\"message\":\"Invalid params\"}}")
+    ∷ ToEditor 2 (codes "{\"jsonrpc\":\"2.0\",\"id\":2,\"error\":{\"code\":-32600,\"message\":\"Invalid Request\"}}")
+    ∷ ToEditor 3 (codes "{\"jsonrpc\":\"2.0\",\"id\":1,\"error\":{\"code\":-32602,\"message\":\"Invalid params\"}}")
+    ∷ CloseEditor 1
+    ∷ []
+
+-- an editor that got its result stays where it is by `lspmux/open`
+abbrev pub opening_late : List Cause
+opening_late = Joined 0
+    ∷ FromEditor 0 (codes "{\"jsonrpc\":\"2.0\",\"id\":0,\"method\":\"initialize\",\"params\":{\"rootUri\":\"file:///w\",\"capabilities\":{}}}")
+    ∷ Started 0
+    ∷ FromServer 0 (codes "{\"jsonrpc\":\"2.0\",\"id\":1,\"result\":{\"capabilities\":{}}}")
+    ∷ FromEditor 0 (codes "{\"jsonrpc\":\"2.0\",\"id\":1,\"method\":\"lspmux/open\",\"params\":{\"server\":\"aux\"}}")
+    ∷ []
+
+abbrev pub opening_late_out : Out
+opening_late_out = ToEditor 0 (codes "{\"jsonrpc\":\"2.0\",\"id\":1,\"error\":{\"code\":-32600,\"message\":\"Invalid Request\"}}")
 
 -- where one group is the limit, an idle one ends for another: its start answers `shutdown`, and its program ends
 abbrev pub evicted : List Cause

@@ -1,4 +1,4 @@
--- The routing table over several editors and groups, in part: J1, J2, E2, E3, E5, E7 to E10, E12 to E15, E19, S1, S2 with X4, S4, S5 without versions, X1 to X3 of groups that live no more, X5 and X6.
+-- The routing table over several editors and groups, in part: J1, J2, E2 to E5, E7 to E10, E12 to E15, E19, S1, S2 with X4, S4, S5 without versions, X1 to X3 of groups that live no more, X5 and X6.
 use Rattle.std.specs.Prelude.{ℕ, Bool, false, ◌&&◌, ◌||◌, List, [], ◌∷◌, ◌++◌, filter, find, flat_map, codes, nat_eq, nat_lt, decimal, bytes_eq, if◌then◌else◌}
 use Rattle.std.specs.Prelude.{Option, Some, None, slice_get}
 use Rattle.std.specs.List.{list_any}
@@ -11,7 +11,7 @@ use Rattle.position_codec.specs.declared.Encoding.{Encoding}
 use Rattle.lsp_method.specs.Class.{class_of}
 use Rattle.lsp_method.specs.declared.variants.Origin.TheVariants.{Editor}
 use Rattle.rpc_message.specs.Message.{Message, request, notification, message_of, id_bytes, result_bytes}
-use Rattle.rpc_message.specs.Texts.{ok_text, error_text, initialized_text, with_id_text, Code, invalid_request, method_not_found, request_failed, server_not_initialized}
+use Rattle.rpc_message.specs.Texts.{ok_text, error_text, initialized_text, with_id_text, Code, invalid_params, invalid_request, method_not_found, request_failed, server_not_initialized}
 use Rattle.document_model.specs.Bodies.{open_text}
 use Rattle.document_model.specs.Helds.{HeldText}
 use Rattle.document_model.specs.Opens.{Open, holder, holder_beside}
@@ -33,7 +33,7 @@ use Rattle.event_model.specs.Stages.{life_of, is_ready, is_first_result}
 use Rattle.mux_model.specs.Documents.{held_at}
 use Rattle.mux_model.specs.Methods.{is_dollar, is_wrong}
 use Rattle.mux_model.specs.Rows.{malformed_row, to_start}
-use Rattle.group_words.specs.Houses.{editors_in, groups_of, home_of, is_doubled}
+use Rattle.group_words.specs.Houses.{editors_in, groups_of, home_of, is_doubled, is_first_open, server_asked}
 use Rattle.group_words.specs.Rows.{initialize_of, initialize_row, shown_of}
 use Rattle.group_rows.specs.Ends.{answers_shutdown, exit_server}
 use Rattle.group_rows.specs.Forwarded.{Forwarded, forwarding_of, answered_by}
@@ -155,8 +155,27 @@ taken_row settings before e body m other = nothing
 abbrev pub status_row : Settings → List Event → ℕ → List ℕ → Row
 status_row settings before e body = send (ToEditor e (ok_text (id_bytes body) (status_text (items_of settings before))))
 
+-- E4: the first `lspmux/open` of a new editor says which server is meant; one that names no server is refused, and so is each other one
+abbrev pub named_row : ℕ → List ℕ → Option ℕ → Row
+named_row e body (Some server) = send (ToEditor e (ok_text (id_bytes body) (codes "null")))
+named_row e body None = answer_error e body invalid_params
+
+abbrev pub open_row : Settings → List Event → ℕ → List ℕ → Message → Row
+open_row settings before e body m = choose (is_first_open settings.servers before e m) (named_row e body (server_asked settings.servers body)) (answer_error e body invalid_request)
+
+-- E4 and E5: a request of the multiplexer's own, in any phase
+abbrev pub names_lspmux : List ℕ → Bool
+names_lspmux method = bytes_eq (codes "lspmux/open") method || bytes_eq (codes "lspmux/status") method
+
+abbrev pub asks_lspmux : Message → Bool
+asks_lspmux (request id method params) = names_lspmux method
+asks_lspmux other = false
+
+abbrev pub lspmux_row : Settings → List Event → ℕ → List ℕ → Message → Row
+lspmux_row settings before e body m = choose (requests (codes "lspmux/open") m) (open_row settings before e body m) (status_row settings before e body)
+
 abbrev pub told_row : Settings → List Event → ℕ → List ℕ → Message → Phase → Row
-told_row settings before e body m phase = choose (is_there phase && requests (codes "lspmux/status") m) (status_row settings before e body) (taken_row settings before e body m phase)
+told_row settings before e body m phase = choose (is_there phase && asks_lspmux m) (lspmux_row settings before e body m) (taken_row settings before e body m phase)
 
 -- E3: a request under an id that is open stands before all others; a new editor has none
 abbrev pub message_row : Settings → List Event → ℕ → List ℕ → Message → Phase → Row

@@ -1,11 +1,11 @@
 -- The groups, and which editor is in which, by the history: one fold, since an editor is placed by what the groups were before.
-use Rattle.std.specs.Prelude.{ℕ, ◌+◌, max, Bool, true, false, not, ◌&&◌, List, [], ◌∷◌, ◌++◌, length, map, fold, codes, nat_eq, nat_lt, nat_le, bytes_eq, if◌then◌else◌, encode_utf8_all}
+use Rattle.std.specs.Prelude.{ℕ, ◌+◌, max, Bool, true, false, not, ◌&&◌, List, [], ◌∷◌, ◌++◌, length, map, fold, codes, nat_eq, nat_lt, nat_le, bytes_eq, if◌then◌else◌, encode_utf8_all, position}
 use Rattle.std.specs.Prelude.{Option, Some, None, Ok, Err}
 use Rattle.std.specs.List.{filter, range_with_len, slice_get}
 use Rattle.json_text.specs.Json.{Json, object}
 use Rattle.url.specs.Parser.{Parsed, parse_url}
 use Rattle.url.specs.Parts.{Parts, serialize}
-use Rattle.mux_history.specs.declared.cause.Cause.TheVariants.{FromEditor, EditorGone, StartFailed, FromServer, ServerGone, Tick}
+use Rattle.mux_history.specs.declared.cause.Cause.TheVariants.{Joined, FromEditor, EditorGone, StartFailed, FromServer, ServerGone, Tick}
 use Rattle.mux_history.specs.declared.out.Out.TheVariants.{CloseEditor}
 use Rattle.rpc_message.specs.Message.{Message, request, error, integer}
 use Rattle.capability_meet.specs.DeclaredTree.{declared_of}
@@ -32,29 +32,33 @@ time_behind now other = now
 abbrev pub time_of : List Event → ℕ
 time_of events = fold time_behind 0 events
 
--- the server that an editor's first `lspmux/open` names, where it comes before its `initialize` (E4)
+-- E4: whether an editor sent `lspmux/open` since it joined, and the server that the first one names. It is read before the editor's `initialize` alone, so what it sends behind that, or with its link to be ended, counts nowhere.
 pub record Meant : Type 0 where
-  pub settled : Bool
+  pub opened : Bool
   pub server : Option ℕ
 
-abbrev pub named_from : ℕ → List ℕ → List Server → Option ℕ
-named_from i name [] = None
-named_from i name (x ∷ xs) = if bytes_eq name x.name then Some i else named_from (i + 1) name xs
+-- the place of the first server of this name
+abbrev pub place_named : List ℕ → List Server → Option ℕ
+place_named name servers = position (λ (server : Server). bytes_eq server.name name) servers
 
+-- by the characters of the name that the params of a body give
 abbrev pub server_named : List Server → Option (List ℕ) → Option ℕ
 server_named servers None = None
-server_named servers (Some cs) = named_from 0 (encode_utf8_all cs) servers
+server_named servers (Some cs) = place_named (encode_utf8_all cs) servers
 
-abbrev pub settles : List Server → Meant → Message → Meant
-settles servers x (request id method params) = if bytes_eq (codes "lspmux/open") method then record { settled = true; server = server_named servers (string_of (named_of (codes "server") params)) } else record { settled = bytes_eq (codes "initialize") method; server = None }
-settles servers x other = x
+abbrev pub server_asked : List Server → List ℕ → Option ℕ
+server_asked servers body = server_named servers (string_of (named_of (codes "server") (params_of body)))
+
+abbrev pub no_meant : Meant
+no_meant = record { opened = false; server = None }
 
 abbrev pub meant_behind : List Server → ℕ → Meant → Event → Meant
-meant_behind servers e x (took (FromEditor n body) m) = if nat_eq n e && not x.settled then settles servers x m else x
+meant_behind servers e x (took (Joined n) m) = if nat_eq n e then no_meant else x
+meant_behind servers e x (took (FromEditor n body) m) = if nat_eq n e && (requests (codes "lspmux/open") m && not x.opened) then record { opened = true; server = server_asked servers body } else x
 meant_behind servers e x other = x
 
 abbrev pub meant_of : List Server → ℕ → List Event → Meant
-meant_of servers e events = fold (meant_behind servers e) (record { settled = false; server = None }) events
+meant_of servers e events = fold (meant_behind servers e) no_meant events
 
 abbrev pub given_or : {A : Type 0} → Option A → A → A
 given_or (Some a) d = a
@@ -139,6 +143,10 @@ has_editor test g home events = nat_lt 0 (length (editors_in test g home events)
 -- E7: the message places its editor
 abbrev pub places : Phase → Message → Bool
 places phase m = is_new phase && requests (codes "initialize") m
+
+-- E4: the message is the first `lspmux/open` of an editor that is new
+abbrev pub is_first_open : List Server → List Event → ℕ → Message → Bool
+is_first_open servers before e m = is_new (desk_of e before).phase && (requests (codes "lspmux/open") m && not (meant_of servers e before).opened)
 
 -- E3: the message is a request under an id that is open at its editor
 abbrev pub is_doubled : List Event → ℕ → Message → Bool

@@ -11,6 +11,7 @@ ghost use Rattle.group_facts.specs.Facts.{Known};
 ghost use Rattle.group_facts.specs.Lively.{lives_at};
 ghost use Rattle.group_facts.specs.Settled.{Settled};
 ghost use Rattle.group_rows.specs.Forwarded.{answered_by, forwarding_of};
+ghost use Rattle.group_rows.specs.Rows.{names_lspmux};
 ghost use Rattle.group_words.specs.Houses.{groups_of};
 ghost use Rattle.json_text.specs.Json.{Json};
 ghost use Rattle.lsp_method.specs.Class.{class_of};
@@ -26,11 +27,11 @@ use lsp_method::Class;
 use message_body::{Body, Memory};
 use mux_history::Cause;
 use mux_members::{
-    class_in, has_token, is_dropped, is_exit, is_first_result, is_initialized, is_status,
-    reads_versions, speaks,
+    class_in, has_token, is_dropped, is_exit, is_first_result, is_initialized, reads_versions,
+    speaks,
 };
 use mux_tables::Tables;
-use mux_turns::{answered_number, doubles, is_first_error, shown_of};
+use mux_turns::{answered_number, asks_lspmux, doubles, is_first_error, shown_of};
 use rpc_message::{Malformed, Message, Sort};
 use std::alloc::Global;
 
@@ -98,20 +99,20 @@ fn is_taken(phase: Phase, doubled: bool, message: &Message) -> bool
     is_standard(message) && is_tokenless(phase, doubled, message)
 }
 
-// E5: whether a request is `lspmux/status`.
-fn names_status(message: &Message) -> bool
+// E4 and E5: whether a request is the multiplexer's own.
+fn names_lspmux(message: &Message) -> bool
     ensures { (body method : List ℕ) (id : Id) (params : Option Json) → IsRead message.now body → message_of body ≡ request id method params
-        → result ≡ bytes_eq (codes "lspmux/status") method }
+        → result ≡ names_lspmux method }
 {
-    is_status(message)
+    asks_lspmux(message)
 }
 
-// E3, E5 and E7 to E10: whether a request of an editor in this phase is built, under an id that is open or not.
+// E3 to E5 and E7 to E10: whether a request of an editor in this phase is built, under an id that is open or not.
 fn built_request(phase: Phase, doubled: bool, message: &Message) -> bool
     ensures { (body method : List ℕ) (id : Id) (params : Option Json) → IsRead message.now body → message_of body ≡ request id method params
         → result ≡ built_request phase doubled method params }
 {
-    names_status(message) || is_taken(phase, doubled, message)
+    names_lspmux(message) || is_taken(phase, doubled, message)
 }
 
 // E9, E12 to E15: whether a notification behind the answer to `initialize` is built.

@@ -20,6 +20,7 @@ use Rattle.event_model.specs.Phases.{desk_of, is_begun, is_served, is_there, nee
 use Rattle.event_model.specs.Requests.{is_open, open_of}
 use Rattle.group_facts.specs.Built.{built_from_editor, built_request, doubles, is_marked, is_standard}
 use Rattle.group_facts.specs.Facts.{is_early}
+use Rattle.group_rows.specs.Rows.{asks_lspmux, names_lspmux}
 use Rattle.group_words.specs.Houses.{is_doubled, stops}
 use Rattle.group_rows.specs.Rows.{is_misplaced}
 use Rattle.mux_tables.specs.Documents.{changes_documents}
@@ -29,7 +30,7 @@ pub second_of : (a b : Bool) → (a && b) ≡ true → b ≡ true
 second_of true b h = h
 second_of false b h = absurd (cc)
 
-first_of : (a b : Bool) → (a && b) ≡ true → a ≡ true
+pub first_of : (a b : Bool) → (a && b) ≡ true → a ≡ true
 first_of true b h = refl
 first_of false b h = absurd (cc)
 
@@ -53,17 +54,17 @@ standard_stays : (method : List ℕ) → is_standard (class_of method Editor fal
 unfolding editor_request own_request
 standard_stays method h same = let own : is_standard (class_of (codes "lspmux/stop") Editor false) ≡ true = subst (λ m. is_standard (class_of m Editor false) ≡ true) (sym same) h in cc
 
-status_stays : (method : List ℕ) → bytes_eq (codes "lspmux/status") method ≡ true → (codes "lspmux/stop" ≡ method) → ⊥
-status_stays method h same = let clash : bytes_eq (codes "lspmux/status") (codes "lspmux/stop") ≡ true = subst (λ m. bytes_eq (codes "lspmux/status") m ≡ true) (sym same) h in cc
+own_stays : (method : List ℕ) → names_lspmux method ≡ true → (codes "lspmux/stop" ≡ method) → ⊥
+own_stays method h same = let clash : names_lspmux (codes "lspmux/stop") ≡ true = subst (λ m. names_lspmux m ≡ true) (sym same) h in cc
 
 request_stays : (p : Phase) (doubled : Bool) (method : List ℕ) (params : Option Json) → built_request p doubled method params ≡ true → (codes "lspmux/stop" ≡ method) → ⊥
 request_stays p doubled method params h = go (bytes_eq (codes "lspmux/status") method) refl h
   where
-    go : (b : Bool) → bytes_eq (codes "lspmux/status") method ≡ b → (b || (is_standard (class_of method Editor false) && (doubled || not (is_served p && is_marked method params)))) ≡ true → (codes "lspmux/stop" ≡ method) → ⊥
-    go true k s = status_stays method k
+    go : (b : Bool) → names_lspmux method ≡ b → (b || (is_standard (class_of method Editor false) && (doubled || not (is_served p && is_marked method params)))) ≡ true → (codes "lspmux/stop" ≡ method) → ⊥
+    go true k s = own_stays method k
     go false k s = standard_stays method (first_of (is_standard (class_of method Editor false)) (doubled || not (is_served p && is_marked method params)) s)
 
--- a request other than `lspmux/status`
+-- a request that isn't the multiplexer's own
 other_built : (b c : Bool) → b ≡ false → (b || c) ≡ true → c ≡ true
 other_built true c h k = absurd (cc)
 other_built false c h k = k
@@ -80,27 +81,27 @@ module _ (before : List Event) (e : ℕ) (p : Phase) where
   built_stays not_json h = refl
   built_stays not_message h = refl
 
-  -- under an id that is open it is a request of the standard, or `lspmux/status`
-  pub doubled_standard : (id : Id) (method : List ℕ) (params : Option Json) → bytes_eq (codes "lspmux/status") method ≡ false → doubles p id ids ≡ true → built_from_editor p ids (request id method params) ≡ true → is_standard (class_of method Editor false) ≡ true
+  -- under an id that is open it is a request of the standard, or the multiplexer's own
+  pub doubled_standard : (id : Id) (method : List ℕ) (params : Option Json) → names_lspmux method ≡ false → doubles p id ids ≡ true → built_from_editor p ids (request id method params) ≡ true → is_standard (class_of method Editor false) ≡ true
   doubled_standard id method params none doubled h = go p (first_of (is_begun p) (is_open id ids) doubled) h
     where
       go : (q : Phase) → is_begun q ≡ true → built_request q (doubles p id ids) method params ≡ true → is_standard (class_of method Editor false) ≡ true
-      go Waiting s k = first_of (is_standard (class_of method Editor false)) (doubles p id ids || true) (other_built (bytes_eq (codes "lspmux/status") method) _ none k)
-      go Answered s k = first_of (is_standard (class_of method Editor false)) (doubles p id ids || not (is_marked method params)) (other_built (bytes_eq (codes "lspmux/status") method) _ none k)
-      go Running s k = first_of (is_standard (class_of method Editor false)) (doubles p id ids || not (is_marked method params)) (other_built (bytes_eq (codes "lspmux/status") method) _ none k)
-      go Down s k = first_of (is_standard (class_of method Editor false)) (doubles p id ids || true) (other_built (bytes_eq (codes "lspmux/status") method) _ none k)
+      go Waiting s k = first_of (is_standard (class_of method Editor false)) (doubles p id ids || true) (other_built (names_lspmux method) _ none k)
+      go Answered s k = first_of (is_standard (class_of method Editor false)) (doubles p id ids || not (is_marked method params)) (other_built (names_lspmux method) _ none k)
+      go Running s k = first_of (is_standard (class_of method Editor false)) (doubles p id ids || not (is_marked method params)) (other_built (names_lspmux method) _ none k)
+      go Down s k = first_of (is_standard (class_of method Editor false)) (doubles p id ids || true) (other_built (names_lspmux method) _ none k)
       go Absent s k = absurd (cc)
       go New s k = absurd (cc)
       go Closed s k = absurd (cc)
       go Gone s k = absurd (cc)
 
   -- of one that is served it is such a request too
-  pub served_standard : (id : Id) (method : List ℕ) (params : Option Json) → bytes_eq (codes "lspmux/status") method ≡ false → is_served p ≡ true → built_from_editor p ids (request id method params) ≡ true → is_standard (class_of method Editor false) ≡ true
+  pub served_standard : (id : Id) (method : List ℕ) (params : Option Json) → names_lspmux method ≡ false → is_served p ≡ true → built_from_editor p ids (request id method params) ≡ true → is_standard (class_of method Editor false) ≡ true
   served_standard id method params none served h = go p served h
     where
       go : (q : Phase) → is_served q ≡ true → built_request q (doubles p id ids) method params ≡ true → is_standard (class_of method Editor false) ≡ true
-      go Answered s k = first_of (is_standard (class_of method Editor false)) (doubles p id ids || not (is_marked method params)) (other_built (bytes_eq (codes "lspmux/status") method) _ none k)
-      go Running s k = first_of (is_standard (class_of method Editor false)) (doubles p id ids || not (is_marked method params)) (other_built (bytes_eq (codes "lspmux/status") method) _ none k)
+      go Answered s k = first_of (is_standard (class_of method Editor false)) (doubles p id ids || not (is_marked method params)) (other_built (names_lspmux method) _ none k)
+      go Running s k = first_of (is_standard (class_of method Editor false)) (doubles p id ids || not (is_marked method params)) (other_built (names_lspmux method) _ none k)
       go Absent s k = absurd (cc)
       go New s k = absurd (cc)
       go Waiting s k = absurd (cc)
@@ -108,9 +109,12 @@ module _ (before : List Event) (e : ℕ) (p : Phase) where
       go Closed s k = absurd (cc)
       go Gone s k = absurd (cc)
 
--- a request of an editor that is there, which isn't `lspmux/status`
-pub unasked_when : (p : Phase) (m : Message) (id : Id) (method : List ℕ) (params : Option Json) → m ≡ request id method params → is_there p ≡ true → (is_there p && requests (codes "lspmux/status") m) ≡ false → bytes_eq (codes "lspmux/status") method ≡ false
-unasked_when p m id method params says there none = ap (λ k. requests (codes "lspmux/status") k) (sym says) ∙ (ap (λ b. b && requests (codes "lspmux/status") m) (sym there) ∙ none)
+-- a request of an editor that is there, which isn't the multiplexer's own
+pub unasked_there : (p : Phase) (m : Message) → is_there p ≡ true → (is_there p && asks_lspmux m) ≡ false → asks_lspmux m ≡ false
+unasked_there p m there none = ap (λ b. b && asks_lspmux m) (sym there) ∙ none
+
+pub unasked_when : (p : Phase) (m : Message) (id : Id) (method : List ℕ) (params : Option Json) → m ≡ request id method params → is_there p ≡ true → (is_there p && asks_lspmux m) ≡ false → names_lspmux method ≡ false
+unasked_when p m id method params says there none = ap (λ k. asks_lspmux k) (sym says) ∙ unasked_there p m there none
 
 pub served_there : (p : Phase) → is_served p ≡ true → is_there p ≡ true
 served_there Answered h = refl

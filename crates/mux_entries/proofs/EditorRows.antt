@@ -26,7 +26,7 @@ use Rattle.event_model.proofs.Turns.{alike, alike_then, does_nothing}
 use Rattle.mux_model.specs.Rows.{malformed_row}
 use Rattle.group_words.specs.Rows.{initialize_row}
 use Rattle.group_words.specs.Houses.{is_doubled}
-use Rattle.group_rows.specs.Rows.{closing_row, down_row, early_row, exit_row, from_editor, row_of, served_row, status_row, taken_row}
+use Rattle.group_rows.specs.Rows.{asks_lspmux, closing_row, down_row, early_row, exit_row, from_editor, lspmux_row, open_row, row_of, served_row, status_row, taken_row}
 use Rattle.mux_tables.specs.declared.tables.Tables.{Tables}
 use Rattle.mux_tables.specs.Documents.{AllStand, DocumentsStand, nothing_owed}
 use Rattle.mux_tables.specs.Stands.{Stands}
@@ -159,27 +159,33 @@ module _ (settings : Settings) (before : List Event) (e : ℕ) (body : List ℕ)
   pub malformed : is_malformed (message_of body) ≡ true → Alike row (malformed_row e (message_of body) (desk_of e before).phase)
   malformed h = is_first refl h
 
-  -- one that is under no open id, and isn't `lspmux/status`
-  pub taken : (p : Phase) → (desk_of e before).phase ≡ p → is_malformed (message_of body) ≡ false → (is_begun p && is_doubled before e (message_of body)) ≡ false → (is_there p && requests (codes "lspmux/status") (message_of body)) ≡ false
+  -- one that is under no open id, and isn't the multiplexer's own
+  pub taken : (p : Phase) → (desk_of e before).phase ≡ p → is_malformed (message_of body) ≡ false → (is_begun p && is_doubled before e (message_of body)) ≡ false → (is_there p && asks_lspmux (message_of body)) ≡ false
       → Alike row (taken_row settings before e body (message_of body) p)
   taken p at well single other = alike_then (alike (ap (from_editor settings before e body (message_of body)) at)) (alike_then (is_second refl well) (alike_then (is_second refl single) (is_second refl other)))
 
-  -- E5
-  pub told : is_malformed (message_of body) ≡ false → (is_begun (desk_of e before).phase && is_doubled before e (message_of body)) ≡ false → (is_there (desk_of e before).phase && requests (codes "lspmux/status") (message_of body)) ≡ true
-      → Alike row (status_row settings before e body)
+  -- E4 and E5
+  pub told : is_malformed (message_of body) ≡ false → (is_begun (desk_of e before).phase && is_doubled before e (message_of body)) ≡ false → (is_there (desk_of e before).phase && asks_lspmux (message_of body)) ≡ true
+      → Alike row (lspmux_row settings before e body (message_of body))
   told well single asks = alike_then (is_second refl well) (alike_then (is_second refl single) (is_first refl asks))
+
+  pub opens : requests (codes "lspmux/open") (message_of body) ≡ true → Alike (lspmux_row settings before e body (message_of body)) (open_row settings before e body (message_of body))
+  opens h = is_first refl h
+
+  pub tells : requests (codes "lspmux/open") (message_of body) ≡ false → Alike (lspmux_row settings before e body (message_of body)) (status_row settings before e body)
+  tells h = is_second refl h
 
   -- E3
   pub closes : is_malformed (message_of body) ≡ false → (is_begun (desk_of e before).phase && is_doubled before e (message_of body)) ≡ true → Alike row (closing_row settings before e)
   closes well twice = alike_then (is_second refl well) (is_first refl twice)
 
   -- E7
-  pub begins : (desk_of e before).phase ≡ New → is_malformed (message_of body) ≡ false → requests (codes "initialize") (message_of body) ≡ true → (is_there (desk_of e before).phase && requests (codes "lspmux/status") (message_of body)) ≡ false → Alike row (initialize_row settings before e body)
-  begins at well h other = alike_then (taken New at well refl (ap (λ p. is_there p && requests (codes "lspmux/status") (message_of body)) (sym at) ∙ other)) (is_first refl h)
+  pub begins : (desk_of e before).phase ≡ New → is_malformed (message_of body) ≡ false → requests (codes "initialize") (message_of body) ≡ true → (is_there (desk_of e before).phase && asks_lspmux (message_of body)) ≡ false → Alike row (initialize_row settings before e body)
+  begins at well h other = alike_then (taken New at well refl (ap (λ p. is_there p && asks_lspmux (message_of body)) (sym at) ∙ other)) (is_first refl h)
 
   -- E8
-  pub early_new : (desk_of e before).phase ≡ New → is_malformed (message_of body) ≡ false → requests (codes "initialize") (message_of body) ≡ false → (is_there (desk_of e before).phase && requests (codes "lspmux/status") (message_of body)) ≡ false → Alike row (early_row settings before e body (message_of body))
-  early_new at well h other = alike_then (taken New at well refl (ap (λ p. is_there p && requests (codes "lspmux/status") (message_of body)) (sym at) ∙ other)) (is_second refl h)
+  pub early_new : (desk_of e before).phase ≡ New → is_malformed (message_of body) ≡ false → requests (codes "initialize") (message_of body) ≡ false → (is_there (desk_of e before).phase && asks_lspmux (message_of body)) ≡ false → Alike row (early_row settings before e body (message_of body))
+  early_new at well h other = alike_then (taken New at well refl (ap (λ p. is_there p && asks_lspmux (message_of body)) (sym at) ∙ other)) (is_second refl h)
 
   served_as : (m : Message) (p : Phase) → is_served p ≡ true → taken_row settings before e body m p ≡ served_row settings before e body m
   served_as m Answered h = refl
@@ -191,7 +197,7 @@ module _ (settings : Settings) (before : List Event) (e : ℕ) (body : List ℕ)
   served_as m Closed h = absurd (cc)
   served_as m Gone h = absurd (cc)
 
-  pub served : (m : Message) → message_of body ≡ m → is_served (desk_of e before).phase ≡ true → is_malformed (message_of body) ≡ false → (is_begun (desk_of e before).phase && is_doubled before e (message_of body)) ≡ false → (is_there (desk_of e before).phase && requests (codes "lspmux/status") (message_of body)) ≡ false → Alike row (served_row settings before e body m)
+  pub served : (m : Message) → message_of body ≡ m → is_served (desk_of e before).phase ≡ true → is_malformed (message_of body) ≡ false → (is_begun (desk_of e before).phase && is_doubled before e (message_of body)) ≡ false → (is_there (desk_of e before).phase && asks_lspmux (message_of body)) ≡ false → Alike row (served_row settings before e body m)
   served m says h well single other = alike_then (taken (desk_of e before).phase refl well single other) (alike (served_as (message_of body) (desk_of e before).phase h ∙ ap (served_row settings before e body) says))
 
   answers_as : (m : Message) → (sort_of m ≡ Some sort.Request → ⊥) → (sort_of m ≡ Some sort.Notification → ⊥) → served_row settings before e body m ≡ nothing
@@ -202,7 +208,7 @@ module _ (settings : Settings) (before : List Event) (e : ℕ) (body : List ℕ)
   answers_as not_json h k = refl
   answers_as not_message h k = refl
 
-  pub answered : (sort_of (message_of body) ≡ Some sort.Request → ⊥) → (sort_of (message_of body) ≡ Some sort.Notification → ⊥) → is_served (desk_of e before).phase ≡ true → is_malformed (message_of body) ≡ false → (is_begun (desk_of e before).phase && is_doubled before e (message_of body)) ≡ false → (is_there (desk_of e before).phase && requests (codes "lspmux/status") (message_of body)) ≡ false → Alike row nothing
+  pub answered : (sort_of (message_of body) ≡ Some sort.Request → ⊥) → (sort_of (message_of body) ≡ Some sort.Notification → ⊥) → is_served (desk_of e before).phase ≡ true → is_malformed (message_of body) ≡ false → (is_begun (desk_of e before).phase && is_doubled before e (message_of body)) ≡ false → (is_there (desk_of e before).phase && asks_lspmux (message_of body)) ≡ false → Alike row nothing
   answered h k p well single other = alike_then (served (message_of body) refl p well single other) (alike (answers_as (message_of body) h k))
 
 -- what is no request, by its row

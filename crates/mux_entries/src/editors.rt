@@ -8,7 +8,7 @@ ghost use Rattle.event_model.specs.Settings.{Settings};
 ghost use Rattle.group_facts.specs.Built.{built_behind, is_standard};
 ghost use Rattle.group_facts.specs.Facts.{Known, is_early};
 ghost use Rattle.group_facts.specs.Settled.{Settled};
-ghost use Rattle.group_rows.specs.Rows.{down_row, early_row, exit_row, row_of, served_request, served_row};
+ghost use Rattle.group_rows.specs.Rows.{asks_lspmux, down_row, early_row, exit_row, lspmux_row, row_of, served_request, served_row};
 ghost use Rattle.group_words.specs.Houses.{is_doubled, places, stops};
 ghost use Rattle.json_text.specs.Json.{Json};
 ghost use Rattle.lsp_method.specs.Class.{class_of};
@@ -28,12 +28,12 @@ use event_model::{Phase, Server};
 use lsp_method::Class;
 use message_body::{Body, Memory};
 use mux_history::Outs;
-use mux_members::{class_in, is_exit, is_initialize, is_status};
+use mux_members::{class_in, is_exit, is_initialize, is_open};
 use mux_tables::Tables;
 use mux_turns::{
-    doubles, take_closed, take_doubled, take_doubled_status, take_down, take_early, take_exit,
-    take_gone, take_initialize, take_malformed, take_notice, take_quiet, take_request,
-    take_shutdown, take_status, take_wrong,
+    asks_lspmux, doubles, take_closed, take_doubled, take_doubled_own, take_down, take_early,
+    take_exit, take_gone, take_initialize, take_malformed, take_notice, take_open, take_quiet,
+    take_request, take_shutdown, take_status, take_wrong,
 };
 use rpc_message::{Malformed, Message, Sort};
 use std::alloc::Global;
@@ -108,7 +108,8 @@ fn from_early(
     ensures same_limit { tables.new.requests ≡ tables.old.requests }
     ensures same_versions { tables.new.versions ≡ tables.old.versions }
     ensures does { (settings : Settings) (before : List Event) (body : List ℕ) → IsRead message.now body → is_early (desk_of e before).phase ≡ true
-        → places (desk_of e before).phase (message_of body) ≡ false → stops before e (message_of body) ≡ false → outs.old ≡ []
+        → places (desk_of e before).phase (message_of body) ≡ false → stops before e (message_of body) ≡ false
+        → asks_lspmux (message_of body) ≡ false → outs.old ≡ []
         → Stands settings tables.old before → DocumentsStand settings nothing_owed tables.old before
         → OnOk result (Done (λ k events. AllStand settings k events) (early_row settings before e body (message_of body))
         (with_cause before (FromEditor e body)) [] (tables.new, nothing_owed) outs.new) }
@@ -173,7 +174,7 @@ fn from_new(
     ensures does { (settings : Settings) (before : List Event) (body : List ℕ) → IsRead message.now body → (desk_of e before).phase ≡ New
         → settings.servers ≡ servers.now → settings.default ≡ default → outs.old ≡ [] → Known settings before → Settled settings before
         → built_behind settings before (FromEditor e body) ≡ true
-        → (is_there (desk_of e before).phase && requests (codes "lspmux/status") (message_of body)) ≡ false
+        → (is_there (desk_of e before).phase && asks_lspmux (message_of body)) ≡ false
         → Stands settings tables.old before → DocumentsStand settings nothing_owed tables.old before
         → OnOk result (Done (λ k events. AllStand settings k events) (row_of settings before (FromEditor e body))
         (with_cause before (FromEditor e body)) [] (tables.new, nothing_owed) outs.new) }
@@ -261,7 +262,7 @@ fn from_served(
     ensures does { (settings : Settings) (before : List Event) (body : List ℕ) → IsRead message.now body → is_served (desk_of e before).phase ≡ true
         → outs.old ≡ [] → Settled settings before → built_behind settings before (FromEditor e body) ≡ true
         → (is_begun (desk_of e before).phase && is_doubled before e (message_of body)) ≡ false
-        → (is_there (desk_of e before).phase && requests (codes "lspmux/status") (message_of body)) ≡ false
+        → (is_there (desk_of e before).phase && asks_lspmux (message_of body)) ≡ false
         → Stands settings tables.old before → DocumentsStand settings nothing_owed tables.old before
         → OnOk result (Done (λ k events. AllStand settings k events) (row_of settings before (FromEditor e body))
         (with_cause before (FromEditor e body)) [] (tables.new, nothing_owed) outs.new) }
@@ -282,7 +283,7 @@ fn from_served(
     }
 }
 
-// A message under no id that is open and no `lspmux/status`, by where its editor stands: where its link is to be ended (J2) it gives
+// A message under no id that is open, and not the multiplexer's own, by where its editor stands: where its link is to be ended (J2) it gives
 // nothing.
 fn from_phase(
     tables: &mut Tables,
@@ -303,7 +304,7 @@ fn from_phase(
         → settings.servers ≡ servers.now → settings.default ≡ default → outs.old ≡ [] → Known settings before → Settled settings before
         → fits_behind before (FromEditor e body) ≡ true → built_behind settings before (FromEditor e body) ≡ true
         → (is_begun (desk_of e before).phase && is_doubled before e (message_of body)) ≡ false
-        → (is_there (desk_of e before).phase && requests (codes "lspmux/status") (message_of body)) ≡ false
+        → (is_there (desk_of e before).phase && asks_lspmux (message_of body)) ≡ false
         → Stands settings tables.old before → DocumentsStand settings nothing_owed tables.old before
         → OnOk result (Done (λ k events. AllStand settings k events) (row_of settings before (FromEditor e body))
         (with_cause before (FromEditor e body)) [] (tables.new, nothing_owed) outs.new) }
@@ -344,12 +345,12 @@ fn is_doubled(tables: &Tables, e: u64, message: &Message) -> bool
     }
 }
 
-// E5: whether a message is `lspmux/status`, and its editor is there.
-fn asks_status(tables: &Tables, e: u64, message: &Message) -> bool
+// E4 and E5: whether a message is a request of the multiplexer's own, and its editor is there.
+fn asks_own(tables: &Tables, e: u64, message: &Message) -> bool
     ensures { (settings : Settings) (before : List Event) (body : List ℕ) → Stands settings tables.now before → IsRead message.now body
-        → result ≡ (is_there (desk_of e before).phase && requests (codes "lspmux/status") (message_of body)) }
+        → result ≡ (is_there (desk_of e before).phase && asks_lspmux (message_of body)) }
 {
-    tables.phase(e).is_there() && is_status(message)
+    tables.phase(e).is_there() && asks_lspmux(message)
 }
 
 // E3: a request under an id that is open.
@@ -370,8 +371,8 @@ fn from_doubled(
         → OnOk result (Done (λ k events. AllStand settings k events) (row_of settings before (FromEditor e body))
         (with_cause before (FromEditor e body)) [] (tables.new, nothing_owed) outs.new) }
 {
-    if is_status(message) {
-        take_doubled_status(tables, alloc, outs, e)?;
+    if asks_lspmux(message) {
+        take_doubled_own(tables, alloc, outs, e)?;
         Ok(())
     } else {
         take_doubled(tables, alloc, outs, e, message)?;
@@ -379,7 +380,35 @@ fn from_doubled(
     }
 }
 
-// A message under no id that is open: E5 where it is `lspmux/status`.
+// E4 and E5: a request of the multiplexer's own, under no id that is open.
+fn from_own(
+    tables: &mut Tables,
+    alloc: Global,
+    servers: &[Server],
+    outs: &mut Outs,
+    e: u64,
+    message: &Message,
+) -> Result<(), Memory>
+    requires { e < length tables.old.editors }
+    ensures same_limit { tables.new.requests ≡ tables.old.requests }
+    ensures same_versions { tables.new.versions ≡ tables.old.versions }
+    ensures does { (settings : Settings) (before : List Event) (body : List ℕ) → IsRead message.now body → asks_lspmux (message_of body) ≡ true
+        → settings.servers ≡ servers.now → outs.old ≡ [] → Settled settings before
+        → (is_begun (desk_of e before).phase && is_doubled before e (message_of body)) ≡ false
+        → Stands settings tables.old before → DocumentsStand settings nothing_owed tables.old before
+        → OnOk result (Done (λ k events. AllStand settings k events) (lspmux_row settings before e body (message_of body))
+        (with_cause before (FromEditor e body)) [] (tables.new, nothing_owed) outs.new) }
+{
+    if is_open(message) {
+        take_open(tables, alloc, servers, outs, e, message)?;
+        Ok(())
+    } else {
+        take_status(tables, alloc, servers, outs, e, message)?;
+        Ok(())
+    }
+}
+
+// A message under no id that is open: E4 and E5 where it is the multiplexer's own.
 fn from_single(
     tables: &mut Tables,
     alloc: Global,
@@ -403,8 +432,8 @@ fn from_single(
         → OnOk result (Done (λ k events. AllStand settings k events) (row_of settings before (FromEditor e body))
         (with_cause before (FromEditor e body)) [] (tables.new, nothing_owed) outs.new) }
 {
-    if asks_status(tables, e, message) {
-        take_status(tables, alloc, servers, outs, e, message)?;
+    if asks_own(tables, e, message) {
+        from_own(tables, alloc, servers, outs, e, message)?;
         Ok(())
     } else {
         from_phase(tables, alloc, servers, default, outs, e, message)?;
@@ -469,8 +498,8 @@ fn from_malformed(
     }
 }
 
-/// A body comes from an editor: E2 where it is no message; E3 where it is a request under an id that is open; E5 where it is
-/// `lspmux/status`; else E7 to E10, or E12 to E15, by where the editor stands, or nothing.
+/// A body comes from an editor: E2 where it is no message; E3 where it is a request under an id that is open; E4 and E5 where it is
+/// one of the multiplexer's own; else E7 to E10, or E12 to E15, by where the editor stands, or nothing.
 pub fn from_editor(
     tables: &mut Tables,
     alloc: Global,

@@ -115,6 +115,16 @@ pub fn is_message_request(m: &Message) -> bool
     }
 }
 
+/// Whether it is the request `lspmux/open`.
+pub fn is_open(m: &Message) -> bool
+    ensures { (bytes : List ℕ) → IsRead m.now bytes → result ≡ requests (codes "lspmux/open") (message_of bytes) }
+{
+    match request_method(m) {
+        Some(method) => spells(m.tape(), Some(method), "lspmux/open"),
+        None => false,
+    }
+}
+
 /// Whether it is the request `lspmux/status`.
 pub fn is_status(m: &Message) -> bool
     ensures { (bytes : List ℕ) → IsRead m.now bytes → result ≡ requests (codes "lspmux/status") (message_of bytes) }

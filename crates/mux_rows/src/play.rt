@@ -52,12 +52,13 @@ pub fn play(
     for rows in parts.iter() {
         add(&mut lines, &mut outs, rows)?;
     }
-    let server = Server {
-        name: Body::new(Vec::from_slice(alloc, b"main")?),
-        ceiling: None,
-    };
     let mut servers = Vec::new(alloc);
-    servers.push(server)?;
+    for name in ["main", "aux"] {
+        servers.push(Server {
+            name: Body::new(Vec::from_slice(alloc, name.as_bytes())?),
+            ceiling: None,
+        })?;
+    }
     let journal = MemJournal::new(alloc, Vec::new(alloc));
     let Ok(mut hub) = Hub::new(alloc, limits, servers, 0, journal) else {
         return Err(Fail::from("no hub"));

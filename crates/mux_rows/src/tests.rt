@@ -553,6 +553,58 @@ const STATUSES: [(&str, &str); 14] = [
     ),
 ];
 
+// The first editor names another server, by an escape, and once more; the second names none, and means the default; the third means what
+// the first one means. Behind `initialize` a server is named too late, also under an id that is open, which ends the link, and behind that.
+const OPENED: [(&str, &str); 14] = [
+    ("join 0\n", ""),
+    (
+        "ed 0 {\"jsonrpc\":\"2.0\",\"id\":1,\"method\":\"lspmux/open\",\"params\":{\"server\":\"\\u0061ux\"}}\n",
+        ">ed 0 {\"jsonrpc\":\"2.0\",\"id\":1,\"result\":null}\n",
+    ),
+    (
+        "ed 0 {\"jsonrpc\":\"2.0\",\"id\":2,\"method\":\"lspmux/open\",\"params\":{\"server\":\"main\"}}\n",
+        ">ed 0 {\"jsonrpc\":\"2.0\",\"id\":2,\"error\":{\"code\":-32600,\"message\":\"Invalid Request\"}}\n",
+    ),
+    (
+        "ed 0 {\"jsonrpc\":\"2.0\",\"id\":0,\"method\":\"initialize\",\"params\":{\"rootUri\":\"file:///w\",\"capabilities\":{}}}\n",
+        ">spawn 0 0\n",
+    ),
+    ("join 1\n", ""),
+    (
+        "ed 1 {\"jsonrpc\":\"2.0\",\"id\":1,\"method\":\"lspmux/open\",\"params\":[\"aux\"]}\n",
+        ">ed 1 {\"jsonrpc\":\"2.0\",\"id\":1,\"error\":{\"code\":-32602,\"message\":\"Invalid params\"}}\n",
+    ),
+    (
+        "ed 1 {\"jsonrpc\":\"2.0\",\"id\":0,\"method\":\"initialize\",\"params\":{\"rootUri\":\"file:///w\",\"capabilities\":{}}}\n",
+        ">spawn 1 1\n",
+    ),
+    ("join 2\n", ""),
+    (
+        "ed 2 {\"jsonrpc\":\"2.0\",\"id\":1,\"method\":\"lspmux/open\",\"params\":{\"server\":\"aux\"}}\n",
+        ">ed 2 {\"jsonrpc\":\"2.0\",\"id\":1,\"result\":null}\n",
+    ),
+    (
+        "ed 2 {\"jsonrpc\":\"2.0\",\"id\":0,\"method\":\"initialize\",\"params\":{\"rootUri\":\"file:///w\",\"capabilities\":{}}}\n",
+        "",
+    ),
+    (
+        "ed 2 {\"jsonrpc\":\"2.0\",\"id\":1,\"method\":\"lspmux/status\"}\n",
+        ">ed 2 {\"jsonrpc\":\"2.0\",\"id\":1,\"result\":{\"groups\":[{\"group\":0,\"server\":\"aux\",\"start\":0,\"state\":\"spawning\",\"editors\":[0,2],\"open\":0},{\"group\":1,\"server\":\"main\",\"start\":1,\"state\":\"spawning\",\"editors\":[1],\"open\":0}]}}\n",
+    ),
+    (
+        "ed 0 {\"jsonrpc\":\"2.0\",\"id\":1,\"method\":\"lspmux/open\"}\n",
+        ">ed 0 {\"jsonrpc\":\"2.0\",\"id\":1,\"error\":{\"code\":-32600,\"message\":\"Invalid Request\"}}\n",
+    ),
+    (
+        "ed 0 {\"jsonrpc\":\"2.0\",\"id\":0,\"method\":\"lspmux/open\"}\n",
+        ">close 0\n",
+    ),
+    (
+        "ed 0 {\"jsonrpc\":\"2.0\",\"id\":1,\"method\":\"lspmux/open\"}\n",
+        "",
+    ),
+];
+
 // Lines that fit, and that no row takes yet.
 const UNBUILT: [&str; 4] = [
     "ed 0 {\"jsonrpc\":\"2.0\",\"id\":1,\"method\":\"lspmux/stop\"}\n",
@@ -596,6 +648,7 @@ fn several_editors_bring_their_lines(rt: HostRuntime) -> Result<(), Fail> {
         &[&AGAIN],
         &[&HASTY],
         &[&STATUSES],
+        &[&OPENED],
     ];
     for parts in sessions {
         play(&rt, alloc, limits(MOST, MOST), parts, Ok(()))?;

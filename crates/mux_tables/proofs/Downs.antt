@@ -11,7 +11,7 @@ use Rattle.event_model.specs.Phases.{Desk, desk_behind, desk_hears, desk_of, is_
 use Rattle.event_model.specs.Settings.{Settings}
 use Rattle.event_model.proofs.Frames.{never, one_more}
 use Rattle.editor_session.specs.Sessions.{with_session}
-use Rattle.group_words.specs.Houses.{places, stops}
+use Rattle.group_words.specs.Houses.{is_first_open, places, stops}
 use Rattle.mux_tables.specs.declared.tables.Tables.{Tables}
 use Rattle.mux_tables.specs.Stands.{Stands}
 use Rattle.mux_tables.proofs.DocumentFrames.{served_old}
@@ -38,5 +38,6 @@ pub shutdown_moves : (settings : Settings) (t u : Tables) (events : List Event) 
 shutdown_moves settings t u events e body l is gs now ls os r served asks st =
     let stays : places (desk_of e events).phase (message_of body) ≡ false = rw (served_old (desk_of e events).phase served) refl in
     let goes : stops events e (message_of body) ≡ false = rw (no_stop (message_of body) asks) refl in
+    let off : is_first_open settings.servers events e (message_of body) ≡ false = rw (served_old (desk_of e events).phase served) refl in
     let step : (desk_of e (events ++ heard (FromEditor e body) ∷ [])).phase ≡ Down = ap (λ (d : Desk). d.phase) (one_more (desk_behind e) _ _ events (heard (FromEditor e body)) refl) ∙ rw (itself e) (hears_down (desk_of e events).phase (desk_of e events).initialize body (message_of body) served asks) in
-    set_moves settings t u events e body Down l is now ls os r stays step gs goes st
+    set_moves settings t u events e body Down l is now ls os r stays step gs goes off st

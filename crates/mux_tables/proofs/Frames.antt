@@ -5,6 +5,7 @@ use Rattle.std.proofs.lemmas.Bool.Decides.{nat_tests}
 use Rattle.mux_history.specs.declared.cause.Cause.TheVariants.{Joined, FromEditor, EditorGone, Started, StartFailed, FromServer, ServerGone, Tick}
 use Rattle.mux_history.specs.declared.out.Out.TheVariants.{ToEditor, ToServer, Spawn, CloseEditor, EndServer}
 use Rattle.rpc_message.specs.Message.{Message, request, notification}
+use Rattle.event_model.specs.declared.settings.Server.{Server}
 use Rattle.event_model.specs.declared.stage.Stage.{Stage}
 use Rattle.event_model.specs.declared.stage.Stage.TheVariants.{Initializing, Ready}
 use Rattle.event_model.specs.Event.{Event, took, did, requests}
@@ -16,14 +17,14 @@ use Rattle.event_model.specs.Stages.{Life, life_behind, is_first_result, stage_h
 use Rattle.event_model.proofs.Frames.{one_more, never}
 use Rattle.editor_session.specs.declared.session.Session.{Session}
 use Rattle.group_table.specs.Tables as group_tables
-use Rattle.group_words.specs.Houses.{time_behind}
+use Rattle.group_words.specs.Houses.{Meant, meant_behind, time_behind}
 use Rattle.group_words.specs.Rows.{result_behind, result_of}
 use Rattle.group_words.proofs.Frames.{touches_groups, names_home, groups_stay, home_stays}
 use Rattle.id_rewrite.specs.Tables.{Table}
 use Rattle.mux_tables.specs.declared.tables.Start.{Start}
 use Rattle.group_rows.specs.Forwarded.{Forwarding, forwarding_behind, forwarding_of, forwards, moves_ids, numbered}
 use Rattle.mux_tables.specs.Stands.{EditorsStand, GroupsStand, OriginsStand, IdsAt, IdsStand, Part, of_life, of_ids, of_shown, PartStands, LastStands, ShownAt}
-use Rattle.mux_tables.proofs.Named.{goes_so, named_by}
+use Rattle.mux_tables.proofs.Named.{goes_so, meant_by, named_by}
 
 pub itself : (n : ℕ) → nat_eq n n ≡ true
 itself n = grind (arith, nat_tests)
@@ -67,6 +68,11 @@ desk_alone e d (took (EditorGone n why) m) h = never h
 desk_alone e d (did (ToEditor n body) m) h = never h
 desk_alone e d (did (CloseEditor n) m) h = never h
 desk_alone e d other h = refl
+
+meant_alone : (servers : List Server) (e : ℕ) (x : Meant) (ev : Event) → names_editor ev ≡ false → meant_behind servers e x ev ≡ x
+meant_alone servers e x (took (Joined n) m) h = never h
+meant_alone servers e x (took (FromEditor n body) m) h = never h
+meant_alone servers e x other h = refl
 
 homeless : (n : ℕ) (ev : Event) → names_editor ev ≡ false → names_home n ev ≡ false
 homeless n (took (FromEditor e body) m) h = never h
@@ -125,6 +131,7 @@ editors_stand settings t events ev h s = record {
   phase = λ e. ap (λ (d : Desk). d.phase) (one_more (desk_behind e) _ _ events ev refl ∙ desk_alone e _ ev h) ∙ s.phase e;
   home = λ e. home_stays settings e events ev (homeless e ev h) ∙ s.home e;
   names = λ e. named_by (goes_so (one_more (desk_behind e) _ _ events ev refl ∙ desk_alone e _ ev h)) (home_stays settings e events ev (homeless e ev h)) refl (s.names e);
+  meant = λ e. meant_by (goes_so (one_more (desk_behind e) _ _ events ev refl ∙ desk_alone e _ ev h)) refl (one_more (meant_behind settings.servers e) _ _ events ev refl ∙ meant_alone settings.servers e _ ev h) (s.meant e);
 }
 
 pub groups_stand : (settings : Settings) (t : group_tables.Table) (events : List Event) (ev : Event) → touches_groups ev ≡ false → GroupsStand settings t events → GroupsStand settings t (events ++ ev ∷ [])

@@ -1,37 +1,39 @@
 -- What the tables do when a cause about an editor comes, as the code has it.
-use Rattle.std.proofs.Common.{◌≡◌, ℕ, ◌<◌, Bool, true, false, List, [], ◌∷◌, ◌++◌, length, max, refl, ap, sym, subst, ◌∙◌, ◌&&◌, nat_eq, codes}
+use Rattle.std.proofs.Common.{◌≡◌, ℕ, ◌<◌, Bool, true, false, List, [], ◌∷◌, ◌++◌, length, max, refl, ap, sym, subst, ◌∙◌, ◌&&◌, not, nat_eq, codes, bytes_eq, if◌then◌else◌}
 use Rattle.std.specs.Prelude.{Option, Some, None, slice_get, slice_set}
-use Rattle.std.proofs.lemmas.Bool.{ne_eqb}
+use Rattle.std.proofs.lemmas.Bool.{and_parts, ne_eqb}
+use Rattle.std.proofs.lemmas.Slice.Eq.{bytes_eq-Decides}
 use Rattle.std.proofs.lemmas.Option.{slice_get-get_or}
 use Rattle.std.proofs.lemmas.List.{length-set, length-append}
 use Rattle.mux_history.specs.declared.cause.Why.{Why}
 use Rattle.mux_history.specs.declared.cause.Cause.TheVariants.{Joined, FromEditor, EditorGone, Drained, Tick}
-use Rattle.rpc_message.specs.Message.{id_bytes, message_of, not_message}
+use Rattle.rpc_message.specs.Message.{Message, request, id_bytes, message_of, not_message}
+use Rattle.event_model.specs.declared.settings.Server.{Server}
 use Rattle.event_model.specs.declared.phase.Phase.{Phase}
 use Rattle.event_model.specs.declared.phase.Phase.TheVariants.{New}
 use Rattle.event_model.specs.Event.{Event, heard, took, requests}
-use Rattle.event_model.specs.Phases.{Desk, desk_of, desk_behind, editors_behind, is_begun}
+use Rattle.event_model.specs.Phases.{Desk, desk_of, desk_behind, desk_hears, editors_behind, is_begun, is_new, is_there}
 use Rattle.event_model.specs.Settings.{Settings}
-use Rattle.event_model.proofs.Frames.{one_more}
+use Rattle.event_model.proofs.Frames.{never, one_more}
 use Rattle.event_model.proofs.Places.{Same, same, other, compare, get_set_same, get_set_other, get_push_same, get_push_other}
 use Rattle.editor_session.specs.declared.session.Session.{Session}
-use Rattle.editor_session.specs.Sessions.{absent, gone, joined, session_of, with_session}
+use Rattle.editor_session.specs.Sessions.{absent, gone, is_gone, joined, meaning, session_of, unless_gone, with_session}
 use Rattle.group_table.specs.Tables.{Table, after_place, place_in, with_groups}
 use Rattle.group_words.specs.Keys.{Common}
 use Rattle.group_words.specs.Placing as placing
 use Rattle.group_words.specs.Placing.{all_from, is_due, is_live}
 use Rattle.group_words.specs.declared.placed.Placed.{Placed}
-use Rattle.group_words.specs.Houses.{declared_for, emptied, groups_of, home_of, key_for, placed_for, places, stops, time_behind}
+use Rattle.group_words.specs.Houses.{Meant, declared_for, emptied, groups_of, home_of, is_doubled, is_first_open, key_for, meant_behind, meant_of, no_meant, placed_for, places, server_asked, stops, time_behind}
 use Rattle.group_words.proofs.Frames.{groups_more, home_more}
 use Rattle.mux_tables.specs.declared.tables.Tables.{Tables}
 use Rattle.mux_tables.specs.Names.{NameStands, id_in}
-use Rattle.mux_tables.specs.Stands.{EditorsStand, GroupsStand, Stands, ends, phase_in, group_in, stays_in}
+use Rattle.mux_tables.specs.Stands.{EditorsStand, GroupsStand, Stands, ends, phase_in, group_in, meant_in, stays_in}
 use Rattle.mux_tables.proofs.Ends.{tick_heard}
 use Rattle.mux_tables.proofs.Exits.{stop_groups}
 use Rattle.mux_tables.proofs.Frames.{itself, groups_stand}
 use Rattle.mux_tables.proofs.Leaves.{gone_by}
 use Rattle.mux_tables.proofs.Moves.{house_moves, quiet_moves}
-use Rattle.mux_tables.proofs.Named.{Goes, goes_heard, goes_so, goes_then, named_by, named_new}
+use Rattle.mux_tables.proofs.Named.{Goes, goes_heard, goes_so, goes_then, meant_by, named_by, named_new}
 use Rattle.mux_tables.proofs.Phased.{heard_plain, phased}
 use Rattle.mux_tables.proofs.Seated.{Seated, initialize_heard}
 
@@ -48,8 +50,21 @@ joined_editors settings t u events e last is s = record {
   home = λ j. home_more settings j events (took (Joined e) not_message) ∙ (s.home j ∙ (place j (compare (length t) j) ∙ ap (λ z. group_in (slice_get z j)) (sym is)));
   names = λ j. subst (λ d. NameStands d (home_of settings j (events ++ took (Joined e) not_message ∷ [])) (id_in (slice_get u j))) (sym (one_more (desk_behind j) _ _ events (took (Joined e) not_message) refl))
       (subst (λ n. NameStands (desk_behind j (desk_of j events) (took (Joined n) not_message)) (home_of settings j (events ++ took (Joined e) not_message ∷ [])) (id_in (slice_get u j))) (sym last) (named j (compare (length t) j)));
+  meant = λ j. meant_at j (compare (length t) j);
 }
   where
+    ev : Event
+    ev = took (Joined e) not_message
+
+    meant_at : (j : ℕ) → Same (length t) j → (desk_of j (events ++ ev ∷ [])).phase ≡ New → meant_in (slice_get u j) ≡ meant_of settings.servers j (events ++ ev ∷ [])
+    meant_at _ same w = ap (λ z. meant_in (slice_get z (length t))) is ∙ ap meant_in (get_push_same t joined)
+        ∙ sym (one_more (meant_behind settings.servers (length t)) _ _ events ev refl ∙ ap (λ b. if b then no_meant else meant_of settings.servers (length t) events) (ap (λ n. nat_eq n (length t)) last ∙ itself (length t)))
+    meant_at j (other h) = meant_by (goes_so (one_more (desk_behind j) _ _ events ev refl ∙ rw (apart) refl)) (ap (λ z. meant_in (slice_get z j)) is ∙ ap meant_in (get_push_other t joined j h))
+        (one_more (meant_behind settings.servers j) _ _ events ev refl ∙ rw (apart) refl) (s.meant j)
+      where
+        apart : nat_eq e j ≡ false
+        apart = ap (λ n. nat_eq n j) last ∙ ne_eqb (length t) j (λ q. h (sym q))
+
     named : (j : ℕ) → Same (length t) j → NameStands (desk_behind j (desk_of j events) (took (Joined (length t)) not_message)) (home_of settings j (events ++ took (Joined e) not_message ∷ [])) (id_in (slice_get u j))
     named _ same = rw (itself (length t)) (named_new (home_more settings (length t) events (took (Joined e) not_message) ∙ (s.home (length t) ∙ past t)))
       where
@@ -79,10 +94,43 @@ joined_moves settings t u events e last is gs now ls os r s = house_moves settin
   now = one_more time_behind _ _ events (took (Joined e) not_message) h.now ∙ sym now;
 }) s
 
+-- what is kept of an editor's `lspmux/open`, behind a message of it
+module _ (settings : Settings) (t : List Session) (events : List Event) (e : ℕ) (body : List ℕ) (l : e < length t) where
+  abbrev asking : Event
+  asking = took (FromEditor e body) (message_of body)
+
+  abbrev before : Meant
+  before = meant_of settings.servers e events
+
+  abbrev opens : Bool
+  opens = requests (codes "lspmux/open") (message_of body) && not before.opened
+
+  abbrev named : Meant
+  named = record { opened = true; server = server_asked settings.servers body }
+
+  meant_next : (b : Bool) → opens ≡ b → meant_of settings.servers e (events ++ asking ∷ []) ≡ (if b then named else before)
+  meant_next b is = one_more (meant_behind settings.servers e) _ _ events asking refl ∙ (ap (λ c. if c && opens then named else before) (itself e) ∙ ap (λ c. if c then named else before) is)
+
+  -- it isn't the first one of a new editor
+  meant_kept : (p : Phase) → places (desk_of e events).phase (message_of body) ≡ false → is_first_open settings.servers events e (message_of body) ≡ false → EditorsStand settings t events
+      → (desk_of e (events ++ asking ∷ [])).phase ≡ New → meant_in (Some (record (session_of t e) { phase = p })) ≡ meant_of settings.servers e (events ++ asking ∷ [])
+  meant_kept p stays off s w = ap meant_in (sym (slice_get-get_or t e absent l)) ∙ (s.meant e was ∙ sym (meant_next false (ap (λ q. is_new q && opens) (sym was) ∙ off)))
+    where
+      was : (desk_of e events).phase ≡ New
+      was = (goes_heard (desk_of e events).phase (desk_of e events).initialize body (message_of body) stays).new
+          (sym (ap (λ (d : Desk). d.phase) (one_more (desk_behind e) _ _ events asking refl ∙ rw (itself e) refl)) ∙ w)
+
+  -- it is
+  meant_first : (o : Option ℕ) → o ≡ server_asked settings.servers body → is_first_open settings.servers events e (message_of body) ≡ true
+      → meant_in (Some (record (session_of t e) { opened = true; server = o })) ≡ meant_of settings.servers e (events ++ asking ∷ [])
+  meant_first o is first = ap (λ x. record { opened = true; server = x }) is ∙ sym (meant_next true (and_parts (is_new (desk_of e events).phase) opens first).1)
+
 -- a message that places nobody, and stops nothing
-module _ (settings : Settings) (t u : Tables) (events : List Event) (e : ℕ) (body : List ℕ) (p : Phase) (l : e < length t.editors) (is : u.editors ≡ with_session t.editors e (record (session_of t.editors e) { phase = p }))
+module _ (settings : Settings) (t u : Tables) (events : List Event) (e : ℕ) (body : List ℕ) (y : Session) (l : e < length t.editors) (is : u.editors ≡ with_session t.editors e y)
     (now : u.time ≡ t.time) (ls : u.lasts ≡ t.lasts) (os : u.origins ≡ t.origins) (r : u.requests ≡ t.requests)
-    (stays : places (desk_of e events).phase (message_of body) ≡ false) (step : (desk_of e (events ++ heard (FromEditor e body) ∷ [])).phase ≡ p) where
+    (stays : places (desk_of e events).phase (message_of body) ≡ false) (step : (desk_of e (events ++ heard (FromEditor e body) ∷ [])).phase ≡ y.phase)
+    (group : y.group ≡ (session_of t.editors e).group) (id : y.id ≡ (session_of t.editors e).id)
+    (means : (desk_of e (events ++ heard (FromEditor e body) ∷ [])).phase ≡ New → meant_in (Some y) ≡ meant_of settings.servers e (events ++ heard (FromEditor e body) ∷ [])) where
   abbrev ev : Event
   ev = took (FromEditor e body) (message_of body)
 
@@ -92,14 +140,9 @@ module _ (settings : Settings) (t u : Tables) (events : List Event) (e : ℕ) (b
     phase = λ n. phase_at n (compare e n) ∙ ap (λ z. phase_in (slice_get z n)) (sym is);
     home = λ n. home_more settings n events ev ∙ (rw (stays, and_off (nat_eq e n)) (s.home n) ∙ (home_at n (compare e n) ∙ ap (λ z. group_in (slice_get z n)) (sym is)));
     names = λ n. named_by (goes_then (goes n (compare e n)) (one_more (desk_behind n) _ _ events ev refl)) (home_more settings n events ev ∙ rw (stays, and_off (nat_eq e n)) refl) (ap (λ z. id_in (slice_get z n)) is ∙ id_at n (compare e n)) (s.names n);
+    meant = λ n w. ap (λ z. meant_in (slice_get z n)) is ∙ meant_at n (compare e n) w;
   }
     where
-      x : Session
-      x = session_of t.editors e
-
-      y : Session
-      y = record x { phase = p }
-
       here : slice_get (slice_set t.editors e y) e ≡ Some y
       here = get_set_same t.editors e y l
 
@@ -108,7 +151,7 @@ module _ (settings : Settings) (t u : Tables) (events : List Event) (e : ℕ) (b
       phase_at n (other h) = ap (λ (d : Desk). d.phase) (one_more (desk_behind n) _ _ events ev refl) ∙ rw (ne_eqb e n (λ q. h (sym q)), get_set_other t.editors e n y h) (s.phase n)
 
       home_at : (n : ℕ) → Same e n → group_in (slice_get t.editors n) ≡ group_in (slice_get (slice_set t.editors e y) n)
-      home_at _ same = ap group_in (slice_get-get_or t.editors e absent l) ∙ ap group_in (sym here)
+      home_at _ same = ap group_in (slice_get-get_or t.editors e absent l) ∙ (sym group ∙ ap group_in (sym here))
       home_at n (other h) = ap group_in (sym (get_set_other t.editors e n y h))
 
       goes : (n : ℕ) → Same e n → Goes (desk_of n events) (desk_behind n (desk_of n events) ev)
@@ -116,8 +159,13 @@ module _ (settings : Settings) (t u : Tables) (events : List Event) (e : ℕ) (b
       goes n (other h) = rw (ne_eqb e n (λ q. h (sym q))) (goes_so refl)
 
       id_at : (n : ℕ) → Same e n → id_in (slice_get (slice_set t.editors e y) n) ≡ id_in (slice_get t.editors n)
-      id_at _ same = ap id_in here ∙ ap id_in (sym (slice_get-get_or t.editors e absent l))
+      id_at _ same = ap id_in here ∙ (id ∙ ap id_in (sym (slice_get-get_or t.editors e absent l)))
       id_at n (other h) = ap id_in (get_set_other t.editors e n y h)
+
+      meant_at : (n : ℕ) → Same e n → (desk_of n (events ++ ev ∷ [])).phase ≡ New → meant_in (slice_get (slice_set t.editors e y) n) ≡ meant_of settings.servers n (events ++ ev ∷ [])
+      meant_at _ same w = ap meant_in here ∙ means w
+      meant_at n (other h) = meant_by (goes_so (one_more (desk_behind n) _ _ events ev refl ∙ rw (ne_eqb e n (λ q. h (sym q))) refl)) (ap meant_in (get_set_other t.editors e n y h))
+          (one_more (meant_behind settings.servers n) _ _ events ev refl ∙ rw (ne_eqb e n (λ q. h (sym q))) refl) (s.meant n)
 
   all_heard : (GroupsStand settings t.groups events → GroupsStand settings u.groups (events ++ ev ∷ [])) → Stands settings t events → Stands settings u (events ++ ev ∷ [])
   all_heard go = house_moves settings t u events ev (λ n. refl) refl (ap (λ v. v.items) ls) (ap (λ v. v.items) os) r (λ h. record {
@@ -133,15 +181,67 @@ module _ (settings : Settings) (t u : Tables) (events : List Event) (e : ℕ) (b
   stopped_moves : (ns : List ℕ) → ns ≡ all_from 0 is_live t.groups.groups → u.groups ≡ with_groups (ends ns t.groups.groups) t.groups → stops events e (message_of body) ≡ true → Stands settings t events → Stands settings u (events ++ ev ∷ [])
   stopped_moves ns all gs stop = all_heard (λ h. stop_groups settings events e body (message_of body) t.groups u.groups stays stop (ap (λ (w : Table). w.limit) gs) (ap (λ (w : Table). w.idle) gs) (ap (λ (w : Table). w.groups) gs ∙ ap (λ ms. ends ms t.groups.groups) all) h)
 
+-- one that stops all is no `lspmux/open`
+stops_asks : (events : List Event) (e : ℕ) (servers : List Server) (m : Message) → stops events e m ≡ true → is_first_open servers events e m ≡ false
+stops_asks events e servers m h = ap (λ b. is_new (desk_of e events).phase && (b && not (meant_of servers e events).opened)) (unnamed m (and_parts (requests (codes "lspmux/stop") m) _ h).0) ∙ and_off (is_new (desk_of e events).phase)
+  where
+    unnamed : (m : Message) → requests (codes "lspmux/stop") m ≡ true → requests (codes "lspmux/open") m ≡ false
+    unnamed (request id method params) k = ap (bytes_eq (codes "lspmux/open")) (sym ((bytes_eq-Decides (codes "lspmux/stop") method).0 k))
+    unnamed other k = never (sym k)
+
 -- the same, as the code sets the phase
 module _ (settings : Settings) (t u : Tables) (events : List Event) (e : ℕ) (body : List ℕ) (p : Phase) (l : e < length t.editors) (set : u.editors ≡ with_session t.editors e (phased t.editors e p))
     (now : u.time ≡ t.time) (ls : u.lasts ≡ t.lasts) (os : u.origins ≡ t.origins) (r : u.requests ≡ t.requests)
     (stays : places (desk_of e events).phase (message_of body) ≡ false) (step : (desk_of e (events ++ heard (FromEditor e body) ∷ [])).phase ≡ p) where
-  pub set_moves : u.groups ≡ t.groups → stops events e (message_of body) ≡ false → Stands settings t events → Stands settings u (events ++ heard (FromEditor e body) ∷ [])
-  set_moves gs goes s = heard_moves settings t u events e body p l (set ∙ heard_plain settings t.editors events e p l s.house.editors body step) now ls os r stays step gs goes s
+  abbrev put : Session
+  put = record (session_of t.editors e) { phase = p }
+
+  pub set_moves : u.groups ≡ t.groups → stops events e (message_of body) ≡ false → is_first_open settings.servers events e (message_of body) ≡ false → Stands settings t events → Stands settings u (events ++ heard (FromEditor e body) ∷ [])
+  set_moves gs goes off s = heard_moves settings t u events e body put l (set ∙ heard_plain settings t.editors events e p l s.house.editors body step) now ls os r stays step refl refl
+      (meant_kept settings t.editors events e body l p stays off s.house.editors) gs goes s
 
   pub stop_moves : (ns : List ℕ) → ns ≡ all_from 0 is_live t.groups.groups → u.groups ≡ with_groups (ends ns t.groups.groups) t.groups → stops events e (message_of body) ≡ true → Stands settings t events → Stands settings u (events ++ heard (FromEditor e body) ∷ [])
-  stop_moves ns all gs stop s = stopped_moves settings t u events e body p l (set ∙ heard_plain settings t.editors events e p l s.house.editors body step) now ls os r stays step ns all gs stop s
+  stop_moves ns all gs stop s = stopped_moves settings t u events e body put l (set ∙ heard_plain settings t.editors events e p l s.house.editors body step) now ls os r stays step refl refl
+      (meant_kept settings t.editors events e body l p stays (stops_asks events e settings.servers (message_of body) stop) s.house.editors) ns all gs stop s
+
+-- E4: the first `lspmux/open` of a new editor
+module _ (settings : Settings) (t u : Tables) (events : List Event) (e : ℕ) (body : List ℕ) (o : Option ℕ) (l : e < length t.editors) (set : u.editors ≡ with_session t.editors e (unless_gone (meaning o) (session_of t.editors e)))
+    (now : u.time ≡ t.time) (ls : u.lasts ≡ t.lasts) (os : u.origins ≡ t.origins) (r : u.requests ≡ t.requests)
+    (first : is_first_open settings.servers events e (message_of body) ≡ true) (is : o ≡ server_asked settings.servers body) where
+  abbrev seen : Session
+  seen = session_of t.editors e
+
+  parts : (is_new (desk_of e events).phase ≡ true) × ((requests (codes "lspmux/open") (message_of body) && not (meant_of settings.servers e events).opened) ≡ true)
+  parts = and_parts (is_new (desk_of e events).phase) _ first
+
+  asks : requests (codes "lspmux/open") (message_of body) ≡ true
+  asks = (and_parts (requests (codes "lspmux/open") (message_of body)) _ parts.1).0
+
+  no_first : (m : Message) → requests (codes "lspmux/open") m ≡ true → requests (codes "initialize") m ≡ false
+  no_first (request id method params) k = ap (bytes_eq (codes "initialize")) (sym ((bytes_eq-Decides (codes "lspmux/open") method).0 k))
+  no_first other k = never (sym k)
+
+  no_stop : (m : Message) → requests (codes "lspmux/open") m ≡ true → requests (codes "lspmux/stop") m ≡ false
+  no_stop (request id method params) k = ap (bytes_eq (codes "lspmux/stop")) (sym ((bytes_eq-Decides (codes "lspmux/open") method).0 k))
+  no_stop other k = never (sym k)
+
+  only_new : (p : Phase) → is_new p ≡ true → p ≡ New
+  only_new New h = refl
+  only_new other h = never (sym h)
+
+  stands_new : EditorsStand settings t.editors events → seen.phase ≡ New
+  stands_new s = sym (ap phase_in (slice_get-get_or t.editors e absent l)) ∙ (sym (s.phase e) ∙ only_new (desk_of e events).phase parts.0)
+
+  stays_new : (p : Phase) (i : List ℕ) → p ≡ New → (desk_hears p i body (message_of body)).phase ≡ New
+  stays_new p i at = rw (at, no_first (message_of body) asks) refl
+
+  pub open_moves : u.groups ≡ t.groups → Stands settings t events → Stands settings u (events ++ heard (FromEditor e body) ∷ [])
+  open_moves gs s = heard_moves settings t u events e body (record seen { opened = true; server = o }) l
+      (set ∙ ap (λ p. with_session t.editors e (if is_gone p then seen else record seen { opened = true; server = o })) (stands_new s.house.editors)) now ls os r
+      (ap (λ b. is_new (desk_of e events).phase && b) (no_first (message_of body) asks) ∙ and_off (is_new (desk_of e events).phase))
+      (ap (λ (d : Desk). d.phase) (one_more (desk_behind e) _ _ events (heard (FromEditor e body)) refl) ∙ (rw (itself e) (stays_new (desk_of e events).phase (desk_of e events).initialize (only_new (desk_of e events).phase parts.0)) ∙ sym (stands_new s.house.editors)))
+      refl refl (λ w. meant_first settings t.editors events e body l o is first)
+      gs (ap (λ b. b && (is_there (desk_of e events).phase && not (is_doubled events e (message_of body)))) (no_stop (message_of body) asks)) s
 
 -- X6: no table speaks of bytes that were written
 pub drained_moves : (settings : Settings) (t : Tables) (events : List Event) (e k : ℕ) → Stands settings t events → Stands settings t (events ++ heard (Drained e k) ∷ [])

@@ -9,6 +9,7 @@ use Rattle.mux_history.specs.declared.cause.Cause.TheVariants.{EditorGone}
 use Rattle.mux_history.specs.declared.out.Out.TheVariants.{CloseEditor}
 use Rattle.rpc_message.specs.Message.{Message}
 use Rattle.event_model.specs.declared.phase.Phase.{Phase}
+use Rattle.event_model.specs.declared.phase.Phase.TheVariants.{Gone, New}
 use Rattle.event_model.specs.Event.{Event, took, did}
 use Rattle.event_model.specs.Phases.{Desk, desk_of, desk_behind, editors_behind, phase_closed, is_begun}
 use Rattle.event_model.specs.Settings.{Settings}
@@ -17,29 +18,30 @@ use Rattle.editor_session.specs.Sessions.{gone, session_of, with_session}
 use Rattle.event_model.proofs.Places.{Same, same, other, compare, get_set_same, get_set_other}
 use Rattle.group_words.specs.declared.kept.Kept.{Kept}
 use Rattle.group_words.specs.Placing.{changed}
-use Rattle.group_words.specs.Houses.{House, groups_of, home_of, house_of, groups_next, groups_left, emptied, has_editor, is_home, idle_if_live, time_behind, time_of}
+use Rattle.group_words.specs.Houses.{House, Meant, groups_of, home_of, house_of, groups_next, groups_left, emptied, has_editor, is_home, idle_if_live, meant_behind, meant_of, time_behind, time_of}
 use Rattle.group_words.proofs.Frames.{itself, groups_more, home_more, home_stays, names_home}
 use Rattle.group_table.specs.Tables.{Table, with_groups}
 use Rattle.mux_tables.specs.declared.tables.Tables.{Tables}
 use Rattle.mux_tables.specs.Names.{NameStands, id_in}
-use Rattle.mux_tables.specs.Stands.{EditorsStand, GroupsStand, HouseStands, phase_in, group_in, stays_in}
+use Rattle.mux_tables.specs.Stands.{EditorsStand, GroupsStand, HouseStands, phase_in, group_in, meant_in, stays_in}
 use Rattle.event_model.proofs.Frames.{one_more}
 use Rattle.mux_tables.proofs.Frames.{ticks, time_alone}
 use Rattle.mux_tables.proofs.Lists.{editors_by}
-use Rattle.mux_tables.proofs.Named.{goes_closed, goes_so, goes_then, named_by}
+use Rattle.mux_tables.proofs.Named.{closed_old, goes_closed, goes_so, goes_then, meant_by, named_by}
 use Rattle.mux_tables.proofs.Seated.{index_get}
 
 emptied_alike : (home : Option ℕ) (was : Bool) (f g : ℕ → Bool) (now : ℕ) (xs : List Kept) → ((n : ℕ) → f n ≡ g n) → emptied home was f now xs ≡ emptied home was g now xs
 emptied_alike None was f g now xs h = refl
 emptied_alike (Some n) was f g now xs h = ap (λ b. if was && not b then changed n (idle_if_live now) xs else xs) (h n)
 
--- what becomes of the editor's home and of the id of its `initialize`
+-- what becomes of the editor's home and of the id of its `initialize`; it isn't new behind it
 record LeftOne (settings : Settings) (events : List Event) (ev : Event) (e : ℕ) (x y : Session) : Type 0 where
   home : home_of settings e events ≡ x.group → home_of settings e (events ++ ev ∷ []) ≡ y.group
   name : NameStands (desk_of e events) (home_of settings e events) x.id → NameStands (desk_behind e (desk_of e events) ev) (home_of settings e (events ++ ev ∷ [])) y.id
+  old : (desk_behind e (desk_of e events) ev).phase ≡ New → ⊥
   counts : (g : ℕ) (o : Option ℕ) → o ≡ x.group → (is_begun y.phase && is_home g o) ≡ (is_begun y.phase && is_home g y.group)
 
-module _ (settings : Settings) (events : List Event) (ev : Event) (e : ℕ) (leaves : (x : House) → groups_next settings events x ev ≡ groups_left events ev e x) (rest : (n : ℕ) (d : Desk) → nat_eq e n ≡ false → desk_behind n d ev ≡ d) (number : (n : ℕ) → editors_behind n ev ≡ n) (homes : (n : ℕ) → nat_eq e n ≡ false → names_home n ev ≡ false) (time : ticks ev ≡ false) where
+module _ (settings : Settings) (events : List Event) (ev : Event) (e : ℕ) (leaves : (x : House) → groups_next settings events x ev ≡ groups_left events ev e x) (rest : (n : ℕ) (d : Desk) → nat_eq e n ≡ false → desk_behind n d ev ≡ d) (number : (n : ℕ) → editors_behind n ev ≡ n) (homes : (n : ℕ) → nat_eq e n ≡ false → names_home n ev ≡ false) (time : ticks ev ≡ false) (unmeant : (n : ℕ) (x : Meant) → meant_behind settings.servers n x ev ≡ x) where
   home_apart : (n : ℕ) → (n ≡ e → ⊥) → home_of settings n (events ++ ev ∷ []) ≡ home_of settings n events
   home_apart n h = home_stays settings n events ev (homes n (ne_eqb e n (λ q. h (sym q))))
 
@@ -51,6 +53,7 @@ module _ (settings : Settings) (events : List Event) (ev : Event) (e : ℕ) (lea
     home = λ n. home_at n (compare e n) ∙ ap (λ z. group_in (slice_get z n)) (sym is);
     names = λ n. subst (λ d. NameStands d (home_of settings n (events ++ ev ∷ [])) (id_in (slice_get u n))) (sym (one_more (desk_behind n) _ _ events ev refl))
         (subst (λ z. NameStands (desk_behind n (desk_of n events) ev) (home_of settings n (events ++ ev ∷ [])) (id_in (slice_get z n))) (sym is) (named n (compare e n)));
+    meant = λ n. meant_at n (compare e n);
   }
     where
       here : slice_get (slice_set t e y) e ≡ Some y
@@ -59,6 +62,11 @@ module _ (settings : Settings) (events : List Event) (ev : Event) (e : ℕ) (lea
       named : (n : ℕ) → Same e n → NameStands (desk_behind n (desk_of n events) ev) (home_of settings n (events ++ ev ∷ [])) (id_in (slice_get (slice_set t e y) n))
       named _ same = subst (λ o. NameStands (desk_behind e (desk_of e events) ev) (home_of settings e (events ++ ev ∷ [])) (id_in o)) (sym here) (own.name (subst (λ o. NameStands (desk_of e events) (home_of settings e events) (id_in o)) at (s.names e)))
       named n (other h) = named_by (goes_so (rest n (desk_of n events) (ne_eqb e n (λ q. h (sym q))))) (home_apart n h) (ap id_in (get_set_other t e n y h)) (s.names n)
+
+      meant_at : (n : ℕ) → Same e n → (desk_of n (events ++ ev ∷ [])).phase ≡ New → meant_in (slice_get u n) ≡ meant_of settings.servers n (events ++ ev ∷ [])
+      meant_at _ same w = absurd (own.old (sym (ap (λ (d : Desk). d.phase) (one_more (desk_behind e) _ _ events ev refl)) ∙ w))
+      meant_at n (other h) = meant_by (goes_so (one_more (desk_behind n) _ _ events ev refl ∙ rest n (desk_of n events) (ne_eqb e n (λ q. h (sym q))))) (ap (λ z. meant_in (slice_get z n)) is ∙ ap meant_in (get_set_other t e n y h))
+          (one_more (meant_behind settings.servers n) _ _ events ev refl ∙ unmeant n _) (s.meant n)
 
       phase_at : (n : ℕ) → Same e n → (desk_behind n (desk_of n events) ev).phase ≡ phase_in (slice_get (slice_set t e y) n)
       phase_at _ same = step (desk_of e events) (s.phase e ∙ ap phase_in at) ∙ ap phase_in (sym here)
@@ -112,15 +120,19 @@ pub close_moves : (settings : Settings) (events : List Event) (e : ℕ) (m : Mes
     → u.groups.limit ≡ t.groups.limit → u.groups.idle ≡ t.groups.idle → u.time ≡ t.time → u.groups.groups ≡ emptied x.group (is_begun x.phase) (stays_in u.editors) t.time t.groups.groups
     → HouseStands settings t events → HouseStands settings u (events ++ did (CloseEditor e) m ∷ [])
 close_moves settings events e m t u x y at is group id closed l i k gs s =
-    left_moves settings events (did (CloseEditor e) m) e (λ h. refl) (λ n d f. rw f refl) (λ n. refl) (λ n f. refl) refl t u x y at is own (λ d p. rw (itself e, p) (sym closed)) l i k gs s
+    left_moves settings events (did (CloseEditor e) m) e (λ h. refl) (λ n d f. rw f refl) (λ n. refl) (λ n f. refl) refl (λ n x. refl) t u x y at is own (λ d p. rw (itself e, p) (sym closed)) l i k gs s
   where
     stays : home_of settings e (events ++ did (CloseEditor e) m ∷ []) ≡ home_of settings e events
     stays = home_stays settings e events (did (CloseEditor e) m) refl
 
+    closes : desk_behind e (desk_of e events) (did (CloseEditor e) m) ≡ record { phase = phase_closed (desk_of e events).phase; initialize = (desk_of e events).initialize }
+    closes = rw (itself e) refl
+
     own : LeftOne settings events (did (CloseEditor e) m) e x y
     own = record {
       home = λ h. stays ∙ (h ∙ sym group);
-      name = λ n. named_by (goes_then (goes_closed (desk_of e events)) (rw (itself e) refl)) stays id n;
+      name = λ n. named_by (goes_then (goes_closed (desk_of e events)) closes) stays id n;
+      old = λ w. closed_old (desk_of e events).phase _ refl (sym (ap (λ (d : Desk). d.phase) closes) ∙ w);
       counts = λ g o h. ap (λ q. is_begun y.phase && is_home g q) (h ∙ sym group);
     }
 
@@ -129,12 +141,16 @@ pub gone_moves : (settings : Settings) (events : List Event) (e : ℕ) (why : Wh
     → u.groups.limit ≡ t.groups.limit → u.groups.idle ≡ t.groups.idle → u.time ≡ t.time → u.groups.groups ≡ emptied x.group (is_begun x.phase) (stays_in u.editors) t.time t.groups.groups
     → HouseStands settings t events → HouseStands settings u (events ++ took (EditorGone e why) m ∷ [])
 gone_moves settings events e why m t u x at is l i k gs s =
-    left_moves settings events (took (EditorGone e why) m) e (λ h. refl) (λ n d f. rw f refl) (λ n. refl) (λ n f. f) refl t u x gone at is own (λ d p. rw (itself e) refl) l i k gs s
+    left_moves settings events (took (EditorGone e why) m) e (λ h. refl) (λ n d f. rw f refl) (λ n. refl) (λ n f. f) refl (λ n x. refl) t u x gone at is own (λ d p. rw (itself e) refl) l i k gs s
   where
+    leaves : desk_behind e (desk_of e events) (took (EditorGone e why) m) ≡ record { phase = Gone; initialize = (desk_of e events).initialize }
+    leaves = rw (itself e) refl
+
     own : LeftOne settings events (took (EditorGone e why) m) e x gone
     own = record {
       home = λ h. home_more settings e events (took (EditorGone e why) m) ∙ rw (itself e) refl;
       name = λ n. rw (itself e) (record { own = λ g w k. absurd (cc); unplaced = λ w. absurd (cc) });
+      old = λ w. let k : Gone ≡ New = sym (ap (λ (d : Desk). d.phase) leaves) ∙ w in cc;
       counts = λ g o h. refl;
     }
 

@@ -7,7 +7,7 @@ use Rattle.event_model.specs.declared.phase.Phase.TheVariants.{New, Waiting, Ans
 use Rattle.event_model.specs.Event.{requests}
 use Rattle.event_model.specs.Phases.{Desk, desk_hears, has_id, makes_running, phase_closed, phase_told}
 use Rattle.group_words.specs.declared.placed.Placed.{Placed}
-use Rattle.group_words.specs.Houses.{places}
+use Rattle.group_words.specs.Houses.{Meant, places}
 use Rattle.group_words.specs.Placing.{home_by}
 use Rattle.mux_tables.specs.Names.{NameStands}
 
@@ -31,6 +31,10 @@ named_by g q r s = record {
   own = λ n w k. r ∙ (s.own n (g.waits w).0 (sym q ∙ k) ∙ ap (λ x. Some (id_bytes x)) (sym (g.waits w).1));
   unplaced = λ w. q ∙ s.unplaced (g.new w);
 }
+
+-- what is kept of its `lspmux/open`
+pub meant_by : {before now : Desk} {kept later meant next : Meant} → Goes before now → later ≡ kept → next ≡ meant → (before.phase ≡ New → kept ≡ meant) → now.phase ≡ New → later ≡ next
+meant_by g q r h w = q ∙ (h (g.new w) ∙ sym r)
 
 -- a body to an editor
 told_waits : (p : Phase) (i : List ℕ) (m : Message) → phase_told p i m ≡ Waiting → p ≡ Waiting
@@ -62,7 +66,7 @@ closed_never : {A : Type 0} (p q : Phase) → phase_closed p ≡ q → q ≡ Wai
 closed_never Gone q h w = absurd (cc)
 closed_never other q h w = absurd (cc)
 
-closed_old : {A : Type 0} (p q : Phase) → phase_closed p ≡ q → q ≡ New → A
+pub closed_old : {A : Type 0} (p q : Phase) → phase_closed p ≡ q → q ≡ New → A
 closed_old Gone q h w = absurd (cc)
 closed_old other q h w = absurd (cc)
 

@@ -19,16 +19,16 @@ use Rattle.event_model.proofs.Turns.{behind_more}
 use Rattle.editor_session.specs.declared.session.Session.{Session}
 use Rattle.editor_session.specs.Sessions.{absent, is_gone, session_of, with_session}
 use Rattle.group_table.specs.Tables.{with_groups}
-use Rattle.group_words.specs.Houses.{emptied, time_behind}
+use Rattle.group_words.specs.Houses.{emptied, meant_behind, time_behind}
 use Rattle.group_words.proofs.Frames.{home_stays}
 use Rattle.mux_tables.specs.declared.tables.Tables.{Tables}
 use Rattle.mux_tables.specs.Stands.{EditorsStand, GroupsStand, HouseStands, Keeps, Stands, phase_in, group_in, stays_in}
 use Rattle.mux_tables.proofs.Frames.{groups_stand}
 use Rattle.mux_tables.proofs.Leaves.{closed_by}
 use Rattle.mux_tables.proofs.Moves.{house_moves}
-use Rattle.mux_tables.proofs.Named.{Goes, goes_so, goes_then, goes_told, named_by}
+use Rattle.mux_tables.proofs.Named.{Goes, goes_so, goes_then, goes_told, meant_by, named_by}
 use Rattle.mux_tables.proofs.Phased.{closed_gone, phased, plain, told_plain}
-use Rattle.mux_tables.proofs.Waits.{ids_stay}
+use Rattle.mux_tables.proofs.Waits.{ids_stay, meant_stay}
 
 -- one out, by what it does to the tables
 pub does_send : (settings : Settings) (out : Out) (base : List Event) (t u : Tables) (xs ys : List Out) → ys ≡ xs ++ out ∷ [] → (Stands settings t (behind base xs) → Stands settings u (behind base xs ++ said out ∷ [])) → Does (λ t events. Stands settings t events) (send out) base t xs u ys
@@ -64,6 +64,7 @@ module _ (settings : Settings) (events : List Event) (e : ℕ) (body : List ℕ)
     phase = λ n. at n (compare e n);
     home = λ n. home_stays settings n events ev refl ∙ s.home n;
     names = λ n. named_by (told_goes n) (home_stays settings n events ev refl) refl (s.names n);
+    meant = λ n. meant_by (told_goes n) refl (one_more (meant_behind settings.servers n) _ _ events ev refl) (s.meant n);
   }
     where
       at : (n : ℕ) → Same e n → (desk_of n (events ++ ev ∷ [])).phase ≡ phase_in (slice_get t n)
@@ -76,6 +77,7 @@ module _ (settings : Settings) (events : List Event) (e : ℕ) (body : List ℕ)
     phase = λ n. at n (compare e n);
     home = λ n. home_stays settings n events ev refl ∙ (s.home n ∙ home_at n (compare e n));
     names = λ n. named_by (told_goes n) (home_stays settings n events ev refl) (ids_stay t e p l n) (s.names n);
+    meant = λ n. meant_by (told_goes n) (meant_stay t e p l n) (one_more (meant_behind settings.servers n) _ _ events ev refl) (s.meant n);
   }
     where
       y : Session

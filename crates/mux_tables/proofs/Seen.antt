@@ -4,7 +4,7 @@ use Rattle.std.specs.Prelude.{Option, Some, None, slice_get}
 use Rattle.std.specs.Option.{option_and_then}
 use Rattle.std.proofs.lemmas.Option.{slice_get-get_or, slice_get_past}
 use Rattle.event_model.specs.declared.phase.Phase.{Phase}
-use Rattle.event_model.specs.declared.phase.Phase.TheVariants.{Absent}
+use Rattle.event_model.specs.declared.phase.Phase.TheVariants.{Absent, New}
 use Rattle.event_model.specs.declared.stage.Stage.TheVariants.{Ended, Unspawned}
 use Rattle.event_model.specs.Event.{Event}
 use Rattle.event_model.specs.Phases.{desk_of, is_running}
@@ -13,16 +13,27 @@ use Rattle.event_model.specs.Spawns.{start_of}
 use Rattle.event_model.specs.Stages.{Life, is_ended, life_of, may_begin, may_start, runs}
 use Rattle.event_model.proofs.Places.{same_item}
 use Rattle.editor_session.specs.Sessions.{absent, numbers_of, runs_in, session_of}
-use Rattle.group_words.specs.Houses.{editors_in, home_of}
+use Rattle.group_words.specs.Houses.{Meant, editors_in, given_or, home_of, meant_of, server_for}
 use Rattle.id_rewrite.specs.Tables as tables
 use Rattle.mux_tables.specs.declared.tables.Start.{Start}
 use Rattle.mux_tables.specs.declared.tables.Tables.{Tables}
 use Rattle.group_rows.specs.Forwarded as forwarded
 use Rattle.group_rows.specs.Forwarded.{forwarding_of}
-use Rattle.mux_tables.specs.Stands.{Stands, group_in, is_over, number_in, of_ids, of_life, phase_in, start_for}
+use Rattle.mux_tables.specs.Stands.{Stands, group_in, is_over, meant_in, number_in, of_ids, of_life, phase_in, start_for}
 use Rattle.mux_tables.proofs.IdMoves.{numbers_mapped}
 use Rattle.mux_tables.proofs.Lists.{editors_for, runs_so}
 use Rattle.mux_tables.proofs.Starts.{read_here, start_at_place}
+
+-- what a new editor means
+module _ (settings : Settings) (t : Tables) (events : List Event) (e : ℕ) (st : Stands settings t events) (l : e < length t.editors) (new : (desk_of e events).phase ≡ New) where
+  meant_here : record { opened = (session_of t.editors e).opened; server = (session_of t.editors e).server } ≡ meant_of settings.servers e events
+  meant_here = ap meant_in (sym (slice_get-get_or t.editors e absent l)) ∙ st.house.editors.meant e new
+
+  pub opened_so : (b : Bool) → b ≡ (session_of t.editors e).opened → b ≡ (meant_of settings.servers e events).opened
+  opened_so b is = is ∙ ap (λ (x : Meant). x.opened) meant_here
+
+  pub server_so : (o : Option ℕ) (default n : ℕ) → o ≡ (session_of t.editors e).server → settings.default ≡ default → n ≡ given_or o default → n ≡ server_for settings e events
+  server_so o default n is same answer = answer ∙ (ap (λ d. given_or o d) (sym same) ∙ ap (λ p. given_or p settings.default) (is ∙ ap (λ (x : Meant). x.server) meant_here))
 
 and_off : (b : Bool) → (b && false) ≡ false
 and_off true = refl

@@ -15,7 +15,7 @@ use Rattle.editor_session.specs.Sessions.{absent, numbers_of, session_of, waits_
 use Rattle.group_words.specs.Houses.{editors_in, home_of}
 use Rattle.mux_tables.specs.declared.tables.Tables.{Tables}
 use Rattle.mux_tables.specs.Names.{id_in}
-use Rattle.mux_tables.specs.Stands.{Stands}
+use Rattle.mux_tables.specs.Stands.{Stands, meant_in}
 use Rattle.mux_tables.proofs.Lists.{editors_for, waits_so}
 
 pub waiting_so : (settings : Settings) (t : Tables) (events : List Event) (g : ℕ) (ns : List ℕ) → Stands settings t events → ns ≡ numbers_of (λ s. waits_in g s) t.editors → ns ≡ editors_in is_waiting g (λ e. home_of settings e events) events
@@ -35,6 +35,17 @@ ids_kept xs e y l same_id n = go n (compare e n)
     go _ same = ap id_in (get_set_same xs e y l) ∙ (same_id ∙ ap id_in (sym (slice_get-get_or xs e absent l)))
     go n (other h) = ap id_in (get_set_other xs e n y h)
 
--- a phase that changes does
+-- a phase that changes leaves them
 pub ids_stay : (xs : List Session) (e : ℕ) (p : Phase) → e < length xs → (n : ℕ) → id_in (slice_get (with_session xs e (record (session_of xs e) { phase = p })) n) ≡ id_in (slice_get xs n)
 ids_stay xs e p l n = ids_kept xs e (record (session_of xs e) { phase = p }) l refl n
+
+-- and what is kept of `lspmux/open`
+pub meant_stay : (xs : List Session) (e : ℕ) (p : Phase) → e < length xs → (n : ℕ) → meant_in (slice_get (with_session xs e (record (session_of xs e) { phase = p })) n) ≡ meant_in (slice_get xs n)
+meant_stay xs e p l n = go n (compare e n)
+  where
+    y : Session
+    y = record (session_of xs e) { phase = p }
+
+    go : (n : ℕ) → Same e n → meant_in (slice_get (slice_set xs e y) n) ≡ meant_in (slice_get xs n)
+    go _ same = ap meant_in (get_set_same xs e y l) ∙ ap meant_in (sym (slice_get-get_or xs e absent l))
+    go n (other h) = ap meant_in (get_set_other xs e n y h)

@@ -5,7 +5,7 @@ use Rattle.std.specs.Option.{option_and_then}
 use Rattle.std.specs.Prelude.{Option, Some, None, slice_get, slice_set}
 use Rattle.rpc_message.specs.Message.{Id, result_bytes}
 use Rattle.event_model.specs.declared.phase.Phase.{Phase}
-use Rattle.event_model.specs.declared.phase.Phase.TheVariants.{Absent, Answered}
+use Rattle.event_model.specs.declared.phase.Phase.TheVariants.{Absent, Answered, New}
 use Rattle.event_model.specs.declared.stage.Stage.{Stage}
 use Rattle.event_model.specs.declared.stage.Stage.TheVariants.{Unspawned, Spawning, Initializing, Ready, Ended}
 use Rattle.event_model.specs.Each.{Each}
@@ -20,7 +20,7 @@ use Rattle.editor_session.specs.Sessions.{is_of, numbers_of}
 use Rattle.group_table.specs.Tables as group_tables
 use Rattle.group_words.specs.declared.kept.Kept.{Kept}
 use Rattle.group_words.specs.Placing.{changed, ended}
-use Rattle.group_words.specs.Houses.{exit_of, is_home, groups_of, home_of, time_of}
+use Rattle.group_words.specs.Houses.{Meant, exit_of, is_home, groups_of, home_of, meant_of, no_meant, time_of}
 use Rattle.group_words.specs.Rows.{result_of, shown_of}
 use Rattle.id_rewrite.specs.declared.pending.Numbered.{Numbered}
 use Rattle.id_rewrite.specs.declared.pending.Pending.{Pending}
@@ -31,7 +31,7 @@ use Rattle.mux_tables.specs.declared.tables.Tables.{Tables}
 use Rattle.mux_tables.specs.Names.{NamesStand}
 use Rattle.group_rows.specs.Forwarded.{Forwarded, Forwarding, forwarding_of, names}
 
--- the editors: how many joined, and of each its phase, its group, and the id of its `initialize`
+-- the editors: how many joined, and of each its phase, its group, the id of its `initialize`, and before that what it meant by `lspmux/open`
 abbrev pub phase_in : Option Session → Phase
 phase_in None = Absent
 phase_in (Some s) = s.phase
@@ -40,11 +40,17 @@ abbrev pub group_in : Option Session → Option ℕ
 group_in None = None
 group_in (Some s) = s.group
 
+-- what is kept of an editor's `lspmux/open`
+abbrev pub meant_in : Option Session → Meant
+meant_in None = no_meant
+meant_in (Some s) = record { opened = s.opened; server = s.server }
+
 pub record EditorsStand (settings : Settings) (sessions : List Session) (events : List Event) : Type 0 where
   pub count : editors_of events ≡ length sessions
   pub phase : (e : ℕ) → (desk_of e events).phase ≡ phase_in (slice_get sessions e)
   pub home : (e : ℕ) → home_of settings e events ≡ group_in (slice_get sessions e)
   pub names : NamesStand settings sessions events
+  pub meant : (e : ℕ) → (desk_of e events).phase ≡ New → meant_in (slice_get sessions e) ≡ meant_of settings.servers e events
 
 -- the groups: the list itself, and its limits
 pub record GroupsStand (settings : Settings) (table : group_tables.Table) (events : List Event) : Type 0 where

@@ -6,7 +6,7 @@ ghost use Rattle.event_model.specs.Event.{Event, heard, requests};
 ghost use Rattle.event_model.specs.Phases.{desk_of, is_served};
 ghost use Rattle.event_model.specs.Settings.{Settings};
 ghost use Rattle.group_table.specs.Tables.{Inside, declared_text, with_groups};
-ghost use Rattle.group_words.specs.Houses.{declared_for, emptied, groups_of, home_of, key_for, placed_for, places, stops};
+ghost use Rattle.group_words.specs.Houses.{declared_for, emptied, groups_of, home_of, is_first_open, key_for, placed_for, places, server_asked, stops};
 ghost use Rattle.mux_history.specs.declared.cause.Cause.TheVariants.{EditorGone, FromEditor, Joined, Tick};
 ghost use Rattle.mux_history.specs.declared.cause.Why.{Why};
 ghost use Rattle.document_model.specs.Sayings.{saying_by};
@@ -44,7 +44,8 @@ impl Tables {
         Ok(())
     }
 
-    /// A body came from the editor that places it in no group and doesn't stop all; behind it the editor is in this phase.
+    /// A body came from the editor that places it in no group, doesn't stop all and says of no server that it is meant; behind it the
+    /// editor is in this phase.
     pub fn hear_editor(&mut self, e: u64, phase: Phase)
         requires editor { e < length self.old.editors }
         requires joined { phase ≢ Absent }
@@ -54,12 +55,30 @@ impl Tables {
         ensures lasts { self.new.lasts ≡ self.old.lasts }
         ensures stands { (settings : Settings) (events : List Event) (body : List ℕ) → Stands settings self.old events
             → places (desk_of e events).phase (message_of body) ≡ false → stops events e (message_of body) ≡ false
+            → is_first_open settings.servers events e (message_of body) ≡ false
             → (desk_of e (events ++ heard (FromEditor e body) ∷ [])).phase ≡ phase → Stands settings self.new (events ++ heard (FromEditor e body) ∷ []) }
         ensures documents { (settings : Settings) (owed : Owed) (events : List Event) (body : List ℕ)
             → changes_documents events e (message_of body) ≡ false → DocumentsStand settings owed self.old events
             → DocumentsStand settings owed self.new (events ++ heard (FromEditor e body) ∷ []) }
     {
         self.editors.set(e, phase);
+    }
+
+    /// E4: the first `lspmux/open` of a new editor came, which names this server, or none.
+    pub fn hear_open(&mut self, e: u64, server: Option<u32>)
+        requires { e < length self.old.editors }
+        ensures count { length self.new.editors ≡ length self.old.editors }
+        ensures requests { self.new.requests ≡ self.old.requests }
+        ensures versions { self.new.versions ≡ self.old.versions }
+        ensures lasts { self.new.lasts ≡ self.old.lasts }
+        ensures stands { (settings : Settings) (events : List Event) (body : List ℕ) → Stands settings self.old events
+            → is_first_open settings.servers events e (message_of body) ≡ true → server ≡ server_asked settings.servers body
+            → Stands settings self.new (events ++ heard (FromEditor e body) ∷ []) }
+        ensures documents { (settings : Settings) (owed : Owed) (events : List Event) (body : List ℕ)
+            → changes_documents events e (message_of body) ≡ false → DocumentsStand settings owed self.old events
+            → DocumentsStand settings owed self.new (events ++ heard (FromEditor e body) ∷ []) }
+    {
+        self.editors.mean(e, server);
     }
 
     /// E7: an editor's `initialize`, which has this id, places it. Where the answer is an error, the groups and the editors may be ahead of the
@@ -201,6 +220,7 @@ impl Tables {
         ensures lasts { self.new.lasts ≡ self.old.lasts }
         ensures stands { (settings : Settings) (events : List Event) (body : List ℕ) → Stands settings self.old events
             → places (desk_of e events).phase (message_of body) ≡ false → stops events e (message_of body) ≡ false
+            → is_first_open settings.servers events e (message_of body) ≡ false
             → (desk_of e (events ++ heard (FromEditor e body) ∷ [])).phase ≡ phase
             → OnOk result (Stands settings self.new (events ++ heard (FromEditor e body) ∷ [])) }
         ensures documents { (settings : Settings) (events : List Event) (body method : List ℕ) (params : Option Json) (g s : ℕ)

@@ -1,11 +1,12 @@
 // What the tables tell of the events.
 ghost use Rattle.std.specs.Prelude.{◌≡◌, ◌<◌, ◌&&◌, ℕ, List, map, Some, None, true, false, length, IfNone, IfOk, IfSome, MatchOption, nat_lt, option_copied, slice_get};
 ghost use Rattle.std.specs.List.{All};
+ghost use Rattle.event_model.specs.declared.phase.Phase.TheVariants.{New};
 ghost use Rattle.event_model.specs.Event.{Event};
 ghost use Rattle.event_model.specs.Phases.{desk_of, is_running, is_there, is_waiting};
 ghost use Rattle.event_model.specs.Settings.{Settings};
 ghost use Rattle.event_model.specs.Stages.{is_ready, life_of, may_start, runs};
-ghost use Rattle.group_words.specs.Houses.{editors_in, home_of};
+ghost use Rattle.group_words.specs.Houses.{editors_in, home_of, meant_of, server_for};
 ghost use Rattle.mux_tables.specs.declared.tables.Start.{Start};
 ghost use Rattle.group_rows.specs.Forwarded.{forwarding_of, numbers_of};
 ghost use Rattle.mux_tables.specs.Names.{id_in};
@@ -74,6 +75,27 @@ impl Tables {
             return Phase::Absent;
         }
         self.editors.phase(e)
+    }
+
+    /// E4: whether a new editor sent `lspmux/open`.
+    pub fn is_opened(&self, e: u64) -> bool
+        requires { e < length self.now.editors }
+        ensures { (settings : Settings) (events : List Event) → Stands settings self.now events → (desk_of e events).phase ≡ New
+            → result ≡ (meant_of settings.servers e events).opened }
+    {
+        self.editors.is_opened(e)
+    }
+
+    /// E4: the place of the server that a new editor means: the one that it named, else the default.
+    pub fn server(&self, e: u64, default: u32) -> u32
+        requires { e < length self.now.editors }
+        ensures { (settings : Settings) (events : List Event) → Stands settings self.now events → (desk_of e events).phase ≡ New
+            → settings.default ≡ default → result ≡ server_for settings e events }
+    {
+        match self.editors.server(e) {
+            Some(server) => server,
+            None => default,
+        }
     }
 
     /// The numbers, rising, of the editors of this group that run.

@@ -9,19 +9,27 @@ use Rattle.rpc_message.specs.declared.sort.Malformed.TheVariants as fault
 use Rattle.rpc_message.specs.declared.sort.Sort.TheVariants as sort
 use Rattle.rpc_message.specs.Message.{Message, message_of, request, notification, result, error, not_json, not_message}
 use Rattle.rpc_message.specs.Sorts.{Refuses, sort_of}
+use Rattle.event_model.specs.declared.settings.Server.{Server}
 use Rattle.event_model.specs.declared.phase.Phase.{Phase}
 use Rattle.event_model.specs.declared.phase.Phase.TheVariants.{Absent, New, Waiting, Answered, Running, Down, Closed, Gone}
 use Rattle.event_model.specs.Event.{Event, heard, notifies, requests, with_cause}
 use Rattle.event_model.specs.Phases.{Desk, desk_behind, desk_hears, desk_of, is_malformed, is_new, is_served, is_there}
 use Rattle.event_model.proofs.Frames.{one_more}
 use Rattle.group_facts.specs.Facts.{is_early}
-use Rattle.group_words.specs.Houses.{is_doubled, places, stops}
+use Rattle.group_words.specs.Houses.{is_doubled, is_first_open, meant_of, places, stops}
 use Rattle.mux_tables.specs.Documents.{changes_documents}
 use Rattle.mux_tables.proofs.Frames.{itself}
 
 and_off : (a : Bool) → (a && false) ≡ false
 and_off true = refl
 and_off false = refl
+
+-- it isn't the first `lspmux/open` of a new editor
+pub old_unopened : (servers : List Server) (before : List Event) (e : ℕ) (m : Message) → is_new (desk_of e before).phase ≡ false → is_first_open servers before e m ≡ false
+old_unopened servers before e m h = ap (λ b. b && (requests (codes "lspmux/open") m && not (meant_of servers e before).opened)) h
+
+pub unnamed_unopened : (servers : List Server) (before : List Event) (e : ℕ) (m : Message) → requests (codes "lspmux/open") m ≡ false → is_first_open servers before e m ≡ false
+unnamed_unopened servers before e m h = ap (λ b. is_new (desk_of e before).phase && (b && not (meant_of servers e before).opened)) h ∙ and_off (is_new (desk_of e before).phase)
 
 -- where it stands behind the message
 module _ (before : List Event) (e : ℕ) (body : List ℕ) where
@@ -63,14 +71,15 @@ malformed_stays Running i body (error id r) h = absurd (cc)
 pub record Aside (before : List Event) (e : ℕ) (m : Message) : Type 0 where
   pub placed : places (desk_of e before).phase m ≡ false
   pub stopped : stops before e m ≡ false
+  pub unopened : (servers : List Server) → is_first_open servers before e m ≡ false
 
 pub aside : (before : List Event) (e : ℕ) (m : Message) → (sort_of m ≡ Some sort.Request → ⊥) → Aside before e m
 aside before e (request id method ps) h = absurd (h refl)
-aside before e (notification method ps) h = record { placed = and_off (is_new (desk_of e before).phase); stopped = refl }
-aside before e (result id r) h = record { placed = and_off (is_new (desk_of e before).phase); stopped = refl }
-aside before e (error id r) h = record { placed = and_off (is_new (desk_of e before).phase); stopped = refl }
-aside before e not_json h = record { placed = and_off (is_new (desk_of e before).phase); stopped = refl }
-aside before e not_message h = record { placed = and_off (is_new (desk_of e before).phase); stopped = refl }
+aside before e (notification method ps) h = record { placed = and_off (is_new (desk_of e before).phase); stopped = refl; unopened = λ servers. and_off (is_new (desk_of e before).phase) }
+aside before e (result id r) h = record { placed = and_off (is_new (desk_of e before).phase); stopped = refl; unopened = λ servers. and_off (is_new (desk_of e before).phase) }
+aside before e (error id r) h = record { placed = and_off (is_new (desk_of e before).phase); stopped = refl; unopened = λ servers. and_off (is_new (desk_of e before).phase) }
+aside before e not_json h = record { placed = and_off (is_new (desk_of e before).phase); stopped = refl; unopened = λ servers. and_off (is_new (desk_of e before).phase) }
+aside before e not_message h = record { placed = and_off (is_new (desk_of e before).phase); stopped = refl; unopened = λ servers. and_off (is_new (desk_of e before).phase) }
 
 pub malformed_aside : (m : Message) → is_malformed m ≡ true → sort_of m ≡ Some sort.Request → ⊥
 malformed_aside not_json h k = cc

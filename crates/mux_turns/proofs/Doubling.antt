@@ -10,14 +10,15 @@ use Rattle.mux_history.specs.declared.cause.Cause.TheVariants.{FromEditor}
 use Rattle.mux_model.specs.Built.{is_other}
 use Rattle.mux_model.specs.Methods.{is_wrong}
 use Rattle.rpc_message.specs.Message.{Id, Message, message_of, request, notification, result, error, not_json, not_message}
+use Rattle.event_model.specs.declared.settings.Server.{Server}
 use Rattle.event_model.specs.declared.phase.Phase.{Phase}
 use Rattle.event_model.specs.declared.phase.Phase.TheVariants.{Absent, New, Waiting, Answered, Running, Down, Closed, Gone}
 use Rattle.event_model.specs.Event.{Event, requests, with_cause}
 use Rattle.event_model.specs.Phases.{desk_hears, desk_of, is_begun, is_new, is_served, is_there}
 use Rattle.event_model.specs.Requests.{is_open, open_of}
 use Rattle.group_facts.specs.Built.{doubles, is_standard}
-use Rattle.group_words.specs.Houses.{places, stops}
-use Rattle.mux_turns.proofs.Asides.{desk_now}
+use Rattle.group_words.specs.Houses.{is_first_open, places, stops}
+use Rattle.mux_turns.proofs.Asides.{desk_now, old_unopened}
 use Rattle.mux_turns.proofs.Classes.{Serves, first_named, first_serves, is_initialize, not_own, serves, wrong_not_own}
 use Rattle.mux_turns.proofs.Serving.{shutdown_downs}
 
@@ -29,7 +30,7 @@ and_off : (a : Bool) → (a && false) ≡ false
 and_off true = refl
 and_off false = refl
 
-begun_new : (p : Phase) → is_begun p ≡ true → is_new p ≡ false
+pub begun_new : (p : Phase) → is_begun p ≡ true → is_new p ≡ false
 begun_new New h = absurd (cc)
 begun_new other h = refl
 
@@ -53,6 +54,9 @@ module _ (before : List Event) (e : ℕ) (id : Id) (method : List ℕ) (params :
 
   pub doubled_placed : places (desk_of e before).phase m ≡ false
   doubled_placed = ap (λ b. b && requests (codes "initialize") m) (begun_new (desk_of e before).phase begun)
+
+  pub doubled_unopened : (servers : List Server) → is_first_open servers before e m ≡ false
+  doubled_unopened servers = old_unopened servers before e m (begun_new (desk_of e before).phase begun)
 
   pub doubled_stops : stops before e m ≡ false
   doubled_stops = ap (stops before e) says ∙ (ap (λ b. bytes_eq (codes "lspmux/stop") method && (is_there (desk_of e before).phase && not b)) open_now ∙ (ap (λ b. bytes_eq (codes "lspmux/stop") method && b) (and_off (is_there (desk_of e before).phase)) ∙ and_off (bytes_eq (codes "lspmux/stop") method)))

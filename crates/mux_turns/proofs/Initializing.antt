@@ -3,7 +3,7 @@ use Rattle.std.proofs.Common.{◌≡◌, ℕ, zero, suc, ◌<◌, Bool, true, fa
 use Rattle.std.specs.Prelude.{Option, Some, None, IfSome, is_some, map, option_map, slice_get, flat_map, filter}
 use Rattle.std.specs.List.{AllByRecursion}
 use Rattle.std.specs.Option.{option_and_then}
-use Rattle.std.proofs.lemmas.Bool.{eqb-true}
+use Rattle.std.proofs.lemmas.Bool.{and_parts, eqb-true}
 use Rattle.json_text.specs.Json.{Json}
 use Rattle.json_text.specs.Tree.{tree_of}
 use Rattle.mux_history.specs.declared.cause.Cause.TheVariants.{FromEditor}
@@ -21,7 +21,7 @@ use Rattle.event_model.specs.declared.settings.Server.{Server}
 use Rattle.event_model.specs.Does.{Alike, Does, Done}
 use Rattle.event_model.specs.Event.{Event, behind, heard, requests, took, with_cause}
 use Rattle.event_model.specs.Members.{options_of, params_of}
-use Rattle.event_model.specs.Phases.{Desk, desk_behind, desk_hears, desk_of, is_served}
+use Rattle.event_model.specs.Phases.{Desk, desk_behind, desk_hears, desk_of, is_new, is_served}
 use Rattle.event_model.specs.Row.{nothing, choose, on, send}
 use Rattle.event_model.specs.Settings.{Settings}
 use Rattle.event_model.specs.Spawns.{start_behind, start_of}
@@ -34,6 +34,7 @@ use Rattle.capability_meet.specs.DeclaredTree.{declared_of, declared_tree}
 use Rattle.capability_meet.specs.MeetTree.{whole_text}
 use Rattle.group_facts.specs.Facts.{Numbered, Plain, is_up}
 use Rattle.group_facts.specs.Settled.{Settled}
+use Rattle.group_facts.proofs.Waiting.{new_is}
 use Rattle.mux_turns.proofs.Ready.{is_that_ready}
 use Rattle.group_rows.specs.Leaves.{leave_bodies, left}
 use Rattle.group_rows.specs.Rows.{answer_error}
@@ -113,8 +114,8 @@ module _ (settings : Settings) (before : List Event) (e : ℕ) (body : List ℕ)
   pub key_is : (key : Common) → key ≡ record { server = default; folders = folders_of (params_of body); normal = map normal_of (folders_of (params_of body)); options = options_of body } → key ≡ key_for settings before e body
   key_is key is = is ∙ ap (λ n. record { server = n; folders = folders_of (params_of body); normal = map normal_of (folders_of (params_of body)); options = options_of body }) (sym server)
 
-pub default_server : (settings : Settings) (before : List Event) (e default : ℕ) → settings.default ≡ default → Settled settings before → server_for settings e before ≡ default
-default_server settings before e default is settled = ap (λ o. given_or o settings.default) (settled.unnamed e) ∙ is
+pub new_here : (before : List Event) (e : ℕ) (m : Message) → places (desk_of e before).phase m ≡ true → (desk_of e before).phase ≡ New
+new_here before e m first = new_is (desk_of e before).phase (and_parts (is_new (desk_of e before).phase) (requests (codes "initialize") m) first).0
 
 -- it was new
 new_phase : (p : Phase) (m : Message) → places p m ≡ true → (p ≡ New) × (requests (codes "initialize") m ≡ true)

@@ -19,7 +19,7 @@ use Rattle.event_model.specs.Settings.{Settings}
 use Rattle.event_model.proofs.Frames.{one_more}
 use Rattle.event_model.proofs.Turns.{does_false, does_true}
 use Rattle.group_facts.proofs.OpenByPhase.{reply_told}
-use Rattle.group_facts.proofs.PartingRows.{null_value}
+use Rattle.group_facts.proofs.Nulls.{null_said}
 use Rattle.mux_tables.specs.declared.tables.Tables.{Tables}
 use Rattle.mux_tables.specs.Stands.{Keeps, Stands}
 use Rattle.mux_tables.proofs.Frames.{itself}
@@ -74,7 +74,7 @@ abbrev pub null_tree : Json
 null_tree = word (record { from = 0; to = 0 }) Null
 
 pub null_says : (body : List ℕ) (id : Id) (method : List ℕ) (params : Option Json) → message_of body ≡ request id method params → message_of (ok_text (id_bytes body) (codes "null")) ≡ result (Some id) null_tree
-null_says body id method params says = ok_law (Some id) null_tree (id_bytes body) (codes "null") (id_as_response id (id_bytes body) (request_id_bytes body id method params says)) null_value (omega arith)
+null_says body id method params says = null_said body id method params says
 
 pub malformed_says : (text : List ℕ) (c : Code) → text ≡ error_text (codes "null") c → message_of text ≡ error None (error_tree c)
 malformed_says text c is = ap message_of is ∙ error_law None (codes "null") c null_as_response

@@ -13,6 +13,7 @@ pub mod Early
 pub mod Initializing
 pub mod Joining
 pub mod Keeping
+pub mod Lspmux
 pub mod Matched
 pub mod Noticing
 pub mod Numbers

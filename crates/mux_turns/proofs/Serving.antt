@@ -18,7 +18,7 @@ and_off : (a : Bool) → (a && false) ≡ false
 and_off true = refl
 and_off false = refl
 
-not_new : (p : Phase) → is_served p ≡ true → is_new p ≡ false
+pub not_new : (p : Phase) → is_served p ≡ true → is_new p ≡ false
 not_new New h = absurd (cc)
 not_new other h = refl
 

@@ -1,4 +1,4 @@
--- E5: what `lspmux/status` is answered with, and where its editor stands behind it.
+-- E5: what `lspmux/status` is answered with.
 use Rattle.std.proofs.Common.{◌≡◌, ℕ, zero, suc, ◌+◌, ◌^◌, ◌<◌, ◌≤◌, Bool, true, false, ◌&&◌, ◌||◌, List, [], ◌∷◌, ◌++◌, length, map, flat_map, drop, get_or, nat_lt, codes, decimal, bytes_eq, if◌then◌else◌, IsUtf8, encode_utf8_all, refl, sym, ap, ap₂, subst, ◌∙◌, append_assoc, append-nil, arith}
 use Rattle.std.specs.Prelude.{Option, Some, None}
 use Rattle.std.specs.Option.{option_map_or}
@@ -112,73 +112,3 @@ none_left (x ∷ xs) (suc i) h = none_left xs i (omega arith)
 
 pub left_none : (text new : List ℕ) (started : Bool) (i : ℕ) (parts : List (List ℕ)) → length parts ≤ i → new ≡ text ++ 93 ∷ [] → Left text started i parts → new ≡ bracketed parts
 left_none text new started i parts h e left = e ∙ (ap (λ ps. text ++ (listed started ps ++ 93 ∷ [])) (sym (none_left parts i h)) ∙ left)
-
--- `lspmux/status`
-
-pub record IsStatus (m : Message) : Type 0 where
-  pub id : Id
-  pub params : Option Json
-  pub is : m ≡ request id (codes "lspmux/status") params
-
-pub status_is : (m : Message) → requests (codes "lspmux/status") m ≡ true → IsStatus m
-status_is (request id method params) h = record { id = id; params = params; is = ap (λ w. request id w params) (sym ((bytes_eq-Decides (codes "lspmux/status") method).0 h)) }
-status_is (notification method params) h = absurd (cc)
-status_is (result id r) h = absurd (cc)
-status_is (error id x) h = absurd (cc)
-status_is not_json h = absurd (cc)
-status_is not_message h = absurd (cc)
-
-and_off : (a : Bool) → (a && false) ≡ false
-and_off true = refl
-and_off false = refl
-
-hears_stays : (p : Phase) (i body : List ℕ) (id : Id) (params : Option Json) → (desk_hears p i body (request id (codes "lspmux/status") params)).phase ≡ p
-hears_stays Absent i body id params = refl
-hears_stays New i body id params = refl
-hears_stays Waiting i body id params = refl
-hears_stays Answered i body id params = refl
-hears_stays Running i body id params = refl
-hears_stays Down i body id params = refl
-hears_stays Closed i body id params = refl
-hears_stays Gone i body id params = refl
-
-module _ (before : List Event) (e : ℕ) (body : List ℕ) (asks : requests (codes "lspmux/status") (message_of body) ≡ true) where
-  abbrev k : IsStatus (message_of body)
-  k = status_is (message_of body) asks
-
-  pub status_stays : (desk_of e (with_cause before (FromEditor e body))).phase ≡ (desk_of e before).phase
-  status_stays = desk_now before e body (desk_of e before).phase (ap (λ m. (desk_hears (desk_of e before).phase (desk_of e before).initialize body m).phase) k.is ∙ hears_stays (desk_of e before).phase (desk_of e before).initialize body k.id k.params)
-
-  pub status_placed : places (desk_of e before).phase (message_of body) ≡ false
-  status_placed = ap (places (desk_of e before).phase) k.is ∙ and_off (is_new (desk_of e before).phase)
-
-  pub status_stops : stops before e (message_of body) ≡ false
-  status_stops = ap (stops before e) k.is
-
-  pub status_keeps : changes_documents before e (message_of body) ≡ false
-  status_keeps = ap (changes_documents before e) k.is ∙ and_off (is_served (desk_of e before).phase)
-
-  -- where its editor waits, its `initialize` is open under another id
-  apart : (id first : Id) (m : Message) → has_id first m ≡ true → same_id id first ≡ false → has_id id m ≡ false
-  apart id first (request other method params) own h = ap (same_id id) (sym (id_same first other own)) ∙ h
-  apart id first (notification method params) own h = absurd (cc)
-  apart id first (result other r) own h = absurd (cc)
-  apart id first (error other x) own h = absurd (cc)
-  apart id first not_json own h = absurd (cc)
-  apart id first not_message own h = absurd (cc)
-
-  or_off : (b : Bool) → (b || false) ≡ false → b ≡ false
-  or_off true h = h
-  or_off false h = refl
-
-  desk_stays : (desk_of e before).phase ≡ Waiting → (desk_of e (with_cause before (FromEditor e body))).initialize ≡ (desk_of e before).initialize
-  desk_stays at = ap (λ (d : Desk). d.initialize) (one_more (desk_behind e) _ _ before (heard (FromEditor e body)) refl) ∙ rw (itself e) (ap (λ p. (desk_hears p (desk_of e before).initialize body (message_of body)).initialize) at)
-
-  pub status_others : (settings : Settings) → (is_begun (desk_of e before).phase && is_doubled before e (message_of body)) ≡ false → Settled settings before
-      → (desk_of e (with_cause before (FromEditor e body))).phase ≡ Waiting → has_id k.id (message_of (desk_of e (with_cause before (FromEditor e body))).initialize) ≡ false
-  status_others settings single known at =
-      let waits : (desk_of e before).phase ≡ Waiting = sym status_stays ∙ at in
-      let only : IsOnly before e = known.waiting e waits in
-      let fresh : is_open k.id (open_of e before) ≡ false = ap (λ m. is_doubled before e m) (sym k.is) ∙ (ap (λ p. is_begun p && is_doubled before e (message_of body)) (sym waits) ∙ single) in
-      let other : same_id k.id only.id ≡ false = or_off (same_id k.id only.id) (ap (is_open k.id) (sym only.ids) ∙ fresh) in
-      ap (λ i. has_id k.id (message_of i)) (desk_stays waits) ∙ apart k.id only.id (message_of (desk_of e before).initialize) only.asked other

@@ -3,13 +3,13 @@ ghost use Rattle.std.specs.Prelude.{◌≡◌, ◌<◌, ℕ, List, [], Option, f
 ghost use Rattle.event_model.specs.declared.phase.Phase.TheVariants.{Waiting};
 ghost use Rattle.event_model.specs.Does.{Done};
 ghost use Rattle.event_model.specs.Event.{Event, requests, with_cause};
-ghost use Rattle.event_model.specs.Phases.{desk_of, is_served};
+ghost use Rattle.event_model.specs.Phases.{desk_of, is_begun, is_served};
 ghost use Rattle.event_model.specs.Requests.{is_open, open_of};
 ghost use Rattle.event_model.specs.Settings.{Settings};
 ghost use Rattle.group_facts.specs.Built.{doubles, is_standard};
 ghost use Rattle.group_facts.specs.Facts.{Known};
 ghost use Rattle.group_facts.specs.Settled.{Settled, is_answered};
-ghost use Rattle.group_rows.specs.Rows.{closing_row};
+ghost use Rattle.group_rows.specs.Rows.{asks_lspmux, closing_row};
 ghost use Rattle.json_text.specs.Json.{Json};
 ghost use Rattle.lsp_method.specs.Class.{class_of};
 ghost use Rattle.lsp_method.specs.declared.variants.Origin.TheVariants.{Editor};
@@ -125,4 +125,26 @@ pub fn take_doubled(
             Ok(())
         }
     }
+}
+
+/// E3: a request of the multiplexer's own comes under an id that is open, from an editor that has begun: its link is to be ended, and it
+/// leaves.
+pub fn take_doubled_own(
+    tables: &mut Tables,
+    alloc: Global,
+    outs: &mut Outs,
+    e: u64,
+) -> Result<(), Memory>
+    requires { e < length tables.old.editors }
+    ensures requests { tables.new.requests ≡ tables.old.requests }
+    ensures versions { tables.new.versions ≡ tables.old.versions }
+    ensures does { (settings : Settings) (before : List Event) (body : List ℕ) → asks_lspmux (message_of body) ≡ true
+        → is_begun (desk_of e before).phase ≡ true → outs.old ≡ []
+        → Stands settings tables.old before → DocumentsStand settings nothing_owed tables.old before
+        → OnOk result (Done (λ k events. AllStand settings k events) (closing_row settings before e)
+        (with_cause before (FromEditor e body)) [] (tables.new, nothing_owed) outs.new) }
+{
+    let phase = phase_of(tables, e);
+    end_link(tables, alloc, outs, e, phase)?;
+    Ok(())
 }

@@ -42,12 +42,12 @@ fn ceiling(servers: &[Server], n: u32) -> Option<&[u8]>
     }
 }
 
-// The editor is placed, by what it asks and offers.
+// The editor is placed, by the server that it means, and what it asks and offers.
 fn seat(
     tables: &mut Tables,
     alloc: Global,
     servers: &[Server],
-    default: u32,
+    server: u32,
     e: u64,
     message: &Message,
 ) -> Result<Placed, Memory>
@@ -58,17 +58,17 @@ fn seat(
     ensures versions { tables.new.versions ≡ tables.old.versions }
     ensures moves { (settings : Settings) (before : List Event) (body method : List ℕ) (id : Id) (params : Option Json) → IsRead message.now body
         → message_of body ≡ request id method params → places (desk_of e before).phase (message_of body) ≡ true → settings.servers ≡ servers.now
-        → server_for settings e before ≡ default → Stands settings tables.old before → DocumentsStand settings nothing_owed tables.old before
+        → server_for settings e before ≡ server → Stands settings tables.old before → DocumentsStand settings nothing_owed tables.old before
         → IfOk result (λ p. (p ≡ placed_for settings before e body (groups_of settings before))
         × AllStand settings (tables.new, nothing_owed) (with_cause before (FromEditor e body))) }
 {
     let id = Body::new(Vec::from_slice(alloc, message.id_bytes())?);
-    let key = key_of(alloc, message, default)?;
+    let key = key_of(alloc, message, server)?;
     let capabilities = offered(message);
     if capabilities.len() > 268_435_456 {
         return Err(Memory);
     }
-    match tables.hear_initialize(e, id, key, capabilities, ceiling(servers, default)) {
+    match tables.hear_initialize(e, id, key, capabilities, ceiling(servers, server)) {
         Ok(placed) => Ok(placed),
         Err(_) => Err(Memory),
     }
@@ -104,8 +104,9 @@ fn join(
     }
 }
 
-/// E7: an editor's `initialize` comes. The editor joins the group of its key that takes it, and is answered where that group's last
-/// start is ready; or a group is founded for it, perhaps in place of one that has no editor; or it is turned away.
+/// E7: an editor's `initialize` comes. The editor joins the group of its key, which has the server that it means, that takes it, and is
+/// answered where that group's last start is ready; or a group is founded for it, perhaps in place of one that has no editor; or it is
+/// turned away.
 pub fn take_initialize(
     tables: &mut Tables,
     alloc: Global,
@@ -128,7 +129,8 @@ pub fn take_initialize(
         → OnOk result (Done (λ k events. AllStand settings k events) (initialize_row settings before e body)
         (with_cause before (FromEditor e body)) [] (tables.new, nothing_owed) outs.new) }
 {
-    let placed = seat(tables, alloc, servers, default, e, message)?;
+    let server = tables.server(e, default);
+    let placed = seat(tables, alloc, servers, server, e, message)?;
     match placed {
         Placed::Joins(g) => {
             join(tables, alloc, outs, e, message, g)?;

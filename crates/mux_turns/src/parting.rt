@@ -6,7 +6,7 @@ ghost use Rattle.event_model.specs.Event.{Event, notifies, with_cause};
 ghost use Rattle.event_model.specs.Phases.{desk_of, is_served};
 ghost use Rattle.event_model.specs.Settings.{Settings};
 ghost use Rattle.group_rows.specs.Rows.{answer_error, closing_row, gone_row, shutdown_row, wrong_code};
-ghost use Rattle.group_words.specs.Houses.{places, stops};
+ghost use Rattle.group_words.specs.Houses.{is_first_open, places, stops};
 ghost use Rattle.json_text.specs.Json.{Json};
 ghost use Rattle.mux_history.specs.declared.cause.Cause.TheVariants.{EditorGone, FromEditor};
 ghost use Rattle.mux_history.specs.declared.cause.Why.{Why};
@@ -49,8 +49,8 @@ pub fn take_gone(tables: &mut Tables, alloc: Global, outs: &mut Outs, e: u64) ->
     }
 }
 
-// E3 and E9: a message that places its editor nowhere, stops nothing and changes no document ends the editor's link; behind it the
-// editor is in this phase. It leaves.
+// E3 and E9: a message that places its editor nowhere, stops nothing, says of no server that it is meant and changes no document ends
+// the editor's link; behind it the editor is in this phase. It leaves.
 pub fn end_link(
     tables: &mut Tables,
     alloc: Global,
@@ -63,7 +63,8 @@ pub fn end_link(
     ensures requests { tables.new.requests ≡ tables.old.requests }
     ensures versions { tables.new.versions ≡ tables.old.versions }
     ensures does { (settings : Settings) (before : List Event) (body : List ℕ) → places (desk_of e before).phase (message_of body) ≡ false
-        → stops before e (message_of body) ≡ false → changes_documents before e (message_of body) ≡ false
+        → stops before e (message_of body) ≡ false → is_first_open settings.servers before e (message_of body) ≡ false
+        → changes_documents before e (message_of body) ≡ false
         → (desk_of e (with_cause before (FromEditor e body))).phase ≡ phase → outs.old ≡ []
         → Stands settings tables.old before → DocumentsStand settings nothing_owed tables.old before
         → OnOk result (Done (λ k events. AllStand settings k events) (closing_row settings before e)

@@ -7,7 +7,7 @@ ghost use Rattle.event_model.specs.Phases.{desk_of, is_served};
 ghost use Rattle.event_model.specs.Row.{nothing};
 ghost use Rattle.event_model.specs.Settings.{Settings};
 ghost use Rattle.group_facts.specs.Facts.{is_early};
-ghost use Rattle.group_rows.specs.Rows.{answer_error, early_code, is_misplaced, wrong_code};
+ghost use Rattle.group_rows.specs.Rows.{answer_error, asks_lspmux, early_code, is_misplaced, wrong_code};
 ghost use Rattle.group_words.specs.Houses.{places, stops};
 ghost use Rattle.json_text.specs.Json.{Json};
 ghost use Rattle.mux_history.specs.declared.cause.Cause.TheVariants.{FromEditor};
@@ -64,8 +64,8 @@ pub fn take_malformed(
     Ok(())
 }
 
-/// E8: a request that places its editor nowhere comes before the answer to `initialize`: it is answered with an error (LSP 3.17,
-/// Lifecycle Messages: ServerNotInitialized).
+/// E8: a request that places its editor nowhere, and isn't the multiplexer's own, comes before the answer to `initialize`: it is
+/// answered with an error (LSP 3.17, Lifecycle Messages: ServerNotInitialized).
 pub fn take_early(
     tables: &mut Tables,
     alloc: Global,
@@ -78,7 +78,8 @@ pub fn take_early(
     ensures versions { tables.new.versions ≡ tables.old.versions }
     ensures does { (settings : Settings) (before : List Event) (body method : List ℕ) (id : Id) (params : Option Json) → IsRead message.now body
         → message_of body ≡ request id method params → is_early (desk_of e before).phase ≡ true
-        → places (desk_of e before).phase (message_of body) ≡ false → stops before e (message_of body) ≡ false → outs.old ≡ []
+        → places (desk_of e before).phase (message_of body) ≡ false → stops before e (message_of body) ≡ false
+        → asks_lspmux (message_of body) ≡ false → outs.old ≡ []
         → Stands settings tables.old before → DocumentsStand settings nothing_owed tables.old before
         → OnOk result (Done (λ k events. AllStand settings k events) (answer_error e body (early_code method))
         (with_cause before (FromEditor e body)) [] (tables.new, nothing_owed) outs.new) }

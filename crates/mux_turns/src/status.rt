@@ -6,7 +6,7 @@ ghost use Rattle.event_model.specs.Event.{Event, requests, with_cause};
 ghost use Rattle.event_model.specs.Phases.{desk_of, is_begun, is_there};
 ghost use Rattle.event_model.specs.Settings.{Settings};
 ghost use Rattle.group_facts.specs.Settled.{Settled};
-ghost use Rattle.group_rows.specs.Rows.{closing_row, status_row};
+ghost use Rattle.group_rows.specs.Rows.{status_row};
 ghost use Rattle.group_rows.specs.Status.{item_at, item_in, item_text, items_of, name_text, number_text, numbers_text, server_of, state_text, status_text};
 ghost use Rattle.group_words.specs.Houses.{is_doubled};
 ghost use Rattle.mux_history.specs.declared.cause.Cause.TheVariants.{FromEditor};
@@ -16,7 +16,6 @@ ghost use Rattle.rpc_message.specs.Message.{message_of};
 ghost use Rattle.rpc_message.specs.Parsed.{IsRead};
 
 use crate::greeting::add_comma;
-use crate::parting::end_link;
 use crate::quiet::phase_of;
 use event_model::{Server, Stage};
 use itoa::Buffer;
@@ -241,25 +240,5 @@ pub fn take_status(
     tables.hear_editor(e, phase);
     let text = ok_reply(alloc, message.id_bytes(), told.bytes())?;
     tables.tell(outs, e, text)?;
-    Ok(())
-}
-
-/// E3: `lspmux/status` comes under an id that is open: its editor's link is to be ended, and the editor leaves.
-pub fn take_doubled_status(
-    tables: &mut Tables,
-    alloc: Global,
-    outs: &mut Outs,
-    e: u64,
-) -> Result<(), Memory>
-    requires { e < length tables.old.editors }
-    ensures requests { tables.new.requests ≡ tables.old.requests }
-    ensures versions { tables.new.versions ≡ tables.old.versions }
-    ensures does { (settings : Settings) (before : List Event) (body : List ℕ) → requests (codes "lspmux/status") (message_of body) ≡ true
-        → outs.old ≡ [] → Stands settings tables.old before → DocumentsStand settings nothing_owed tables.old before
-        → OnOk result (Done (λ k events. AllStand settings k events) (closing_row settings before e)
-        (with_cause before (FromEditor e body)) [] (tables.new, nothing_owed) outs.new) }
-{
-    let phase = phase_of(tables, e);
-    end_link(tables, alloc, outs, e, phase)?;
     Ok(())
 }

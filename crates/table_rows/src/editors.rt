@@ -14,7 +14,10 @@ fn editors_are_kept_by_number(rt: HostRuntime) -> Result<(), Fail> {
     assert_eq!(rt; editors.phase(1), Phase::New);
     assert_eq!(rt; editors.group(1), None);
     assert!(rt; editors.id(1).is_none());
+    assert!(rt; !editors.is_opened(1));
 
+    editors.mean(1, Some(3));
+    editors.mean(2, None);
     editors.place(
         1,
         7,
@@ -26,6 +29,9 @@ fn editors_are_kept_by_number(rt: HostRuntime) -> Result<(), Fail> {
     editors.set(0, Phase::Closed);
     assert_eq!(rt; editors.phase(1), Phase::Waiting);
     assert_eq!(rt; editors.group(1), Some(7));
+    assert!(rt; editors.is_opened(1) && editors.is_opened(2));
+    assert_eq!(rt; editors.server(1), Some(3));
+    assert_eq!(rt; editors.server(2), None);
     assert!(rt; matches!(editors.id(1), Some(id) if id.bytes() == b"\"a\"".as_slice()));
     assert_eq!(rt; editors.running(7)?.as_slice(), [2].as_slice());
     assert_eq!(rt; editors.of_group(7)?.as_slice(), [1, 2].as_slice());
@@ -52,12 +58,14 @@ fn one_that_left_is_gone(rt: HostRuntime) -> Result<(), Fail> {
     editors.join(1)?;
     editors.join(2)?;
     editors.place(1, 7, Body::new(Vec::from_slice(alloc, b"3".as_slice())?));
+    editors.mean(1, Some(3));
     editors.leave(1);
     editors.join(3)?;
     editors.set(1, Phase::Running);
     assert_eq!(rt; editors.count(), 4);
     assert_eq!(rt; editors.phase(1), Phase::Gone);
     assert_eq!(rt; editors.group(1), None);
+    assert_eq!(rt; editors.server(1), None);
     assert!(rt; editors.id(1).is_none());
     assert_eq!(rt; editors.ask_number(1), None);
     assert_eq!(rt; editors.phase(2), Phase::New);

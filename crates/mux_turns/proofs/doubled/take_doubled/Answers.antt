@@ -9,7 +9,7 @@ use Rattle.event_model.specs.Phases.{desk_of, is_served}
 use Rattle.rpc_message.specs.Message.{message_of, request}
 use Rattle.mux_turns.proofs.Asides.{unserved_keeps}
 use Rattle.mux_turns.proofs.Classes.{shutdown_named}
-use Rattle.mux_turns.proofs.Doubling.{doubled_placed, doubled_stays, doubled_stops, serves_standard}
+use Rattle.mux_turns.proofs.Doubling.{doubled_placed, doubled_stays, doubled_stops, doubled_unopened, serves_standard}
 use Rattle.mux_turns.proofs.Serving.{request_keeps, request_runs, stands_so}
 use Rattle.mux_turns.proofs.doubled.take_doubled.Goals as goal
 
@@ -20,7 +20,7 @@ returns-then-not-is_served-clause-does c = λ settings before body method id par
     let at = c.phase_of-phase.ensures.stands settings before st in
     let unserved = ap is_served (sym at) ∙ (sym c.is_served.ensures ∙ c.if-not-is_served.true) in
     c.in_ok-end_link.ensures.does settings before body (doubled_placed before e id method params m says doubled) (doubled_stops before e id method params m says doubled)
-    (unserved_keeps before e m unserved) (doubled_stays before e id method params m says doubled body refl unserved ∙ sym at) first st ds
+    (doubled_unopened before e id method params m says doubled settings.servers) (unserved_keeps before e m unserved) (doubled_stays before e id method params m says doubled body refl unserved ∙ sym at) first st ds
 
 pub returns-in_ok-end_served-in-Shutdown-clause-does : goal.returns-in_ok-end_served-in-Shutdown-clause-does
 returns-in_ok-end_served-in-Shutdown-clause-does c = λ settings before body method id params read says standard doubled first st ds.
@@ -38,5 +38,5 @@ returns-in_ok-end_link-in_default c = record {
       let served = ap is_served (sym (c.phase_of-phase.ensures.stands settings before st)) ∙ (sym c.is_served.ensures ∙ c.if-not-is_served.false) in
       let serve = serves_standard method standard (λ is. c.in_default.not-Shutdown (c.class_in.ensures body method id params read says ∙ is)) in
       c.in_ok-end_link-in_default.ensures.does settings before body (doubled_placed before e id method params m says doubled) (doubled_stops before e id method params m says doubled)
-      (request_keeps method id params serve before e m says) (stands_so before e body (request id method params) Running says (λ q i h. request_runs method id params serve body q i h) served) first st ds;
+      (doubled_unopened before e id method params m says doubled settings.servers) (request_keeps method id params serve before e m says) (stands_so before e body (request id method params) Running says (λ q i h. request_runs method id params serve body q i h) served) first st ds;
 }

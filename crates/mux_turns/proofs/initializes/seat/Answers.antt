@@ -10,7 +10,7 @@ pub returns-in-Ok-clause-moves : goal.returns-in-Ok-clause-moves
 returns-in-Ok-clause-moves c = λ settings before body method id params read says new all server st ds.
     let e = c.args.e in
     let x = new_session settings c.args.tables.now before e (message_of body) c.requires.editor new st in
-    let key = key_is settings before e body c.args.default server _ (c.in_ok-key.ensures body read) in
-    let declared = declared_is settings before e body c.args.default server c.args.servers.now c.offered-capabilities.result.now (option_copied c.ceiling.result) all c.requires.ceilings (c.offered-capabilities.ensures.bytes body read) (c.offered-capabilities.ensures.text body read) c.ceiling.ensures.is in
+    let key = key_is settings before e body c.args.server server _ (c.in_ok-key.ensures body read) in
+    let declared = declared_is settings before e body c.args.server server c.args.servers.now c.offered-capabilities.result.now (option_copied c.ceiling.result) all c.requires.ceilings (c.offered-capabilities.ensures.bytes body read) (c.offered-capabilities.ensures.text body read) c.ceiling.ensures.is in
     let moves = c.in-Ok.ensures.moves settings before x.0 body st x.1 x.2 x.3 (c.new-id.ensures ∙ (c.in_ok-from_slice.ensures.items ∙ c.id_bytes.ensures body read)) key declared in
     (moves.0, (moves.1, c.in-Ok.ensures.documents settings nothing_owed before x.0 body st x.1 x.2 ds))

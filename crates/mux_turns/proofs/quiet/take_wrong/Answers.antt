@@ -8,9 +8,10 @@ use Rattle.rpc_message.specs.Message.{message_of, request}
 use Rattle.rpc_message.specs.Texts.{invalid_request}
 use Rattle.mux_tables.specs.Documents.{AllStand, nothing_owed}
 use Rattle.mux_tables.proofs.DocumentOwed.{all_does}
+use Rattle.mux_turns.proofs.Asides.{old_unopened}
 use Rattle.mux_turns.proofs.Classes.{misplaced_serves}
 use Rattle.mux_turns.proofs.Matched.{whole_entry}
-use Rattle.mux_turns.proofs.Serving.{request_keeps, request_runs, request_stops, stands_so, unplaced}
+use Rattle.mux_turns.proofs.Serving.{not_new, request_keeps, request_runs, request_stops, stands_so, unplaced}
 use Rattle.mux_turns.proofs.quiet.take_wrong.Goals as goal
 
 pub returns-clause-does : goal.returns-clause-does
@@ -20,6 +21,7 @@ returns-clause-does c = λ settings before body method id params read says wrong
     let u = c.hear_editor.new.self in
     let serve = misplaced_serves method wrong in
     let heard = c.hear_editor.ensures.stands settings before body st (unplaced (desk_of e before).phase (message_of body) served) (request_stops method id params serve before e (message_of body) says)
+    (old_unopened settings.servers before e (message_of body) (not_new (desk_of e before).phase served))
     (stands_so before e body (request id method params) Running says (λ q i h. request_runs method id params serve body q i h) served) in
     let docs = c.hear_editor.ensures.documents settings nothing_owed before body (request_keeps method id params serve before e (message_of body) says) ds in
     whole_entry (λ k events. AllStand settings k events) (answer_error e body (wrong_code method invalid_request)) base (u, nothing_owed) (u, nothing_owed) c.args.outs.now c.refuse_wrong.new.outs first (heard, docs)

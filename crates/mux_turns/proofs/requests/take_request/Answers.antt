@@ -12,9 +12,10 @@ use Rattle.mux_tables.specs.Documents.{AllStand, nothing_owed}
 use Rattle.mux_tables.specs.Stands.{number_in}
 use Rattle.mux_tables.proofs.DocumentOwed.{all_does}
 use Rattle.mux_tables.proofs.Starts.{start_there}
+use Rattle.mux_turns.proofs.Asides.{old_unopened}
 use Rattle.mux_turns.proofs.Classes.{not_own, serves}
 use Rattle.mux_turns.proofs.Matched.{whole_entry}
-use Rattle.mux_turns.proofs.Serving.{request_keeps, request_runs, request_stops, stands_so, unplaced}
+use Rattle.mux_turns.proofs.Serving.{not_new, request_keeps, request_runs, request_stops, stands_so, unplaced}
 use Rattle.mux_turns.proofs.requests.take_request.Goals as goal
 
 pub returns-in_ok-refuse_request-in-None-clause-does : goal.returns-in_ok-refuse_request-in-None-clause-does
@@ -24,6 +25,7 @@ returns-in_ok-refuse_request-in-None-clause-does c = λ settings before body met
     let u = c.hear_editor.new.self in
     let serve = serves method (not_own method other) in
     let heard = c.hear_editor.ensures.stands settings before body st (unplaced (desk_of e before).phase (message_of body) served) (request_stops method id params serve before e (message_of body) says)
+    (old_unopened settings.servers before e (message_of body) (not_new (desk_of e before).phase served))
     (stands_so before e body (request id method params) Running says (λ q i h. request_runs method id params serve body q i h) served) in
     let docs = c.hear_editor.ensures.documents settings nothing_owed before body (request_keeps method id params serve before e (message_of body) says) ds in
     whole_entry (λ k events. AllStand settings k events) (request_row settings before e body) base (u, nothing_owed) (u, nothing_owed) c.args.outs.now c.refuse_request.new.outs first (heard, docs)
@@ -38,6 +40,7 @@ returns-in_ok-send_on-in-Some-clause-does c = λ settings before body method id 
     let s = start_there c.args.tables.now.lasts.items g c.in-Some.ensures.inside in
     let serve = serves method (not_own method other) in
     let heard = c.hear_editor.ensures.stands settings before body st (unplaced (desk_of e before).phase (message_of body) served) (request_stops method id params serve before e (message_of body) says)
+    (old_unopened settings.servers before e (message_of body) (not_new (desk_of e before).phase served))
     (stands_so before e body (request id method params) Running says (λ q i h. request_runs method id params serve body q i h) served) in
     let docs = c.hear_editor.ensures.documents settings nothing_owed before body (request_keeps method id params serve before e (message_of body) says) ds in
     whole_entry (λ k events. AllStand settings k events) (request_row settings before e body) base (c.hear_editor.new.self, nothing_owed) (c.send_on.new.tables, nothing_owed) c.args.outs.now c.send_on.new.outs first (heard, docs)

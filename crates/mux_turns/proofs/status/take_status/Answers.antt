@@ -12,10 +12,11 @@ use Rattle.rpc_message.specs.Texts.{ok_text}
 use Rattle.mux_tables.specs.Documents.{AllStand, nothing_owed}
 use Rattle.mux_tables.specs.Stands.{Keeps}
 use Rattle.mux_tables.proofs.DocumentOwed.{all_does}
+use Rattle.mux_turns.proofs.Asides.{unnamed_unopened}
 use Rattle.mux_turns.proofs.Departing.{behind_first}
 use Rattle.mux_turns.proofs.Keeping.{keeps_reply, told_as}
+use Rattle.mux_turns.proofs.Lspmux.{lspmux_is, own_keeps, own_others, own_placed, own_stays, own_stops, status_asks, status_unnamed}
 use Rattle.mux_turns.proofs.Matched.{whole_entry}
-use Rattle.mux_turns.proofs.Telling.{status_is, status_keeps, status_others, status_placed, status_stays, status_stops}
 use Rattle.mux_turns.proofs.status.take_status.Goals as goal
 
 pub returns-clause-does : goal.returns-clause-does
@@ -24,13 +25,15 @@ returns-clause-does c = λ settings before body read asks single servers first k
     let base = with_cause before (FromEditor e body) in
     let u = c.hear_editor.new.self in
     let xs = c.args.outs.now in
-    let k = status_is (message_of body) asks in
-    let heard = c.hear_editor.ensures.stands settings before body st (status_placed before e body asks) (status_stops before e body asks) (status_stays before e body asks ∙ sym (c.phase_of-phase.ensures.stands settings before st)) in
-    let docs = c.hear_editor.ensures.documents settings nothing_owed before body (status_keeps before e body asks) ds in
+    let own = status_asks (message_of body) asks in
+    let k = lspmux_is (message_of body) own in
+    let heard = c.hear_editor.ensures.stands settings before body st (own_placed before e body own) (own_stops before e body own) (unnamed_unopened settings.servers before e (message_of body) (status_unnamed (message_of body) asks))
+    (own_stays before e body own ∙ sym (c.phase_of-phase.ensures.stands settings before st)) in
+    let docs = c.hear_editor.ensures.documents settings nothing_owed before body (own_keeps before e body own) ds in
     let told = ok_text (id_bytes body) (status_text (items_of settings before)) in
     let is = c.in_ok-text.ensures ∙ (ap (λ w. ok_text w c.bytes.result.now) (c.id_bytes.ensures body read) ∙ ap (λ r. ok_text (id_bytes body) r) (c.bytes.ensures ∙ c.in_ok-told.ensures settings before servers st)) in
     let says = ap message_of is ∙ status_said settings before body k.id _ k.params k.is in
-    let keeps = keeps_reply e c.in_ok-text.text base k.id (told_tree (items_of settings before)) says (status_others before e body asks settings single known) in
+    let keeps = keeps_reply e c.in_ok-text.text base k.id (told_tree (items_of settings before)) says (own_others before e body own settings single known) in
     let does = told_as settings base u u xs c.tell.new.outs e c.in_ok-text.text told is (c.in_ok-tell.ensures.does settings base (subst (λ es. Keeps e c.in_ok-text.text es) (sym (behind_first base xs first)) keeps)) in
     whole_entry (λ k events. AllStand settings k events) (status_row settings before e body) base (u, nothing_owed) (u, nothing_owed) xs c.tell.new.outs first (heard, docs)
     (all_does settings u u nothing_owed nothing_owed base xs c.tell.new.outs does (λ _ d. c.in_ok-tell.ensures.documents settings nothing_owed base d))
