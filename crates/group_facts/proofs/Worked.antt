@@ -83,13 +83,13 @@ both_are_sent = refl
 -- A second `initialize`
 
 asking_again_is_legal : Legal (with_groups 8) (played (with_groups 8) asking_again)
-unfolding computes message_of named no_name_twice is_integer member_bytes with_id_text escape_byte digits own_request own_notification goes_nowhere editor_request editor_notification
+unfolding computes url_on_literals message_of named no_name_twice is_integer member_bytes with_id_text escape_byte digits own_request own_notification goes_nowhere editor_request editor_notification
 asking_again_is_legal = legal (with_groups 8) asking_again refl
 
 it_is_refused : all_outs asking_again ≡ asking_again_outs
-unfolding computes message_of named no_name_twice is_integer member_bytes with_id_text escape_byte digits own_request own_notification goes_nowhere editor_request editor_notification
+unfolding computes url_on_literals message_of named no_name_twice is_integer member_bytes with_id_text escape_byte digits own_request own_notification goes_nowhere editor_request editor_notification
 it_is_refused = refl
 
 its_first_is_kept : message_of (desk_of 0 (events_of (played (with_groups 8) asking_again))).initialize ≡ message_of (codes "{\"jsonrpc\":\"2.0\",\"id\":0,\"method\":\"initialize\",\"params\":{\"rootUri\":\"file:///w\",\"capabilities\":{}}}")
-unfolding computes message_of named no_name_twice is_integer member_bytes with_id_text escape_byte digits own_request own_notification goes_nowhere editor_request editor_notification
+unfolding computes url_on_literals message_of named no_name_twice is_integer member_bytes with_id_text escape_byte digits own_request own_notification goes_nowhere editor_request editor_notification
 its_first_is_kept = refl

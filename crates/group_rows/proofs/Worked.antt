@@ -111,19 +111,19 @@ unfolding computes url_on_literals message_of named no_name_twice is_integer mem
 statuses_are_told = refl
 
 another_server_is_meant : flat_map (λ xs. xs) (outs_from two_servers [] opening_servers) ≡ opening_servers_outs
-unfolding computes message_of named no_name_twice is_integer member_bytes with_id_text escape_byte digits own_request own_notification goes_nowhere editor_request
+unfolding computes url_on_literals message_of named no_name_twice is_integer member_bytes with_id_text escape_byte digits own_request own_notification goes_nowhere editor_request
 another_server_is_meant = refl
 
 it_makes_another_group : map (λ e. home_of two_servers e (events_behind two_servers [] (opening_servers))) (0 ∷ 1 ∷ 2 ∷ []) ≡ Some 0 ∷ Some 1 ∷ Some 0 ∷ []
-unfolding computes message_of named no_name_twice is_integer member_bytes with_id_text escape_byte digits own_request own_notification goes_nowhere editor_request
+unfolding computes url_on_literals message_of named no_name_twice is_integer member_bytes with_id_text escape_byte digits own_request own_notification goes_nowhere editor_request
 it_makes_another_group = refl
 
 opening_late_is_refused : drop 4 (flat_map (λ xs. xs) (outs_from two_servers [] opening_late)) ≡ opening_late_out ∷ []
-unfolding computes message_of named no_name_twice is_integer member_bytes with_id_text escape_byte digits own_request own_notification goes_nowhere editor_request
+unfolding computes url_on_literals message_of named no_name_twice is_integer member_bytes with_id_text escape_byte digits own_request own_notification goes_nowhere editor_request
 opening_late_is_refused = refl
 
 it_still_is_answered : (desk_of 0 (events_behind two_servers [] opening_late)).phase ≡ Answered
-unfolding computes message_of named no_name_twice is_integer member_bytes with_id_text escape_byte digits own_request own_notification goes_nowhere editor_request
+unfolding computes url_on_literals message_of named no_name_twice is_integer member_bytes with_id_text escape_byte digits own_request own_notification goes_nowhere editor_request
 it_still_is_answered = refl
 
 a_group_ends_for_another : outs_with 1 evicted ≡ evicted_outs
