@@ -1,12 +1,17 @@
 -- L1: what a start is sent where an editor of its group leaves has its reasons, wherever it stands in the entry.
-use Rattle.std.proofs.Common.{◌≡◌, ℕ, ◌+◌, ◌<◌, ◌≤◌, ◌^◌, Bool, true, false, not, List, [], ◌∷◌, map, filter, refl, sym, ◌∙◌, ap, subst, arith}
-use Rattle.std.specs.List.{AllByRecursion}
+use Rattle.std.proofs.Common.{◌≡◌, ℕ, ◌+◌, ◌<◌, ◌≤◌, ◌^◌, Bool, true, false, not, ◌&&◌, ◌||◌, List, [], ◌∷◌, map, filter, nat_eq, bytes_eq, decimal, if◌then◌else◌, Some, refl, sym, ◌∙◌, ap, ap₂, subst, arith}
+use Rattle.std.specs.List.{AllByRecursion, list_any}
+use Rattle.std.proofs.lemmas.Bool.{and_parts}
+use Rattle.std.proofs.lemmas.Fmt.{decimal_injective}
+use Rattle.std.proofs.lemmas.Slice.Eq.{bytes_eq-Decides}
+use Rattle.json_text.specs.Bare.{nowhere}
+use Rattle.json_text.specs.Json.{number}
 use Rattle.document_model.specs.Opens.{Open}
 use Rattle.mux_history.specs.declared.cause.Cause.{Cause}
 use Rattle.mux_history.specs.declared.out.Out.{Out}
 use Rattle.mux_history.specs.declared.out.Out.TheVariants.{ToServer}
 use Rattle.event_model.specs.declared.stage.Stage.TheVariants.{Ready}
-use Rattle.event_model.specs.Event.{Event, behind}
+use Rattle.event_model.specs.Event.{Event, behind, said}
 use Rattle.event_model.specs.Row.{Row, choose, each, nothing, on, outs, ◌⨾◌}
 use Rattle.event_model.specs.Settings.{Settings}
 use Rattle.event_model.specs.Spawns.{start_of}
@@ -15,17 +20,19 @@ use Rattle.mux_model.specs.Documents.{held_at}
 use Rattle.mux_model.specs.Rows.{to_start}
 use Rattle.mux_facts.specs.Ranges.{InRange}
 use Rattle.mux_facts.proofs.DocumentRow.{ready_is}
-use Rattle.mux_facts.proofs.Lists.{all_filtered}
+use Rattle.mux_facts.proofs.Lists.{all_filtered, all_of}
 use Rattle.mux_facts.proofs.Reasons.{Because, Reasons, by_nothing, by_on, by_then}
-use Rattle.group_rows.specs.Forwarded.{Forwarded, forwarding_of, is_of}
+use Rattle.mux_facts.proofs.Words.{number_same, same_number}
+use Rattle.group_rows.specs.Forwarded.{Forwarded, Forwarding, cancelled_by, forwarding_of, forwards, is_of}
 use Rattle.group_rows.specs.Leaves.{cancel, cancel_text, cancels, closings, leave_bodies, leave_row, uncancelled_of}
 use Rattle.group_rows.specs.Texts.{texts_of}
+use Rattle.group_rows.proofs.Cancels.{cancel_says}
 use Rattle.group_facts.specs.Facts.{Bounded, Opened, is_up}
-use Rattle.group_facts.specs.Why.{Why, moves, stays}
-use Rattle.group_facts.proofs.Forwards.{still_now}
-use Rattle.group_facts.proofs.Sent.{Rising, below_next, rising_of}
+use Rattle.group_facts.specs.Why.{Why, is_uncancelled, moves, stays}
+use Rattle.group_facts.proofs.Forwards.{forwarding_more, still_now}
+use Rattle.group_facts.proofs.Sent.{Rising, below_next, rising_filtered, rising_of}
 use Rattle.group_facts.proofs.SharedRows.{AllTold, Held, leave_told}
-use Rattle.group_facts.proofs.Tellings.{Calm, Tells, cancel_told, tells_both, tells_none, tells_row, to}
+use Rattle.group_facts.proofs.Tellings.{Calm, Tells, cancel_names, cancel_told, tells_both, tells_none, tells_row, to}
 
 -- The numbers of open requests are small
 
@@ -36,14 +43,72 @@ all_small : (low next : ℕ) (fs : List Forwarded) → next < 2 ^ 64 → Rising 
 all_small low next [] bound h = tt
 all_small low next (f ∷ fs) bound h = (let le : f.number + 1 ≤ next = below_next (f.number + 1) next fs h.1 in omega (arith, le, bound), all_small (f.number + 1) next fs bound h.1)
 
-numbers_small : (fs : List Forwarded) → AllByRecursion (λ (f : Forwarded). IsSmall f.number) fs → AllByRecursion IsSmall (map (λ (f : Forwarded). f.number) fs)
-numbers_small [] h = tt
-numbers_small (f ∷ fs) h = (h.0, numbers_small fs h.1)
+all_numbers : (Q : ℕ → Type 0) (fs : List Forwarded) → AllByRecursion (λ (f : Forwarded). Q f.number) fs → AllByRecursion Q (map (λ (f : Forwarded). f.number) fs)
+all_numbers Q [] h = tt
+all_numbers Q (f ∷ fs) h = (h.0, all_numbers Q fs h.1)
+
+-- what holds of all open requests that weren't cancelled holds of an editor's
+uncancelled_all : (Q : ℕ → Type 0) (e : ℕ) (fs : List Forwarded) → AllByRecursion (λ (f : Forwarded). not f.cancelled ≡ true → Q f.number) fs → AllByRecursion Q (uncancelled_of e fs)
+uncancelled_all Q e fs h = all_numbers Q (filter (is_of e) (filter (λ (f : Forwarded). not f.cancelled) fs))
+    (all_filtered (λ (f : Forwarded). Q f.number) (λ (f : Forwarded). Q f.number) (is_of e) (λ f t k. k) (filter (λ (f : Forwarded). not f.cancelled) fs)
+    (all_filtered (λ (f : Forwarded). not f.cancelled ≡ true → Q f.number) (λ (f : Forwarded). Q f.number) (λ (f : Forwarded). not f.cancelled) (λ f t k. k t) fs h))
 
 uncancelled_small : (e : ℕ) (fs : List Forwarded) → AllByRecursion (λ (f : Forwarded). IsSmall f.number) fs → AllByRecursion IsSmall (uncancelled_of e fs)
-uncancelled_small e fs h = numbers_small (filter (is_of e) (filter (λ (f : Forwarded). not f.cancelled) fs))
-    (all_filtered (λ (f : Forwarded). IsSmall f.number) (λ (f : Forwarded). IsSmall f.number) (is_of e) (λ f t k. k) (filter (λ (f : Forwarded). not f.cancelled) fs)
-    (all_filtered (λ (f : Forwarded). IsSmall f.number) (λ (f : Forwarded). IsSmall f.number) (λ (f : Forwarded). not f.cancelled) (λ f t k. k) fs h))
+uncancelled_small e fs h = uncancelled_all IsSmall e fs (all_of (λ (f : Forwarded). IsSmall f.number) (λ (f : Forwarded). not f.cancelled ≡ true → IsSmall f.number) (λ f k t. k) fs h)
+
+-- They rise
+
+Ascends : List ℕ → Type 0
+Ascends [] = Unit {0}
+Ascends (n ∷ ns) = AllByRecursion (λ k. n < k) ns × Ascends ns
+
+all_above : (low next : ℕ) (fs : List Forwarded) → Rising low next fs → AllByRecursion (λ k. low ≤ k) (map (λ (f : Forwarded). f.number) fs)
+all_above low next [] h = tt
+all_above low next (f ∷ fs) h = (h.0, all_of (λ k. f.number + 1 ≤ k) (λ k. low ≤ k) (λ k le. let first : low ≤ f.number = h.0 in omega (arith, le, first)) (map (λ (f : Forwarded). f.number) fs) (all_above (f.number + 1) next fs h.1))
+
+ascends : (low next : ℕ) (fs : List Forwarded) → Rising low next fs → Ascends (map (λ (f : Forwarded). f.number) fs)
+unfolding Ascends
+ascends low next [] h = tt
+ascends low next (f ∷ fs) h = (all_of (λ k. f.number + 1 ≤ k) (λ k. f.number < k) (λ k le. omega (arith, le)) (map (λ (f : Forwarded). f.number) fs) (all_above (f.number + 1) next fs h.1), ascends (f.number + 1) next fs h.1)
+
+uncancelled_ascends : (e low next : ℕ) (fs : List Forwarded) → Rising low next fs → Ascends (uncancelled_of e fs)
+uncancelled_ascends e low next fs h = ascends low next (filter (is_of e) (filter (λ (f : Forwarded). not f.cancelled) fs))
+    (rising_filtered low next (is_of e) (filter (λ (f : Forwarded). not f.cancelled) fs) (rising_filtered low next (λ (f : Forwarded). not f.cancelled) fs h))
+
+-- Each waits, and still does where another one is cancelled
+
+abbrev Waits : List Forwarded → ℕ → Type 0
+Waits fs n = list_any (is_uncancelled n) fs ≡ true
+
+or_first : (a b : Bool) → a ≡ true → (a || b) ≡ true
+or_first true b h = refl
+or_first false b h = absurd (cc)
+
+or_second : (a b : Bool) → b ≡ true → (a || b) ≡ true
+or_second true b h = refl
+or_second false b h = h
+
+itself : (fs : List Forwarded) → AllByRecursion (λ (f : Forwarded). not f.cancelled ≡ true → Waits fs f.number) fs
+itself [] = tt
+itself (f ∷ fs) = (λ t. or_first (is_uncancelled f.number f) (list_any (is_uncancelled f.number) fs) (ap (λ b. b && not f.cancelled) (same_number f.number) ∙ t),
+    all_of (λ (g : Forwarded). not g.cancelled ≡ true → Waits fs g.number) (λ (g : Forwarded). not g.cancelled ≡ true → Waits (f ∷ fs) g.number) (λ g k t. or_second (is_uncancelled g.number f) (list_any (is_uncancelled g.number) fs) (k t)) fs (itself fs))
+
+other_waits : (n k : ℕ) → n < 2 ^ 64 → k < 2 ^ 64 → n < k → (fs : List Forwarded) → Waits fs k → Waits (map (cancelled_by (Some (number nowhere (decimal n)))) fs) k
+other_waits n k low high less [] h = h
+other_waits n k low high less (f ∷ fs) h = go (is_uncancelled k f) refl (λ e. other_waits n k low high less fs e) h
+  where
+    unwritten : (b : Bool) → bytes_eq (decimal n) (decimal f.number) ≡ b → nat_eq f.number k ≡ true → b ≡ false
+    unwritten false e same = refl
+    unwritten true e same = absurd (let is : f.number ≡ k = number_same f.number k same in
+        let clash : n ≡ k = decimal_injective n k low high ((bytes_eq-Decides (decimal n) (decimal f.number)).0 e ∙ ap decimal is) in let never : ⊥ = omega (arith, clash, less) in never)
+
+    stays : is_uncancelled k f ≡ true → is_uncancelled k (cancelled_by (Some (number nowhere (decimal n))) f) ≡ true
+    stays t = ap (λ b. is_uncancelled k (if b then record { number = f.number; editor = f.editor; id = f.id; cancelled = true } else f))
+        (unwritten (bytes_eq (decimal n) (decimal f.number)) refl (and_parts (nat_eq f.number k) (not f.cancelled) t).0) ∙ t
+
+    go : (b : Bool) → is_uncancelled k f ≡ b → (Waits fs k → Waits (map (cancelled_by (Some (number nowhere (decimal n)))) fs) k) → (b || list_any (is_uncancelled k) fs) ≡ true → Waits (map (cancelled_by (Some (number nowhere (decimal n)))) (f ∷ fs)) k
+    go true t more e = or_first (is_uncancelled k (cancelled_by (Some (number nowhere (decimal n))) f)) (list_any (is_uncancelled k) (map (cancelled_by (Some (number nowhere (decimal n)))) fs)) (stays t)
+    go false t more e = or_second (is_uncancelled k (cancelled_by (Some (number nowhere (decimal n))) f)) (list_any (is_uncancelled k) (map (cancelled_by (Some (number nowhere (decimal n)))) fs)) (more e)
 
 -- the row of cancels sends these bodies
 cancels_outs : (s : ℕ) (ns : List ℕ) (events : List Event) → outs (each (cancel s) ns) events ≡ map (λ b. ToServer s b) (map cancel_text ns)
@@ -53,7 +118,8 @@ cancels_outs s (n ∷ ns) events = ap (λ xs. ToServer s (cancel_text n) ∷ xs)
 -- At a place where each start is what it was before the entry
 
 module _ (settings : Settings) (range : InRange settings) (before : List Event) (cause : Cause) (opened : Opened settings before) (bounded : Bounded settings before) (place : List Event)
-    (rests : (s : ℕ) → moves before cause s ≡ false) (stage_still : (s : ℕ) → (life_of s place).stage ≡ (life_of s before).stage) (held_still : (s : ℕ) (u : List ℕ) → held_at s u place ≡ held_at s u before) (e : ℕ) where
+    (rests : (s : ℕ) → moves before cause s ≡ false) (stage_still : (s : ℕ) → (life_of s place).stage ≡ (life_of s before).stage) (held_still : (s : ℕ) (u : List ℕ) → held_at s u place ≡ held_at s u before)
+    (open_still : (s : ℕ) → (forwarding_of s place).open_requests ≡ (forwarding_of s before).open_requests) (e : ℕ) where
   abbrev R : List Event → Out → Type 0
   R events out = Why settings before cause events out
 
@@ -79,11 +145,24 @@ module _ (settings : Settings) (range : InRange settings) (before : List Event) 
     abbrev sends : List (List ℕ) → List Out
     sends xs = to settings range before cause place s xs
 
-    cancels_told : (ns : List ℕ) → AllByRecursion IsSmall ns → (events : List Event) → Mine events → AllAlone events (map cancel_text ns)
-    cancels_told [] h events calm = tells_none settings range before cause place s events calm
-    cancels_told (n ∷ ns) h events calm =
-        let one : AllAlone events (cancel_text n ∷ []) = cancel_told settings range before cause place s events n h.0 (rests s) calm in
-        tells_both settings range before cause place s events (cancel_text n ∷ []) (map cancel_text ns) one (cancels_told ns h.1 (behind events (sends (cancel_text n ∷ []))) one.calm)
+    -- behind the cancel of another request
+    still_waits : (events : List Event) (n k : ℕ) → n < 2 ^ 64 → k < 2 ^ 64 → n < k → Waits (forwarding_of s events).open_requests k → Waits (forwarding_of s (behind events (sends (cancel_text n ∷ [])))).open_requests k
+    still_waits events n k low high less h = subst (λ (x : Forwarding). Waits x.open_requests k)
+        (sym (forwarding_more s events (said (ToServer s (cancel_text n))) ∙ ap₂ (λ b m. if b then forwards (forwarding_of s events) m else forwarding_of s events) (same_number s) (cancel_says n low)))
+        (subst (λ i. Waits (map (cancelled_by i) (forwarding_of s events).open_requests) k) (sym (cancel_names n)) (other_waits n k low high less (forwarding_of s events).open_requests h))
+
+    later_wait : (events : List Event) (n : ℕ) → n < 2 ^ 64 → (ns : List ℕ) → AllByRecursion IsSmall ns → AllByRecursion (λ k. n < k) ns → AllByRecursion (Waits (forwarding_of s events).open_requests) ns
+        → AllByRecursion (Waits (forwarding_of s (behind events (sends (cancel_text n ∷ [])))).open_requests) ns
+    later_wait events n low [] small above h = tt
+    later_wait events n low (k ∷ ns) small above h = (still_waits events n k low small.0 above.0 h.0, later_wait events n low ns small.1 above.1 h.1)
+
+    cancels_told : (ns : List ℕ) → AllByRecursion IsSmall ns → Ascends ns → (events : List Event) → AllByRecursion (Waits (forwarding_of s events).open_requests) ns → Mine events → AllAlone events (map cancel_text ns)
+    unfolding Ascends
+    cancels_told [] small rises events waits calm = tells_none settings range before cause place s events calm
+    cancels_told (n ∷ ns) small rises events waits calm =
+        let one : AllAlone events (cancel_text n ∷ []) = cancel_told settings range before cause place s events n small.0 (rests s) waits.0 calm in
+        tells_both settings range before cause place s events (cancel_text n ∷ []) (map cancel_text ns) one
+        (cancels_told ns small.1 rises.1 (behind events (sends (cancel_text n ∷ []))) (later_wait events n small.0 ns small.1 rises.0 waits.1) one.calm)
 
     module _ (ready : is_ready (life_of s before).stage ≡ true) where
       was : (life_of s before).stage ≡ Ready
@@ -101,8 +180,11 @@ module _ (settings : Settings) (range : InRange settings) (before : List Event) 
               let wide : settings.limits.requests < 2 ^ 32 = range.requests in
               omega (arith, second, wide)
 
+      waiting : AllByRecursion (Waits (forwarding_of s place).open_requests) ns
+      waiting = subst (λ fs. AllByRecursion (Waits fs) ns) (sym (open_still s)) (uncancelled_all (Waits (forwarding_of s before).open_requests) e (forwarding_of s before).open_requests (itself (forwarding_of s before).open_requests))
+
       told : AllAlone place (map cancel_text ns)
-      told = cancels_told ns small place calm
+      told = cancels_told ns small (uncancelled_ascends e 2 (forwarding_of s before).next (forwarding_of s before).open_requests (rising_of s before)) place waiting calm
 
       abbrev cancelled : List Event
       cancelled = behind place (sends (map cancel_text ns))

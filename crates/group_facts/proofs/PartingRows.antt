@@ -22,11 +22,12 @@ use Rattle.mux_facts.proofs.Waits.{late_not}
 use Rattle.mux_facts.proofs.Tellings.{sent_more}
 use Rattle.mux_facts.proofs.Why.{is_early}
 use Rattle.mux_facts.proofs.Words.{same_number}
+use Rattle.group_rows.specs.Forwarded.{Forwarding, forwarding_of}
 use Rattle.group_rows.specs.Rows.{closing_row, gone_row, shutdown_row}
 use Rattle.group_facts.specs.Facts.{Bounded, IsAlone, Opened, is_parting, turned_away}
 use Rattle.group_facts.specs.Why.{Why, answers}
 use Rattle.group_facts.proofs.Apart.{asks_fewer}
-use Rattle.group_facts.proofs.Forwards.{alone_fewer}
+use Rattle.group_facts.proofs.Forwards.{alone_fewer, forwarding_more}
 use Rattle.group_facts.proofs.LeaveRows.{leave_why}
 use Rattle.group_facts.proofs.Nulls.{null_said}
 
@@ -40,7 +41,7 @@ pub gone_why : (settings : Settings) → InRange settings → (before : List Eve
     → Because (Why settings before (EditorGone e why)) (with_cause before (EditorGone e why)) (gone_row settings before e phase)
 gone_why settings range before opened bounded e why phase = by_choose
     (λ served. leave_why settings range before (EditorGone e why) opened bounded (with_cause before (EditorGone e why)) (λ s. refl) (λ s. ap (λ (l : Life). l.stage) (life_more s before (heard (EditorGone e why))))
-    (λ s u. ap (λ (x : Sent). x.held) (sent_more s u before (heard (EditorGone e why)))) e)
+    (λ s u. ap (λ (x : Sent). x.held) (sent_more s u before (heard (EditorGone e why)))) (λ s. ap (λ (x : Forwarding). x.open_requests) (forwarding_more s before (heard (EditorGone e why)))) e)
     (λ off. by_nothing)
 
 module _ (settings : Settings) (range : InRange settings) (before : List Event) (opened : Opened settings before) (bounded : Bounded settings before) (e : ℕ) (body : List ℕ) where
@@ -57,12 +58,16 @@ module _ (settings : Settings) (range : InRange settings) (before : List Event) 
     held_still : (s : ℕ) (u : List ℕ) → held_at s u (asked ++ said out ∷ []) ≡ held_at s u before
     held_still s u = held s u ∙ ap (λ (x : Sent). x.held) (sent_more s u before (heard (FromEditor e body)))
 
+  open_still : (out : Out) → ((s : ℕ) → forwarding_of s (asked ++ said out ∷ []) ≡ forwarding_of s asked) → (s : ℕ) → (forwarding_of s (asked ++ said out ∷ [])).open_requests ≡ (forwarding_of s before).open_requests
+  open_still out same s = ap (λ (x : Forwarding). x.open_requests) (same s) ∙ ap (λ (x : Forwarding). x.open_requests) (forwarding_more s before (heard (FromEditor e body)))
+
   -- E3 and E9: its own message ends its link
   pub closing_why : is_there (desk_of e before).phase ≡ true → is_parting before e (message_of body) ≡ true → Because R asked (closing_row settings before e)
   closing_why there parts = by_then (by_send (or_second (turned_away settings before (FromEditor e body) e) (nat_eq e e && is_parting before e (message_of body)) (ap₂ (λ a b. a && b) (same_number e) parts), there_taken settings before e body there))
       (leave_why settings range before (FromEditor e body) opened bounded (asked ++ said (CloseEditor e) ∷ []) (λ s. refl)
       (stage_still (CloseEditor e) (λ s. ap (λ (l : Life). l.stage) (life_more s asked (said (CloseEditor e)))) (λ s u. ap (λ (x : Sent). x.held) (sent_more s u asked (said (CloseEditor e)))))
-      (held_still (CloseEditor e) (λ s. ap (λ (l : Life). l.stage) (life_more s asked (said (CloseEditor e)))) (λ s u. ap (λ (x : Sent). x.held) (sent_more s u asked (said (CloseEditor e))))) e)
+      (held_still (CloseEditor e) (λ s. ap (λ (l : Life). l.stage) (life_more s asked (said (CloseEditor e)))) (λ s u. ap (λ (x : Sent). x.held) (sent_more s u asked (said (CloseEditor e)))))
+      (open_still (CloseEditor e) (λ s. forwarding_more s asked (said (CloseEditor e)))) e)
 
   -- E9: `shutdown`
   module _ (id : Id) (method : List ℕ) (params : Option Json) (says : message_of body ≡ request id method params) where
@@ -82,4 +87,5 @@ module _ (settings : Settings) (range : InRange settings) (before : List Event) 
         })))
         (leave_why settings range before (FromEditor e body) opened bounded (asked ++ said (ToEditor e text) ∷ []) (λ s. refl)
         (stage_still (ToEditor e text) (λ s. ap (λ (l : Life). l.stage) (life_more s asked (said (ToEditor e text)))) (λ s u. ap (λ (x : Sent). x.held) (sent_more s u asked (said (ToEditor e text)))))
-        (held_still (ToEditor e text) (λ s. ap (λ (l : Life). l.stage) (life_more s asked (said (ToEditor e text)))) (λ s u. ap (λ (x : Sent). x.held) (sent_more s u asked (said (ToEditor e text))))) e)
+        (held_still (ToEditor e text) (λ s. ap (λ (l : Life). l.stage) (life_more s asked (said (ToEditor e text)))) (λ s u. ap (λ (x : Sent). x.held) (sent_more s u asked (said (ToEditor e text)))))
+        (open_still (ToEditor e text) (λ s. forwarding_more s asked (said (ToEditor e text)))) e)

@@ -237,7 +237,7 @@ rising_cancelled low next named (f ∷ fs) h = go (is_written named f.number) (r
     go true k = (h.0, k)
     go false k = (h.0, k)
 
-rising_filtered : (low next : ℕ) (test : Forwarded → Bool) (fs : List Forwarded) → Rising low next fs → Rising low next (filter test fs)
+pub rising_filtered : (low next : ℕ) (test : Forwarded → Bool) (fs : List Forwarded) → Rising low next fs → Rising low next (filter test fs)
 rising_filtered low next test [] h = h
 rising_filtered low next test (f ∷ fs) h = go (test f) (rising_filtered (f.number + 1) next test fs h.1)
   where

@@ -2,7 +2,10 @@
 use Rattle.std.proofs.Common.{◌≡◌, ℕ, true, false, List, [], ◌∷◌, ◌++◌, map, cond, if◌then◌else◌, Option, None, Some, refl, sym, subst, ◌∙◌, ap, ap₂, ◌+◌, ◌<◌, ◌^◌, Bool, nat_lt, bytes_eq, is_some, codes, decimal, arith, ltb-true, IsUtf8, append_assoc}
 use Rattle.std.proofs.lemmas.List.{map-append}
 use Rattle.std.proofs.lemmas.List.Elements.{filter-append}
-use Rattle.json_text.specs.Json.{Json}
+use Rattle.std.specs.List.{list_any}
+use Rattle.json_text.specs.Bare.{nowhere}
+use Rattle.json_text.specs.Json.{Json, number}
+use Rattle.json_text.specs.Named.{named}
 use Rattle.position_codec.specs.declared.Encoding.{Encoding}
 use Rattle.document_model.specs.Bodies.{open_text, full_text, close_text}
 use Rattle.document_model.specs.Helds.{HeldText, told}
@@ -15,9 +18,11 @@ use Rattle.document_model.proofs.Written.{Spoken, spoken, open_says, FullSays, f
 use Rattle.mux_history.specs.declared.cause.Cause.{Cause}
 use Rattle.mux_history.specs.declared.out.Out.{Out}
 use Rattle.mux_history.specs.declared.out.Out.TheVariants.{ToServer}
-use Rattle.rpc_message.specs.Message.{message_of}
+use Rattle.rpc_message.specs.Message.{integer_if, message_of}
+use Rattle.rpc_message.proofs.Decimals.{decimal_integer}
 use Rattle.rpc_message.specs.Texts.{initialized_text}
 use Rattle.event_model.specs.Event.{Event, heard, said, behind}
+use Rattle.event_model.specs.Members.{named_of}
 use Rattle.event_model.specs.Parts.{server_part, is_of_server}
 use Rattle.event_model.specs.Settings.{Settings}
 use Rattle.mux_model.specs.Documents.{Sent, held_at, sent_of}
@@ -30,9 +35,15 @@ use Rattle.mux_facts.proofs.Reasons.{Because, Reasons, reasons_both}
 use Rattle.mux_facts.proofs.Tellings.{Says, closed_not, sent_more, version_at, versions_at}
 use Rattle.mux_facts.proofs.Words.{same_number}
 use Rattle.group_facts.proofs.Forwards.{Still, still_notified}
-use Rattle.group_facts.specs.Why.{Turn, Why, stays, greeted, tells, cancels, moves}
+use Rattle.group_facts.specs.Why.{Turn, Why, stays, greeted, tells, cancels, is_uncancelled, moves}
+use Rattle.group_rows.specs.Forwarded.{forwarding_of}
 use Rattle.group_rows.specs.Leaves.{cancel_text}
 use Rattle.group_rows.proofs.Cancels.{cancel_says, params_tree}
+
+-- what a cancel names
+pub cancel_names : (n : ℕ) → named_of (codes "id") (Some (params_tree n)) ≡ Some (number nowhere (decimal n))
+unfolding named
+cancel_names n = refl
 
 -- a further event of s
 turn_more : (before : List Event) (cause : Cause) (events : List Event) (s : ℕ) (body : List ℕ) → Turn before cause events s → Turn before cause (events ++ said (ToServer s body) ∷ []) s
@@ -93,9 +104,9 @@ module _ (settings : Settings) (range : InRange settings) (before : List Event) 
       }
 
   -- that a request is cancelled leaves every document alone
-  pub cancel_told : {K : List ℕ → Type 0} (events : List Event) (n : ℕ) → n < 2 ^ 64 → moves before cause s ≡ false → Calm events → Tells K events (cancel_text n ∷ [])
-  cancel_told events n low rests calm = record {
-    why = (cancels (record { number = n; params = params_tree n; ready = calm.still.ready; stays = rests; bytes = refl; says = cancel_says n low }), tt);
+  pub cancel_told : {K : List ℕ → Type 0} (events : List Event) (n : ℕ) → n < 2 ^ 64 → moves before cause s ≡ false → list_any (is_uncancelled n) (forwarding_of s events).open_requests ≡ true → Calm events → Tells K events (cancel_text n ∷ [])
+  cancel_told events n low rests waits calm = record {
+    why = (cancels (record { number = n; params = params_tree n; value = number nowhere (decimal n); named = cancel_names n; id = ap (λ b. integer_if b (decimal n)) (decimal_integer n (omega arith)); waits = waits; ready = calm.still.ready; stays = rests; bytes = refl; says = cancel_says n low }), tt);
     calm = record { still = still_notified now s events (cancel_text n) (codes "$/cancelRequest") (Some (params_tree n)) (cancel_says n low) calm.still; turn = turn_more before cause events s (cancel_text n) calm.turn };
     others = λ w k. ap (λ (z : Sent). z.held) (sent_more s w events (said (ToServer s (cancel_text n))))
         ∙ ap₂ (λ b m. if b then told (sent_of s w events).encoding w (held_at s w events) (saying_of m) else held_at s w events) (same_number s) (cancel_says n low);

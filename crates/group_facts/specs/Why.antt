@@ -1,6 +1,7 @@
 -- Why each out of the routing table over several editors and groups is sent, with what is known at its place: `before` are the events before the entry, `events` those before the out.
-use Rattle.std.specs.Prelude.{◌≡◌, ℕ, ◌<◌, Bool, true, false, ◌&&◌, List, [], ◌∷◌, ◌++◌, find, length, nat_eq, nat_lt, codes, decimal}
+use Rattle.std.specs.Prelude.{◌≡◌, ℕ, ◌<◌, Bool, true, false, not, ◌&&◌, List, [], ◌∷◌, ◌++◌, find, length, nat_eq, nat_lt, codes, decimal}
 use Rattle.std.specs.Prelude.{Option, Some, None}
+use Rattle.std.specs.List.{list_any}
 use Rattle.std.specs.Option.{option_map}
 use Rattle.json_text.specs.Json.{Json}
 use Rattle.document_model.specs.Sayings.{saying_of, speaks}
@@ -9,13 +10,14 @@ use Rattle.mux_history.specs.declared.cause.Cause.TheVariants.{Started, FromServ
 use Rattle.mux_history.specs.declared.entry.Entry.{Entry}
 use Rattle.mux_history.specs.declared.out.Out.{Out}
 use Rattle.mux_history.specs.declared.out.Out.TheVariants.{ToEditor, ToServer, Spawn, CloseEditor, EndServer}
-use Rattle.rpc_message.specs.Message.{request, Id, message_of, notification, result, error, integer}
+use Rattle.rpc_message.specs.Message.{request, Id, id_of, message_of, notification, result, error, integer}
 use Rattle.rpc_message.specs.Texts.{initialized_text, with_id_text}
 use Rattle.rpc_message.specs.ValueTexts.{IsIdText}
 use Rattle.event_model.specs.declared.phase.Phase.TheVariants.{Waiting}
 use Rattle.event_model.specs.declared.stage.Stage.{Stage}
 use Rattle.event_model.specs.declared.stage.Stage.TheVariants.{Spawning, Initializing, Ready, Stopping}
 use Rattle.event_model.specs.Event.{Event, events_of, heard, said, with_cause, same_id}
+use Rattle.event_model.specs.Members.{named_of}
 use Rattle.event_model.specs.Parts.{server_part}
 use Rattle.event_model.specs.Phases.{desk_of, has_id, is_there, is_malformed}
 use Rattle.event_model.specs.Requests.{next_number, answered_id, open_of, is_open, is_own}
@@ -109,10 +111,18 @@ pub record IsShutting (settings : Settings) (before : List Event) (cause : Cause
   pub dying : IsDying settings events s
   pub says : message_of body ≡ request (integer (decimal (next_number s events))) (codes "shutdown") None
 
--- an open request is cancelled at s, which is ready, by its number (LSP 3.17, Cancellation Support)
+-- a request of this number that wasn't cancelled
+abbrev pub is_uncancelled : ℕ → Forwarded → Bool
+is_uncancelled n f = nat_eq f.number n && not f.cancelled
+
+-- an open request that wasn't cancelled is cancelled at s, which is ready, by its number (LSP 3.17, Cancellation Support)
 pub record IsCancel (before : List Event) (cause : Cause) (events : List Event) (s : ℕ) (body : List ℕ) : Type 0 where
   pub number : ℕ
   pub params : Json
+  pub value : Json
+  pub named : named_of (codes "id") (Some params) ≡ Some value
+  pub id : id_of value ≡ Some (integer (decimal number))
+  pub waits : list_any (is_uncancelled number) (forwarding_of s events).open_requests ≡ true
   pub ready : (life_of s events).stage ≡ Ready
   pub stays : moves before cause s ≡ false
   pub bytes : body ≡ cancel_text number

@@ -11,6 +11,7 @@ use Rattle.group_sessions.proofs.Server1Law.{server_1_law}
 use Rattle.group_sessions.proofs.Server2Law.{server_2_law}
 use Rattle.group_sessions.proofs.Server3Law.{server_3_law}
 use Rattle.group_sessions.proofs.Server4Law.{server_4_law}
+use Rattle.group_sessions.proofs.Server6Law.{server_6_law}
 use Rattle.group_sessions.proofs.Server8Law.{server_8_law}
 
 -- a legal history of several editors and groups keeps them
@@ -22,5 +23,6 @@ sessions_kept settings range history legal = record {
   server_2 = server_2_law settings range history legal;
   server_3 = server_3_law settings range history legal;
   server_4 = server_4_law settings range history legal;
+  server_6 = server_6_law settings range history legal;
   server_8 = server_8_law settings range history legal;
 }

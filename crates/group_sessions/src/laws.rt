@@ -8,7 +8,7 @@ ghost use Rattle.event_model.specs.Spawns.{starts_of};
 ghost use Rattle.mux_facts.specs.Ranges.{InRange};
 ghost use Rattle.group_facts.specs.Legal.{Legal};
 ghost use Rattle.session_laws.specs.ClientRules.{KeepsClient2, KeepsClient3};
-ghost use Rattle.session_laws.specs.ServerRules.{KeepsServer1, KeepsServer2, KeepsServer3, KeepsServer4, KeepsServer8};
+ghost use Rattle.session_laws.specs.ServerRules.{KeepsServer1, KeepsServer2, KeepsServer3, KeepsServer4, KeepsServer6, KeepsServer8};
 
 /// A law: each response to an editor has the id of an open request of it, which it closes, or answers a body that was
 /// no message with a null id (JSON-RPC 2.0, section 5; LSP 3.17, Response Message).
@@ -43,6 +43,12 @@ pub fn server_3()
 /// its version plus 1, or closes, where it has it (LSP 3.17, Text Document Synchronization).
 pub fn server_4()
     ensures { (settings : Settings) → InRange settings → (history : List Entry) → Legal settings history → KeepsServer4 history }
+{}
+
+/// A law: a cancel to a server names a request that was sent to it and that it hasn't answered, and each is named once (LSP 3.17,
+/// Cancellation Support).
+pub fn server_6()
+    ensures { (settings : Settings) → InRange settings → (history : List Entry) → Legal settings history → KeepsServer6 history }
 {}
 
 /// A law: behind `shutdown` a server gets `exit` alone, once it responded to `shutdown`; behind `exit` it gets nothing, and no `exit` without

@@ -5,5 +5,6 @@ pub mod Server1Law
 pub mod Server2Law
 pub mod Server3Law
 pub mod Server4Law
+pub mod Server6Law
 pub mod Server8Law
 pub mod SpawnedLaw

@@ -1,14 +1,17 @@
 -- What a start of a server may expect of its one client. Each rule speaks of a body to it, behind the events of its part before that body.
-use Rattle.std.specs.Prelude.{◌≡◌, ℕ, ◌+◌, Bool, true, false, not, ◌&&◌, List, fold, bytes_eq, codes, decimal, IsTrue, if◌then◌else◌}
+use Rattle.std.specs.Prelude.{◌≡◌, ℕ, ◌+◌, Bool, true, false, not, ◌&&◌, ◌||◌, List, [], ◌∷◌, ◌++◌, fold, bytes_eq, codes, decimal, IsTrue, if◌then◌else◌}
 use Rattle.std.specs.Prelude.{Option, Some, None}
 use Rattle.std.specs.Option.{option_map}
+use Rattle.json_text.specs.Json.{Json}
 use Rattle.document_model.specs.Helds.{number_of}
 use Rattle.document_model.specs.Sayings.{Saying, opens, changes, closes, misshapen, nothing, saying_of}
 use Rattle.mux_history.specs.declared.cause.Cause.TheVariants.{Started, FromServer, ServerGone}
 use Rattle.mux_history.specs.declared.entry.Entry.{Entry}
 use Rattle.mux_history.specs.declared.out.Out.TheVariants.{ToServer, EndServer}
-use Rattle.rpc_message.specs.Message.{Message, Id, request, notification, result, error, integer}
+use Rattle.rpc_message.specs.Message.{Message, Id, request, notification, result, error, id_of, integer}
 use Rattle.event_model.specs.Event.{Event, took, did, events_of, same_id, requests, notifies}
+use Rattle.event_model.specs.Members.{named_of}
+use Rattle.event_model.specs.Requests.{answered_id, is_open, without}
 use Rattle.event_model.specs.Stages.{is_first_result}
 use Rattle.event_model.specs.Always.{Always}
 use Rattle.event_model.specs.Parts.{server_part}
@@ -103,6 +106,42 @@ abbrev pub ServerRule4 : List Event → Event → Type 0
 ServerRule4 before (did (ToServer s body) m) = AllowsSaying (λ u. version_of u before) (saying_of m)
 ServerRule4 before other = Unit {0}
 
+-- Rule 6 (LSP 3.17, Cancellation Support): `$/cancelRequest` names a request that was sent, and that has no response yet; and each is named once.
+
+-- the id that it names
+abbrev pub id_at : Option Json → Option Id
+id_at None = None
+id_at (Some j) = id_of j
+
+abbrev pub cancelled_id : Option Json → Option Id
+cancelled_id params = id_at (named_of (codes "id") params)
+
+-- the ids that it may name
+abbrev pub waiting_told : List Id → Message → List Id
+waiting_told ids (request id method params) = ids ++ id ∷ []
+waiting_told ids (notification method params) = if bytes_eq method (codes "$/cancelRequest") then without (cancelled_id params) ids else ids
+waiting_told ids other = ids
+
+abbrev pub waiting_behind : List Id → Event → List Id
+waiting_behind ids (did (ToServer s body) m) = waiting_told ids m
+waiting_behind ids (took (FromServer s body) m) = without (answered_id m) ids
+waiting_behind ids other = ids
+
+abbrev pub waiting_of : List Event → List Id
+waiting_of part = fold waiting_behind [] part
+
+abbrev pub is_among : Option Id → List Id → Bool
+is_among None ids = false
+is_among (Some id) ids = is_open id ids
+
+abbrev pub may_cancel : List Id → Message → Bool
+may_cancel ids (notification method params) = not (bytes_eq method (codes "$/cancelRequest")) || is_among (cancelled_id params) ids
+may_cancel ids other = true
+
+abbrev pub ServerRule6 : List Event → Event → Type 0
+ServerRule6 before (did (ToServer s body) m) = IsTrue (may_cancel (waiting_of before) m)
+ServerRule6 before other = Unit {0}
+
 -- Rule 8 (LSP 3.17, Shutdown Request and Exit Notification): behind the request `shutdown` only the notification `exit` follows, once the
 -- response to `shutdown` came; behind `exit` nothing follows. And `exit` doesn't come without `shutdown`.
 pub data Farewell : Type 0 where
@@ -161,6 +200,9 @@ KeepsServer3 history = KeepsServer ServerRule3 history
 
 abbrev pub KeepsServer4 : List Entry → Type 0
 KeepsServer4 history = KeepsServer ServerRule4 history
+
+abbrev pub KeepsServer6 : List Entry → Type 0
+KeepsServer6 history = KeepsServer ServerRule6 history
 
 abbrev pub KeepsServer8 : List Entry → Type 0
 KeepsServer8 history = KeepsServer ServerRule8 history

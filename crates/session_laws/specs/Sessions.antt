@@ -2,7 +2,7 @@
 use Rattle.std.specs.Prelude.{List}
 use Rattle.mux_history.specs.declared.entry.Entry.{Entry}
 use Rattle.session_laws.specs.ClientRules.{KeepsClient2, KeepsClient3}
-use Rattle.session_laws.specs.ServerRules.{KeepsServer1, KeepsServer2, KeepsServer3, KeepsServer4, KeepsServer8}
+use Rattle.session_laws.specs.ServerRules.{KeepsServer1, KeepsServer2, KeepsServer3, KeepsServer4, KeepsServer6, KeepsServer8}
 
 pub record KeepsSessions (history : List Entry) : Type 0 where
   pub client_2 : KeepsClient2 history
@@ -11,4 +11,5 @@ pub record KeepsSessions (history : List Entry) : Type 0 where
   pub server_2 : KeepsServer2 history
   pub server_3 : KeepsServer3 history
   pub server_4 : KeepsServer4 history
+  pub server_6 : KeepsServer6 history
   pub server_8 : KeepsServer8 history
