@@ -146,17 +146,17 @@ closed_now events n e same = ap (λ (d : Desk). is_begun d.phase) (desk_more e e
 
 all_closed : (es : List ℕ) (events : List Event) (e : ℕ) → list_any (λ n. nat_eq n e) es ≡ true → is_begun (desk_of e (behind events (outs (close_all es) events))).phase ≡ true → ⊥
 all_closed [] events e named h = absurd (cc)
-all_closed (n ∷ es) events e named h = go (nat_eq n e) refl named
+all_closed (n ∷ es) events e named h = go (nat_eq n e) refl (λ k. all_closed es (events ++ said (CloseEditor n) ∷ []) e k (sooner h)) named
   where
     next : List Event
     next = events ++ said (CloseEditor n) ∷ []
 
-    later : is_begun (desk_of e (behind next (outs (close_all es) next))).phase ≡ true
-    later = subst (λ z. is_begun (desk_of e z).phase ≡ true) (sym (append_assoc events (said (CloseEditor n) ∷ []) (map said (outs (close_all es) next)))) h
+    sooner : is_begun (desk_of e (behind events (outs (close_all (n ∷ es)) events))).phase ≡ true → is_begun (desk_of e (behind next (outs (close_all es) next))).phase ≡ true
+    sooner h = subst (λ z. is_begun (desk_of e z).phase ≡ true) (sym (append_assoc events (said (CloseEditor n) ∷ []) (map said (outs (close_all es) next)))) h
 
-    go : (b : Bool) → nat_eq n e ≡ b → (b || list_any (λ k. nat_eq k e) es) ≡ true → ⊥
-    go true same k = never (sym (begun_outs e next (outs (close_all es) next) later) ∙ closed_now events n e same)
-    go false other k = all_closed es next e k later
+    go : (b : Bool) → nat_eq n e ≡ b → (list_any (λ k. nat_eq k e) es ≡ true → ⊥) → (b || list_any (λ k. nat_eq k e) es) ≡ true → ⊥
+    go true same rest k = never (sym (begun_outs e next (outs (close_all es) next) (sooner h)) ∙ closed_now events n e same)
+    go false other rest k = rest k
 
 named_in : (test : ℕ → Bool) (a n e : ℕ) → a ≤ e → e < a + n → test e ≡ true → list_any (λ k. nat_eq k e) (filter test (range_with_len a n)) ≡ true
 named_in test a zero e low high h = absurd (omega (arith, low, high))
