@@ -20,7 +20,7 @@ use Rattle.group_rows.specs.Example.{both_ask, closing, switching, two_groups}
 use Rattle.group_rows.specs.Forwarded.{forwarding_of}
 use Rattle.group_rows.specs.Rows.{outs_of}
 use Rattle.group_facts.specs.Built.{built_behind}
-use Rattle.group_facts.specs.Example.{one_group, one_waits, played, played_from, taken_from, two_ask}
+use Rattle.group_facts.specs.Example.{one_group, one_refused, one_waits, played, played_from, taken_from, two_ask}
 use Rattle.group_facts.specs.Legal.{Legal, LegalFrom}
 
 -- what is taken is legal
@@ -55,6 +55,10 @@ two_groups_are_legal = legal (with_groups 8) two_groups refl
 one_group_is_legal : Legal (with_groups 1) (played (with_groups 1) one_group)
 unfolding computes message_of named no_name_twice is_integer member_bytes with_id_text escape_byte digits own_request own_notification goes_nowhere editor_request editor_notification
 one_group_is_legal = legal (with_groups 1) one_group refl
+
+one_refused_is_legal : Legal (with_groups 8) (played (with_groups 8) one_refused)
+unfolding computes message_of named no_name_twice is_integer member_bytes with_id_text escape_byte digits own_request own_notification goes_nowhere editor_request editor_notification
+one_refused_is_legal = legal (with_groups 8) one_refused refl
 
 -- Which requests are open
 
