@@ -1,4 +1,4 @@
--- S2, S4, S5 and the start of a program: what an entry of a start sends.
+-- S2 to S5 and the start of a program: what an entry of a start sends.
 use Rattle.std.proofs.Common.{◌≡◌, ℕ, zero, suc, ◌+◌, true, false, cond, ◌&&◌, List, [], ◌∷◌, ◌++◌, filter, find, nat_eq, codes, if◌then◌else◌, Some, None, refl, sym, ◌∙◌, ap, ap₂, subst, append_assoc, arith, Bool, bytes_eq, Option}
 use Rattle.std.specs.List.{AllByRecursion, range_with_len}
 use Rattle.std.specs.Prelude.{slice_get}
@@ -49,6 +49,8 @@ use Rattle.group_rows.specs.Texts.{texts_of}
 use Rattle.group_facts.specs.Facts.{AllForwarded, Apart, IsAsker, IsForwarded, IsWaiting, IsWritten, Opened, Untold, Written}
 use Rattle.group_facts.proofs.Apart.{alone_answered}
 use Rattle.group_facts.proofs.Forwards.{Still, still_notified, still_now}
+use Rattle.group_facts.proofs.PutOut.{range_below}
+use Rattle.group_facts.proofs.RefusedRow.{refused_why}
 use Rattle.group_facts.proofs.SharedRows.{AllTold, replay_told}
 use Rattle.group_facts.proofs.Tellings.{Calm, tells_row}
 use Rattle.group_facts.specs.Why.{IsPassing, Why, begins, greeted, greets, passes, welcomes, responds, exits, stopped}
@@ -56,15 +58,6 @@ use Rattle.rpc_message.proofs.Ids.{request_id_bytes}
 use Rattle.json_text.specs.declared.kind.Word.TheVariants.{Null}
 use Rattle.group_facts.proofs.Nulls.{null_said}
 use Rattle.group_rows.proofs.Exits.{exit_says}
-
--- the numbers below, counted up
-range_last : (a n : ℕ) → range_with_len a (suc n) ≡ range_with_len a n ++ (a + n) ∷ []
-range_last a zero = ap (λ k. k ∷ []) (omega arith)
-range_last a (suc n) = ap (λ ks. a ∷ ks) (range_last (a + 1) n ∙ ap (λ k. range_with_len (a + 1) n ++ k ∷ []) (omega arith))
-
-pub range_below : (n : ℕ) → range_with_len 0 n ≡ below n
-range_below zero = refl
-range_below (suc n) = range_last 0 n ∙ ap₂ (λ z k. z ++ k ∷ []) (range_below n) (omega arith)
 
 nobody_found : (fs : List Forwarded) (f : Forwarded) → find (answered_by None) fs ≡ Some f → ⊥
 nobody_found [] f h = cc
@@ -254,7 +247,7 @@ module _ (settings : Settings) (range : InRange settings) (before : List Event) 
     result_why first at is whole = by_on (λ none. by_nothing) (λ g home. greet_why first.r first.is whole at is opened untold waiting g)
 
     pub server_why : ((life_of s before).stage ≡ Initializing → is_first_result (message_of body) ≡ true → shown_of (result_bytes body) ≡ result_bytes body) → (stage : Stage) → (life_of s before).stage ≡ stage → Because R now (from_server settings s before body (message_of body) stage)
-    server_why whole Initializing at = by_choose (λ yes. result_why (first_result_is (message_of body) yes) at yes (whole at yes)) (λ no. hasty_why at no (message_of body) refl)
+    server_why whole Initializing at = by_choose (λ yes. result_why (first_result_is (message_of body) yes) at yes (whole at yes)) (λ no. by_choose (λ refuses. refused_why settings before s body at refuses waiting) (λ other. hasty_why at no (message_of body) refl))
     server_why whole Ready at = response_why all apart
     server_why whole Unspawned at = by_nothing
     server_why whole Spawning at = by_nothing

@@ -37,7 +37,7 @@ use Rattle.group_words.specs.Rows.{end_group, end_start, initialize_row, placed_
 use Rattle.group_words.proofs.Frames.{changed_length, groups_more, groups_stay, touches_groups}
 use Rattle.group_rows.specs.Forwarded.{Forwarded, forwarding_of}
 use Rattle.group_rows.specs.Leaves.{cancel, cancel_text, cancels, closings, leave_bodies, leave_row, uncancelled_of}
-use Rattle.group_rows.specs.Rows.{answer_error, begin_in, closing_row, document_at, document_bodies, document_row, down_row, early_row, exit_row, first_result, from_server, gone_row, lspmux_row, message_row, named_row, open_row, outs_of, pass_on, replay_bodies, request_at, request_row, response_row, result_in, row_of, served_request, served_row, started, sync_bodies, taken_row, waiting_in, welcome, hasty_row}
+use Rattle.group_rows.specs.Rows.{answer_error, begin_in, closing_row, document_at, document_bodies, document_row, down_row, early_row, exit_row, first_result, from_server, gone_row, lspmux_row, message_row, named_row, open_row, outs_of, pass_on, replay_bodies, request_at, request_row, response_row, result_in, row_of, served_request, served_row, started, sync_bodies, taken_row, waiting_in, welcome, hasty_row, close_all, refusal, refused_row}
 use Rattle.group_rows.specs.Texts.{encoding_of, texts_of}
 use Rattle.group_facts.specs.Built.{built_behind}
 use Rattle.group_facts.proofs.Exits.{failed_groups, gone_groups}
@@ -113,6 +113,14 @@ quiet_bodies s bodies events = bodies_by (λ places out. NoSpawn out) (λ places
 quiet_welcomes : (body : List ℕ) (ns : List ℕ) (events : List Event) → Quiet events (each (welcome body) ns)
 quiet_welcomes body [] events = by_nothing
 quiet_welcomes body (n ∷ ns) events = by_then (by_look (by_send tt)) (quiet_welcomes body ns (behind events (outs (welcome body n) events)))
+
+quiet_refusals : (body : List ℕ) (ns : List ℕ) (events : List Event) → Quiet events (each (refusal body) ns)
+quiet_refusals body [] events = by_nothing
+quiet_refusals body (n ∷ ns) events = by_then (by_then (by_look (by_send tt)) (by_send tt)) (quiet_refusals body ns (behind events (outs (refusal body n) events)))
+
+quiet_closes : (ns : List ℕ) (events : List Event) → Quiet events (close_all ns)
+quiet_closes [] events = by_nothing
+quiet_closes (n ∷ ns) events = by_then (by_send tt) (quiet_closes ns (behind events (CloseEditor n ∷ [])))
 
 quiet_malformed : (e : ℕ) (m : Message) (phase : Phase) (events : List Event) → Quiet events (malformed_row e m phase)
 quiet_malformed e m phase events = by_choose (λ there. by_send tt) (λ gone. by_nothing)
@@ -213,6 +221,9 @@ module _ (settings : Settings) (before : List Event) where
   quiet_first : (s : ℕ) (body : List ℕ) (events : List Event) → Quiet events (first_result settings before s body)
   quiet_first s body events = by_on (λ none. by_nothing) (λ g home. quiet_result s body g events)
 
+  quiet_refused : (s : ℕ) (body : List ℕ) (events : List Event) → Quiet events (refused_row settings before s body)
+  quiet_refused s body events = by_on (λ none. by_nothing) (λ g home. by_then (by_look (quiet_refusals body (waiting_in settings g events) events)) (by_then (by_look (quiet_closes _ _)) (by_send tt)))
+
   quiet_passed : (body : List ℕ) (f : Forwarded) (events : List Event) → Quiet events (pass_on before body f)
   quiet_passed body f events = by_choose (λ there. by_send tt) (λ gone. by_nothing)
 
@@ -228,7 +239,7 @@ module _ (settings : Settings) (before : List Event) where
   quiet_hasty s body not_message events = by_nothing
 
   quiet_server : (s : ℕ) (body : List ℕ) (m : Message) (stage : Stage) (events : List Event) → Quiet events (from_server settings s before body m stage)
-  quiet_server s body m Initializing events = by_choose (λ first. quiet_first s body events) (λ off. quiet_hasty s body m events)
+  quiet_server s body m Initializing events = by_choose (λ first. quiet_first s body events) (λ off. by_choose (λ refuses. quiet_refused s body events) (λ other. quiet_hasty s body m events))
   quiet_server s body m Ready events = quiet_response s body m events
   quiet_server s body m Stopping events = by_choose (λ answers. by_then (by_send tt) (by_send tt)) (λ off. by_nothing)
   quiet_server s body m other events = by_nothing

@@ -12,7 +12,7 @@ use Rattle.event_model.specs.declared.phase.Phase.TheVariants.{Absent, New, Wait
 use Rattle.event_model.specs.declared.stage.Stage.{Stage}
 use Rattle.event_model.specs.declared.stage.Stage.TheVariants.{Unspawned, Spawning, Initializing, Ready, Stopping, Ending, Ended}
 use Rattle.event_model.specs.Event.{Event, behind, heard, said, with_cause}
-use Rattle.event_model.specs.Phases.{Desk, desk_hears, desk_of, editors_of, is_malformed, is_there}
+use Rattle.event_model.specs.Phases.{Desk, desk_hears, desk_of, editors_of, is_begun, is_malformed, is_there}
 use Rattle.event_model.specs.Requests.{answered_id, with_request, is_open, open_of, without, next_number}
 use Rattle.event_model.specs.Row.{choose, nothing, on, outs, send}
 use Rattle.event_model.specs.Settings.{Settings}
@@ -30,7 +30,7 @@ use Rattle.group_rows.specs.Forwarded.{Forwarded, answered_by, forwarding_of}
 use Rattle.group_rows.specs.Rows.{from_server, outs_of, pass_on, response_row}
 use Rattle.group_facts.specs.Built.{built_behind, built_early, built_from_server, is_left, is_shown_whole}
 use Rattle.group_facts.specs.Facts.{is_too_many, is_up, turned_away}
-use Rattle.group_facts.specs.Lively.{Lively}
+use Rattle.group_facts.specs.Lively.{Lively, is_unplaced}
 use Rattle.group_facts.specs.Settled.{is_answered}
 use Rattle.group_facts.proofs.AnswerRows.{answers_only, response_is}
 use Rattle.group_facts.proofs.Begun.{Begun}
@@ -39,6 +39,7 @@ use Rattle.group_facts.proofs.Exits.{left_over}
 use Rattle.group_facts.proofs.Lively.{lives_of, up_of}
 use Rattle.group_facts.proofs.OwnEntry.{Nobody, message_rests, placed_open, turned_rests}
 use Rattle.group_facts.proofs.Sent.{Found, IsOf, OneOf, Passed, Rising, SentAt, found_one, none_sent, rising_of, sent_answered, sent_drained, sent_gone, sent_heard, sent_joined, sent_started, sent_ended, sent_failed}
+use Rattle.group_facts.proofs.PutOut.{turned_ends, turned_placed}
 use Rattle.group_facts.proofs.OpenByPhase.{OpenDesk, OpenIf, answered_closed, if_other}
 use Rattle.group_facts.proofs.OpenByOut.{OpenAt, S, open_at, open_entry}
 
@@ -251,13 +252,32 @@ module _ (settings : Settings) (range : InRange settings) (before : List Event) 
       passed_not : (id : Id) → Answers id → Stays (life_of s before).stage id
       passed_not id k = fine_not (life_of s before).stage refl k.0 built id k.1
 
-      server_at : OpenAt settings e Nobody (later (FromServer s body))
-      server_at = if_other (S settings e Answers (later (FromServer s body))) (S settings e Nobody (later (FromServer s body))) (desk_of e (later (FromServer s body))).phase (desk_of e (later (FromServer s body))).initialize (open_of e (later (FromServer s body)))
-          (λ served id still k. go id served still k) (open_entry settings e Answers before (FromServer s body) refl range facts begun built response_now)
+      stays_at : turned_away settings before (FromServer s body) e ≡ false → OpenAt settings e Nobody (later (FromServer s body))
+      stays_at stays = if_other (S settings e Answers (later (FromServer s body))) (S settings e Nobody (later (FromServer s body))) (desk_of e (later (FromServer s body))).phase (desk_of e (later (FromServer s body))).initialize (open_of e (later (FromServer s body)))
+          (λ served id still k. go id served still k) (open_entry settings e Answers before (FromServer s body) stays range facts begun built response_now)
         where
           go : (id : Id) → is_answered (desk_of e (later (FromServer s body))).phase ≡ true → is_open id (open_of e (later (FromServer s body))) ≡ true → SentAt settings (later (FromServer s body)) e id ⊎ Answers id → SentAt settings (later (FromServer s body)) e id ⊎ ⊥
           go id served still (inl k) = inl k
           go id served still (inr k) = inr (passed_not id k served still)
+
+      -- one that waited for a start that refuses its `initialize` is closed
+      over_at : (phase : Phase) (initialize : List ℕ) (ids : List Id) → is_begun phase ≡ false → (is_unplaced phase ≡ true → ⊥) → OpenIf (S settings e Nobody (later (FromServer s body))) phase initialize ids
+      over_at Absent initialize ids unbegun placed = absurd (placed refl)
+      over_at New initialize ids unbegun placed = absurd (placed refl)
+      over_at Waiting initialize ids unbegun placed = never unbegun
+      over_at Answered initialize ids unbegun placed = never unbegun
+      over_at Running initialize ids unbegun placed = never unbegun
+      over_at Down initialize ids unbegun placed = never unbegun
+      over_at Closed initialize ids unbegun placed = tt
+      over_at Gone initialize ids unbegun placed = tt
+
+      server_at : OpenAt settings e Nobody (later (FromServer s body))
+      server_at = go (turned_away settings before (FromServer s body) e) refl
+        where
+          go : (b : Bool) → turned_away settings before (FromServer s body) e ≡ b → OpenAt settings e Nobody (later (FromServer s body))
+          go false stays = stays_at stays
+          go true turned = over_at (desk_of e (later (FromServer s body))).phase (desk_of e (later (FromServer s body))).initialize (open_of e (later (FromServer s body)))
+              (turned_ends settings before s body (facts.steady).editors e turned) (turned_placed settings before s body e turned)
 
   pub open_rests : (cause : Cause) → fits_behind before cause ≡ true → built_behind settings before cause ≡ true → OpenAll settings (later cause)
   open_rests (FromEditor n body) fits built = editor_entry n body fits built

@@ -5,7 +5,7 @@ use Rattle.mux_history.specs.declared.cause.Cause.TheVariants.{Joined}
 use Rattle.mux_history.specs.declared.entry.Entry.{Entry}
 use Rattle.mux_history.specs.declared.out.Out.{Out}
 use Rattle.mux_history.specs.declared.out.Out.TheVariants.{ToEditor, ToServer, Spawn, CloseEditor, EndServer}
-use Rattle.event_model.specs.declared.stage.Stage.TheVariants.{Unspawned, Spawning, Stopping}
+use Rattle.event_model.specs.declared.stage.Stage.TheVariants.{Unspawned, Spawning, Initializing, Stopping}
 use Rattle.event_model.specs.Event.{Event, heard, said, behind, with_cause, events_of}
 use Rattle.event_model.specs.Phases.{Desk, desk_of, is_there, phase_closed}
 use Rattle.event_model.specs.Requests.{next_number}
@@ -44,7 +44,7 @@ use Rattle.group_facts.proofs.Opened.{opened_did, opened_none, opened_took}
 use Rattle.group_facts.proofs.Plain.{plain_did, plain_none, plain_took}
 use Rattle.group_facts.proofs.Table.{reasons}
 use Rattle.group_facts.proofs.Waiting.{waiting_closed, waiting_rests, waiting_said, waiting_told, waiting_took}
-use Rattle.group_facts.specs.Why.{Why, WhyEnd, WhyToEditor, is_starting, starting, stopped}
+use Rattle.group_facts.specs.Why.{Why, WhyEnd, WhyToEditor, is_starting, refused, starting, stopped}
 use Rattle.group_facts.proofs.Written.{written_did, written_took}
 
 module _ (settings : Settings) where
@@ -56,6 +56,7 @@ module _ (settings : Settings) where
   -- a program that is to be ended was spawned
   begun_end : (events : List Event) (n : ℕ) → WhyEnd settings events n → (life_of n events).stage ≡ Unspawned → ⊥
   begun_end events n (starting early dying) at = never (sym early ∙ ap is_starting at)
+  begun_end events n (refused early left) at = let clash : Initializing ≡ Unspawned = sym early ∙ at in cc
   begun_end events n (stopped stopping) at = let clash : Stopping ≡ Unspawned = sym stopping ∙ at in cc
 
   -- a start that is spawned wasn't before
@@ -238,7 +239,7 @@ module _ (settings : Settings) where
     entry_keeps before cause fits built h =
         let last : Here before cause (behind (with_cause before cause) (outs_of settings before cause)) = reasons_keep (λ events out. Why settings before cause events out) (Here before cause) (here_did before cause h built)
         (with_cause before cause) (outs_of settings before cause) (reasons settings range before h cause built).why (here_took before cause fits built h) in
-        record { base = last.base; steady = (last.mid).steady; tied = tied_rests settings before cause fits (h.steady).starts (h.steady).unbegun (h.steady).housed (h.base).written (last.mid).tied; waiting = waiting_rests settings before cause (last.mid).waiting }
+        record { base = last.base; steady = (last.mid).steady; tied = tied_rests settings before cause fits (h.steady).starts (h.steady).unbegun (h.steady).housed (h.base).written (last.mid).tied; waiting = waiting_rests settings before cause (h.steady).editors (last.mid).waiting }
 
     pub no_facts : Facts settings []
     no_facts = record {

@@ -26,6 +26,8 @@ pub mod OwnEntry
 pub mod PartingRows
 pub mod PlacingRow
 pub mod Plain
+pub mod PutOut
+pub mod RefusedRow
 pub mod RequestRow
 pub mod RestLaws
 pub mod Seated

@@ -1,6 +1,7 @@
 -- The groups that live, their editors and their last starts, one event further, and so behind every legal history.
-use Rattle.std.proofs.Common.{◌≡◌, ℕ, zero, suc, ◌+◌, ◌<◌, ◌≤◌, Bool, true, false, not, ◌&&◌, ◌||◌, cond, List, [], ◌∷◌, ◌++◌, filter, length, nat_eq, nat_lt, codes, bytes_eq, if◌then◌else◌, Option, Some, None, ◌⊎◌, inl, inr, refl, sym, ◌∙◌, ap, subst, arith}
+use Rattle.std.proofs.Common.{◌≡◌, ℕ, zero, suc, ◌+◌, ◌<◌, ◌≤◌, Bool, true, false, not, ◌&&◌, ◌||◌, cond, List, [], ◌∷◌, ◌++◌, filter, length, nat_eq, nat_lt, codes, bytes_eq, if◌then◌else◌, Option, Some, None, ◌⊎◌, inl, inr, refl, sym, ◌∙◌, ap, ap₂, subst, arith}
 use Rattle.std.specs.List.{range_with_len}
+use Rattle.std.specs.Option.{option_map_or}
 use Rattle.std.proofs.lemmas.Bool.{and_parts}
 use Rattle.std.proofs.lemmas.Bool.Decides.{nat_tests}
 use Rattle.std.proofs.lemmas.Slice.Eq.{bytes_eq-Decides}
@@ -37,19 +38,20 @@ use Rattle.group_words.specs.Placing.{end_where, ended, home_by, is_live, with_e
 use Rattle.group_words.proofs.Frames.{groups_more, home_more}
 use Rattle.group_rows.specs.Forwarded.{forwarding_of}
 use Rattle.group_rows.specs.Rows.{names_lspmux, outs_of}
-use Rattle.group_facts.specs.Built.{built_behind, built_early, built_from_editor, built_from_server, doubles, is_left, is_marked, is_standard}
-use Rattle.group_facts.specs.Facts.{is_up}
+use Rattle.group_facts.specs.Built.{built_behind, built_from_editor, doubles, is_left, is_marked, is_standard}
+use Rattle.group_facts.specs.Facts.{is_put_out, is_refusing, is_up}
 use Rattle.group_facts.specs.Lively.{IsDying, Lively, is_busy_at, is_unplaced, lives_at}
 use Rattle.group_facts.specs.Settled.{is_answered}
-use Rattle.group_facts.specs.Why.{Why, WhyEnd, WhyToServer, begins, greets, forwarded, tells, shuts, cancels, exits, starting, stopped, responds}
+use Rattle.group_facts.specs.Why.{Why, WhyEnd, WhyToServer, begins, greets, forwarded, tells, shuts, cancels, exits, refused, starting, stopped, responds}
 use Rattle.group_facts.proofs.Multiplexer.{lspmux_apart}
 use Rattle.group_facts.proofs.Begun.{Begun, start_more}
 use Rattle.group_facts.proofs.Exits.{left_groups, left_over}
 use Rattle.group_facts.proofs.Facts.{Facts}
 use Rattle.group_facts.proofs.Housed.{group_more}
 use Rattle.group_facts.proofs.Known.{Here, here_did, here_took}
-use Rattle.group_facts.proofs.LiveGroups.{IsFair, busy_emptied, busy_own, busy_placed, lives_busy, lives_emptied, lives_placed, placed_fair}
+use Rattle.group_facts.proofs.LiveGroups.{IsFair, busy_apart, busy_emptied, busy_own, busy_placed, lives_busy, lives_changed, lives_emptied, lives_placed, placed_fair}
 use Rattle.group_facts.proofs.Numbered.{no_shutdown}
+use Rattle.group_facts.proofs.PutOut.{begun_closed, begun_told, put_out_ends, unplaced_closed, unplaced_told}
 use Rattle.group_facts.proofs.RequestRow.{either_desk}
 use Rattle.group_facts.proofs.Table.{reasons}
 use Rattle.group_facts.proofs.Waiting.{new_is}
@@ -74,47 +76,6 @@ pub up_of : (settings : Settings) (events : List Event) → Lively settings even
 up_of settings events h e g s served home last = h.up g s (lives_of settings events h e g served home) last
 
 -- Phases
-
-begun_told : (phase : Phase) (initialize : List ℕ) (m : Message) → is_begun (phase_told phase initialize m) ≡ true → is_begun phase ≡ true
-begun_told Waiting initialize m h = refl
-begun_told Absent initialize m h = h
-begun_told New initialize m h = h
-begun_told Answered initialize m h = h
-begun_told Running initialize m h = h
-begun_told Down initialize m h = h
-begun_told Closed initialize m h = h
-begun_told Gone initialize m h = h
-
-waiting_told : (initialize : List ℕ) (m : Message) → is_unplaced (phase_told Waiting initialize m) ≡ false
-waiting_told initialize (result (Some id) r) = go _
-  where
-    go : (b : Bool) → is_unplaced (if b then Answered else Waiting) ≡ false
-    go true = refl
-    go false = refl
-waiting_told initialize (result None r) = refl
-waiting_told initialize (error id x) = refl
-waiting_told initialize (request id method params) = refl
-waiting_told initialize (notification method params) = refl
-waiting_told initialize not_json = refl
-waiting_told initialize not_message = refl
-
-unplaced_told : (phase : Phase) (initialize : List ℕ) (m : Message) → is_unplaced (phase_told phase initialize m) ≡ true → is_unplaced phase ≡ true
-unplaced_told Waiting initialize m h = never (sym h ∙ waiting_told initialize m)
-unplaced_told Absent initialize m h = h
-unplaced_told New initialize m h = h
-unplaced_told Answered initialize m h = h
-unplaced_told Running initialize m h = h
-unplaced_told Down initialize m h = h
-unplaced_told Closed initialize m h = h
-unplaced_told Gone initialize m h = h
-
-begun_closed : (phase : Phase) → is_begun (phase_closed phase) ≡ false
-begun_closed Gone = refl
-begun_closed other = refl
-
-unplaced_closed : (phase : Phase) → is_unplaced (phase_closed phase) ≡ false
-unplaced_closed Gone = refl
-unplaced_closed other = refl
 
 -- a message that doesn't place its editor
 begun_heard : (phase : Phase) (initialize body : List ℕ) (m : Message) → places phase m ≡ false → is_begun (desk_hears phase initialize body m).phase ≡ true → is_begun phase ≡ true
@@ -219,6 +180,29 @@ module _ (settings : Settings) (events : List Event) (event : Event) where
     up = λ g s h at. ap (λ (l : Life). is_up l.stage) (life_more s events event) ∙ up g s (sym (ap (lives_at g) (groups_more settings events event)) ∙ h) (sym (start_more g events event) ∙ at);
   }
 
+-- Inside of an entry in which a group ends while it has editors, these are left out
+
+record Mostly (settings : Settings) (out : ℕ → Bool) (events : List Event) : Type 0 where
+  unplaced : (e : ℕ) → is_unplaced (desk_of e events).phase ≡ true → home_of settings e events ≡ None
+  busy : (e g : ℕ) → out e ≡ false → is_begun (desk_of e events).phase ≡ true → home_of settings e events ≡ Some g → is_busy_at g (groups_of settings events) ≡ true
+  last : (g s : ℕ) → start_of g events ≡ Some s → (group_of s events ≡ Some g) × (s < starts_of events)
+  up : (g s : ℕ) → lives_at g (groups_of settings events) ≡ true → start_of g events ≡ Some s → is_up (life_of s events).stage ≡ true
+
+mostly : (settings : Settings) (out : ℕ → Bool) (events : List Event) → Lively settings events → Mostly settings out events
+mostly settings out events h = record { unplaced = h.unplaced; busy = λ e g rest. h.busy e g; last = h.last; up = h.up }
+
+module _ (settings : Settings) (out : ℕ → Bool) (events : List Event) (event : Event) where
+  abbrev MostBusy : Type 0
+  MostBusy = (e g : ℕ) → out e ≡ false → is_begun (desk_behind e (desk_of e events) event).phase ≡ true → home_next settings events (house_of settings events) event e ≡ Some g → is_busy_at g (groups_next settings events (house_of settings events) event) ≡ true
+
+  most_words : Unplaced settings events event → MostBusy → Last settings events event → Up settings events event → Mostly settings out (events ++ event ∷ [])
+  most_words unplaced busy last up = record {
+    unplaced = λ e h. home_more settings e events event ∙ unplaced e (sym (ap (λ (d : Desk). is_unplaced d.phase) (desk_more e events event)) ∙ h);
+    busy = λ e g rest h at. ap (is_busy_at g) (groups_more settings events event) ∙ busy e g rest (sym (ap (λ (d : Desk). is_begun d.phase) (desk_more e events event)) ∙ h) (sym (home_more settings e events event) ∙ at);
+    last = λ g s at. let k = last g s (sym (start_more g events event) ∙ at) in (group_more s events event ∙ k.0, subst (λ n. s < n) (sym (starts_more events event)) k.1);
+    up = λ g s h at. ap (λ (l : Life). is_up l.stage) (life_more s events event) ∙ up g s (sym (ap (lives_at g) (groups_more settings events event)) ∙ h) (sym (start_more g events event) ∙ at);
+  }
+
 -- Causes
 
 module _ (settings : Settings) (before : List Event) (h : Lively settings before) where
@@ -307,6 +291,39 @@ module _ (settings : Settings) (before : List Event) (h : Lively settings before
       (λ g s live at. let old : is_up (life_of s before).stage ≡ true = h.up g s (sym (ap (λ b. lives_at g (if b then at_group (group_of n before) (λ k. ended) groups else groups)) off) ∙ live) at in
       by_start (nat_eq n s) (record { stage = stage_hears (life_of s before).stage (message_of body); started = (life_of s before).started }) (life_of s before) (λ same. up_hears (life_of s before).stage (message_of body) old) (λ other. old))
 
+  -- S3: a start refuses its `initialize`
+  module _ (n : ℕ) (body : List ℕ) (refuses : is_refusing before n (message_of body) ≡ true) where
+    abbrev put_out : ℕ → Bool
+    put_out = is_put_out settings before (FromServer n body)
+
+    in_time : (e g : ℕ) → put_out e ≡ false → is_begun (desk_of e before).phase ≡ true → home_of settings e before ≡ Some g → is_busy_at g (at_group (group_of n before) (λ k. ended) groups) ≡ true
+    in_time e g rest begun at = go (group_of n before) refl
+      where
+        go : (o : Option ℕ) → group_of n before ≡ o → is_busy_at g (at_group o (λ k. ended) groups) ≡ true
+        go None none = h.busy e g begun at
+        go (Some i) home = busy_apart i g ended groups (λ same. never (sym (out same) ∙ rest)) (h.busy e g begun at)
+          where
+            out : g ≡ i → put_out e ≡ true
+            out same = ap₂ (λ a b. a && b) refuses (ap₂ (λ a b. a && b) begun
+                (ap (λ o. option_map_or (λ k. is_home k (home_of settings e before)) o false) home ∙ (ap (is_home i) (at ∙ ap (λ k. Some k) same) ∙ same_number i)))
+
+    lived : (g : ℕ) (home : Option ℕ) → lives_at g (at_group home (λ k. ended) groups) ≡ true → lives_at g groups ≡ true
+    lived g None live = live
+    lived g (Some i) live = lives_changed ended (λ x k. absurd (cc)) i g groups live
+
+    refused_by : Mostly settings put_out (with_cause before (FromServer n body))
+    refused_by = most_words settings put_out before (heard (FromServer n body)) h.unplaced (λ e g rest begun at. ap (λ b. is_busy_at g (if b then at_group (group_of n before) (λ k. ended) groups else groups)) refuses ∙ in_time e g rest begun at) h.last
+        (λ g s live at. let old : is_up (life_of s before).stage ≡ true = h.up g s (lived g (group_of n before) (sym (ap (λ b. lives_at g (if b then at_group (group_of n before) (λ k. ended) groups else groups)) refuses) ∙ live)) at in
+        by_start (nat_eq n s) (record { stage = stage_hears (life_of s before).stage (message_of body); started = (life_of s before).started }) (life_of s before) (λ same. up_hears (life_of s before).stage (message_of body) old) (λ other. old))
+
+  -- a message of a start
+  said_by : (n : ℕ) (body : List ℕ) → Mostly settings (is_put_out settings before (FromServer n body)) (with_cause before (FromServer n body))
+  said_by n body = go (is_refusing before n (message_of body)) refl
+    where
+      go : (b : Bool) → is_refusing before n (message_of body) ≡ b → Mostly settings (is_put_out settings before (FromServer n body)) (with_cause before (FromServer n body))
+      go true refuses = refused_by n body refuses
+      go false off = mostly settings (is_put_out settings before (FromServer n body)) (with_cause before (FromServer n body)) (spoke n body off)
+
   gone : (n : ℕ) (why : link.Why) → Editors (with_cause before (EditorGone n why)) → Lively settings (with_cause before (EditorGone n why))
   gone n why absent = by_words settings before (heard (EditorGone n why)) (λ e. unplaced e (nat_eq n e)) (λ e g. busy e g (nat_eq n e) refl) h.last
       (λ g s live at. h.up g s (lives_emptied (home_of settings n before) _ _ _ g groups live) at)
@@ -358,74 +375,54 @@ built_on phase ids (error id x) built = refl
 built_on phase ids not_json built = refl
 built_on phase ids not_message built = refl
 
--- and of a start, refuses nothing
-early_fine : (body : List ℕ) (m : Message) → built_early body m ≡ true → is_first_error m ≡ false
-early_fine body (error id x) h = go (is_first_error (error id x)) h
-  where
-    go : (b : Bool) → not b ≡ true → b ≡ false
-    go true k = absurd (cc)
-    go false k = refl
-early_fine body (result id r) h = refl
-early_fine body (request id method params) h = refl
-early_fine body (notification method params) h = refl
-early_fine body not_json h = refl
-early_fine body not_message h = refl
-
-and_none : (a : Bool) → (a && false) ≡ false
-and_none true = refl
-and_none false = refl
-
-unrefused : (stage : Stage) (body : List ℕ) (m : Message) → (stage ≡ Initializing → built_early body m ≡ true) → (is_first_error m && is_initializing stage) ≡ false
-unrefused Initializing body m h = ap (λ b. b && true) (early_fine body m (h refl))
-unrefused other body m h = and_none (is_first_error m)
-
-took : (settings : Settings) (before : List Event) (cause : Cause) → fits_behind before cause ≡ true → built_behind settings before cause ≡ true → Editors before → Editors (with_cause before cause) → Begun settings before → Lively settings before → Lively settings (with_cause before cause)
-took settings before (Joined n) fits built absent after begun h = joined settings before h n fits absent
-took settings before (Drained n k) fits built absent after begun h = drained settings before h n k
-took settings before (Started n) fits built absent after begun h = began settings before h n
-took settings before (EditorGone n why) fits built absent after begun h = gone settings before h n why after
-took settings before (FromServer n body) fits built absent after begun h = spoke settings before h n body (unrefused (life_of n before).stage body (message_of body) (λ at. ap (λ stage. built_from_server stage (forwarding_of n before).open_requests body (message_of body)) (sym at) ∙ built))
-took settings before (FromEditor n body) fits built absent after begun h = go (places (desk_of n before).phase (message_of body)) refl
+took : (settings : Settings) (before : List Event) (cause : Cause) → fits_behind before cause ≡ true → built_behind settings before cause ≡ true → Editors before → Editors (with_cause before cause) → Begun settings before → Lively settings before
+    → Mostly settings (is_put_out settings before cause) (with_cause before cause)
+took settings before (Joined n) fits built absent after begun h = mostly settings _ _ (joined settings before h n fits absent)
+took settings before (Drained n k) fits built absent after begun h = mostly settings _ _ (drained settings before h n k)
+took settings before (Started n) fits built absent after begun h = mostly settings _ _ (began settings before h n)
+took settings before (EditorGone n why) fits built absent after begun h = mostly settings _ _ (gone settings before h n why after)
+took settings before (FromServer n body) fits built absent after begun h = said_by settings before h n body
+took settings before (FromEditor n body) fits built absent after begun h = mostly settings _ _ (go (places (desk_of n before).phase (message_of body)) refl)
   where
     go : (b : Bool) → places (desk_of n before).phase (message_of body) ≡ b → Lively settings (with_cause before (FromEditor n body))
     go true here = placing settings before h n body begun here
     go false off = heard_on settings before h n body off (ap (λ b. b && (is_there (desk_of n before).phase && not (is_doubled before n (message_of body)))) (built_on (desk_of n before).phase (open_of n before) (message_of body) built))
-took settings before (StartFailed n) fits built absent after begun h = failed settings before h n built
-took settings before (ServerGone n) fits built absent after begun h = exited settings before h n built
+took settings before (StartFailed n) fits built absent after begun h = mostly settings _ _ (failed settings before h n built)
+took settings before (ServerGone n) fits built absent after begun h = mostly settings _ _ (exited settings before h n built)
 took settings before cause fits built absent after begun h = absurd (cc)
 
 -- Outs
 
-module _ (settings : Settings) (events : List Event) (h : Lively settings events) where
-  told : (n : ℕ) (body : List ℕ) → Lively settings (events ++ said (ToEditor n body) ∷ [])
-  told n body = by_words settings events (said (ToEditor n body)) (λ e. unplaced e (nat_eq n e)) (λ e g. busy e g (nat_eq n e)) h.last h.up
+module _ (settings : Settings) (out : ℕ → Bool) (events : List Event) (h : Mostly settings out events) where
+  told : (n : ℕ) (body : List ℕ) → Mostly settings out (events ++ said (ToEditor n body) ∷ [])
+  told n body = most_words settings out events (said (ToEditor n body)) (λ e. unplaced e (nat_eq n e)) (λ e g rest. busy e g rest (nat_eq n e)) h.last h.up
     where
       unplaced : (e : ℕ) (b : Bool) → is_unplaced (if b then record { phase = phase_told (desk_of e events).phase (desk_of e events).initialize (message_of body); initialize = (desk_of e events).initialize } else desk_of e events).phase ≡ true → home_of settings e events ≡ None
       unplaced e true k = h.unplaced e (unplaced_told (desk_of e events).phase (desk_of e events).initialize (message_of body) k)
       unplaced e false k = h.unplaced e k
 
-      busy : (e g : ℕ) (b : Bool) → is_begun (if b then record { phase = phase_told (desk_of e events).phase (desk_of e events).initialize (message_of body); initialize = (desk_of e events).initialize } else desk_of e events).phase ≡ true → home_of settings e events ≡ Some g
+      busy : (e g : ℕ) → out e ≡ false → (b : Bool) → is_begun (if b then record { phase = phase_told (desk_of e events).phase (desk_of e events).initialize (message_of body); initialize = (desk_of e events).initialize } else desk_of e events).phase ≡ true → home_of settings e events ≡ Some g
           → is_busy_at g (groups_of settings events) ≡ true
-      busy e g true k at = h.busy e g (begun_told (desk_of e events).phase (desk_of e events).initialize (message_of body) k) at
-      busy e g false k at = h.busy e g k at
+      busy e g rest true k at = h.busy e g rest (begun_told (desk_of e events).phase (desk_of e events).initialize (message_of body) k) at
+      busy e g rest false k at = h.busy e g rest k at
 
-  closes : (n : ℕ) → Editors (events ++ said (CloseEditor n) ∷ []) → Lively settings (events ++ said (CloseEditor n) ∷ [])
-  closes n absent = by_words settings events (said (CloseEditor n)) (λ e. unplaced e (nat_eq n e)) (λ e g. busy e g (nat_eq n e) refl) h.last
+  closes : (n : ℕ) → Editors (events ++ said (CloseEditor n) ∷ []) → Mostly settings out (events ++ said (CloseEditor n) ∷ [])
+  closes n absent = most_words settings out events (said (CloseEditor n)) (λ e. unplaced e (nat_eq n e)) (λ e g rest. busy e g rest (nat_eq n e) refl) h.last
       (λ g s live at. h.up g s (lives_emptied (home_of settings n events) _ _ _ g (groups_of settings events) live) at)
     where
       unplaced : (e : ℕ) (b : Bool) → is_unplaced (if b then record { phase = phase_closed (desk_of e events).phase; initialize = (desk_of e events).initialize } else desk_of e events).phase ≡ true → home_of settings e events ≡ None
       unplaced e true k = never (sym k ∙ unplaced_closed (desk_of e events).phase)
       unplaced e false k = h.unplaced e k
 
-      busy : (e g : ℕ) (b : Bool) → nat_eq n e ≡ b → is_begun (if b then record { phase = phase_closed (desk_of e events).phase; initialize = (desk_of e events).initialize } else desk_of e events).phase ≡ true → home_of settings e events ≡ Some g
+      busy : (e g : ℕ) → out e ≡ false → (b : Bool) → nat_eq n e ≡ b → is_begun (if b then record { phase = phase_closed (desk_of e events).phase; initialize = (desk_of e events).initialize } else desk_of e events).phase ≡ true → home_of settings e events ≡ Some g
           → is_busy_at g (groups_next settings events (house_of settings events) (said (CloseEditor n))) ≡ true
-      busy e g true same k at = never (sym k ∙ begun_closed (desk_of e events).phase)
-      busy e g false other k at = busy_emptied (home_of settings n events) _ _ _ g (groups_of settings events)
+      busy e g rest true same k at = never (sym k ∙ begun_closed (desk_of e events).phase)
+      busy e g rest false other k at = busy_emptied (home_of settings n events) _ _ _ g (groups_of settings events)
           (still_has (house_of settings events).home (events ++ said (CloseEditor n) ∷ []) e g absent (ap (λ (d : Desk). is_begun d.phase) (desk_more e events (said (CloseEditor n)))
-          ∙ (ap (λ b. is_begun (if b then record { phase = phase_closed (desk_of e events).phase; initialize = (desk_of e events).initialize } else desk_of e events).phase) other ∙ k)) at) (h.busy e g k at)
+          ∙ (ap (λ b. is_begun (if b then record { phase = phase_closed (desk_of e events).phase; initialize = (desk_of e events).initialize } else desk_of e events).phase) other ∙ k)) at) (h.busy e g rest k at)
 
-  spawned : (g : ℕ) → Lively settings (events ++ said (Spawn (starts_of events) g) ∷ [])
-  spawned g = by_words settings events (said (Spawn (starts_of events) g)) h.unplaced h.busy (λ i s. last i s (nat_eq g i) refl) (λ i s live. up i s live (nat_eq g i) refl)
+  spawned : (g : ℕ) → Mostly settings out (events ++ said (Spawn (starts_of events) g) ∷ [])
+  spawned g = most_words settings out events (said (Spawn (starts_of events) g)) h.unplaced h.busy (λ i s. last i s (nat_eq g i) refl) (λ i s live. up i s live (nat_eq g i) refl)
     where
       n : ℕ
       n = starts_of events
@@ -456,20 +453,21 @@ module _ (settings : Settings) (events : List Event) (h : Lively settings events
       same : g ≡ k.group
       same = the (sym (h.last g n at).0 ∙ (h.last k.group n k.last).0)
 
-  ends : (n : ℕ) → WhyEnd settings events n → Lively settings (events ++ said (EndServer n) ∷ [])
-  ends n why = by_words settings events (said (EndServer n)) h.unplaced h.busy h.last
+  ends : (n : ℕ) → WhyEnd settings events n → Mostly settings out (events ++ said (EndServer n) ∷ [])
+  ends n why = most_words settings out events (said (EndServer n)) h.unplaced h.busy h.last
       (λ g s live at. by_start (nat_eq n s) (record { stage = stage_ending (life_of s events).stage; started = (life_of s events).started }) (life_of s events) (λ same. absurd (over why g s live at (number_same n s same))) (λ other. h.up g s live at))
     where
       over : WhyEnd settings events n → (g s : ℕ) → lives_at g (groups_of settings events) ≡ true → start_of g events ≡ Some s → n ≡ s → ⊥
       over (starting early dying) g s live at same = dies n g dying live (at ∙ ap (λ k. Some k) (sym same))
+      over (refused early left) g s live at same = never (sym live ∙ left_over settings events n left g (ap (λ k. group_of k events) same ∙ (h.last g s at).0))
       over (stopped stopping) g s live at same = never (sym (h.up g s live at) ∙ (ap (λ k. is_up (life_of k events).stage) (sym same) ∙ ap is_up stopping))
 
-  sends : (n : ℕ) (body : List ℕ) → ((g s : ℕ) → n ≡ s → lives_at g (groups_of settings events) ≡ true → start_of g events ≡ Some s → requests (codes "shutdown") (message_of body) ≡ false) → Lively settings (events ++ said (ToServer n body) ∷ [])
-  sends n body other = by_words settings events (said (ToServer n body)) h.unplaced h.busy h.last
+  sends : (n : ℕ) (body : List ℕ) → ((g s : ℕ) → n ≡ s → lives_at g (groups_of settings events) ≡ true → start_of g events ≡ Some s → requests (codes "shutdown") (message_of body) ≡ false) → Mostly settings out (events ++ said (ToServer n body) ∷ [])
+  sends n body other = most_words settings out events (said (ToServer n body)) h.unplaced h.busy h.last
       (λ g s live at. by_start (nat_eq n s) (record { stage = stage_told (life_of s events).stage (message_of body); started = (life_of s events).started }) (life_of s events)
       (λ same. up_told (life_of s events).stage (message_of body) (other g s (number_same n s same) live at) (h.up g s live at)) (λ apart. h.up g s live at))
 
-  sent : (before : List Event) (cause : Cause) (n : ℕ) (body : List ℕ) → WhyToServer settings before cause events n body → Lively settings (events ++ said (ToServer n body) ∷ [])
+  sent : (before : List Event) (cause : Cause) (n : ℕ) (body : List ℕ) → WhyToServer settings before cause events n body → Mostly settings out (events ++ said (ToServer n body) ∷ [])
   sent before cause n body (begins k) = sends n body (λ g s same live at. ap (requests (codes "shutdown")) k.says)
   sent before cause n body (greets k) = sends n body (λ g s same live at. ap (requests (codes "shutdown")) k.says)
   sent before cause n body (forwarded k) = sends n body (λ g s same live at. ap (requests (codes "shutdown")) k.says ∙ no_shutdown k.method k.other)
@@ -479,12 +477,12 @@ module _ (settings : Settings) (events : List Event) (h : Lively settings events
   sent before cause n body (exits k) = sends n body (λ g s same live at. ap (requests (codes "shutdown")) k.says)
   sent before cause n body (shuts k) = sends n body (λ g s same live at. absurd (dies n g k.dying live (at ∙ ap (λ i. Some i) (sym same))))
 
-  did : (before : List Event) (cause : Cause) (out : Out) → Why settings before cause events out → Editors (events ++ said out ∷ []) → Lively settings (events ++ said out ∷ [])
+  did : (before : List Event) (cause : Cause) (x : Out) → Why settings before cause events x → Editors (events ++ said x ∷ []) → Mostly settings out (events ++ said x ∷ [])
   did before cause (ToEditor n body) why absent = told n body
   did before cause (ToServer n body) why absent = sent before cause n body why
   did before cause (CloseEditor n) why absent = closes n absent
   did before cause (EndServer n) why absent = ends n why
-  did before cause (Spawn s g) why absent = subst (λ k. Lively settings (events ++ said (Spawn k g) ∷ [])) (sym why.0) (spawned g)
+  did before cause (Spawn s g) why absent = subst (λ k. Mostly settings out (events ++ said (Spawn k g) ∷ [])) (sym why.0) (spawned g)
 
 -- A whole entry
 
@@ -492,17 +490,26 @@ module _ (settings : Settings) (range : InRange settings) (before : List Event) 
   -- what is known at a place of it
   record At (cause : Cause) (events : List Event) : Type 0 where
     here : Here settings before cause events
-    lively : Lively settings events
+    lively : Mostly settings (is_put_out settings before cause) events
 
   pub lively_rests : (cause : Cause) → fits_behind before cause ≡ true → built_behind settings before cause ≡ true → Lively settings (behind (with_cause before cause) (outs_of settings before cause))
   lively_rests cause fits built =
       let first : Here settings before cause (with_cause before cause) = here_took settings range before cause fits built facts in
       let last : At cause (behind (with_cause before cause) (outs_of settings before cause)) = reasons_keep (λ events out. Why settings before cause events out) (At cause)
       (λ events out why i. let next : Here settings before cause (events ++ said out ∷ []) = here_did settings range before cause facts built events out why i.here in
-      record { here = next; lively = did settings events i.lively before cause out why ((next.mid).steady).editors })
+      record { here = next; lively = did settings (is_put_out settings before cause) events i.lively before cause out why ((next.mid).steady).editors })
       (with_cause before cause) (outs_of settings before cause) (reasons settings range before facts cause built).why
       (record { here = first; lively = took settings before cause fits built (facts.steady).editors ((first.mid).steady).editors begun h }) in
-      last.lively
+      all_lively cause last.lively
+    where
+      -- those that were left out are in no group any more
+      all_lively : (cause : Cause) → Mostly settings (is_put_out settings before cause) (behind (with_cause before cause) (outs_of settings before cause)) → Lively settings (behind (with_cause before cause) (outs_of settings before cause))
+      all_lively cause k = record { unplaced = k.unplaced; busy = λ e g. busy e g (is_put_out settings before cause e) refl; last = k.last; up = k.up }
+        where
+          busy : (e g : ℕ) (b : Bool) → is_put_out settings before cause e ≡ b → is_begun (desk_of e (behind (with_cause before cause) (outs_of settings before cause))).phase ≡ true
+              → home_of settings e (behind (with_cause before cause) (outs_of settings before cause)) ≡ Some g → is_busy_at g (groups_of settings (behind (with_cause before cause) (outs_of settings before cause))) ≡ true
+          busy e g false rest begun at = k.busy e g rest begun at
+          busy e g true out begun at = never (sym begun ∙ put_out_ends settings before cause (facts.steady).editors e out)
 
 pub no_lively : (settings : Settings) → Lively settings []
 no_lively settings = record { unplaced = λ e h. refl; busy = λ e g h at. absurd (cc); last = λ g s at. absurd (cc); up = λ g s live at. absurd (cc) }

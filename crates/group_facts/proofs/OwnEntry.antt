@@ -57,6 +57,7 @@ use Rattle.group_facts.proofs.Multiplexer.{lspmux_apart}
 use Rattle.group_facts.proofs.Nulls.{null_said}
 use Rattle.group_facts.proofs.RequestRow.{beside, beside_other, desk_taken, goes_on, not_own, status_said, synced_sender}
 use Rattle.group_facts.proofs.Sent.{IsOf, OneOf, SentAt, one_last, sent_did, sent_heard}
+use Rattle.group_facts.proofs.PutOut.{home_did, homes_stay}
 use Rattle.group_facts.proofs.OpenByPhase.{OpenDesk, OpenIf, if_asked, if_hears, if_null, if_other, reply_told, without_last}
 use Rattle.group_facts.proofs.SharedRows.{off_first}
 use Rattle.group_facts.proofs.Waiting.{new_is, turned_outs}
@@ -65,19 +66,6 @@ use Rattle.group_facts.proofs.OpenByOut.{OpenAt, S, open_at, open_closed, open_s
 -- no request is excused
 abbrev pub Nobody : Id → Type 0
 Nobody id = ⊥
-
--- Homes
-
-pub home_did : (settings : Settings) (e : ℕ) (events : List Event) (out : Out) → home_of settings e (events ++ said out ∷ []) ≡ home_of settings e events
-home_did settings e events (ToEditor n body) = home_stays settings e events (said (ToEditor n body)) refl
-home_did settings e events (ToServer s body) = home_stays settings e events (said (ToServer s body)) refl
-home_did settings e events (Spawn s g) = home_stays settings e events (said (Spawn s g)) refl
-home_did settings e events (CloseEditor n) = home_stays settings e events (said (CloseEditor n)) refl
-home_did settings e events (EndServer s) = home_stays settings e events (said (EndServer s)) refl
-
-homes_stay : (settings : Settings) (e : ℕ) (events : List Event) (xs : List Out) → home_of settings e (behind events xs) ≡ home_of settings e events
-homes_stay settings e events [] = ap (home_of settings e) (append-nil events)
-homes_stay settings e events (x ∷ xs) = ap (home_of settings e) (sym (append_assoc events (said x ∷ []) (map said xs))) ∙ homes_stay settings e (events ++ said x ∷ []) xs ∙ home_did settings e events x
 
 -- Outs that are bodies to starts
 

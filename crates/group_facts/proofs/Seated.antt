@@ -12,10 +12,11 @@ use Rattle.rpc_message.specs.Texts.{error_text, request_failed}
 use Rattle.event_model.specs.declared.phase.Phase.{Phase}
 use Rattle.event_model.specs.declared.phase.Phase.TheVariants.{Absent, New, Waiting, Answered, Running, Down, Closed, Gone}
 use Rattle.event_model.specs.Event.{Event, behind, heard, requests, said, with_cause}
-use Rattle.event_model.specs.Phases.{Desk, desk_behind, desk_hears, desk_of, needs_server, phase_closed, phase_told}
+use Rattle.event_model.specs.Phases.{Desk, desk_behind, desk_hears, desk_of, is_begun, needs_server, phase_closed, phase_told}
 use Rattle.event_model.specs.Settings.{Settings}
 use Rattle.event_model.specs.Spawns.{start_of}
 use Rattle.event_model.proofs.Frames.{never}
+use Rattle.mux_facts.proofs.Editors.{Editors}
 use Rattle.mux_facts.proofs.Folds.{desk_more}
 use Rattle.mux_facts.proofs.Words.{number_same, same_number}
 use Rattle.group_words.specs.declared.idle.Idle.{Idle}
@@ -32,8 +33,8 @@ use Rattle.group_facts.specs.Facts.{is_too_many, turned_away}
 use Rattle.group_facts.specs.Settled.{IsSeated}
 use Rattle.group_facts.proofs.Begun.{Begun}
 use Rattle.group_facts.proofs.Housed.{longer_did, longer_took}
-use Rattle.group_facts.proofs.OwnEntry.{home_did}
 use Rattle.group_facts.proofs.PlacingRow.{IsNext, placed_next}
+use Rattle.group_facts.proofs.PutOut.{home_did, turned_ends}
 use Rattle.group_facts.proofs.RequestRow.{either_desk}
 use Rattle.group_facts.proofs.Waiting.{turned_outs}
 
@@ -203,6 +204,16 @@ module _ (settings : Settings) where
     placing : is_too_many (placed_for settings before e body (groups_of settings before)) ≡ false → count before ≤ count now → IsPlaced settings now e
     placing few longer = by_placed (placed_for settings before e body (groups_of settings before)) few (placed_inside settings.limits.groups key declared (groups_of settings before)) (placed_next settings.limits.groups key declared (groups_of settings before)) home_now longer groups_now
 
+  needs_begun : (phase : Phase) → needs_server phase ≡ true → is_begun phase ≡ true
+  needs_begun Waiting h = refl
+  needs_begun Answered h = refl
+  needs_begun Running h = refl
+  needs_begun Absent h = absurd (cc)
+  needs_begun New h = absurd (cc)
+  needs_begun Down h = absurd (cc)
+  needs_begun Closed h = absurd (cc)
+  needs_begun Gone h = absurd (cc)
+
   module _ (before : List Event) (h : AllPlaced settings before) where
     -- a message of its own
     own_heard : (e : ℕ) (body : List ℕ) → count before ≤ count (with_cause before (FromEditor e body)) → turned_away settings before (FromEditor e body) e ≡ false → PlacedAt settings e (with_cause before (FromEditor e body))
@@ -258,15 +269,16 @@ module _ (settings : Settings) where
         closed true same = closed_none (desk_of e mid).phase
         closed false same = never (sym same)
 
-    turned_placed : (cause : Cause) (e : ℕ) → turned_away settings before cause e ≡ true → PlacedAt settings e (behind (with_cause before cause) (outs_of settings before cause))
-    turned_placed (FromEditor n body) e turned = λ needs. never (sym needs ∙ turned_none n body e turned)
-    turned_placed cause e turned = never (sym turned)
+    turned_placed : (cause : Cause) → Editors before → (e : ℕ) → turned_away settings before cause e ≡ true → PlacedAt settings e (behind (with_cause before cause) (outs_of settings before cause))
+    turned_placed (FromEditor n body) absent e turned = λ needs. never (sym needs ∙ turned_none n body e turned)
+    turned_placed (FromServer s body) absent e turned = λ needs. never (sym (needs_begun _ needs) ∙ turned_ends settings before s body absent e turned)
+    turned_placed cause absent e turned = never (sym turned)
 
-    pub placed_rests : (cause : Cause) → built_behind settings before cause ≡ true → AllPlaced settings (behind (with_cause before cause) (outs_of settings before cause))
-    placed_rests cause built e = go (turned_away settings before cause e) refl
+    pub placed_rests : (cause : Cause) → built_behind settings before cause ≡ true → Editors before → AllPlaced settings (behind (with_cause before cause) (outs_of settings before cause))
+    placed_rests cause built absent e = go (turned_away settings before cause e) refl
       where
         go : (b : Bool) → turned_away settings before cause e ≡ b → PlacedAt settings e (behind (with_cause before cause) (outs_of settings before cause))
-        go true turned = turned_placed cause e turned
+        go true turned = turned_placed cause absent e turned
         go false stays = placed_outs e (with_cause before cause) (outs_of settings before cause) (placed_took cause built (longer_took settings before cause built) e stays)
 
   -- a group that is kept has a start

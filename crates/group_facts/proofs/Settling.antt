@@ -68,7 +68,7 @@ module _ (settings : Settings) (range : InRange settings) where
     begun = begun_rests settings before cause built h.begun;
     lively = lively_rests settings range before h.facts h.begun h.lively cause fits built;
     opens = open_rests settings range before h.facts h.begun h.lively h.opens cause fits built;
-    placed = placed_rests settings before h.placed cause built;
+    placed = placed_rests settings before h.placed cause built ((h.facts).steady).editors;
   }
 
   no_rests : Rests []

@@ -4,7 +4,7 @@ use Rattle.std.proofs.lemmas.Bool.{and_parts}
 use Rattle.std.proofs.lemmas.Slice.Eq.{bytes_eq-Decides}
 use Rattle.json_text.specs.Json.{Json}
 use Rattle.mux_history.specs.declared.cause.Cause.{Cause}
-use Rattle.mux_history.specs.declared.cause.Cause.TheVariants.{FromEditor}
+use Rattle.mux_history.specs.declared.cause.Cause.TheVariants.{FromEditor, FromServer}
 use Rattle.mux_history.specs.declared.out.Out.{Out}
 use Rattle.mux_history.specs.declared.out.Out.TheVariants.{ToEditor, CloseEditor}
 use Rattle.rpc_message.specs.Message.{Message, request, notification, result, error, not_json, not_message, Id, message_of, id_bytes}
@@ -12,10 +12,11 @@ use Rattle.rpc_message.specs.Texts.{error_text, request_failed}
 use Rattle.event_model.specs.declared.phase.Phase.{Phase}
 use Rattle.event_model.specs.declared.phase.Phase.TheVariants.{Absent, New, Waiting, Answered, Running, Down, Closed, Gone}
 use Rattle.event_model.specs.Event.{Event, said, behind, with_cause, requests}
-use Rattle.event_model.specs.Phases.{Desk, desk_of, desk_behind, has_id, is_malformed, is_new, phase_closed, phase_told}
+use Rattle.event_model.specs.Phases.{Desk, desk_of, desk_behind, has_id, is_begun, is_malformed, is_new, phase_closed, phase_told}
 use Rattle.event_model.specs.Requests.{answered_id, open_behind, open_of, without}
 use Rattle.event_model.specs.Settings.{Settings}
 use Rattle.event_model.proofs.Frames.{never}
+use Rattle.mux_facts.proofs.Editors.{Editors}
 use Rattle.mux_facts.proofs.FactLaws.{closed_waits, waits_took}
 use Rattle.mux_facts.proofs.Folds.{desk_more, opens_more}
 use Rattle.mux_facts.proofs.Waits.{AllWaiting, WaitsAt, WaitsIf, is_a_result, late_not, null_waits, pick_desk, told_waits}
@@ -26,6 +27,7 @@ use Rattle.group_words.specs.Houses.{groups_of, placed_for, places}
 use Rattle.group_rows.specs.Rows.{asks_lspmux, names_lspmux, outs_of}
 use Rattle.group_facts.specs.Facts.{is_too_many, turned_away}
 use Rattle.group_facts.proofs.Facts.{OthersWait}
+use Rattle.group_facts.proofs.PutOut.{turned_ends}
 use Rattle.group_facts.specs.Why.{IsRefusal, WhyToEditor, rejects, refuses, answers, turns_away, welcomes, passes}
 
 -- one event more
@@ -157,6 +159,29 @@ module _ (settings : Settings) (before : List Event) (n : ℕ) (body : List ℕ)
       go false rest = h e rest
       go true turned = subst (λ xs. WaitsAt (desk_of e (behind (with_cause before (FromEditor n body)) xs)) (open_of e (behind (with_cause before (FromEditor n body)) xs))) (sym (turned_outs e turned)) (turned_closed e turned (with_cause before (FromEditor n body)))
 
-pub waiting_rests : (settings : Settings) (before : List Event) (cause : Cause) → OthersWait settings before cause (behind (with_cause before cause) (outs_of settings before cause)) → AllWaiting (behind (with_cause before cause) (outs_of settings before cause))
-waiting_rests settings before (FromEditor n body) h = all_wait settings before n body h
-waiting_rests settings before cause h = λ e. h e refl
+-- one that isn't in its group waits for nothing
+unbegun_waits : (phase : Phase) (initialize : List ℕ) (ids : List Id) → is_begun phase ≡ false → WaitsIf phase initialize ids
+unbegun_waits Waiting initialize ids h = never h
+unbegun_waits Absent initialize ids h = tt
+unbegun_waits New initialize ids h = tt
+unbegun_waits Answered initialize ids h = tt
+unbegun_waits Running initialize ids h = tt
+unbegun_waits Down initialize ids h = tt
+unbegun_waits Closed initialize ids h = tt
+unbegun_waits Gone initialize ids h = tt
+
+module _ (settings : Settings) (before : List Event) (s : ℕ) (body : List ℕ) (absent : Editors before) where
+  abbrev later : List Event
+  later = behind (with_cause before (FromServer s body)) (outs_of settings before (FromServer s body))
+
+  none_wait : OthersWait settings before (FromServer s body) later → AllWaiting later
+  none_wait h e = go (turned_away settings before (FromServer s body) e) refl
+    where
+      go : (b : Bool) → turned_away settings before (FromServer s body) e ≡ b → WaitsAt (desk_of e later) (open_of e later)
+      go false rest = h e rest
+      go true turned = unbegun_waits (desk_of e later).phase (desk_of e later).initialize (open_of e later) (turned_ends settings before s body absent e turned)
+
+pub waiting_rests : (settings : Settings) (before : List Event) (cause : Cause) → Editors before → OthersWait settings before cause (behind (with_cause before cause) (outs_of settings before cause)) → AllWaiting (behind (with_cause before cause) (outs_of settings before cause))
+waiting_rests settings before (FromEditor n body) absent h = all_wait settings before n body h
+waiting_rests settings before (FromServer s body) absent h = none_wait settings before s body absent h
+waiting_rests settings before cause absent h = λ e. h e refl

@@ -22,7 +22,7 @@ use Rattle.group_rows.specs.Example.{all_outs, both_ask, closing, switching, two
 use Rattle.group_rows.specs.Forwarded.{forwarding_of}
 use Rattle.group_rows.specs.Rows.{outs_of}
 use Rattle.group_facts.specs.Built.{built_behind}
-use Rattle.group_facts.specs.Example.{asking_again, asking_again_outs, one_group, one_waits, played, played_from, taken_from, two_ask}
+use Rattle.group_facts.specs.Example.{asking_again, asking_again_outs, one_group, one_waits, played, played_from, taken_from, two_ask, one_refused}
 use Rattle.group_facts.specs.Legal.{Legal, LegalFrom}
 
 -- what is taken is legal
@@ -57,6 +57,10 @@ two_groups_are_legal = legal (with_groups 8) two_groups refl
 one_group_is_legal : Legal (with_groups 1) (played (with_groups 1) one_group)
 unfolding computes url_on_literals message_of named no_name_twice is_integer member_bytes with_id_text escape_byte digits own_request own_notification goes_nowhere editor_request editor_notification
 one_group_is_legal = legal (with_groups 1) one_group refl
+
+one_refused_is_legal : Legal (with_groups 8) (played (with_groups 8) one_refused)
+unfolding computes url_on_literals message_of named no_name_twice is_integer member_bytes with_id_text escape_byte digits own_request own_notification goes_nowhere editor_request editor_notification
+one_refused_is_legal = legal (with_groups 8) one_refused refl
 
 -- Which requests are open
 

@@ -1,6 +1,6 @@
 -- Which causes meet only rows of the table over several editors and groups that are built, until all are.
 -- Not built of an editor: `lspmux/stop` (E6), and while it is served requests that go on with tokens (E10), and the notifications that go on (E11, E16, E17).
--- Not built of a start: its requests and notifications while it is ready, results that read versions (S5), and before that a refused `initialize` (S3). Nor the end of a program whose group lives, and ticks.
+-- Not built of a start: its requests and notifications while it is ready, and results that read versions (S5). Nor the end of a program whose group lives, and ticks.
 -- Of S2, what is read back must be what was meant: editors are shown all of the result.
 use Rattle.std.specs.Prelude.{ℕ, Bool, true, false, not, ◌&&◌, ◌||◌, List, find, codes, bytes_eq}
 use Rattle.std.specs.Prelude.{Option, Some, None}
@@ -27,7 +27,7 @@ use Rattle.event_model.specs.Spawns.{group_of}
 use Rattle.event_model.specs.Stages.{life_of, is_first_result}
 use Rattle.mux_model.specs.Built.{is_other}
 use Rattle.mux_model.specs.Methods.{is_dropped}
-use Rattle.group_words.specs.Houses.{is_first_error, groups_of}
+use Rattle.group_words.specs.Houses.{groups_of}
 use Rattle.group_words.specs.Rows.{shown_of}
 use Rattle.group_rows.specs.Forwarded.{Forwarded, answered_by, forwarding_of}
 use Rattle.group_rows.specs.Rows.{names_lspmux}
@@ -74,10 +74,9 @@ built_from_editor phase ids other = true
 abbrev pub is_shown_whole : List ℕ → Bool
 is_shown_whole body = bytes_eq (shown_of (result_bytes body)) (result_bytes body)
 
--- S2, and S4 without the first error, which is S3
+-- S2 to S4
 abbrev pub built_early : List ℕ → Message → Bool
 built_early body (result id r) = not (is_first_result (result id r)) || is_shown_whole body
-built_early body (error id e) = not (is_first_error (error id e))
 built_early body other = true
 
 -- S5 without versions

@@ -2,11 +2,12 @@
 use Rattle.std.specs.Prelude.{◌≡◌, ℕ, ◌+◌, ◌<◌, ◌≤◌, Bool, true, false, ◌&&◌, ◌||◌, List, length, nat_eq, codes, is_some}
 use Rattle.std.specs.Prelude.{Option, Some, None}
 use Rattle.std.specs.List.{AllByRecursion}
+use Rattle.std.specs.Option.{option_map_or}
 use Rattle.json_text.specs.Json.{Json}
 use Rattle.document_model.specs.Orderly.{AllSpelt, Orderly}
 use Rattle.document_model.specs.Texts.{Texts}
 use Rattle.mux_history.specs.declared.cause.Cause.{Cause}
-use Rattle.mux_history.specs.declared.cause.Cause.TheVariants.{FromEditor}
+use Rattle.mux_history.specs.declared.cause.Cause.TheVariants.{FromEditor, FromServer}
 use Rattle.rpc_message.specs.Message.{Id, Message, integer, request, result, message_of, result_bytes}
 use Rattle.rpc_message.specs.ValueTexts.{IsIdText}
 use Rattle.event_model.specs.declared.phase.Phase.{Phase}
@@ -14,16 +15,16 @@ use Rattle.event_model.specs.declared.phase.Phase.TheVariants.{Absent, New, Wait
 use Rattle.event_model.specs.declared.stage.Stage.{Stage}
 use Rattle.event_model.specs.declared.stage.Stage.TheVariants.{Unspawned, Spawning, Initializing, Ready, Stopping}
 use Rattle.event_model.specs.Event.{Event, notifies}
-use Rattle.event_model.specs.Phases.{desk_of, editors_of}
+use Rattle.event_model.specs.Phases.{desk_of, editors_of, is_begun, is_waiting}
 use Rattle.event_model.specs.Requests.{next_number, is_open, open_of}
 use Rattle.event_model.specs.Settings.{Settings}
 use Rattle.event_model.specs.Spawns.{group_of, starts_of}
-use Rattle.event_model.specs.Stages.{is_ready, life_of, no_life}
+use Rattle.event_model.specs.Stages.{is_initializing, is_ready, life_of, no_life}
 use Rattle.mux_model.specs.Documents.{held_at}
 use Rattle.group_words.specs.declared.kept.Kept.{Kept}
 use Rattle.group_words.specs.declared.placed.Placed.{Placed}
 use Rattle.group_words.specs.declared.placed.Placed.TheVariants.{TooMany}
-use Rattle.group_words.specs.Houses.{groups_of, is_doubled, places, placed_for}
+use Rattle.group_words.specs.Houses.{groups_of, home_of, is_doubled, is_first_error, is_home, places, placed_for}
 use Rattle.group_words.specs.Rows.{initialize_of, result_of, shown_of}
 use Rattle.group_rows.specs.Forwarded.{Forwarded, forwarding_of}
 use Rattle.group_rows.specs.Texts.{texts_of}
@@ -160,14 +161,28 @@ pub record IsWaiting (events : List Event) (e : ℕ) (id : Id) : Type 0 where
 abbrev pub WaitingAsked : List Event → Type 0
 WaitingAsked events = (e : ℕ) → (desk_of e events).phase ≡ Waiting → (id : Id) × IsWaiting events e id
 
--- an editor that this cause turns away: the daemon has too many groups (E7)
+-- S3: the start refuses its `initialize`
+abbrev pub is_refusing : List Event → ℕ → Message → Bool
+is_refusing before s m = is_first_error m && is_initializing (life_of s before).stage
+
+-- the editor is in the group that start s was spawned for
+abbrev pub is_in : Settings → List Event → ℕ → ℕ → Bool
+is_in settings before s e = option_map_or (λ g. is_home g (home_of settings e before)) (group_of s before) false
+
+-- an editor that waits and that this cause turns away: the daemon has too many groups (E7), or the start for which it waits refuses its `initialize` (S3)
 abbrev pub is_too_many : Placed → Bool
 is_too_many TooMany = true
 is_too_many other = false
 
 abbrev pub turned_away : Settings → List Event → Cause → ℕ → Bool
 turned_away settings before (FromEditor n body) e = nat_eq n e && (places (desk_of n before).phase (message_of body) && is_too_many (placed_for settings before n body (groups_of settings before)))
+turned_away settings before (FromServer s body) e = is_refusing before s (message_of body) && (is_waiting (desk_of e before).phase && is_in settings before s e)
 turned_away settings before other e = false
+
+-- an editor of a group that ends while it has editors: its start refuses its `initialize` (S3)
+abbrev pub is_put_out : Settings → List Event → Cause → ℕ → Bool
+is_put_out settings before (FromServer s body) e = is_refusing before s (message_of body) && (is_begun (desk_of e before).phase && is_in settings before s e)
+is_put_out settings before other e = false
 
 -- the message that is at work ends the link of its editor: `exit` (E9), or a request under an id that is open (E3)
 abbrev pub is_parting : List Event → ℕ → Message → Bool
@@ -176,7 +191,7 @@ is_parting before e m = notifies (codes "exit") m || is_doubled before e m
 -- an editor whose link this cause ends
 abbrev pub ends_link : Settings → List Event → Cause → ℕ → Bool
 ends_link settings before (FromEditor n body) e = turned_away settings before (FromEditor n body) e || (nat_eq n e && is_parting before n (message_of body))
-ends_link settings before other e = false
+ends_link settings before other e = is_put_out settings before other e
 
 -- All of it
 

@@ -31,6 +31,7 @@ use Rattle.group_words.specs.Houses.{groups_of}
 use Rattle.group_rows.specs.Ends.{answers_shutdown}
 use Rattle.group_rows.specs.Forwarded.{Forwarded, Sender, answered_by, forwarding_of}
 use Rattle.group_rows.specs.Leaves.{cancel_text}
+use Rattle.group_facts.specs.Built.{is_left}
 use Rattle.group_facts.specs.Facts.{IsAlone, IsWaiting, ends_link, is_early, turned_away}
 use Rattle.group_facts.specs.Lively.{IsDying}
 
@@ -192,7 +193,7 @@ pub record IsAnswer (events : List Event) (e : ℕ) (body : List ℕ) : Type 0 w
   pub alone : IsAlone events e id
   pub says : message_of body ≡ result (Some id) r
 
--- an error for the `initialize` of an editor that waits: the daemon has too many groups
+-- an error for the `initialize` of an editor that waits: the daemon has too many groups, or the start for which it waits refuses its own
 pub record IsTurning (settings : Settings) (before : List Event) (cause : Cause) (events : List Event) (e : ℕ) (body : List ℕ) : Type 0 where
   pub id : Id
   pub x : Json
@@ -239,9 +240,10 @@ is_starting Spawning = true
 is_starting Initializing = true
 is_starting other = false
 
--- the end of a program: its group ended before it gave a result (E7), or it was sent `shutdown` (S4)
+-- the end of a program: its group ended before it gave a result (E7), or since it refused to (S3), or it was sent `shutdown` (S4)
 pub data WhyEnd (settings : Settings) (events : List Event) (s : ℕ) : Type 0 where
   starting : is_starting (life_of s events).stage ≡ true → IsDying settings events s → WhyEnd settings events s
+  refused : (life_of s events).stage ≡ Initializing → is_left settings events s ≡ true → WhyEnd settings events s
   stopped : (life_of s events).stage ≡ Stopping → WhyEnd settings events s
 
 abbrev pub Why : Settings → List Event → Cause → List Event → Out → Type 0

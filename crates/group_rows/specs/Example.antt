@@ -357,3 +357,36 @@ evicted_outs = Spawn 0 0
     ∷ ToServer 0 (codes "{\"jsonrpc\":\"2.0\",\"method\":\"exit\"}")
     ∷ EndServer 0
     ∷ []
+
+-- a start of two editors that got its result ends, and one of them sends `shutdown`; another start is spawned for them, for which two more wait
+abbrev pub before_refusal : List Event
+before_refusal = events_behind (with_groups 8) (behind (with_cause (events_behind (with_groups 8) [] (two_editors ++ FromEditor 1 (codes "{\"jsonrpc\":\"2.0\",\"id\":1,\"method\":\"shutdown\"}") ∷ [])) (ServerGone 0)) (Spawn 1 0 ∷ []))
+    (Joined 2
+    ∷ FromEditor 2 (codes "{\"jsonrpc\":\"2.0\",\"id\":\"a\",\"method\":\"initialize\",\"params\":{\"rootUri\":\"file:///w\",\"capabilities\":{}}}")
+    ∷ Joined 3
+    ∷ FromEditor 3 (codes "{\"jsonrpc\":\"2.0\",\"id\":7,\"method\":\"initialize\",\"params\":{\"rootUri\":\"file:///w\",\"capabilities\":{}}}")
+    ∷ Joined 4
+    ∷ FromEditor 4 (codes "{\"jsonrpc\":\"2.0\",\"id\":8,\"method\":\"initialize\",\"params\":{\"rootUri\":\"file:///v\",\"capabilities\":{}}}")
+    ∷ Started 1
+    ∷ [])
+
+-- it refuses its `initialize`: a response under another number isn't that; and nothing comes of what it says later
+abbrev pub refusing : List Cause
+refusing = FromServer 1 (codes "{\"jsonrpc\":\"2.0\",\"id\":2,\"error\":{\"code\":-32603,\"message\":\"no\"}}")
+    ∷ FromServer 1 (codes "{\"jsonrpc\":\"2.0\", \"id\":1,\"error\":{\"code\":-32603,\"message\":\"no\"}}")
+    ∷ FromServer 1 (codes "{\"jsonrpc\":\"2.0\",\"id\":1,\"error\":{\"code\":-32603,\"message\":\"no\"}}")
+    ∷ ServerGone 1
+    ∷ []
+
+abbrev pub refusing_outs : List Out
+refusing_outs = ToEditor 2 (codes "{\"jsonrpc\":\"2.0\", \"id\":\"a\",\"error\":{\"code\":-32603,\"message\":\"no\"}}")
+    ∷ CloseEditor 2
+    ∷ ToEditor 3 (codes "{\"jsonrpc\":\"2.0\", \"id\":7,\"error\":{\"code\":-32603,\"message\":\"no\"}}")
+    ∷ CloseEditor 3
+    ∷ CloseEditor 0
+    ∷ CloseEditor 1
+    ∷ EndServer 1
+    ∷ []
+
+abbrev pub outs_behind : List Event → List Cause → List Out
+outs_behind events causes = flat_map (λ xs. xs) (outs_from (with_groups 8) events causes)

@@ -1,4 +1,4 @@
--- The routing table over several editors and groups, in part: J1, J2, E2 to E5, E7 to E10, E12 to E15, E19, S1, S2 with X4, S4, S5 without versions, X1 to X3 of groups that live no more, X5 and X6.
+-- The routing table over several editors and groups, in part: J1, J2, E2 to E5, E7 to E10, E12 to E15, E19, S1, S2 with X4, S3, S4, S5 without versions, X1 to X3 of groups that live no more, X5 and X6.
 use Rattle.std.specs.Prelude.{ℕ, Bool, false, ◌&&◌, ◌||◌, List, [], ◌∷◌, ◌++◌, filter, find, flat_map, codes, nat_eq, nat_lt, decimal, bytes_eq, if◌then◌else◌}
 use Rattle.std.specs.Prelude.{Option, Some, None, slice_get}
 use Rattle.std.specs.List.{list_any}
@@ -6,7 +6,7 @@ use Rattle.std.specs.Option.{option_map_or}
 use Rattle.mux_history.specs.declared.cause.Cause.{Cause}
 use Rattle.mux_history.specs.declared.cause.Cause.TheVariants.{FromEditor, EditorGone, Started, FromServer}
 use Rattle.mux_history.specs.declared.out.Out.{Out}
-use Rattle.mux_history.specs.declared.out.Out.TheVariants.{ToEditor, ToServer, CloseEditor}
+use Rattle.mux_history.specs.declared.out.Out.TheVariants.{ToEditor, ToServer, CloseEditor, EndServer}
 use Rattle.position_codec.specs.declared.Encoding.{Encoding}
 use Rattle.lsp_method.specs.Class.{class_of}
 use Rattle.lsp_method.specs.declared.variants.Origin.TheVariants.{Editor}
@@ -33,7 +33,7 @@ use Rattle.event_model.specs.Stages.{life_of, is_ready, is_first_result}
 use Rattle.mux_model.specs.Documents.{held_at}
 use Rattle.mux_model.specs.Methods.{is_dollar, is_wrong}
 use Rattle.mux_model.specs.Rows.{malformed_row, to_start}
-use Rattle.group_words.specs.Houses.{editors_in, groups_of, home_of, is_doubled, is_first_open, server_asked}
+use Rattle.group_words.specs.Houses.{editors_in, groups_of, home_of, is_doubled, is_first_error, is_first_open, server_asked}
 use Rattle.group_words.specs.Rows.{initialize_of, initialize_row, shown_of}
 use Rattle.group_rows.specs.Ends.{answers_shutdown, exit_server}
 use Rattle.group_rows.specs.Forwarded.{Forwarded, forwarding_of, answered_by}
@@ -198,6 +198,24 @@ result_in settings before s body g =
 abbrev pub first_result : Settings → List Event → ℕ → List ℕ → Row
 first_result settings before s body = on (group_of s before) nothing (result_in settings before s body)
 
+-- S3: a start refuses its `initialize`: each editor of its group that waits gets the error under its own id, and then its link is to be ended; then those of the others, and the program (LSP 3.17, Initialize Request)
+abbrev pub refusal : List ℕ → ℕ → Row
+refusal body e = look (λ events. send (ToEditor e (with_id_text body (id_bytes (desk_of e events).initialize)))) ⨾ send (CloseEditor e)
+
+-- the editors of a group
+abbrev pub members_in : Settings → ℕ → List Event → List ℕ
+members_in settings g events = editors_in is_begun g (λ e. home_of settings e events) events
+
+abbrev pub close_all : List ℕ → Row
+close_all es = each (λ e. send (CloseEditor e)) es
+
+-- behind the refusals none waits
+abbrev pub refused_in : Settings → ℕ → List ℕ → ℕ → Row
+refused_in settings s body g = look (λ events. each (refusal body) (waiting_in settings g events)) ⨾ (look (λ events. close_all (members_in settings g events)) ⨾ send (EndServer s))
+
+abbrev pub refused_row : Settings → List Event → ℕ → List ℕ → Row
+refused_row settings before s body = on (group_of s before) nothing (refused_in settings s body)
+
 -- S5: an answer goes to the editor that asked, under its own id
 abbrev pub pass_on : List Event → List ℕ → Forwarded → Row
 pass_on before body f = choose (is_there (desk_of f.editor before).phase) (send (ToEditor f.editor (with_id_text body f.id))) nothing
@@ -218,7 +236,7 @@ abbrev pub stopping_row : ℕ → List Event → Message → Row
 stopping_row s before m = choose (answers_shutdown s before m) (exit_server s) nothing
 
 abbrev pub from_server : Settings → ℕ → List Event → List ℕ → Message → Stage → Row
-from_server settings s before body m Initializing = choose (is_first_result m) (first_result settings before s body) (hasty_row s body m)
+from_server settings s before body m Initializing = choose (is_first_result m) (first_result settings before s body) (choose (is_first_error m) (refused_row settings before s body) (hasty_row s body m))
 from_server settings s before body m Ready = response_row s before body m
 from_server settings s before body m Stopping = stopping_row s before m
 from_server settings s before body m other = nothing

@@ -111,24 +111,6 @@ no_call_built fs not_json x h r e = absurd (cc)
 no_call_built fs not_message x h r e = absurd (cc)
 
 -- before its result
-pub early_call : (body : List ℕ) (m : Message) (x : Sort) → sort_of m ≡ Some x → (x ≡ sort.Request) ⊎ (x ≡ sort.Notification) → true ≡ built_early body m
-early_call body (request id method params) x h k = refl
-early_call body (notification method params) x h k = refl
-early_call body (result id r) x h (inl k) = absurd (cc)
-early_call body (result id r) x h (inr k) = absurd (cc)
-early_call body (error id e) x h (inl k) = absurd (cc)
-early_call body (error id e) x h (inr k) = absurd (cc)
-early_call body not_json x h k = absurd (cc)
-early_call body not_message x h k = absurd (cc)
-
-pub early_error : (body : List ℕ) (m : Message) (b : Bool) → sort_of m ≡ Some sort.Error → b ≡ is_first_error m → not b ≡ built_early body m
-early_error body (error id e) b h is = ap not is
-early_error body (request id method params) b h is = absurd (cc)
-early_error body (notification method params) b h is = absurd (cc)
-early_error body (result id r) b h is = absurd (cc)
-early_error body not_json b h is = absurd (cc)
-early_error body not_message b h is = absurd (cc)
-
 pub early_first : (body : List ℕ) (m : Message) → is_first_result m ≡ true → is_shown_whole body ≡ built_early body m
 early_first body (result id r) h = ap (λ b. not b || is_shown_whole body) (sym h)
 early_first body (request id method params) h = absurd (cc)
@@ -137,13 +119,13 @@ early_first body (error id e) h = absurd (cc)
 early_first body not_json h = absurd (cc)
 early_first body not_message h = absurd (cc)
 
-pub early_other : (body : List ℕ) (m : Message) → sort_of m ≡ Some sort.Result → is_first_result m ≡ false → true ≡ built_early body m
-early_other body (result id r) s h = ap (λ b. not b || is_shown_whole body) (sym h)
-early_other body (request id method params) s h = absurd (cc)
-early_other body (notification method params) s h = absurd (cc)
-early_other body (error id e) s h = absurd (cc)
-early_other body not_json s h = absurd (cc)
-early_other body not_message s h = absurd (cc)
+pub early_other : (body : List ℕ) (m : Message) → is_first_result m ≡ false → true ≡ built_early body m
+early_other body (result id r) h = ap (λ b. not b || is_shown_whole body) (sym h)
+early_other body (request id method params) h = refl
+early_other body (notification method params) h = refl
+early_other body (error id e) h = refl
+early_other body not_json h = refl
+early_other body not_message h = refl
 
 -- of a start that is to end each message is built
 pub late_built : (x y : Stage) (fs : List Forwarded) (body : List ℕ) (m : Message) → y ≡ x → (y ≡ Stopping) ⊎ (y ≡ Ending) → true ≡ built_from_server x fs body m

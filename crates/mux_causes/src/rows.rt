@@ -31,7 +31,7 @@ use mux_members::{
     speaks,
 };
 use mux_tables::Tables;
-use mux_turns::{answered_number, asks_lspmux, doubles, is_first_error, shown_of};
+use mux_turns::{answered_number, asks_lspmux, doubles, shown_of};
 use rpc_message::{Malformed, Message, Sort};
 use std::alloc::Global;
 
@@ -214,20 +214,14 @@ fn built_response(tables: &Tables, g: usize, message: &Message) -> bool
     }
 }
 
-// S2 and S4: a message of a start that gave no result yet, without S3.
+// S2 to S4: a message of a start that gave no result yet.
 fn built_early(alloc: Global, message: &Message) -> Result<bool, Memory>
     ensures { (body : List ℕ) → IsRead message.now body → IfOk result (λ answer. answer ≡ built_early body (message_of body)) }
 {
-    match message.sort() {
-        Sort::Request | Sort::Notification => Ok(true),
-        Sort::Error => Ok(!is_first_error(message)),
-        Sort::Result => {
-            if is_first_result(message) {
-                is_shown_whole(alloc, message)
-            } else {
-                Ok(true)
-            }
-        }
+    if is_first_result(message) {
+        is_shown_whole(alloc, message)
+    } else {
+        Ok(true)
     }
 }
 

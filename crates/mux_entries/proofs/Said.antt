@@ -28,7 +28,7 @@ use Rattle.event_model.proofs.Turns.{alike, alike_then}
 use Rattle.group_facts.specs.Built.{built_early, built_from_server, is_shown_whole}
 use Rattle.group_facts.specs.Facts.{AllForwarded, IsForwarded, WaitingAsked, is_early}
 use Rattle.group_rows.specs.Forwarded.{Forwarded, answered_by, forwarding_of, names}
-use Rattle.group_rows.specs.Rows.{first_result, from_server, pass_on, response_row, hasty_row, stopping_row}
+use Rattle.group_rows.specs.Rows.{first_result, from_server, pass_on, refused_row, response_row, hasty_row, stopping_row}
 use Rattle.group_rows.specs.Ends.{last_number}
 use Rattle.group_words.specs.Houses.{is_first_error}
 use Rattle.group_words.specs.Rows.{shown_of}
@@ -169,7 +169,7 @@ module _ (settings : Settings) (s : ℕ) (before : List Event) (body : List ℕ)
 
   -- S1
   pub malformed_row : (m : Message) (stage : Stage) → is_malformed m ≡ true → Alike (from_server settings s before body m stage) nothing
-  malformed_row m Initializing h = alike_then (is_second refl (unanswered_first m (malformed_names m h))) (alike (unasked_row m (malformed_aside m h)))
+  malformed_row m Initializing h = alike_then (is_second refl (unanswered_first m (malformed_names m h))) (alike_then (is_second refl (unanswered_error m (malformed_names m h))) (alike (unasked_row m (malformed_aside m h))))
   malformed_row m Ready h = alike (ap (λ o. on o nothing (pass_on before body)) (ap (λ id. find (answered_by id) (forwarding_of s before).open_requests) (malformed_names m h) ∙ nobody (forwarding_of s before).open_requests))
   malformed_row m Unspawned h = alike refl
   malformed_row m Spawning h = alike refl
@@ -177,13 +177,21 @@ module _ (settings : Settings) (s : ℕ) (before : List Event) (body : List ℕ)
   malformed_row m Ending h = alike refl
   malformed_row m Ended h = alike refl
 
-  -- S4
   module _ (m : Message) (stage : Stage) (at : stage ≡ Initializing) (other : is_first_result m ≡ false) where
-    pub other_row : (sort_of m ≡ Some sort.Request → ⊥) → Alike (from_server settings s before body m stage) nothing
-    other_row unasked = alike_then (alike (ap (from_server settings s before body m) at)) (alike_then (is_second refl other) (alike (unasked_row m unasked)))
+    -- S3
+    pub refused_here : is_first_error m ≡ true → Alike (from_server settings s before body m stage) (refused_row settings before s body)
+    refused_here refuses = alike_then (alike (ap (from_server settings s before body m) at)) (alike_then (is_second refl other) (is_first refl refuses))
 
-    pub hasty_here : (id : Id) (method : List ℕ) (params : Option Json) → m ≡ request id method params → Alike (from_server settings s before body m stage) (hasty_row s body (request id method params))
-    hasty_here id method params is = alike_then (alike (ap (from_server settings s before body m) at)) (alike_then (is_second refl other) (alike (ap (hasty_row s body) is)))
+    -- S4
+    module _ (unrefused : is_first_error m ≡ false) where
+      second_row : Alike (from_server settings s before body m stage) (hasty_row s body m)
+      second_row = alike_then (alike (ap (from_server settings s before body m) at)) (alike_then (is_second refl other) (is_second refl unrefused))
+
+      pub other_row : (sort_of m ≡ Some sort.Request → ⊥) → Alike (from_server settings s before body m stage) nothing
+      other_row unasked = alike_then second_row (alike (unasked_row m unasked))
+
+      pub hasty_here : (id : Id) (method : List ℕ) (params : Option Json) → m ≡ request id method params → Alike (from_server settings s before body m stage) (hasty_row s body (request id method params))
+      hasty_here id method params is = alike_then second_row (alike (ap (hasty_row s body) is))
 
 -- a body that was read is a message
 tells_one : (doc : Doc) (envelope : Envelope) (m : Message) → Tells doc envelope m → is_malformed m ≡ false
@@ -207,19 +215,6 @@ early_whole body (request id method params) h first = absurd (cc)
 early_whole body (notification method params) h first = absurd (cc)
 early_whole body not_json h first = absurd (cc)
 early_whole body not_message h first = absurd (cc)
-
--- and no first error
-pub unrefused : (body : List ℕ) (m : Message) → built_early body m ≡ true → is_first_error m ≡ false
-unrefused body (error id r) h = go (is_first_error (error id r)) h
-  where
-    go : (b : Bool) → not b ≡ true → b ≡ false
-    go true k = absurd (cc)
-    go false k = refl
-unrefused body (result id r) h = refl
-unrefused body (request id method params) h = refl
-unrefused body (notification method params) h = refl
-unrefused body not_json h = refl
-unrefused body not_message h = refl
 
 -- S2
 first_is : (m : Message) → is_first_result m ≡ true → (id : Option Id) × (r : Json) × (m ≡ result id r)
@@ -245,9 +240,6 @@ pub record IsFirst (settings : Settings) (before : List Event) (s : ℕ) (body :
 module _ (settings : Settings) (before : List Event) (s : ℕ) (body : List ℕ) (stage : (life_of s before).stage ≡ Initializing) (built : built_from_server (life_of s before).stage (forwarding_of s before).open_requests body (message_of body) ≡ true) where
   now_built : built_early body (message_of body) ≡ true
   now_built = ap (λ g. built_from_server g (forwarding_of s before).open_requests body (message_of body)) (sym stage) ∙ built
-
-  pub now_unrefused : is_first_error (message_of body) ≡ false
-  now_unrefused = unrefused body (message_of body) now_built
 
   pub first_entry : is_first_result (message_of body) ≡ true → IsFirst settings before s body
   first_entry first =

@@ -1,4 +1,4 @@
-//! What the program of a start says: S1, S2, S4 and S5.
+//! What the program of a start says: S1 to S5.
 ghost use Rattle.std.specs.Prelude.{◌≡◌, ◌<◌, ◌≤◌, ℕ, List, [], map, Some, false, true, length, OnOk, slice_get};
 ghost use Rattle.event_model.specs.declared.stage.Stage.TheVariants.{Initializing};
 ghost use Rattle.event_model.specs.Does.{Alike, Done};
@@ -27,7 +27,8 @@ use mux_history::Outs;
 use mux_members::is_first_result;
 use mux_tables::Tables;
 use mux_turns::{
-    answered_number, stage_at, take_answer, take_ending, take_hasty, take_result, take_stopping,
+    answered_number, is_first_error, stage_at, take_answer, take_ending, take_hasty, take_refused,
+    take_result, take_stopping,
 };
 use rpc_message::{Malformed, Message, Sort};
 use std::alloc::Global;
@@ -98,7 +99,7 @@ fn take_other(
     }
 }
 
-// S2, with the replay X4, and S4: a message comes from a start that gave no result of its `initialize` yet.
+// S2, with the replay X4, S3 and S4: a message comes from a start that gave no result of its `initialize` yet.
 fn take_first(
     tables: &mut Tables,
     alloc: Global,
@@ -119,6 +120,9 @@ fn take_first(
 {
     if is_first_result(message) {
         take_result(tables, alloc, outs, g, message)?;
+        Ok(())
+    } else if is_first_error(message) {
+        take_refused(tables, alloc, outs, g, message)?;
         Ok(())
     } else {
         take_other(tables, alloc, outs, g, message)?;
@@ -199,7 +203,7 @@ fn take_body(
 }
 
 /// The program of a start says something: where it gives the result of its `initialize`, the editors that wait are answered; where it
-/// answers an editor's request, that editor is; where it answers `shutdown`, the start is to end; a body that is no message gives
+/// refuses it, its group ends; where it answers an editor's request, that editor is answered; where it answers `shutdown`, the start is to end; a body that is no message gives
 /// nothing. Only a start that is the last of its group has a program that runs.
 pub fn from_server(
     tables: &mut Tables,

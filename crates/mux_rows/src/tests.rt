@@ -498,6 +498,43 @@ const HASTY: [(&str, &str); 7] = [
     ),
 ];
 
+// A start for which two editors wait refuses its `initialize`: behind it they and the start give nothing, and the next editor of that
+// key founds a group anew.
+const REFUSED: [(&str, &str); 11] = [
+    ("join 0\n", ""),
+    (
+        "ed 0 {\"jsonrpc\":\"2.0\",\"id\":0,\"method\":\"initialize\",\"params\":{\"capabilities\":{}}}\n",
+        ">spawn 0 0\n",
+    ),
+    ("join 1\n", ""),
+    (
+        "ed 1 {\"jsonrpc\":\"2.0\",\"id\":\"a\",\"method\":\"initialize\",\"params\":{\"capabilities\":{}}}\n",
+        "",
+    ),
+    (
+        "up 0\n",
+        ">sv 0 {\"jsonrpc\":\"2.0\",\"id\":1,\"method\":\"initialize\",\"params\":{\"processId\":null,\"clientInfo\":{\"name\":\"lspmux\"},\"rootUri\":null,\"capabilities\":{},\"trace\":\"off\"}}\n",
+    ),
+    (
+        "sv 0 {\"jsonrpc\":\"2.0\", \"id\":1,\"error\":{\"code\":-32603,\"message\":\"no\"}}\n",
+        ">ed 0 {\"jsonrpc\":\"2.0\", \"id\":0,\"error\":{\"code\":-32603,\"message\":\"no\"}}\n>close 0\n>ed 1 {\"jsonrpc\":\"2.0\", \"id\":\"a\",\"error\":{\"code\":-32603,\"message\":\"no\"}}\n>close 1\n>end 0\n",
+    ),
+    (
+        "ed 0 {\"jsonrpc\":\"2.0\",\"id\":1,\"method\":\"textDocument/hover\",\"params\":{}}\n",
+        "",
+    ),
+    (
+        "sv 0 {\"jsonrpc\":\"2.0\",\"id\":1,\"result\":{\"capabilities\":{}}}\n",
+        "",
+    ),
+    ("exit 0\n", ""),
+    ("join 2\n", ""),
+    (
+        "ed 2 {\"jsonrpc\":\"2.0\",\"id\":0,\"method\":\"initialize\",\"params\":{\"capabilities\":{}}}\n",
+        ">spawn 1 1\n",
+    ),
+];
+
 // A status of a new editor, of one whose group's start is to begin, and of one while it gave no result yet; behind it, with a request
 // open; under an id that is open, which ends the link; and behind that.
 const STATUSES: [(&str, &str); 14] = [
@@ -647,6 +684,7 @@ fn several_editors_bring_their_lines(rt: HostRuntime) -> Result<(), Fail> {
         &[&TWO_EDITORS, &DOUBLED],
         &[&AGAIN],
         &[&HASTY],
+        &[&REFUSED],
         &[&STATUSES],
         &[&OPENED],
     ];

@@ -1,6 +1,7 @@
 pub mod Begins
 pub mod Frames
 pub mod IdMoves
+pub mod Idles
 pub mod Lasts
 pub mod Seen
 pub mod Moves

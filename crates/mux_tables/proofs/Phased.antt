@@ -45,6 +45,14 @@ phased_id t e p h = go (is_gone (session_of t e).phase) (is_gone p) h
     go false false h = refl
     go false true h = never h
 
+pub closed_gone : (p : Phase) → is_gone (phase_closed p) ≡ is_gone p
+closed_gone Gone = refl
+closed_gone other = refl
+
+-- so does the end of a link
+pub closed_id : (t : List Session) (e : ℕ) (p : Phase) → p ≡ phase_closed (session_of t e).phase → (phased t e p).id ≡ (session_of t e).id
+closed_id t e p is = ap (λ (x : Session). x.id) (same_session p (session_of t e) (ap is_gone is ∙ closed_gone (session_of t e).phase))
+
 -- the events
 abbrev phase_at : Desk → Phase
 phase_at d = d.phase
@@ -61,10 +69,6 @@ hears_gone other i body m = refl
 told_gone : (p : Phase) (i : List ℕ) (m : Message) → is_gone (phase_told p i m) ≡ is_gone p
 told_gone Waiting i (result (Some id) r) = elim (has_id id (message_of i)) as (λ b. is_gone (if b then Answered else Waiting) ≡ false) [ true ↦ refl | false ↦ refl ]
 told_gone p i m = refl
-
-pub closed_gone : (p : Phase) → is_gone (phase_closed p) ≡ is_gone p
-closed_gone Gone = refl
-closed_gone other = refl
 
 module _ (settings : Settings) (t : List Session) (events : List Event) (e : ℕ) (p : Phase) (l : e < length t) (s : EditorsStand settings t events) where
   own : is_gone (desk_of e events).phase ≡ is_gone (session_of t e).phase

@@ -18,7 +18,7 @@ ghost use Rattle.mux_tables.specs.Documents.{DocumentsStand, Leaves, Owed, chang
 ghost use Rattle.mux_tables.specs.Stands.{Stands, start_for, stays_in};
 
 use crate::documents::{leave, note};
-use crate::seats::{end_all, join, later, seat};
+use crate::seats::{end_all, join, later, lives, seat};
 use crate::tables::Tables;
 use capability_meet::CapFault;
 use event_model::Phase;
@@ -114,7 +114,7 @@ impl Tables {
         Ok(placed)
     }
 
-    // A group that lost its last editor is idle from now on.
+    // A group that lives and lost its last editor is idle from now on.
     fn empty_group(&mut self, g: u64, was: bool) -> Result<(), Memory>
         ensures editors { self.new.editors ≡ self.old.editors }
         ensures time { self.new.time ≡ self.old.time }
@@ -127,6 +127,9 @@ impl Tables {
             ≡ with_groups (emptied (Some g) was (stays_in self.old.editors) self.old.time self.old.groups.groups) self.old.groups) }
     {
         if !was {
+            return Ok(());
+        }
+        if !lives(&self.groups, g) {
             return Ok(());
         }
         let left = self.editors.of_group(g)?;

@@ -48,6 +48,7 @@ impl Tables {
     /// A body goes to an editor, which it leaves in its phase.
     #[tactic(auto, using(crate::proofs::Said::told_does))]
     pub fn tell(&self, outs: &mut Outs, e: u64, body: Body) -> Result<(), Memory>
+        ensures outs { OnOk result (outs.new ≡ outs.old ++ ToEditor e body ∷ []) }
         ensures does { (settings : Settings) (base : List Event) → Keeps e body (behind base outs.old)
             → OnOk result (Does (λ t events. Stands settings t events) (send (ToEditor e body)) base self.now outs.old self.now outs.new) }
         ensures documents { (settings : Settings) (owed : Owed) (base : List Event) → DocumentsStand settings owed self.now (behind base outs.old)
@@ -82,6 +83,9 @@ impl Tables {
         ensures requests { self.new.requests ≡ self.old.requests }
         ensures versions { self.new.versions ≡ self.old.versions }
         ensures lasts { self.new.lasts ≡ self.old.lasts }
+        ensures count { OnOk result (length self.new.editors ≡ length self.old.editors) }
+        ensures ids { OnOk result ((n : ℕ) → id_in (slice_get self.new.editors n) ≡ id_in (slice_get self.old.editors n)) }
+        ensures outs { OnOk result (outs.new ≡ outs.old ++ CloseEditor e ∷ []) }
         ensures does { (settings : Settings) (base : List Event)
             → OnOk result (Does (λ t events. Stands settings t events) (send (CloseEditor e)) base self.old outs.old self.new outs.new) }
         ensures documents { (settings : Settings) (base : List Event) → Stands settings self.old (behind base outs.old)

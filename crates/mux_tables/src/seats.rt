@@ -1,5 +1,6 @@
 // Editors and groups, where an editor is placed, and where groups become idle or end.
 ghost use Rattle.std.specs.Prelude.{◌≡◌, ◌<◌, ◌^◌, ◌&&◌, false, ℕ, None, Some, length, max, nat_le, slice_get, slice_set};
+ghost use Rattle.std.specs.Option.{option_map_or};
 ghost use Rattle.editor_session.specs.declared.session.Session.{Session};
 ghost use Rattle.editor_session.specs.Sessions.{is_gone};
 ghost use Rattle.event_model.specs.declared.phase.Phase.TheVariants.{Waiting};
@@ -42,6 +43,16 @@ pub fn join(groups: &mut Groups, placed: Placed)
         Placed::New(_) => {}
         Placed::Evicts(_, _) => {}
         Placed::TooMany => {}
+    }
+}
+
+// Whether the group of this number lives.
+pub fn lives(groups: &Groups, g: u64) -> bool
+    ensures { result ≡ option_map_or (λ x. x.live) (slice_get groups.now.groups g) false }
+{
+    match groups.get(g) {
+        None => false,
+        Some(kept) => kept.live,
     }
 }
 

@@ -105,6 +105,10 @@ impl Tables {
     pub fn hear_refusal(&mut self, g: usize, n: Option<u32>)
         requires group { g < length self.old.lasts.items }
         requires stage { (x : Start) → slice_get self.old.lasts.items g ≡ Some x → x.life.stage ≡ Initializing }
+        ensures requests { self.new.requests ≡ self.old.requests }
+        ensures versions { self.new.versions ≡ self.old.versions }
+        ensures starts { map number_in self.new.lasts.items ≡ map number_in self.old.lasts.items }
+        ensures stages { map stage_in self.new.lasts.items ≡ map stage_in self.old.lasts.items }
         ensures stands { (settings : Settings) (events : List Event) (s : ℕ) (body : List ℕ)
             → slice_get (map number_in self.old.lasts.items) g ≡ Some s → is_first_error (message_of body) ≡ true
             → NamesAt (answered_id (message_of body)) n

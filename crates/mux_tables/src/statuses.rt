@@ -1,5 +1,6 @@
 // What is told of the live groups (E5).
 ghost use Rattle.std.specs.Prelude.{◌≡◌, ◌<◌, ℕ, List, map, filter, Some, length, IfOk, slice_get};
+ghost use Rattle.std.specs.List.{All};
 ghost use Rattle.event_model.specs.Event.{Event};
 ghost use Rattle.event_model.specs.Phases.{is_begun, is_there};
 ghost use Rattle.event_model.specs.Settings.{Settings};
@@ -44,9 +45,10 @@ impl Tables {
     }
 
     /// The numbers, rising, of the editors of this group.
-    #[tactic(auto, using(crate::proofs::Live::begun_so))]
+    #[tactic(auto, using(crate::proofs::Live::begun_so, crate::proofs::Waits::members_inside))]
     pub fn members(&self, g: u64) -> Result<Vec<u64>, Memory>
-        ensures { (settings : Settings) (events : List Event) → Stands settings self.now events
+        ensures inside { IfOk result (λ numbers. All (λ e. e < length self.now.editors) numbers.items) }
+        ensures those { (settings : Settings) (events : List Event) → Stands settings self.now events
             → IfOk result (λ numbers. numbers.items ≡ editors_in is_begun g (λ e. home_of settings e events) events) }
     {
         let numbers = self.editors.of_group(g)?;

@@ -18,6 +18,7 @@ pub mod Matched
 pub mod Noticing
 pub mod Numbers
 pub mod Ready
+pub mod PutOut
 pub mod Replies
 pub mod Rows
 pub mod Serving

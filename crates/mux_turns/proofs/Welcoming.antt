@@ -145,7 +145,7 @@ both_true true true h = (refl, refl)
 both_true true false h = absurd (cc)
 both_true false b h = absurd (cc)
 
-home_there : (g : ℕ) (o : Option ℕ) → is_home g o ≡ true → o ≡ Some g
+pub home_there : (g : ℕ) (o : Option ℕ) → is_home g o ≡ true → o ≡ Some g
 home_there g None h = absurd (cc)
 home_there g (Some h) is = ap (λ n. Some n) (eqb-true h g is)
 

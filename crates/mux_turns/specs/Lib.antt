@@ -3,4 +3,5 @@ pub mod Ceilings
 pub mod Founding
 pub mod Leavings
 pub mod Openings
+pub mod Refusing
 pub mod Welcomes

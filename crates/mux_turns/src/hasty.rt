@@ -1,4 +1,4 @@
-//! S3 and S4: what a start that gave no result yet says besides.
+//! S4: what a start that gave no result yet says besides, and which message is S3.
 ghost use Rattle.std.specs.Prelude.{◌≡◌, ◌<◌, ℕ, List, [], Option, Some, map, length, IfOk, OnOk, slice_get};
 ghost use Rattle.event_model.specs.declared.stage.Stage.TheVariants.{Initializing};
 ghost use Rattle.event_model.specs.Does.{Done};

@@ -1,9 +1,11 @@
 -- A message of a start that gave no result yet.
 use Rattle.std.proofs.Common.{sym, ◌∙◌}
+use Rattle.event_model.specs.Stages.{life_of}
 use Rattle.event_model.proofs.Places.{item_at}
+use Rattle.rpc_message.specs.Message.{message_of}
 use Rattle.mux_tables.specs.Documents.{AllStand}
 use Rattle.mux_entries.proofs.EditorRows.{done_alike}
-use Rattle.mux_entries.proofs.Said.{asking, first_entry, now_unrefused, stage_here}
+use Rattle.mux_entries.proofs.Said.{asking, first_entry, refused_here, stage_here}
 use Rattle.mux_entries.proofs.servers.take_first.Goals as goal
 
 pub returns-in_ok-take_result-clause-does : goal.returns-in_ok-take_result-clause-does
@@ -14,9 +16,15 @@ returns-in_ok-take_result-clause-does c = λ settings before body s read first a
     let k = first_entry settings before s body stage built (sym (c.is_first_result.ensures body read) ∙ c.if-is_first_result.true) in
     done_alike (λ k events. AllStand settings k events) k.row (c.in_ok-take_result.ensures.does settings before body k.id k.value s read k.says k.first at first k.shown (asking before known.waiting) st ds)
 
-pub returns-in_ok-take_other-clause-does : goal.returns-in_ok-take_other-clause-does
-returns-in_ok-take_other-clause-does c = λ settings before body s read first at known run built st ds.
+pub returns-in_ok-take_refused-clause-does : goal.returns-in_ok-take_refused-clause-does
+returns-in_ok-take_refused-clause-does c = λ settings before body s read first at known run built st ds.
     let t = c.args.tables.now in
     let x = item_at t.lasts.items c.args.g c.requires.group in
     let stage = stage_here settings t before c.args.g s x.0 x.1 at st ∙ c.requires.stage x.0 x.1 in
-    c.in_ok-take_other.ensures.does settings before body s read first at run (sym (c.is_first_result.ensures body read) ∙ c.if-is_first_result.false) (now_unrefused settings before s body stage built) st ds
+    let refuses = sym (c.is_first_error.ensures body read) ∙ c.if-is_first_error.true in
+    done_alike (λ k events. AllStand settings k events) (refused_here settings s before body (message_of body) (life_of s before).stage stage (sym (c.is_first_result.ensures body read) ∙ c.if-is_first_result.false) refuses)
+    (c.in_ok-take_refused.ensures.does settings before body s read refuses at first (asking before known.waiting) st ds)
+
+pub returns-in_ok-take_other-clause-does : goal.returns-in_ok-take_other-clause-does
+returns-in_ok-take_other-clause-does c = λ settings before body s read first at known run built st ds.
+    c.in_ok-take_other.ensures.does settings before body s read first at run (sym (c.is_first_result.ensures body read) ∙ c.if-is_first_result.false) (sym (c.is_first_error.ensures body read) ∙ c.if-is_first_error.false) st ds

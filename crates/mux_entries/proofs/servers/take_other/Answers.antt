@@ -16,7 +16,7 @@ returns-in_ok-take_hasty-in-Request-clause-does c = λ settings before body s re
     let x = item_at t.lasts.items c.args.g c.requires.group in
     let stage = stage_here settings t before c.args.g s x.0 x.1 at st ∙ c.requires.stage x.0 x.1 in
     let asks = asks_by_sort m (c.sort.ensures body read ∙ ap (λ x. Some x) c.in-Request.is) in
-    done_alike (λ k events. AllStand settings k events) (hasty_here settings s before body m (life_of s before).stage stage other asks.id asks.method asks.params asks.is)
+    done_alike (λ k events. AllStand settings k events) (hasty_here settings s before body m (life_of s before).stage stage other refused asks.id asks.method asks.params asks.is)
     (c.in_ok-take_hasty-in-Request.ensures.does settings before body asks.method asks.id asks.params s read asks.is first at st ds)
 
 pub returns-in_default-clause-does : goal.returns-in_default-clause-does
@@ -27,4 +27,4 @@ returns-in_default-clause-does c = λ settings before body s read first at run o
     let stage = stage_here settings t before c.args.g s x.0 x.1 at st ∙ c.requires.stage x.0 x.1 in
     let unasked = not_request m c.sort.result (c.sort.ensures body read) c.in_default.not-Request in
     done_quietly (λ k events. AllStand settings k events) first
-    (c.hear_quietly.ensures.does settings before body s other refused (c.answered_number.ensures body read) (other_row settings s before body m (life_of s before).stage stage other unasked) at run st ds)
+    (c.hear_quietly.ensures.does settings before body s other refused (c.answered_number.ensures body read) (other_row settings s before body m (life_of s before).stage stage other refused unasked) at run st ds)

@@ -1,11 +1,24 @@
 -- The editor is closed.
-use Rattle.std.proofs.Common.{List, ap, subst}
+use Rattle.std.proofs.Common.{List, ap, length, subst, ◌∙◌}
+use Rattle.std.specs.Prelude.{slice_get}
+use Rattle.std.proofs.lemmas.List.{length-set}
 use Rattle.focus_switch.specs.Documents.{Documents}
 use Rattle.focus_switch.specs.Rows.{leave_row}
 use Rattle.mux_tables.specs.Documents.{StepFrom}
+use Rattle.mux_tables.specs.Names.{id_in}
+use Rattle.event_model.specs.Phases.{phase_closed}
+use Rattle.mux_tables.proofs.Phased.{closed_id}
 use Rattle.mux_tables.proofs.Said.{close_does}
+use Rattle.mux_tables.proofs.Waits.{ids_kept}
 use Rattle.mux_tables.proofs.DocumentLeft.{closed_documents, closed_unserved}
 use Rattle.mux_tables.proofs.tables.Tables.close.Goals as goal
+
+pub returns-clause-count : goal.returns-clause-count
+returns-clause-count c = ap length (c.in_ok-empty.ensures.editors ∙ c.set.ensures) ∙ length-set c.args.self.now.editors c.args.e _
+
+pub returns-clause-ids : goal.returns-clause-ids
+returns-clause-ids c = λ n. ap (λ xs. id_in (slice_get xs n)) (c.in_ok-empty.ensures.editors ∙ c.set.ensures)
+    ∙ ids_kept c.args.self.now.editors c.args.e _ c.requires (closed_id c.args.self.now.editors c.args.e c.closed.result (c.closed.ensures ∙ ap phase_closed c.phase-phase.ensures.phase)) n
 
 pub returns-clause-does : goal.returns-clause-does
 returns-clause-does c = λ settings base.

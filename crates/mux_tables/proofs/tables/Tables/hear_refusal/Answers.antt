@@ -1,11 +1,17 @@
 -- `initialize` is refused.
 use Rattle.std.proofs.Common.{refl}
-use Rattle.mux_tables.proofs.Starts.{read_here}
+use Rattle.mux_tables.proofs.Starts.{read_here, stages_stay, starts_stay}
 use Rattle.mux_tables.proofs.Served.{refusal_moves}
 use Rattle.mux_tables.proofs.DocumentHeard.{answer_documents, error_only, initializing_runs}
 use Rattle.event_model.specs.Stages.{is_initializing}
 use Rattle.rpc_message.specs.Message.{message_of}
 use Rattle.mux_tables.proofs.tables.Tables.hear_refusal.Goals as goal
+
+pub returns-clause-starts : goal.returns-clause-starts
+returns-clause-starts c = starts_stay c.args.self.now.lasts.items c.args.g c.index_mut-last.result.now (record c.index_mut-last.result.now { ids = c.forget.new.ids }) c.requires.group c.index_mut-last.ensures.value refl
+
+pub returns-clause-stages : goal.returns-clause-stages
+returns-clause-stages c = stages_stay c.args.self.now.lasts.items c.args.g c.index_mut-last.result.now (record c.index_mut-last.result.now { ids = c.forget.new.ids }) c.requires.group c.index_mut-last.ensures.value refl
 
 pub returns-clause-stands : goal.returns-clause-stands
 returns-clause-stands c = λ settings events s body at first named st.
