@@ -11,7 +11,7 @@ use Rattle.position_codec.specs.declared.Encoding.TheVariants.{Utf8, Utf16}
 use Rattle.rpc_message.specs.Message.{message_of, no_name_twice, is_integer, member_bytes}
 use Rattle.rpc_message.specs.Texts.{with_id_text}
 use Rattle.group_words.specs.Example.{with_groups}
-use Rattle.group_rows.specs.Example.{all_outs, events_behind, too_early, too_early_outs, refused_early, refused_early_outs, wrong_names, wrong_names_outs, two_editors, two_editors_outs, both_ask, both_ask_outs, switching, switching_outs, changing, changing_outs, closing, closing_outs, two_groups, an_exit, texts_in, touches_in, one_cancelled, left_outs, parting, parting_outs, links_end, links_end_outs, asking_status, asking_status_outs, evicted, evicted_outs, outs_with}
+use Rattle.group_rows.specs.Example.{all_outs, events_behind, too_early, too_early_outs, refused_early, refused_early_outs, wrong_names, wrong_names_outs, two_editors, two_editors_outs, both_ask, both_ask_outs, switching, switching_outs, changing, changing_outs, closing, closing_outs, two_groups, an_exit, texts_in, touches_in, one_cancelled, left_outs, parting, parting_outs, links_end, links_end_outs, asking_status, asking_status_outs, evicted, evicted_outs, outs_with, idling, idling_outs, outs_behind, end_outs, late_outs}
 use Rattle.mux_history.specs.declared.out.Out.TheVariants.{ToServer}
 use Rattle.event_model.specs.Event.{Event}
 use Rattle.mux_model.specs.Documents.{held_at}
@@ -108,3 +108,16 @@ statuses_are_told = refl
 a_group_ends_for_another : outs_with 1 evicted ≡ evicted_outs
 unfolding computes message_of named no_name_twice is_integer member_bytes with_id_text escape_byte digits own_request own_notification goes_nowhere editor_request
 a_group_ends_for_another = refl
+
+an_idle_group_ends : all_outs idling ≡ idling_outs
+unfolding computes message_of named no_name_twice is_integer member_bytes with_id_text escape_byte digits own_request own_notification goes_nowhere editor_request
+an_idle_group_ends = refl
+
+groups_end_at_one_tick : outs_behind 5 ≡ [] ∷ end_outs ∷ [] ∷ late_outs ∷ [] ∷ []
+unfolding computes message_of named no_name_twice is_integer member_bytes with_id_text escape_byte digits own_request own_notification goes_nowhere editor_request
+groups_end_at_one_tick = refl
+
+-- without a time to wait for the answer a program is ended by the next tick, though it is a smaller one
+a_smaller_tick_is_looked_at : outs_behind 0 ≡ [] ∷ end_outs ∷ late_outs ∷ [] ∷ [] ∷ []
+unfolding computes message_of named no_name_twice is_integer member_bytes with_id_text escape_byte digits own_request own_notification goes_nowhere editor_request
+a_smaller_tick_is_looked_at = refl

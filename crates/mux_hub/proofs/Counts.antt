@@ -53,13 +53,13 @@ next_joins told hub history h s =
     omega (arith, e, r)
 
 -- whether a start has a place, by the number of those that were spawned
-pub place_given : {J : Type 0} (told : J → Option (List Entry)) (hub : HubView J) (history : List Entry) (s n : ℕ) → InRange hub.settings → HubStands told hub history → hub.spent ≡ false → n ≡ length hub.tables.origins.items → s < n
+pub place_given : {J : Type 0} (told : J → Option (List Entry)) (hub : HubView J) (history : List Entry) (s n : ℕ) → InRange hub.settings → HubStands told hub history → hub.spent ≡ false → n ≡ length hub.tables.origins.groups.items → s < n
     → (true ≡ false → spawns s history ≡ 0) × (spawns s history ≡ 0 → true ≡ false)
 place_given told hub history s n range h fresh e l =
     let one : spawns s history ≡ 1 = counts_below history s (numbered hub.settings range history h.legal) (subst (λ m. s < m) (e ∙ sym (h.tables fresh).tables.origins.count) l) in
     (λ no. absurd cc, λ zeros. absurd (omega (arith, one, zeros)))
 
-pub place_missing : {J : Type 0} (told : J → Option (List Entry)) (hub : HubView J) (history : List Entry) (s n : ℕ) → InRange hub.settings → HubStands told hub history → hub.spent ≡ false → n ≡ length hub.tables.origins.items → n ≤ s
+pub place_missing : {J : Type 0} (told : J → Option (List Entry)) (hub : HubView J) (history : List Entry) (s n : ℕ) → InRange hub.settings → HubStands told hub history → hub.spent ≡ false → n ≡ length hub.tables.origins.groups.items → n ≤ s
     → (false ≡ false → spawns s history ≡ 0) × (spawns s history ≡ 0 → false ≡ false)
 place_missing told hub history s n range h fresh e l =
     (λ same. counts_above history s (numbered hub.settings range history h.legal) (subst (λ m. m ≤ s) (e ∙ sym (h.tables fresh).tables.origins.count) l), λ zeros. refl)

@@ -220,8 +220,8 @@ impl<J: Journal> Steps for Hub<J> {
     }
 
     fn server_of(&self, start: u64) -> Option<u32> {
-        if start < self.tables.origins.len() as u64 {
-            let group = self.tables.origins[start as usize];
+        if start < self.tables.origins.groups.len() as u64 {
+            let group = self.tables.origins.groups[start as usize];
             Some(server_in(&self.tables, self.default, group))
         } else {
             None
