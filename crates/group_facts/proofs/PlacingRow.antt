@@ -15,6 +15,7 @@ use Rattle.event_model.specs.declared.stage.Stage.TheVariants.{Unspawned, Spawni
 use Rattle.event_model.specs.Event.{Event, behind, heard, said}
 use Rattle.event_model.specs.Phases.{Desk, desk_of, desk_hears, phase_told, is_there}
 use Rattle.event_model.specs.Parts.{server_part, is_of_server}
+use Rattle.event_model.specs.Requests.{next_number}
 use Rattle.event_model.specs.Row.{Row, nothing, on, outs}
 use Rattle.event_model.specs.Settings.{Settings}
 use Rattle.event_model.specs.Spawns.{start_of}
