@@ -51,11 +51,11 @@ stopping_is Stopping h = refl
 stopping_is other h = never (sym h)
 
 -- behind `shutdown`, or its end, a start isn't ready
-told_not : (stage : Stage) (m : Message) → requests (codes "shutdown") m ≡ true → stage_told stage m ≡ Ready → ⊥
+pub told_not : (stage : Stage) (m : Message) → requests (codes "shutdown") m ≡ true → stage_told stage m ≡ Ready → ⊥
 told_not Ready m asks h = never (sym (ap is_ready h) ∙ ap (λ b. is_ready (if b then Stopping else Ready)) asks)
 told_not other m asks h = never (sym (ap is_ready h))
 
-ending_not : (stage : Stage) → stage_ending stage ≡ Ready → ⊥
+pub ending_not : (stage : Stage) → stage_ending stage ≡ Ready → ⊥
 ending_not Ended h = never (sym (ap is_ready h))
 ending_not other h = never (sym (ap is_ready h))
 

@@ -498,13 +498,38 @@ const STATUSES: [(&str, &str); 14] = [
     ),
 ];
 
+// The only editor of a group leaves: the group ends at its moment, and its start, which doesn't answer `shutdown`, at that of its own.
+const IDLING: [(&str, &str); 10] = [
+    ("tick 100\n", ""),
+    (
+        "ed 0 {\"jsonrpc\":\"2.0\",\"id\":2,\"method\":\"shutdown\"}\n",
+        ">ed 0 {\"jsonrpc\":\"2.0\",\"id\":2,\"result\":null}\n",
+    ),
+    (
+        "ed 0 {\"jsonrpc\":\"2.0\",\"id\":3,\"method\":\"textDocument/hover\",\"params\":{}}\n",
+        ">ed 0 {\"jsonrpc\":\"2.0\",\"id\":3,\"error\":{\"code\":-32600,\"message\":\"Invalid Request\"}}\n",
+    ),
+    (
+        "ed 0 {\"jsonrpc\":\"2.0\",\"method\":\"exit\"}\n",
+        ">close 0\n",
+    ),
+    ("gone 0 end\n", ""),
+    ("tick 399\n", ""),
+    (
+        "tick 400\n",
+        ">sv 0 {\"jsonrpc\":\"2.0\",\"id\":2,\"method\":\"shutdown\"}\n",
+    ),
+    ("tick 1\n", ""),
+    ("tick 405\n", ">end 0\n"),
+    ("tick 406\n", ""),
+];
+
 // Lines that fit, and that no row takes yet.
-const UNBUILT: [&str; 5] = [
+const UNBUILT: [&str; 4] = [
     "ed 0 {\"jsonrpc\":\"2.0\",\"id\":1,\"method\":\"initialize\"}\n",
     "ed 0 {\"jsonrpc\":\"2.0\",\"id\":1,\"method\":\"lspmux/stop\"}\n",
     "ed 0 {\"jsonrpc\":\"2.0\",\"id\":1,\"method\":\"x\",\"params\":{\"workDoneToken\":1}}\n",
     "sv 0 {\"jsonrpc\":\"2.0\",\"method\":\"x\"}\n",
-    "tick 1\n",
 ];
 
 #[test]
@@ -530,7 +555,7 @@ fn sessions_bring_their_lines(rt: HostRuntime) -> Result<(), Fail> {
 #[test]
 fn several_editors_bring_their_lines(rt: HostRuntime) -> Result<(), Fail> {
     let alloc = rt.alloc();
-    let sessions: [&[&[(&str, &str)]]; 10] = [
+    let sessions: [&[&[(&str, &str)]]; 11] = [
         &[&TWO_EDITORS, &A_THIRD],
         &[&TWO_EDITORS, &WRONG_NAMES],
         &[&TWO_EDITORS, &BOTH_ASK],
@@ -541,6 +566,7 @@ fn several_editors_bring_their_lines(rt: HostRuntime) -> Result<(), Fail> {
         &[&TWO_EDITORS, &DOUBLED],
         &[&HASTY],
         &[&STATUSES],
+        &[&OPENING, &IDLING],
     ];
     for parts in sessions {
         play(&rt, alloc, limits(MOST, MOST), parts, Ok(()))?;

@@ -14,7 +14,7 @@ use Rattle.mux_tables.specs.declared.tables.Tables.{Tables}
 use Rattle.mux_tables.specs.Stands.{Part, PartStands, EditorsStand, GroupsStand, OriginsStand, LastStands, LastsStand, HouseStands, Stands}
 use Rattle.mux_tables.proofs.Frames.{names_start, names_editor, spawns, ticks, editors_stand, groups_stand, origins_stand, start_alone, group_alone, life_alone, time_alone}
 use Rattle.mux_tables.proofs.Lasts.{lasts_stand, one_last}
-use Rattle.mux_tables.proofs.Stops.{StopsMove, stopping_more, stops_kept}
+use Rattle.mux_tables.proofs.Awaited.{StopsMove, stopping_more, stops_kept}
 
 module _ (settings : Settings) where
   -- an event that editors, groups and the time don't speak of

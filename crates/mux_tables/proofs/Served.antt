@@ -29,7 +29,7 @@ use Rattle.mux_tables.proofs.Exits.{lost_groups, refused_groups}
 use Rattle.mux_tables.proofs.Frames.{itself, groups_stand, names_editor, names_start, part_quiet, result_quiet, spawns, stop_more, ticks}
 use Rattle.mux_tables.proofs.IdMoves.{answered_ids, ended_ids, failed_ids, unanswered_ids, found_seen}
 use Rattle.mux_tables.proofs.Starts.{groups_kept, is_late, late_shown, no_stop, not_refused, part_ids, part_life, part_shown, read_back, read_here, start_at_place, start_moves, still_ids, still_shown, still_stop}
-use Rattle.mux_tables.proofs.Stops.{StopsMove, hears_same, same_either, started_same, stopping_less, stops_kept}
+use Rattle.mux_tables.proofs.Awaited.{StopsMove, hears_same, same_either, started_same, stopping_less, stops_kept}
 
 -- the program runs
 pub begun_start : (g : Stage) (l : Standing) → (begun_at g l).start ≡ l.start

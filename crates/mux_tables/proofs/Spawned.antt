@@ -31,7 +31,7 @@ use Rattle.mux_tables.proofs.Lasts.{Last, known, same_place}
 use Rattle.mux_tables.proofs.Moves.{house_stands}
 use Rattle.mux_tables.proofs.Said.{does_send}
 use Rattle.mux_tables.proofs.Starts.{groups_kept, no_stop}
-use Rattle.mux_tables.proofs.Stops.{stopping_spawned}
+use Rattle.mux_tables.proofs.Awaited.{stopping_spawned}
 
 spawned_origins : (origins after : List ℕ) (events : List Event) (n g : ℕ) → n ≡ length origins → after ≡ origins ++ g ∷ [] → OriginsStand origins events → OriginsStand after (events ++ did (Spawn n g) not_message ∷ [])
 spawned_origins origins after events n g last is s = record {

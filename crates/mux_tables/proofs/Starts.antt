@@ -24,7 +24,7 @@ use Rattle.mux_tables.specs.Stands.{GroupsStand, IdsAt, IdsStand, Part, of_life,
 use Rattle.mux_tables.proofs.Frames.{names_start, names_editor, spawns, ticks, touches, part_quiet}
 use Rattle.mux_tables.proofs.IdMoves.{ids_more}
 use Rattle.mux_tables.proofs.Moves.{parts_move}
-use Rattle.mux_tables.proofs.Stops.{StopsMove}
+use Rattle.mux_tables.proofs.Awaited.{StopsMove}
 
 pub read_here : (xs : List Start) (g : ℕ) (z : Start) → g < length xs → z ≡ get_or xs g z → slice_get xs g ≡ Some z
 read_here xs g z within read = slice_get_read xs (length xs) g z refl within read

@@ -4,3 +4,4 @@ pub mod Founding
 pub mod Leavings
 pub mod Openings
 pub mod Welcomes
+pub mod Stops

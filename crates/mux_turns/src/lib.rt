@@ -18,6 +18,7 @@ mod requests;
 mod results;
 mod starts;
 mod status;
+mod ticks;
 
 pub use answers::{answered_number, pass_on, take_answer};
 pub use doubled::{doubles, take_doubled};
@@ -36,3 +37,4 @@ pub use requests::take_request;
 pub use results::{shown_of, take_result};
 pub use starts::take_started;
 pub use status::{take_doubled_status, take_status};
+pub use ticks::take_tick;
