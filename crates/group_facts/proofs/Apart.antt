@@ -5,7 +5,7 @@ use Rattle.json_text.specs.Json.{Json, IsText}
 use Rattle.json_text.proofs.Laws.{one_tree}
 use Rattle.document_model.proofs.Written.{Spoken, spoken}
 use Rattle.mux_history.specs.declared.cause.Cause.{Cause}
-use Rattle.mux_history.specs.declared.cause.Cause.TheVariants.{Joined, FromEditor, EditorGone, Started, StartFailed, FromServer, ServerGone, Drained}
+use Rattle.mux_history.specs.declared.cause.Cause.TheVariants.{Joined, FromEditor, EditorGone, Started, StartFailed, FromServer, ServerGone, Drained, Tick}
 use Rattle.mux_history.specs.declared.out.Out.{Out}
 use Rattle.mux_history.specs.declared.out.Out.TheVariants.{ToServer}
 use Rattle.rpc_message.specs.Message.{request, Id, id_of, integer, message_of}
@@ -77,10 +77,10 @@ fewer_took settings events (FromEditor e body) built = fewer_by events (heard (F
 fewer_took settings events (Started n) built = fewer_by events (heard (Started n)) (λ t Q h. h)
 fewer_took settings events (FromServer n body) built = fewer_by events (heard (FromServer n body)) (λ t Q h. answered_fewer Q (nat_eq n t) (λ f. not (answered_by (answered_id (message_of body)) f)) (forwarding_of t events).open_requests h)
 fewer_took settings events (Drained e k) built = fewer_by events (heard (Drained e k)) (λ t Q h. h)
+fewer_took settings events (Tick t) built = fewer_by events (heard (Tick t)) (λ s Q h. h)
 fewer_took settings events (EditorGone e why) built = fewer_by events (heard (EditorGone e why)) (λ t Q h. h)
 fewer_took settings events (StartFailed n) built = fewer_by events (heard (StartFailed n)) (λ t Q h. ended_fewer Q (nat_eq n t) (forwarding_of t events) h)
 fewer_took settings events (ServerGone n) built = fewer_by events (heard (ServerGone n)) (λ t Q h. ended_fewer Q (nat_eq n t) (forwarding_of t events) h)
-fewer_took settings events cause built = absurd (cc)
 
 pub asks_fewer : (events : List Event) (e : ℕ) (body : List ℕ) → Fewer events (with_cause events (FromEditor e body))
 asks_fewer events e body = fewer_by events (heard (FromEditor e body)) (λ t Q h. h)

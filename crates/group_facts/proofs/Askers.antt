@@ -4,7 +4,7 @@ use Rattle.std.specs.List.{AllByRecursion}
 use Rattle.json_text.specs.Json.{Json}
 use Rattle.document_model.proofs.Written.{Spoken, spoken}
 use Rattle.mux_history.specs.declared.cause.Cause.{Cause}
-use Rattle.mux_history.specs.declared.cause.Cause.TheVariants.{Joined, FromEditor, EditorGone, Started, StartFailed, FromServer, ServerGone, Drained}
+use Rattle.mux_history.specs.declared.cause.Cause.TheVariants.{Joined, FromEditor, EditorGone, Started, StartFailed, FromServer, ServerGone, Drained, Tick}
 use Rattle.mux_history.specs.declared.out.Out.{Out}
 use Rattle.mux_history.specs.declared.out.Out.TheVariants.{ToEditor, ToServer, CloseEditor}
 use Rattle.rpc_message.specs.Message.{Message, request, notification, Id, integer, message_of}
@@ -105,12 +105,12 @@ asked_took settings events (Started n) built fits none h = asked_still events (h
 asked_took settings events (FromServer n body) built fits none h = λ s. asked_by_list events (heard (FromServer n body)) (asker_heard events (FromServer n body) fits none) s _ refl
     (answered_less events (with_cause events (FromServer n body)) (asker_heard events (FromServer n body) fits none) (nat_eq n s) (λ f. not (answered_by (answered_id (message_of body)) f)) (forwarding_of s events).open_requests (h s))
 asked_took settings events (Drained e k) built fits none h = asked_still events (heard (Drained e k)) (asker_heard events (Drained e k) fits none) (λ s. refl) h
+asked_took settings events (Tick t) built fits none h = asked_still events (heard (Tick t)) (asker_heard events (Tick t) fits none) (λ s. refl) h
 asked_took settings events (EditorGone e why) built fits none h = asked_still events (heard (EditorGone e why)) (asker_heard events (EditorGone e why) fits none) (λ s. refl) h
 asked_took settings events (StartFailed n) built fits none h = λ s. asked_by_list events (heard (StartFailed n)) (asker_heard events (StartFailed n) fits none) s _ refl
     (ended_less (with_cause events (StartFailed n)) (nat_eq n s) (forwarding_of s events) (all_of (IsForwarded events) (IsForwarded (with_cause events (StartFailed n))) (asker_heard events (StartFailed n) fits none) (forwarding_of s events).open_requests (h s)))
 asked_took settings events (ServerGone n) built fits none h = λ s. asked_by_list events (heard (ServerGone n)) (asker_heard events (ServerGone n) fits none) s _ refl
     (ended_less (with_cause events (ServerGone n)) (nat_eq n s) (forwarding_of s events) (all_of (IsForwarded events) (IsForwarded (with_cause events (ServerGone n))) (asker_heard events (ServerGone n) fits none) (forwarding_of s events).open_requests (h s)))
-asked_took settings events cause built fits none h = absurd (cc)
 
 -- A body to a start
 

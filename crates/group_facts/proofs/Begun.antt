@@ -1,12 +1,12 @@
 -- A group is founded in the entry that spawns its first start, and nothing else founds or spawns.
-use Rattle.std.proofs.Common.{◌≡◌, ℕ, ◌+◌, ◌≤◌, Bool, true, false, not, ◌&&◌, List, [], ◌∷◌, ◌++◌, map, length, nat_eq, codes, if◌then◌else◌, Option, Some, None, refl, sym, ◌∙◌, ap, subst, arith, append-nil, append_assoc}
+use Rattle.std.proofs.Common.{◌≡◌, ℕ, max, ◌+◌, ◌≤◌, Bool, true, false, not, ◌&&◌, List, [], ◌∷◌, ◌++◌, map, length, nat_eq, codes, if◌then◌else◌, Option, Some, None, refl, sym, ◌∙◌, ap, subst, arith, append-nil, append_assoc}
 use Rattle.std.specs.Prelude.{◌↔◌}
 use Rattle.std.specs.List.{AllByRecursion}
 use Rattle.std.proofs.lemmas.Bool.{and_parts}
 use Rattle.std.proofs.lemmas.List.{length-append}
 use Rattle.std.proofs.lemmas.List.Sums.{fold-append}
 use Rattle.mux_history.specs.declared.cause.Cause.{Cause}
-use Rattle.mux_history.specs.declared.cause.Cause.TheVariants.{Joined, FromEditor, EditorGone, Started, StartFailed, FromServer, ServerGone, Drained}
+use Rattle.mux_history.specs.declared.cause.Cause.TheVariants.{Joined, FromEditor, EditorGone, Started, StartFailed, FromServer, ServerGone, Drained, Tick}
 use Rattle.mux_history.specs.declared.out.Out.{Out}
 use Rattle.mux_history.specs.declared.out.Out.TheVariants.{ToEditor, ToServer, Spawn, CloseEditor, EndServer}
 use Rattle.document_model.specs.Sayings.{Saying, saying_by}
@@ -18,7 +18,7 @@ use Rattle.event_model.specs.declared.stage.Stage.{Stage}
 use Rattle.event_model.specs.declared.stage.Stage.TheVariants.{Spawning, Initializing, Ready, Stopping}
 use Rattle.event_model.specs.Event.{Event, behind, heard, requests, said, with_cause}
 use Rattle.event_model.specs.Phases.{desk_of, is_new}
-use Rattle.event_model.specs.Row.{Row, each, look, nothing, on, outs, ◌⨾◌}
+use Rattle.event_model.specs.Row.{Row, each, look, nothing, on, outs, send, ◌⨾◌}
 use Rattle.event_model.specs.Settings.{Settings}
 use Rattle.event_model.specs.Spawns.{group_of, start_behind, start_of, starts_of}
 use Rattle.event_model.specs.Stages.{is_initializing, life_of}
@@ -31,14 +31,15 @@ use Rattle.mux_facts.proofs.Words.{number_same, same_number}
 use Rattle.group_words.specs.declared.kept.Kept.{Kept}
 use Rattle.group_words.specs.declared.placed.Placed.{Placed}
 use Rattle.group_words.specs.declared.placed.Placed.TheVariants.{Joins, New as Founds, Evicts, TooMany}
-use Rattle.group_words.specs.Houses.{at_group, declared_for, emptied, groups_hear, groups_of, house_of, idle_if_live, is_first_error, key_for, placed_for, places, server_asked, stops}
-use Rattle.group_words.specs.Placing.{busy, changed, end_where, ended, founded, is_live, with_editor}
+use Rattle.group_words.specs.Houses.{at_group, declared_for, emptied, groups_hear, groups_of, house_of, idle_if_live, is_first_error, key_for, placed_for, places, server_asked, stops, time_of}
+use Rattle.group_words.specs.Placing.{busy, changed, end_where, ended, founded, is_live, with_editor, is_due}
 use Rattle.group_words.specs.Rows.{end_group, end_start, initialize_row, placed_row}
 use Rattle.group_words.proofs.Frames.{changed_length, groups_more, groups_stay, touches_groups}
 use Rattle.group_rows.specs.Forwarded.{Forwarded, forwarding_of}
 use Rattle.group_rows.specs.Leaves.{cancel, cancel_text, cancels, closings, leave_bodies, leave_row, uncancelled_of}
 use Rattle.group_rows.specs.Rows.{answer_error, begin_in, closing_row, document_at, document_bodies, document_row, down_row, early_row, exit_row, first_result, from_server, gone_row, lspmux_row, message_row, named_row, open_row, outs_of, pass_on, replay_bodies, request_at, request_row, response_row, result_in, row_of, served_request, served_row, started, sync_bodies, taken_row, waiting_in, welcome, hasty_row, close_all, refusal, refused_row}
 use Rattle.group_rows.specs.Texts.{encoding_of, texts_of}
+use Rattle.group_rows.specs.Ticks.{due_of, overdue_of, tick_row}
 use Rattle.group_facts.specs.Built.{built_behind}
 use Rattle.group_facts.proofs.Exits.{failed_groups, gone_groups}
 use Rattle.group_facts.proofs.Housed.{ended_length}
@@ -260,6 +261,17 @@ module _ (settings : Settings) (before : List Event) where
   quiet_ended : (g : ℕ) (events : List Event) → Quiet events (end_group g)
   quiet_ended g events = by_look (by_on (λ none. by_nothing) (λ s start. quiet_end s (life_of s events).stage events))
 
+  quiet_ends : (gs : List ℕ) (events : List Event) → Quiet events (each end_group gs)
+  quiet_ends [] events = by_nothing
+  quiet_ends (g ∷ gs) events = by_then (quiet_ended g events) (quiet_ends gs (behind events (outs (end_group g) events)))
+
+  quiet_programs : (ss : List ℕ) (events : List Event) → Quiet events (each (λ s. send (EndServer s)) ss)
+  quiet_programs [] events = by_nothing
+  quiet_programs (s ∷ ss) events = by_then (by_send tt) (quiet_programs ss (behind events (EndServer s ∷ [])))
+
+  quiet_tick : (t : ℕ) (events : List Event) → Quiet events (tick_row settings before t)
+  quiet_tick t events = by_then (quiet_ends (due_of settings before t) events) (quiet_programs (overdue_of settings before t) (behind events (outs (each end_group (due_of settings before t)) events)))
+
 -- How many groups there are
 
 at_same : (home : Option ℕ) (b : Bool) (groups : List Kept) → length (if b then at_group home (λ g. ended) groups else groups) ≡ length groups
@@ -346,11 +358,12 @@ module _ (settings : Settings) where
   founding_of before (Started s) built = quiet (all_outs NoSpawn _ _ (quiet_started settings before s (life_of s before).stage (with_cause before (Started s))).why) (counts_stay before (heard (Started s)) refl)
   founding_of before (Joined e) built = quiet tt (counts_stay before (heard (Joined e)) refl)
   founding_of before (Drained e k) built = quiet tt (counts_stay before (heard (Drained e k)) refl)
+  founding_of before (Tick t) built = quiet (all_outs NoSpawn _ _ (quiet_tick settings before t (with_cause before (Tick t))).why)
+      (ap length (groups_more settings before (heard (Tick t))) ∙ ended_length (is_due settings.limits.idle (max (time_of before) t)) (groups_of settings before))
   founding_of before (EditorGone e why) built = quiet (all_outs NoSpawn _ _ (quiet_gone settings before e (desk_of e before).phase (with_cause before (EditorGone e why))).why)
       (ap length (groups_more settings before (heard (EditorGone e why))) ∙ emptied_same ((house_of settings before).home e) _ _ _ (groups_of settings before))
   founding_of before (StartFailed s) built = quiet tt (ap length (failed_groups settings before s built))
   founding_of before (ServerGone s) built = quiet tt (ap length (gone_groups settings before s built))
-  founding_of before cause built = absurd (cc)
 
   -- Each group has a start
 

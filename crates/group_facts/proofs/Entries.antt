@@ -2,7 +2,7 @@
 use Rattle.std.proofs.Common.{◌≡◌, ℕ, ◌+◌, ◌<◌, ◌≤◌, ◌^◌, Bool, true, false, ◌&&◌, List, [], ◌∷◌, ◌++◌, find, nat_eq, if◌then◌else◌, Some, None, ◌⊎◌, inl, inr, refl, sym, ◌∙◌, ap, ap₂, subst, arith, append-nil}
 use Rattle.std.proofs.lemmas.Bool.{and_parts}
 use Rattle.mux_history.specs.declared.cause.Cause.{Cause}
-use Rattle.mux_history.specs.declared.cause.Cause.TheVariants.{Joined, FromEditor, EditorGone, Started, StartFailed, FromServer, ServerGone, Drained}
+use Rattle.mux_history.specs.declared.cause.Cause.TheVariants.{Joined, FromEditor, EditorGone, Started, StartFailed, FromServer, ServerGone, Drained, Tick}
 use Rattle.mux_history.specs.declared.cause.Why as link
 use Rattle.mux_history.specs.declared.out.Out.TheVariants.{ToEditor}
 use Rattle.rpc_message.specs.Message.{Message, request, notification, result, error, not_json, not_message, Id, message_of}
@@ -38,7 +38,7 @@ use Rattle.group_facts.proofs.Facts.{Facts, TiedAt}
 use Rattle.group_facts.proofs.Exits.{left_over}
 use Rattle.group_facts.proofs.Lively.{lives_of, up_of}
 use Rattle.group_facts.proofs.OwnEntry.{Nobody, message_rests, placed_open, turned_rests}
-use Rattle.group_facts.proofs.Sent.{Found, IsOf, OneOf, Passed, Rising, SentAt, found_one, none_sent, rising_of, sent_answered, sent_drained, sent_gone, sent_heard, sent_joined, sent_started, sent_ended, sent_failed}
+use Rattle.group_facts.proofs.Sent.{Found, IsOf, OneOf, Passed, Rising, SentAt, found_one, none_sent, rising_of, sent_answered, sent_drained, sent_gone, sent_heard, sent_joined, sent_started, sent_ended, sent_failed, sent_ticked}
 use Rattle.group_facts.proofs.PutOut.{turned_ends, turned_placed}
 use Rattle.group_facts.proofs.OpenByPhase.{OpenDesk, OpenIf, answered_closed, if_other}
 use Rattle.group_facts.proofs.OpenByOut.{OpenAt, S, open_at, open_entry}
@@ -103,6 +103,14 @@ module _ (settings : Settings) (range : InRange settings) (before : List Event) 
     where
       sent : (id : Id) → SentAt settings before e id ⊎ ⊥ → SentAt settings (with_cause before (Drained n k)) e id ⊎ ⊥
       sent id (inl at) = inl (sent_drained settings e id before n k at)
+      sent id (inr at) = inr at
+
+  -- the time
+  ticked_now : (t e : ℕ) → OpenAt settings e Nobody (with_cause before (Tick t))
+  ticked_now t e = open_at settings e Nobody before (heard (Tick t)) (if_other (S settings e Nobody before) (S settings e Nobody (with_cause before (Tick t))) (desk_of e before).phase (desk_of e before).initialize (open_of e before) (λ served id is. sent id) (h e))
+    where
+      sent : (id : Id) → SentAt settings before e id ⊎ ⊥ → SentAt settings (with_cause before (Tick t)) e id ⊎ ⊥
+      sent id (inl at) = inl (sent_ticked settings e id before t at)
       sent id (inr at) = inr at
 
   -- an editor whose link is gone
@@ -288,4 +296,4 @@ module _ (settings : Settings) (range : InRange settings) (before : List Event) 
   open_rests (EditorGone n why) fits built = λ e. open_entry settings e Nobody before (EditorGone n why) refl range facts begun built (gone_now n why e)
   open_rests (StartFailed s) fits built = λ e. open_entry settings e Nobody before (StartFailed s) refl range facts begun built (failed_now s e built)
   open_rests (ServerGone s) fits built = λ e. open_entry settings e Nobody before (ServerGone s) refl range facts begun built (ended_now s e built)
-  open_rests cause fits built = absurd (cc)
+  open_rests (Tick t) fits built = λ e. open_entry settings e Nobody before (Tick t) refl range facts begun built (ticked_now t e)

@@ -1,9 +1,9 @@
 -- Each start that was spawned has a group, which is kept.
-use Rattle.std.proofs.Common.{◌≡◌, ℕ, ◌+◌, ◌<◌, ◌≤◌, Bool, true, false, not, ◌&&◌, List, [], ◌∷◌, ◌++◌, length, nat_eq, if◌then◌else◌, Option, Some, None, refl, sym, ◌∙◌, ap, subst, arith}
+use Rattle.std.proofs.Common.{◌≡◌, ℕ, max, ◌+◌, ◌<◌, ◌≤◌, Bool, true, false, not, ◌&&◌, List, [], ◌∷◌, ◌++◌, length, nat_eq, if◌then◌else◌, Option, Some, None, refl, sym, ◌∙◌, ap, subst, arith}
 use Rattle.std.proofs.lemmas.List.{length-append}
 use Rattle.std.proofs.lemmas.List.Sums.{fold-append}
 use Rattle.mux_history.specs.declared.cause.Cause.{Cause}
-use Rattle.mux_history.specs.declared.cause.Cause.TheVariants.{Joined, FromEditor, EditorGone, Started, StartFailed, FromServer, ServerGone, Drained}
+use Rattle.mux_history.specs.declared.cause.Cause.TheVariants.{Joined, FromEditor, EditorGone, Started, StartFailed, FromServer, ServerGone, Drained, Tick}
 use Rattle.mux_history.specs.declared.out.Out.{Out}
 use Rattle.mux_history.specs.declared.out.Out.TheVariants.{Spawn, CloseEditor}
 use Rattle.rpc_message.specs.Message.{message_of}
@@ -18,9 +18,9 @@ use Rattle.mux_facts.proofs.Words.{same_number}
 use Rattle.group_words.specs.declared.kept.Kept.{Kept}
 use Rattle.group_words.specs.declared.placed.Placed.{Placed}
 use Rattle.group_words.specs.declared.placed.Placed.TheVariants.{Joins, New as Founds, Evicts, TooMany}
-use Rattle.group_words.specs.Houses.{at_group, declared_for, emptied, groups_hear, groups_of, house_of, idle_if_live, is_first_error, key_for, placed_for, places, stops}
+use Rattle.group_words.specs.Houses.{at_group, declared_for, emptied, groups_hear, groups_of, house_of, idle_if_live, is_first_error, key_for, placed_for, places, stops, time_of}
 use Rattle.group_words.specs.Keys.{Common}
-use Rattle.group_words.specs.Placing.{busy, changed, end_where, ended, founded, is_live, with_editor}
+use Rattle.group_words.specs.Placing.{busy, changed, end_where, ended, founded, is_due, is_live, with_editor}
 use Rattle.group_words.proofs.Frames.{changed_length, groups_more, groups_stay, touches_groups}
 use Rattle.group_facts.specs.Built.{built_behind}
 use Rattle.group_facts.specs.Facts.{Housed, IsHoused}
@@ -78,10 +78,10 @@ module _ (settings : Settings) where
   longer_took events (Joined e) built = still_long events (heard (Joined e)) refl
   longer_took events (Started s) built = still_long events (heard (Started s)) refl
   longer_took events (Drained e k) built = still_long events (heard (Drained e k)) refl
+  longer_took events (Tick t) built = subst (λ z. length (groups_of settings events) ≤ length z) (sym (groups_more settings events (heard (Tick t)))) (omega (arith, ended_length (is_due settings.limits.idle (max (time_of events) t)) (groups_of settings events)))
   longer_took events (EditorGone e why) built = subst (λ z. length (groups_of settings events) ≤ length z) (sym (groups_more settings events (heard (EditorGone e why)))) (emptied_length ((house_of settings events).home e) _ _ _ (groups_of settings events))
   longer_took events (StartFailed s) built = subst (λ z. length (groups_of settings events) ≤ length z) (sym (failed_groups settings events s built)) (omega arith)
   longer_took events (ServerGone s) built = subst (λ z. length (groups_of settings events) ≤ length z) (sym (gone_groups settings events s built)) (omega arith)
-  longer_took events cause built = absurd (cc)
 
   pub longer_did : (events : List Event) (out : Out) → Longer events (events ++ said out ∷ [])
   longer_did events (CloseEditor e) = subst (λ z. length (groups_of settings events) ≤ length z) (sym (groups_more settings events (said (CloseEditor e)))) (emptied_length ((house_of settings events).home e) _ _ _ (groups_of settings events))

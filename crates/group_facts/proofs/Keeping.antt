@@ -1,8 +1,8 @@
 -- What holds of each group when it is founded, and isn't changed by its end, its idleness or an exit, holds of all groups.
-use Rattle.std.proofs.Common.{◌≡◌, ℕ, zero, suc, Bool, true, false, not, ◌&&◌, List, [], ◌∷◌, ◌++◌, if◌then◌else◌, Option, Some, None, refl, sym, subst}
+use Rattle.std.proofs.Common.{◌≡◌, ℕ, max, zero, suc, Bool, true, false, not, ◌&&◌, List, [], ◌∷◌, ◌++◌, if◌then◌else◌, Option, Some, None, refl, sym, subst}
 use Rattle.std.specs.List.{AllByRecursion}
 use Rattle.mux_history.specs.declared.cause.Cause.{Cause}
-use Rattle.mux_history.specs.declared.cause.Cause.TheVariants.{Joined, FromEditor, EditorGone, Started, StartFailed, FromServer, ServerGone, Drained}
+use Rattle.mux_history.specs.declared.cause.Cause.TheVariants.{Joined, FromEditor, EditorGone, Started, StartFailed, FromServer, ServerGone, Drained, Tick}
 use Rattle.mux_history.specs.declared.out.Out.{Out}
 use Rattle.mux_history.specs.declared.out.Out.TheVariants.{CloseEditor}
 use Rattle.rpc_message.specs.Message.{message_of}
@@ -16,9 +16,9 @@ use Rattle.mux_facts.proofs.Lists.{all_join}
 use Rattle.group_words.specs.declared.kept.Kept.{Kept}
 use Rattle.group_words.specs.declared.placed.Placed.{Placed}
 use Rattle.group_words.specs.declared.placed.Placed.TheVariants.{Joins, New as Founds, Evicts, TooMany}
-use Rattle.group_words.specs.Houses.{at_group, declared_for, emptied, groups_hear, groups_of, house_of, idle_if_live, is_first_error, key_for, placed_for, places, stops}
+use Rattle.group_words.specs.Houses.{at_group, declared_for, emptied, groups_hear, groups_of, house_of, idle_if_live, is_first_error, key_for, placed_for, places, stops, time_of}
 use Rattle.group_words.specs.Keys.{Common}
-use Rattle.group_words.specs.Placing.{busy, changed, end_where, ended, founded, idle_from, is_live, with_editor}
+use Rattle.group_words.specs.Placing.{busy, changed, end_where, ended, founded, idle_from, is_due, is_live, with_editor}
 use Rattle.group_words.proofs.Frames.{groups_more, groups_stay, touches_groups}
 use Rattle.group_facts.specs.Built.{built_behind}
 use Rattle.group_facts.proofs.Exits.{failed_groups, gone_groups}
@@ -85,10 +85,10 @@ module _ (P : Kept → Type 0) (keeps : Keeps P) where
     all_took events (Joined e) built f h = stay events (heard (Joined e)) refl h
     all_took events (Started s) built f h = stay events (heard (Started s)) refl h
     all_took events (Drained e k) built f h = stay events (heard (Drained e k)) refl h
+    all_took events (Tick t) built f h = subst All (sym (groups_more settings events (heard (Tick t)))) (all_ended (is_due settings.limits.idle (max (time_of events) t)) (groups_of settings events) h)
     all_took events (EditorGone e why) built f h = subst All (sym (groups_more settings events (heard (EditorGone e why)))) (all_emptied ((house_of settings events).home e) _ _ _ (groups_of settings events) h)
     all_took events (StartFailed s) built f h = subst All (sym (failed_groups settings events s built)) h
     all_took events (ServerGone s) built f h = subst All (sym (gone_groups settings events s built)) h
-    all_took events cause built f h = absurd (cc)
 
     pub all_did : (events : List Event) (out : Out) → All (groups_of settings events) → All (groups_of settings (events ++ said out ∷ []))
     all_did events (CloseEditor e) h = subst All (sym (groups_more settings events (said (CloseEditor e)))) (all_emptied ((house_of settings events).home e) _ _ _ (groups_of settings events) h)

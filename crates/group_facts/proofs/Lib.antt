@@ -8,6 +8,7 @@ pub mod Everywhere
 pub mod Exits
 pub mod Facts
 pub mod Forwards
+pub mod GroupEnds
 pub mod Housed
 pub mod Keeping
 pub mod Known
@@ -36,6 +37,7 @@ pub mod Settling
 pub mod SharedRows
 pub mod Table
 pub mod Tellings
+pub mod TickRow
 pub mod Waiting
 mod Worked
 pub mod Written

@@ -1,7 +1,9 @@
 -- Groups that live, and those that aren't idle, where a list of groups changes.
-use Rattle.std.proofs.Common.{◌≡◌, ℕ, zero, suc, ◌+◌, Bool, true, false, not, ◌&&◌, List, [], ◌∷◌, ◌++◌, length, nat_lt, if◌then◌else◌, Option, Some, None, ◌⊎◌, inl, inr, refl, sym, ◌∙◌, ap, subst, arith}
+use Rattle.std.proofs.Common.{◌≡◌, ℕ, zero, suc, ◌+◌, Bool, true, false, not, ◌&&◌, List, [], ◌∷◌, ◌++◌, length, nat_lt, if◌then◌else◌, Option, Some, None, ◌⊎◌, inl, inr, refl, sym, ◌∙◌, ap, subst, arith, append_assoc}
 use Rattle.std.specs.Prelude.{slice_get, is_some, is_none}
+use Rattle.std.specs.List.{AllByRecursion}
 use Rattle.std.proofs.lemmas.Bool.{and_parts}
+use Rattle.std.proofs.lemmas.List.{length-append}
 use Rattle.event_model.proofs.Frames.{never}
 use Rattle.group_words.specs.declared.idle.Idle.{Idle}
 use Rattle.group_words.specs.declared.kept.Kept.{Kept}
@@ -9,7 +11,7 @@ use Rattle.group_words.specs.declared.placed.Placed.{Placed}
 use Rattle.group_words.specs.declared.placed.Placed.TheVariants.{Joins, New as Founds, Evicts, TooMany}
 use Rattle.group_words.specs.Houses.{emptied, idle_if_live}
 use Rattle.group_words.specs.Keys.{Common, below_text, same_key}
-use Rattle.group_words.specs.Placing.{busy, changed, ended, evicting, first_from, founded, founding, home_by, idle_from, idle_since, idlest_from, joining, live_count, longer, placed_in, takes, with_editor}
+use Rattle.group_words.specs.Placing.{all_from, busy, changed, end_where, ended, evicting, first_from, founded, founding, home_by, idle_from, idle_since, idlest_from, is_due, is_since, joining, live_count, longer, placed_in, takes, with_editor}
 use Rattle.group_words.proofs.Frames.{changed_length, changed_other}
 use Rattle.group_facts.specs.Lively.{is_busy, is_busy_at, lives, lives_at}
 
@@ -223,3 +225,46 @@ busy_emptied (Some i) was stays now g groups others h = go was (stays i) refl
     go true true left = h
     go true false left = busy_apart i g (idle_if_live now) groups (λ same. never (sym others ∙ ap stays same ∙ left)) h
     go false c left = h
+
+-- Groups that meet a test end
+
+pub lives_ended : (test : Kept → Bool) (g : ℕ) (xs : List Kept) → lives_at g (end_where test xs) ≡ true → lives_at g xs ≡ true
+lives_ended test g [] h = h
+lives_ended test zero (x ∷ xs) h = go (test x) h
+  where
+    go : (b : Bool) → (if b then ended x else x).live ≡ true → x.live ≡ true
+    go true h = absurd (cc)
+    go false h = h
+lives_ended test (suc g) (x ∷ xs) h = lives_ended test g xs h
+
+-- those that aren't idle aren't among those that are due
+busy_undue : (limit now : ℕ) (x : Kept) → is_busy (Some x) ≡ true → is_due limit now x ≡ false
+busy_undue limit now x h = go x.live x.idle h
+  where
+    go : (b : Bool) (o : Option ℕ) → (b && is_none o) ≡ true → (b && is_since limit now o) ≡ false
+    go true None h = refl
+    go true (Some t) h = absurd (cc)
+    go false o h = refl
+
+pub busy_ended : (limit now g : ℕ) (xs : List Kept) → is_busy_at g xs ≡ true → is_busy_at g (end_where (is_due limit now) xs) ≡ true
+busy_ended limit now g [] h = h
+busy_ended limit now zero (x ∷ xs) h = ap (λ b. is_busy (Some (if b then ended x else x))) (busy_undue limit now x h) ∙ h
+busy_ended limit now (suc g) (x ∷ xs) h = busy_ended limit now g xs h
+
+lives_past : (ps : List Kept) (x : Kept) (xs : List Kept) → lives_at (length ps) (ps ++ x ∷ xs) ≡ x.live
+lives_past [] x xs = refl
+lives_past (p ∷ ps) x xs = lives_past ps x xs
+
+-- each of them lives no more
+over_from : (test : Kept → Bool) (ps xs : List Kept) (i : ℕ) → i ≡ length ps → AllByRecursion (λ g. lives_at g (ps ++ end_where test xs) ≡ false) (all_from i test xs)
+over_from test ps [] i at = tt
+over_from test ps (x ∷ xs) i at = go (test x) (λ z. subst (λ zs. AllByRecursion (λ g. lives_at g zs ≡ false) (all_from (i + 1) test xs)) (append_assoc ps (z ∷ []) (end_where test xs))
+    (over_from test (ps ++ z ∷ []) xs (i + 1) (ap (λ n. n + 1) at ∙ sym (length-append ps (z ∷ [])))))
+  where
+    go : (b : Bool) → ((z : Kept) → AllByRecursion (λ g. lives_at g (ps ++ z ∷ end_where test xs) ≡ false) (all_from (i + 1) test xs))
+        → AllByRecursion (λ g. lives_at g (ps ++ (if b then ended x else x) ∷ end_where test xs) ≡ false) (if b then i ∷ all_from (i + 1) test xs else all_from (i + 1) test xs)
+    go true rest = (ap (λ n. lives_at n (ps ++ ended x ∷ end_where test xs)) at ∙ lives_past ps (ended x) (end_where test xs), rest (ended x))
+    go false rest = rest x
+
+pub over_ended : (test : Kept → Bool) (xs : List Kept) → AllByRecursion (λ g. lives_at g (end_where test xs) ≡ false) (all_from 0 test xs)
+over_ended test xs = over_from test [] xs 0 refl

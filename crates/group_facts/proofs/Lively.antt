@@ -1,5 +1,5 @@
 -- The groups that live, their editors and their last starts, one event further, and so behind every legal history.
-use Rattle.std.proofs.Common.{◌≡◌, ℕ, zero, suc, ◌+◌, ◌<◌, ◌≤◌, Bool, true, false, not, ◌&&◌, ◌||◌, cond, List, [], ◌∷◌, ◌++◌, filter, length, nat_eq, nat_lt, codes, bytes_eq, if◌then◌else◌, Option, Some, None, ◌⊎◌, inl, inr, refl, sym, ◌∙◌, ap, ap₂, subst, arith}
+use Rattle.std.proofs.Common.{◌≡◌, ℕ, max, zero, suc, ◌+◌, ◌<◌, ◌≤◌, Bool, true, false, not, ◌&&◌, ◌||◌, cond, List, [], ◌∷◌, ◌++◌, filter, length, nat_eq, nat_lt, codes, bytes_eq, if◌then◌else◌, Option, Some, None, ◌⊎◌, inl, inr, refl, sym, ◌∙◌, ap, ap₂, subst, arith}
 use Rattle.std.specs.List.{range_with_len}
 use Rattle.std.specs.Option.{option_map_or}
 use Rattle.std.proofs.lemmas.Bool.{and_parts}
@@ -9,7 +9,7 @@ use Rattle.document_model.proofs.Written.{Spoken, spoken}
 use Rattle.lsp_method.specs.Class.{class_of, editor_request, own_request}
 use Rattle.lsp_method.specs.declared.variants.Origin.TheVariants.{Editor}
 use Rattle.mux_history.specs.declared.cause.Cause.{Cause}
-use Rattle.mux_history.specs.declared.cause.Cause.TheVariants.{Joined, FromEditor, EditorGone, Started, StartFailed, FromServer, ServerGone, Drained}
+use Rattle.mux_history.specs.declared.cause.Cause.TheVariants.{Joined, FromEditor, EditorGone, Started, StartFailed, FromServer, ServerGone, Drained, Tick}
 use Rattle.mux_history.specs.declared.cause.Why as link
 use Rattle.mux_history.specs.declared.out.Out.{Out}
 use Rattle.mux_history.specs.declared.out.Out.TheVariants.{ToEditor, ToServer, Spawn, CloseEditor, EndServer}
@@ -33,8 +33,8 @@ use Rattle.mux_facts.proofs.Reasons.{reasons_keep}
 use Rattle.mux_facts.proofs.Words.{number_same, same_number}
 use Rattle.group_words.specs.declared.kept.Kept.{Kept}
 use Rattle.group_words.specs.declared.placed.Placed.{Placed}
-use Rattle.group_words.specs.Houses.{at_group, declared_for, groups_lose, groups_next, groups_of, has_editor, home_next, home_of, house_of, is_doubled, is_first_error, is_home, key_for, placed_for, places, stops}
-use Rattle.group_words.specs.Placing.{end_where, ended, home_by, is_live, with_editor}
+use Rattle.group_words.specs.Houses.{at_group, declared_for, groups_lose, groups_next, groups_of, has_editor, home_next, home_of, house_of, is_doubled, is_first_error, is_home, key_for, placed_for, places, stops, time_of}
+use Rattle.group_words.specs.Placing.{end_where, ended, home_by, is_due, is_live, with_editor}
 use Rattle.group_words.proofs.Frames.{groups_more, home_more}
 use Rattle.group_rows.specs.Forwarded.{forwarding_of}
 use Rattle.group_rows.specs.Rows.{names_lspmux, outs_of}
@@ -49,7 +49,7 @@ use Rattle.group_facts.proofs.Exits.{left_groups, left_over}
 use Rattle.group_facts.proofs.Facts.{Facts}
 use Rattle.group_facts.proofs.Housed.{group_more}
 use Rattle.group_facts.proofs.Known.{Here, here_did, here_took}
-use Rattle.group_facts.proofs.LiveGroups.{IsFair, busy_apart, busy_emptied, busy_own, busy_placed, lives_busy, lives_changed, lives_emptied, lives_placed, placed_fair}
+use Rattle.group_facts.proofs.LiveGroups.{IsFair, busy_apart, busy_emptied, busy_ended, busy_own, busy_placed, lives_busy, lives_changed, lives_emptied, lives_ended, lives_placed, placed_fair}
 use Rattle.group_facts.proofs.Numbered.{no_shutdown}
 use Rattle.group_facts.proofs.PutOut.{begun_closed, begun_told, put_out_ends, unplaced_closed, unplaced_told}
 use Rattle.group_facts.proofs.RequestRow.{either_desk}
@@ -223,6 +223,11 @@ module _ (settings : Settings) (before : List Event) (h : Lively settings before
   drained : (n k : ℕ) → Lively settings (with_cause before (Drained n k))
   drained n k = by_words settings before (heard (Drained n k)) h.unplaced h.busy h.last h.up
 
+  -- groups that are idle for long enough end; those that aren't idle, and groups that lived no more, stay as they are
+  ticked : (t : ℕ) → Lively settings (with_cause before (Tick t))
+  ticked t = by_words settings before (heard (Tick t)) h.unplaced (λ e g begun at. busy_ended settings.limits.idle (max (time_of before) t) g groups (h.busy e g begun at)) h.last
+      (λ g s live at. h.up g s (lives_ended (is_due settings.limits.idle (max (time_of before) t)) g groups live) at)
+
   began : (n : ℕ) → Lively settings (with_cause before (Started n))
   began n = by_words settings before (heard (Started n)) h.unplaced h.busy h.last
       (λ g s live at. by_start (nat_eq n s) (record { stage = stage_started (life_of s before).stage; started = true }) (life_of s before) (λ same. up_started (life_of s before).stage (h.up g s live at)) (λ other. h.up g s live at))
@@ -389,7 +394,7 @@ took settings before (FromEditor n body) fits built absent after begun h = mostl
     go false off = heard_on settings before h n body off (ap (λ b. b && (is_there (desk_of n before).phase && not (is_doubled before n (message_of body)))) (built_on (desk_of n before).phase (open_of n before) (message_of body) built))
 took settings before (StartFailed n) fits built absent after begun h = mostly settings _ _ (failed settings before h n built)
 took settings before (ServerGone n) fits built absent after begun h = mostly settings _ _ (exited settings before h n built)
-took settings before cause fits built absent after begun h = absurd (cc)
+took settings before (Tick t) fits built absent after begun h = mostly settings _ _ (ticked settings before h t)
 
 -- Outs
 

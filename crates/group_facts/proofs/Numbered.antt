@@ -6,7 +6,7 @@ use Rattle.std.proofs.lemmas.Slice.Eq.{bytes_eq-Decides}
 use Rattle.json_text.specs.Json.{Json}
 use Rattle.document_model.proofs.Written.{Spoken, spoken}
 use Rattle.mux_history.specs.declared.cause.Cause.{Cause}
-use Rattle.mux_history.specs.declared.cause.Cause.TheVariants.{Joined, FromEditor, EditorGone, Started, StartFailed, FromServer, ServerGone, Drained}
+use Rattle.mux_history.specs.declared.cause.Cause.TheVariants.{Joined, FromEditor, EditorGone, Started, StartFailed, FromServer, ServerGone, Drained, Tick}
 use Rattle.mux_history.specs.declared.out.Out.{Out}
 use Rattle.mux_history.specs.declared.out.Out.TheVariants.{ToServer}
 use Rattle.rpc_message.specs.Message.{Message, request, notification, integer, message_of}
@@ -70,10 +70,10 @@ tied_took settings events (FromServer n body) built h = λ s rest. tied_by s eve
     (if_life (nat_eq n s) (record { stage = stage_hears (life_of s events).stage (message_of body); started = (life_of s events).started }) (life_of s events) (next_number s events) (forwarding_of s events).next
     (heard_first (life_of s events).stage (message_of body) (next_number s events) (forwarding_of s events).next (h s)) (h s))
 tied_took settings events (Drained e k) built h = λ s rest. tied_by s events (with_cause events (Drained e k)) (life_of s events).stage (ap (λ (l : Life). l.stage) (life_more s events (heard (Drained e k)))) (number_heard s events (Drained e k)) (forwarding_heard settings s events (Drained e k) built refl) (h s)
+tied_took settings events (Tick t) built h = λ s rest. tied_by s events (with_cause events (Tick t)) (life_of s events).stage (ap (λ (l : Life). l.stage) (life_more s events (heard (Tick t)))) (number_heard s events (Tick t)) (forwarding_heard settings s events (Tick t) built refl) (h s)
 tied_took settings events (EditorGone e why) built h = λ s rest. tied_by s events (with_cause events (EditorGone e why)) (life_of s events).stage (ap (λ (l : Life). l.stage) (life_more s events (heard (EditorGone e why)))) (number_heard s events (EditorGone e why)) (forwarding_heard settings s events (EditorGone e why) built refl) (h s)
 tied_took settings events (StartFailed n) built h = λ s rest. tied_end settings events (StartFailed n) s (nat_eq n s) built (ap (λ (l : Life). l.stage) (life_more s events (heard (StartFailed n)))) (λ on. on) (h s)
 tied_took settings events (ServerGone n) built h = λ s rest. tied_end settings events (ServerGone n) s (nat_eq n s) built (ap (λ (l : Life). l.stage) (life_more s events (heard (ServerGone n)))) (λ on. on) (h s)
-tied_took settings events cause built h = absurd (cc)
 
 -- A body to a start
 

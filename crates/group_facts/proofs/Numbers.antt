@@ -5,7 +5,7 @@ use Rattle.document_model.specs.Helds.{told}
 use Rattle.document_model.specs.Sayings.{saying_of, nothing}
 use Rattle.document_model.proofs.Written.{Spoken, spoken}
 use Rattle.mux_history.specs.declared.cause.Cause.{Cause}
-use Rattle.mux_history.specs.declared.cause.Cause.TheVariants.{Joined, FromEditor, EditorGone, Started, StartFailed, FromServer, ServerGone, Drained}
+use Rattle.mux_history.specs.declared.cause.Cause.TheVariants.{Joined, FromEditor, EditorGone, Started, StartFailed, FromServer, ServerGone, Drained, Tick}
 use Rattle.mux_history.specs.declared.out.Out.{Out}
 use Rattle.mux_history.specs.declared.out.Out.TheVariants.{ToServer}
 use Rattle.rpc_message.specs.Message.{Message, request, notification, integer, message_of, result, error, not_json, not_message}
@@ -72,10 +72,10 @@ forwarding_heard settings s events (FromEditor e body) built on = ap (λ (x : Fo
 forwarding_heard settings s events (Started n) built on = ap (λ (x : Forwarding). x.next) (forwarding_more s events (heard (Started n)))
 forwarding_heard settings s events (FromServer n body) built on = ap (λ (x : Forwarding). x.next) (forwarding_more s events (heard (FromServer n body)))
 forwarding_heard settings s events (Drained e k) built on = ap (λ (x : Forwarding). x.next) (forwarding_more s events (heard (Drained e k)))
+forwarding_heard settings s events (Tick t) built on = ap (λ (x : Forwarding). x.next) (forwarding_more s events (heard (Tick t)))
 forwarding_heard settings s events (EditorGone e why) built on = ap (λ (x : Forwarding). x.next) (forwarding_more s events (heard (EditorGone e why)))
 forwarding_heard settings s events (StartFailed n) built on = ap (λ (x : Forwarding). x.next) (forwarding_more s events (heard (StartFailed n))) ∙ next_left (nat_eq n s) (forwarding_of s events) on
 forwarding_heard settings s events (ServerGone n) built on = ap (λ (x : Forwarding). x.next) (forwarding_more s events (heard (ServerGone n))) ∙ next_left (nat_eq n s) (forwarding_of s events) on
-forwarding_heard settings s events other built on = absurd (cc)
 
 -- Bodies to a start
 

@@ -1,7 +1,8 @@
 -- E7: an editor joins a group, or one is founded for it, perhaps in place of an idle one, or it is turned away.
 use Rattle.std.specs.Str.{chars}
 use Rattle.std.proofs.lemmas.List.{length-append}
-use Rattle.std.proofs.Common.{decimal, ◌≡◌, ℕ, ◌+◌, true, List, [], ◌∷◌, ◌++◌, ◌≤◌, ◌<◌, ◌^◌, codes, Option, Some, None, refl, sym, ◌∙◌, ap, ap₂, arith, length, nat_lt, Bool, false, subst, if◌then◌else◌, ◌&&◌, ◌||◌, nat_eq}
+use Rattle.std.proofs.lemmas.List.Elements.{filter-append}
+use Rattle.std.proofs.Common.{decimal, ◌≡◌, ℕ, ◌+◌, true, List, [], ◌∷◌, ◌++◌, ◌≤◌, ◌<◌, ◌^◌, codes, Option, Some, None, refl, sym, ◌∙◌, ap, ap₂, arith, length, nat_lt, Bool, false, subst, if◌then◌else◌, ◌&&◌, ◌||◌, nat_eq, append-nil}
 use Rattle.json_text.specs.Json.{Json}
 use Rattle.mux_history.specs.declared.cause.Cause.TheVariants.{FromEditor}
 use Rattle.mux_history.specs.declared.out.Out.TheVariants.{ToEditor, ToServer, EndServer}
@@ -13,6 +14,7 @@ use Rattle.event_model.specs.declared.stage.Stage.{Stage}
 use Rattle.event_model.specs.declared.stage.Stage.TheVariants.{Unspawned, Spawning, Initializing, Ready, Stopping, Ending, Ended}
 use Rattle.event_model.specs.Event.{Event, behind, heard, said}
 use Rattle.event_model.specs.Phases.{Desk, desk_of, desk_hears, phase_told, is_there}
+use Rattle.event_model.specs.Parts.{server_part, is_of_server}
 use Rattle.event_model.specs.Requests.{next_number}
 use Rattle.event_model.specs.Row.{Row, nothing, on, outs}
 use Rattle.event_model.specs.Settings.{Settings}
@@ -38,10 +40,11 @@ use Rattle.mux_facts.proofs.Keeps.{behind_nothing}
 use Rattle.group_words.specs.Rows.{answer_with, end_group, end_start, initialize_row, placed_row}
 use Rattle.group_rows.specs.Forwarded.{forwarding_of}
 use Rattle.group_facts.specs.Lively.{IsDying, lives_at}
+use Rattle.group_facts.proofs.GroupEnds.{Untouched, start_ends}
 use Rattle.group_facts.proofs.LiveGroups.{IsFair, over_at, placed_fair}
 use Rattle.group_facts.specs.Facts.{Bounded, IsPlain, IsWaiting, Plain, is_parting, is_up, turned_away}
 use Rattle.group_facts.proofs.RequestRow.{R, asked, desk_taken, either_desk}
-use Rattle.group_facts.specs.Why.{is_starting, shuts, starting, turns_away, welcomes}
+use Rattle.group_facts.specs.Why.{turns_away, welcomes}
 
 -- a new group is the next one
 abbrev pub IsNext : ℕ → Placed → Type 0
@@ -67,11 +70,6 @@ placed_next limit key declared groups = go (first_from 0 (takes key declared) gr
 ready_up : (stage : Stage) → is_ready stage ≡ true → is_up stage ≡ true
 ready_up Ready h = refl
 ready_up other h = never (sym h)
-
--- the daemon's own `shutdown`
-shutdown_says : (n : ℕ) → n < 2 ^ 128 → message_of (request_text n (codes "shutdown") None) ≡ request (integer (decimal n)) (codes "shutdown") None
-unfolding chars lib.Utf8.encode
-shutdown_says n h = request_law n (codes "shutdown") None None h (codes "shutdown", (refl, refl)) tt refl (omega arith)
 
 or_first : (a b : Bool) → a ≡ true → (a || b) ≡ true
 or_first true b h = refl
@@ -106,25 +104,15 @@ module _ (settings : Settings) (range : InRange settings) (before : List Event) 
   }))
 
   -- end(g), of an idle group
-  shuts_down : Bounded settings before → (s : ℕ) (stage : Stage) → IsDying settings now s → (life_of s now).stage ≡ stage → Mine (end_start s stage)
-  shuts_down bounded s Ready dying at = by_look (by_send (shuts (record { ready = at; stays = refl; place = refl; dying = dying; says = shutdown_says (next_number s now) low })))
-    where
-      stood : (life_of s before).stage ≡ Ready
-      stood = sym (ap (λ (l : Life). l.stage) (life_more s before (heard (FromEditor e body)))) ∙ at
+  unsent : (s : ℕ) → server_part s now ≡ server_part s before
+  unsent s = filter-append (is_of_server s) before (heard (FromEditor e body) ∷ []) ∙ append-nil (server_part s before)
 
-      low : next_number s now < 2 ^ 128
-      low = let b = bounded s (rw stood refl) in
-          let same : next_number s now ≡ (next_number s before) = (number_more s before (heard (FromEditor e body))) in
-          let first : next_number s before ≤ (forwarding_of s before).next = b.0 in
-          let second : (forwarding_of s before).next ≤ settings.limits.requests + 2 = b.1 in
-          let wide : settings.limits.requests < 2 ^ 32 = range.requests in
-          omega (arith, same, first, second, wide)
-  shuts_down bounded s Spawning dying at = by_send (starting (ap is_starting at) dying)
-  shuts_down bounded s Initializing dying at = by_send (starting (ap is_starting at) dying)
-  shuts_down bounded s Unspawned dying at = by_nothing
-  shuts_down bounded s Stopping dying at = by_nothing
-  shuts_down bounded s Ending dying at = by_nothing
-  shuts_down bounded s Ended dying at = by_nothing
+  shuts_down : Bounded settings before → (s : ℕ) (stage : Stage) → IsDying settings now s → (life_of s now).stage ≡ stage → Mine (end_start s stage)
+  shuts_down bounded s stage dying at = start_ends settings range.requests before (FromEditor e body) (λ n. refl) bounded now s stage dying at (λ ready. record {
+    stood = sym (ap (λ (l : Life). l.stage) (life_more s before (heard (FromEditor e body)))) ∙ ready;
+    number = number_more s before (heard (FromEditor e body));
+    part = unsent s;
+  })
 
   -- a group that is founded is kept
   abbrev placed : Placed

@@ -3,7 +3,7 @@ use Rattle.std.proofs.Common.{◌≡◌, ℕ, ◌+◌, ◌<◌, ◌≤◌, Bool,
 use Rattle.std.proofs.lemmas.Bool.{and_parts}
 use Rattle.std.proofs.lemmas.List.{length-append}
 use Rattle.mux_history.specs.declared.cause.Cause.{Cause}
-use Rattle.mux_history.specs.declared.cause.Cause.TheVariants.{Joined, FromEditor, EditorGone, Started, StartFailed, FromServer, ServerGone, Drained}
+use Rattle.mux_history.specs.declared.cause.Cause.TheVariants.{Joined, FromEditor, EditorGone, Started, StartFailed, FromServer, ServerGone, Drained, Tick}
 use Rattle.mux_history.specs.declared.cause.Why as link
 use Rattle.mux_history.specs.declared.out.Out.{Out}
 use Rattle.mux_history.specs.declared.out.Out.TheVariants.{ToEditor, ToServer, Spawn, CloseEditor, EndServer}
@@ -247,10 +247,10 @@ module _ (settings : Settings) where
     placed_took (Started s) built longer e stays = stays_placed e before (heard (Started s)) (home_stays settings e before (heard (Started s)) refl) longer (by_desk e before (heard (Started s)) (λ needs. needs)) (h e)
     placed_took (FromServer s body) built longer e stays = stays_placed e before (heard (FromServer s body)) (home_stays settings e before (heard (FromServer s body)) refl) longer (by_desk e before (heard (FromServer s body)) (λ needs. needs)) (h e)
     placed_took (Drained n k) built longer e stays = stays_placed e before (heard (Drained n k)) (home_stays settings e before (heard (Drained n k)) refl) longer (by_desk e before (heard (Drained n k)) (λ needs. needs)) (h e)
+    placed_took (Tick t) built longer e stays = stays_placed e before (heard (Tick t)) (home_stays settings e before (heard (Tick t)) refl) longer (by_desk e before (heard (Tick t)) (λ needs. needs)) (h e)
     placed_took (EditorGone n why) built longer e stays = gone_placed n why e longer (nat_eq n e) refl
     placed_took (StartFailed s) built longer e stays = stays_placed e before (heard (StartFailed s)) (home_stays settings e before (heard (StartFailed s)) refl) longer (by_desk e before (heard (StartFailed s)) (λ needs. needs)) (h e)
     placed_took (ServerGone s) built longer e stays = stays_placed e before (heard (ServerGone s)) (home_stays settings e before (heard (ServerGone s)) refl) longer (by_desk e before (heard (ServerGone s)) (λ needs. needs)) (h e)
-    placed_took cause built longer e stays = absurd (cc)
 
     -- one that is turned away is closed
     turned_none : (n : ℕ) (body : List ℕ) (e : ℕ) → turned_away settings before (FromEditor n body) e ≡ true → needs_server (desk_of e (behind (with_cause before (FromEditor n body)) (outs_of settings before (FromEditor n body)))).phase ≡ false

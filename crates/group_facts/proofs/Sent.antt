@@ -5,7 +5,7 @@ use Rattle.std.specs.Fmt.{digits}
 use Rattle.std.proofs.lemmas.Fmt.{decimal_injective}
 use Rattle.std.proofs.lemmas.Slice.Eq.{bytes_eq-Decides}
 use Rattle.json_text.specs.Json.{Json}
-use Rattle.mux_history.specs.declared.cause.Cause.TheVariants.{Joined, FromEditor, EditorGone, Started, StartFailed, FromServer, ServerGone, Drained}
+use Rattle.mux_history.specs.declared.cause.Cause.TheVariants.{Joined, FromEditor, EditorGone, Started, StartFailed, FromServer, ServerGone, Drained, Tick}
 use Rattle.mux_history.specs.declared.cause.Why as link
 use Rattle.mux_history.specs.declared.out.Out.{Out}
 use Rattle.mux_history.specs.declared.out.Out.TheVariants.{ToEditor, ToServer, Spawn, CloseEditor, EndServer}
@@ -153,6 +153,9 @@ module _ (settings : Settings) (e : ℕ) (id : Id) where
 
   pub sent_drained : (events : List Event) (n bytes : ℕ) → SentAt settings events e id → SentAt settings (with_cause events (Drained n bytes)) e id
   sent_drained events n bytes k = sent_more events (heard (Drained n bytes)) (λ g at. home_stays settings e events (heard (Drained n bytes)) refl ∙ at) (λ g s at. at) (λ s h. h) k
+
+  pub sent_ticked : (events : List Event) (t : ℕ) → SentAt settings events e id → SentAt settings (with_cause events (Tick t)) e id
+  sent_ticked events t k = sent_more events (heard (Tick t)) (λ g at. home_stays settings e events (heard (Tick t)) refl ∙ at) (λ g s at. at) (λ s h. h) k
 
   -- the end of another start
   forgets : (b : Bool) (x : Forwarding) → b ≡ false → Among x.open_requests → Among (if b then no_forwarding else record { sender = None; next = x.next; open_requests = x.open_requests }).open_requests

@@ -4,7 +4,7 @@ use Rattle.std.proofs.lemmas.Bool.{and_parts}
 use Rattle.std.proofs.lemmas.Slice.Eq.{bytes_eq-Decides}
 use Rattle.json_text.specs.Json.{Json}
 use Rattle.mux_history.specs.declared.cause.Cause.{Cause}
-use Rattle.mux_history.specs.declared.cause.Cause.TheVariants.{FromEditor, EditorGone, Started, FromServer}
+use Rattle.mux_history.specs.declared.cause.Cause.TheVariants.{FromEditor, EditorGone, Started, FromServer, Tick}
 use Rattle.rpc_message.specs.Message.{Message, request, notification, result, error, not_json, not_message, Id, message_of, result_bytes}
 use Rattle.rpc_message.specs.Texts.{error_tree, invalid_request}
 use Rattle.event_model.specs.declared.phase.Phase.{Phase}
@@ -39,6 +39,7 @@ use Rattle.group_facts.proofs.PartingRows.{closing_why, gone_why, or_second, shu
 use Rattle.group_facts.proofs.PlacingRow.{initialize_why}
 use Rattle.group_facts.proofs.RequestRow.{R, asked, early_new, early_waiting, late_refused, not_own, open_why, request_why, status_why}
 use Rattle.group_facts.proofs.SharedRows.{off_first}
+use Rattle.group_facts.proofs.TickRow.{tick_why}
 use Rattle.group_facts.specs.Why.{Why, rejects}
 
 module _ (settings : Settings) (range : InRange settings) (before : List Event) (facts : Facts settings before) (e : ℕ) (body : List ℕ) where
@@ -196,4 +197,5 @@ module _ (settings : Settings) (range : InRange settings) (before : List Event) 
   reasons (EditorGone e why) built = gone_why settings range before (facts.base).opened (facts.steady).bounded e why (desk_of e before).phase
   reasons (FromServer s body) built = server_why settings range before s body (facts.base).opened (facts.steady).untold facts.waiting (facts.steady).asked (facts.steady).apart (first_shown before s body built) (life_of s before).stage refl
   reasons (Started s) built = start_why settings before s (facts.base).written (life_of s before).stage refl
+  reasons (Tick t) built = tick_why settings range.requests before (facts.steady).bounded t
   reasons cause built = by_nothing

@@ -1,12 +1,12 @@
 -- Which causes meet only rows of the table over several editors and groups that are built, until all are.
 -- Not built of an editor: `lspmux/stop` (E6), and while it is served requests that go on with tokens (E10), and the notifications that go on (E11, E16, E17).
--- Not built of a start: its requests and notifications while it is ready, and results that read versions (S5). Nor the end of a program whose group lives, and ticks.
+-- Not built of a start: its requests and notifications while it is ready, and results that read versions (S5). Nor the end of a program whose group lives.
 -- Of S2, what is read back must be what was meant: editors are shown all of the result.
 use Rattle.std.specs.Prelude.{ℕ, Bool, true, false, not, ◌&&◌, ◌||◌, List, find, codes, bytes_eq}
 use Rattle.std.specs.Prelude.{Option, Some, None}
 use Rattle.std.specs.Option.{option_map_or}
 use Rattle.mux_history.specs.declared.cause.Cause.{Cause}
-use Rattle.mux_history.specs.declared.cause.Cause.TheVariants.{Joined, FromEditor, EditorGone, Started, StartFailed, FromServer, ServerGone, Drained}
+use Rattle.mux_history.specs.declared.cause.Cause.TheVariants.{Joined, FromEditor, EditorGone, Started, StartFailed, FromServer, ServerGone, Drained, Tick}
 use Rattle.mux_history.specs.declared.entry.Entry.{Entry}
 use Rattle.json_text.specs.Json.{Json}
 use Rattle.document_model.specs.Sayings.{speaks, saying_by}
@@ -111,7 +111,7 @@ built_behind settings before (FromServer s body) = built_from_server (life_of s 
 built_behind settings before (Drained e k) = true
 built_behind settings before (StartFailed s) = is_left settings before s
 built_behind settings before (ServerGone s) = is_left settings before s
-built_behind settings before other = false
+built_behind settings before (Tick t) = true
 
 abbrev pub built : Settings → List Entry → Cause → Bool
 built settings history cause = built_behind settings (events_of history) cause

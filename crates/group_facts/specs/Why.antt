@@ -104,11 +104,11 @@ pub record IsTelling (before : List Event) (cause : Cause) (events : List Event)
   pub spoken : speaks (saying_of (message_of body)) ≡ true
   pub allowed : AllowsSaying (versions_at s events) (saying_of (message_of body))
 
--- the daemon's own `shutdown` to a ready start, as the first out of its entry: E7 ended its group for another one
+-- the daemon's own `shutdown` to a ready start, which sent nothing and was sent nothing in this entry before: its group ended, for another one (E7) or since it was idle (X7)
 pub record IsShutting (settings : Settings) (before : List Event) (cause : Cause) (events : List Event) (s : ℕ) (body : List ℕ) : Type 0 where
   pub ready : (life_of s events).stage ≡ Ready
   pub stays : moves before cause s ≡ false
-  pub place : events ≡ with_cause before cause
+  pub unsent : server_part s events ≡ server_part s before
   pub dying : IsDying settings events s
   pub says : message_of body ≡ request (integer (decimal (next_number s events))) (codes "shutdown") None
 
@@ -240,7 +240,7 @@ is_starting Spawning = true
 is_starting Initializing = true
 is_starting other = false
 
--- the end of a program: its group ended before it gave a result (E7), or since it refused to (S3), or it was sent `shutdown` (S4)
+-- the end of a program: its group ended before it gave a result (E7, X7), or since it refused to (S3), or it was sent `shutdown` (S4, X7)
 pub data WhyEnd (settings : Settings) (events : List Event) (s : ℕ) : Type 0 where
   starting : is_starting (life_of s events).stage ≡ true → IsDying settings events s → WhyEnd settings events s
   refused : (life_of s events).stage ≡ Initializing → is_left settings events s ≡ true → WhyEnd settings events s

@@ -2,7 +2,7 @@
 use Rattle.std.specs.Prelude.{ℕ, List, [], ◌∷◌, ◌++◌, codes, flat_map, map}
 use Rattle.std.specs.Prelude.{None}
 use Rattle.mux_history.specs.declared.cause.Cause.{Cause}
-use Rattle.mux_history.specs.declared.cause.Cause.TheVariants.{Joined, FromEditor, EditorGone, Started, FromServer, ServerGone}
+use Rattle.mux_history.specs.declared.cause.Cause.TheVariants.{Joined, FromEditor, EditorGone, Started, FromServer, ServerGone, Tick}
 use Rattle.mux_history.specs.declared.cause.Why.TheVariants.{End}
 use Rattle.mux_history.specs.declared.out.Out.{Out}
 use Rattle.mux_history.specs.declared.out.Out.TheVariants.{ToEditor, ToServer, CloseEditor, EndServer, Spawn}
@@ -390,3 +390,69 @@ refusing_outs = ToEditor 2 (codes "{\"jsonrpc\":\"2.0\", \"id\":\"a\",\"error\":
 
 abbrev pub outs_behind : List Event → List Cause → List Out
 outs_behind events causes = flat_map (λ xs. xs) (outs_from (with_groups 8) events causes)
+
+-- a group is idle since its editor's link is to be ended: at the moment it ends, its start is sent `shutdown`, and where that isn't answered, its program is ended
+abbrev pub idling : List Cause
+idling = Joined 0
+    ∷ FromEditor 0 (codes "{\"jsonrpc\":\"2.0\",\"id\":0,\"method\":\"initialize\",\"params\":{\"rootUri\":\"file:///w\",\"capabilities\":{}}}")
+    ∷ Started 0
+    ∷ FromServer 0 (codes "{\"jsonrpc\":\"2.0\",\"id\":1,\"result\":{\"capabilities\":{}}}")
+    ∷ FromEditor 0 (codes "{\"jsonrpc\":\"2.0\",\"method\":\"initialized\",\"params\":{}}")
+    ∷ Tick 100
+    ∷ FromEditor 0 (codes "{\"jsonrpc\":\"2.0\",\"id\":2,\"method\":\"shutdown\"}")
+    ∷ FromEditor 0 (codes "{\"jsonrpc\":\"2.0\",\"id\":3,\"method\":\"textDocument/hover\",\"params\":{}}")
+    ∷ FromEditor 0 (codes "{\"jsonrpc\":\"2.0\",\"method\":\"exit\"}")
+    ∷ EditorGone 0 End
+    ∷ Tick 399
+    ∷ Tick 400
+    ∷ Tick 404
+    ∷ Tick 405
+    ∷ Tick 406
+    ∷ []
+
+abbrev pub idling_outs : List Out
+idling_outs = Spawn 0 0
+    ∷ ToServer 0 (codes "{\"jsonrpc\":\"2.0\",\"id\":1,\"method\":\"initialize\",\"params\":{\"processId\":null,\"clientInfo\":{\"name\":\"lspmux\"},\"rootUri\":\"file:///w\",\"capabilities\":{},\"trace\":\"off\"}}")
+    ∷ ToServer 0 (codes "{\"jsonrpc\":\"2.0\",\"method\":\"initialized\",\"params\":{}}")
+    ∷ ToEditor 0 (codes "{\"jsonrpc\":\"2.0\",\"id\":0,\"result\":{\"capabilities\":{}}}")
+    ∷ ToEditor 0 (codes "{\"jsonrpc\":\"2.0\",\"id\":2,\"result\":null}")
+    ∷ ToEditor 0 (codes "{\"jsonrpc\":\"2.0\",\"id\":3,\"error\":{\"code\":-32600,\"message\":\"Invalid Request\"}}")
+    ∷ CloseEditor 0
+    ∷ ToServer 0 (codes "{\"jsonrpc\":\"2.0\",\"id\":2,\"method\":\"shutdown\"}")
+    ∷ EndServer 0
+    ∷ []
+
+-- three groups end at one tick, two whose starts are ready, and one whose start gave no result yet; the editor of a fourth one is behind `shutdown`, so that one isn't idle. A smaller tick leaves the time
+abbrev pub idling_groups : List Cause
+idling_groups = two_groups
+    ++ Joined 2
+    ∷ FromEditor 2 (codes "{\"jsonrpc\":\"2.0\",\"id\":0,\"method\":\"initialize\",\"params\":{\"rootUri\":\"file:///x\",\"capabilities\":{}}}")
+    ∷ Started 2
+    ∷ Joined 3
+    ∷ FromEditor 3 (codes "{\"jsonrpc\":\"2.0\",\"id\":0,\"method\":\"initialize\",\"params\":{\"rootUri\":\"file:///y\",\"capabilities\":{}}}")
+    ∷ Started 3
+    ∷ FromServer 3 (codes "{\"jsonrpc\":\"2.0\",\"id\":1,\"result\":{\"capabilities\":{}}}")
+    ∷ FromEditor 3 (codes "{\"jsonrpc\":\"2.0\",\"id\":1,\"method\":\"shutdown\"}")
+    ∷ Tick 7
+    ∷ EditorGone 2 End
+    ∷ EditorGone 0 End
+    ∷ EditorGone 1 End
+    ∷ []
+
+abbrev pub ticking : List Cause
+ticking = Tick 306 ∷ Tick 307 ∷ Tick 3 ∷ Tick 312 ∷ Tick 999 ∷ []
+
+abbrev pub with_grace : ℕ → Settings
+with_grace n = record (with_groups 8) { limits = record (with_groups 8).limits { grace = n } }
+
+abbrev pub ticks_behind : ℕ → List (List Out)
+ticks_behind grace = outs_from (with_grace grace) (events_behind (with_grace grace) [] idling_groups) ticking
+
+abbrev pub end_outs : List Out
+end_outs = ToServer 0 (codes "{\"jsonrpc\":\"2.0\",\"id\":2,\"method\":\"shutdown\"}")
+    ∷ ToServer 1 (codes "{\"jsonrpc\":\"2.0\",\"id\":2,\"method\":\"shutdown\"}")
+    ∷ EndServer 2
+    ∷ []
+
+abbrev pub late_outs : List Out
+late_outs = EndServer 0 ∷ EndServer 1 ∷ []

@@ -5,3 +5,4 @@ pub mod Rows
 pub mod Texts
 pub mod Leaves
 pub mod Status
+pub mod Ticks

@@ -1,10 +1,10 @@
--- The routing table over several editors and groups, in part: J1, J2, E2 to E5, E7 to E10, E12 to E15, E19, S1, S2 with X4, S3, S4, S5 without versions, X1 to X3 of groups that live no more, X5 and X6.
+-- The routing table over several editors and groups, in part: J1, J2, E2 to E5, E7 to E10, E12 to E15, E19, S1, S2 with X4, S3, S4, S5 without versions, X1 to X3 of groups that live no more, and X5 to X7.
 use Rattle.std.specs.Prelude.{ℕ, Bool, false, ◌&&◌, ◌||◌, List, [], ◌∷◌, ◌++◌, filter, find, flat_map, codes, nat_eq, nat_lt, decimal, bytes_eq, if◌then◌else◌}
 use Rattle.std.specs.Prelude.{Option, Some, None, slice_get}
 use Rattle.std.specs.List.{list_any}
 use Rattle.std.specs.Option.{option_map_or}
 use Rattle.mux_history.specs.declared.cause.Cause.{Cause}
-use Rattle.mux_history.specs.declared.cause.Cause.TheVariants.{FromEditor, EditorGone, Started, FromServer}
+use Rattle.mux_history.specs.declared.cause.Cause.TheVariants.{FromEditor, EditorGone, Started, FromServer, Tick}
 use Rattle.mux_history.specs.declared.out.Out.{Out}
 use Rattle.mux_history.specs.declared.out.Out.TheVariants.{ToEditor, ToServer, CloseEditor, EndServer}
 use Rattle.position_codec.specs.declared.Encoding.{Encoding}
@@ -40,6 +40,7 @@ use Rattle.group_rows.specs.Forwarded.{Forwarded, forwarding_of, answered_by}
 use Rattle.group_rows.specs.Leaves.{leave_row}
 use Rattle.group_rows.specs.Status.{items_of, status_text}
 use Rattle.group_rows.specs.Texts.{encoding_of, texts_of}
+use Rattle.group_rows.specs.Ticks.{tick_row}
 
 abbrev pub answer_error : ℕ → List ℕ → Code → Row
 answer_error e body code = send (ToEditor e (error_text (id_bytes body) code))
@@ -259,6 +260,7 @@ row_of settings before (FromEditor e body) = from_editor settings before e body 
 row_of settings before (EditorGone e why) = gone_row settings before e (desk_of e before).phase
 row_of settings before (FromServer s body) = from_server settings s before body (message_of body) (life_of s before).stage
 row_of settings before (Started s) = started settings s before (life_of s before).stage
+row_of settings before (Tick t) = tick_row settings before t
 row_of settings before other = nothing
 
 abbrev pub outs_of : Settings → List Event → Cause → List Out

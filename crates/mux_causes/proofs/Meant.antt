@@ -133,10 +133,10 @@ late_built x y fs body m same (inl at) = ap (λ z. built_from_server z fs body m
 late_built x y fs body m same (inr at) = ap (λ z. built_from_server z fs body m) (sym at ∙ same)
 
 -- X1 to X3
-pub left_here : (settings : Settings) (t : Tables) (before : List Event) (s g : ℕ) (b : Bool) → Stands settings t before → Some g ≡ slice_get t.origins.items s → b ≡ lives_at g (groups_of settings before) → not b ≡ is_left settings before s
+pub left_here : (settings : Settings) (t : Tables) (before : List Event) (s g : ℕ) (b : Bool) → Stands settings t before → Some g ≡ slice_get t.origins.groups.items s → b ≡ lives_at g (groups_of settings before) → not b ≡ is_left settings before s
 left_here settings t before s g b st at is = ap not is ∙ ap (λ o. not (option_map_or (λ h. lives_at h (groups_of settings before)) o false)) (at ∙ sym (st.origins.group s))
 
-pub left_nowhere : (settings : Settings) (t : Tables) (before : List Event) (s : ℕ) → Stands settings t before → None ≡ slice_get t.origins.items s → true ≡ is_left settings before s
+pub left_nowhere : (settings : Settings) (t : Tables) (before : List Event) (s : ℕ) → Stands settings t before → None ≡ slice_get t.origins.groups.items s → true ≡ is_left settings before s
 left_nowhere settings t before s st at = ap (λ o. not (option_map_or (λ h. lives_at h (groups_of settings before)) o false)) (at ∙ sym (st.origins.group s))
 
 -- of a start that is over no message is built

@@ -305,6 +305,6 @@ pub fn built(tables: &Tables, alloc: Global, cause: &Cause) -> Result<bool, Memo
         Cause::FromServer(s, body) => built_from_server(tables, alloc, *s, body),
         Cause::StartFailed(s) => Ok(is_left(tables, *s)),
         Cause::ServerGone(s) => Ok(is_left(tables, *s)),
-        _ => Ok(false),
+        Cause::Tick(_) => Ok(true),
     }
 }

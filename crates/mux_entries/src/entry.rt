@@ -19,7 +19,7 @@ use event_model::Server;
 use message_body::Memory;
 use mux_history::{Cause, Outs};
 use mux_tables::Tables;
-use mux_turns::{take_left, take_started};
+use mux_turns::{take_left, take_started, take_tick};
 use std::alloc::Global;
 
 // The row of a cause that is built, from the first of its outs.
@@ -28,6 +28,7 @@ fn follow(
     alloc: Global,
     servers: &[Server],
     default: u32,
+    grace: u64,
     outs: &mut Outs,
     cause: &Cause,
 ) -> Result<(), Memory>
@@ -37,8 +38,8 @@ fn follow(
     requires ceilings { HaveCeilings servers.now }
     ensures same_limit { tables.new.requests ≡ tables.old.requests }
     ensures same_versions { tables.new.versions ≡ tables.old.versions }
-    ensures does { (settings : Settings) (before : List Event) → settings.servers ≡ servers.now → settings.default ≡ default → outs.old ≡ []
-        → Known settings before → Settled settings before → fits_behind before cause.now ≡ true → built_behind settings before cause.now ≡ true
+    ensures does { (settings : Settings) (before : List Event) → settings.servers ≡ servers.now → settings.default ≡ default → settings.limits.grace ≡ grace
+        → outs.old ≡ [] → Known settings before → Settled settings before → fits_behind before cause.now ≡ true → built_behind settings before cause.now ≡ true
         → Stands settings tables.old before → DocumentsStand settings nothing_owed tables.old before
         → OnOk result (Done (λ k events. AllStand settings k events)
         (row_of settings before cause.now) (with_cause before cause.now) [] (tables.new, nothing_owed) outs.new) }
@@ -74,17 +75,22 @@ fn follow(
         }
         // X6: bytes were written to the editor, which gives nothing.
         Cause::Drained(_, _) => Ok(()),
-        _ => Ok(()),
+        Cause::Tick(now) => {
+            take_tick(tables, alloc, outs, *now, grace)?;
+            Ok(())
+        }
     }
 }
 
-/// Takes a cause that can come, and that meets rows which are built: its outs are the routing table's. Where the answer is an error
+/// Takes a cause that can come, and that meets rows which are built: its outs are the routing table's. `grace` is how many seconds a
+/// start has to answer `shutdown`. Where the answer is an error
 /// the tables stand for nothing any more.
 pub fn take(
     tables: &mut Tables,
     alloc: Global,
     servers: &[Server],
     default: u32,
+    grace: u64,
     cause: &Cause,
 ) -> Result<Outs, Memory>
     requires small { body_length cause.now ≤ 268435456 }
@@ -93,13 +99,13 @@ pub fn take(
     requires ceilings { HaveCeilings servers.now }
     ensures same_limit { tables.new.requests ≡ tables.old.requests }
     ensures same_versions { tables.new.versions ≡ tables.old.versions }
-    ensures takes { (settings : Settings) (before : List Event) → settings.servers ≡ servers.now → settings.default ≡ default
+    ensures takes { (settings : Settings) (before : List Event) → settings.servers ≡ servers.now → settings.default ≡ default → settings.limits.grace ≡ grace
         → Known settings before → Settled settings before → fits_behind before cause.now ≡ true → built_behind settings before cause.now ≡ true
         → Stands settings tables.old before → DocumentsStand settings nothing_owed tables.old before
         → IfOk result (λ outs. (outs ≡ outs_of settings before cause.now)
         × AllStand settings (tables.new, nothing_owed) (behind (with_cause before cause.now) outs)) }
 {
     let mut outs = Outs::new(alloc);
-    follow(tables, alloc, servers, default, &mut outs, cause)?;
+    follow(tables, alloc, servers, default, grace, &mut outs, cause)?;
     Ok(outs)
 }

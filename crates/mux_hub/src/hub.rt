@@ -32,6 +32,7 @@ fn turn(
     alloc: Global,
     servers: &[Server],
     default: u32,
+    grace: u64,
     tables: &mut Tables,
     backlogs: &mut Backlogs,
     starts: &mut Vec<u32>,
@@ -43,13 +44,13 @@ fn turn(
     requires ceilings { HaveCeilings servers.now }
     ensures same_limit { tables.new.requests ≡ tables.old.requests }
     ensures same_versions { tables.new.versions ≡ tables.old.versions }
-    ensures takes { (settings : Settings) (before : List Event) → settings.servers ≡ servers.now → settings.default ≡ default
+    ensures takes { (settings : Settings) (before : List Event) → settings.servers ≡ servers.now → settings.default ≡ default → settings.limits.grace ≡ grace
         → Known settings before → Settled settings before → fits_behind before cause.now ≡ true → built_behind settings before cause.now ≡ true
         → TablesStand settings tables.old backlogs.old starts.old.items before
         → IfOk result (λ outs. (outs ≡ outs_of settings before cause.now)
         × TablesStand settings tables.new backlogs.new starts.new.items (behind (with_cause before cause.now) outs)) }
 {
-    let outs = mux_entries::take(tables, alloc, servers, default, cause)?;
+    let outs = mux_entries::take(tables, alloc, servers, default, grace, cause)?;
     backlogs.take(cause, &outs)?;
     note_spawns(starts, tables, default, &outs)?;
     Ok(outs)
@@ -207,6 +208,7 @@ impl<J: Journal> Hub<J> {
             self.alloc,
             self.servers.as_slice(),
             self.default,
+            self.limits.grace,
             &mut self.tables,
             &mut self.backlogs,
             &mut self.starts,

@@ -3,6 +3,7 @@ ghost use Rattle.std.specs.Prelude.{◌≤◌};
 ghost use Rattle.mux_history.specs.Cores.{body_length};
 
 use crate::play::limits;
+use message_body::Body;
 use mux_history::{Cause, MemJournal, StepFault, Steps};
 use mux_hub::Hub;
 use std::test::Fail;
@@ -33,9 +34,11 @@ fn a_hub_is_a_core(rt: HostRuntime) -> Result<(), Fail> {
     assert_eq!(rt; outs_of(&mut hub, Cause::Joined(1)), None);
     assert_eq!(rt; outs_of(&mut hub, Cause::Joined(0)), Some(Ok(0)));
     assert_eq!(rt; asked(&hub), (1, None, false));
-    // No row of the routing table takes the time yet.
+    // No row of the routing table takes a request to stop yet.
+    let stop = b"{\"jsonrpc\":\"2.0\",\"id\":1,\"method\":\"lspmux/stop\"}";
+    let body = Body::new(Vec::from_slice(alloc, stop)?);
     assert_eq!(rt;
-        outs_of(&mut hub, Cause::Tick(1)),
+        outs_of(&mut hub, Cause::FromEditor(0, body)),
         Some(Err(StepFault::Memory))
     );
     assert_eq!(rt;

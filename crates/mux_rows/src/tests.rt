@@ -642,12 +642,37 @@ const OPENED: [(&str, &str); 14] = [
     ),
 ];
 
+// The only editor of a group leaves: the group ends at its moment, and its start, which doesn't answer `shutdown`, at that of its own.
+const IDLING: [(&str, &str); 10] = [
+    ("tick 100\n", ""),
+    (
+        "ed 0 {\"jsonrpc\":\"2.0\",\"id\":2,\"method\":\"shutdown\"}\n",
+        ">ed 0 {\"jsonrpc\":\"2.0\",\"id\":2,\"result\":null}\n",
+    ),
+    (
+        "ed 0 {\"jsonrpc\":\"2.0\",\"id\":3,\"method\":\"textDocument/hover\",\"params\":{}}\n",
+        ">ed 0 {\"jsonrpc\":\"2.0\",\"id\":3,\"error\":{\"code\":-32600,\"message\":\"Invalid Request\"}}\n",
+    ),
+    (
+        "ed 0 {\"jsonrpc\":\"2.0\",\"method\":\"exit\"}\n",
+        ">close 0\n",
+    ),
+    ("gone 0 end\n", ""),
+    ("tick 399\n", ""),
+    (
+        "tick 400\n",
+        ">sv 0 {\"jsonrpc\":\"2.0\",\"id\":2,\"method\":\"shutdown\"}\n",
+    ),
+    ("tick 1\n", ""),
+    ("tick 405\n", ">end 0\n"),
+    ("tick 406\n", ""),
+];
+
 // Lines that fit, and that no row takes yet.
-const UNBUILT: [&str; 4] = [
+const UNBUILT: [&str; 3] = [
     "ed 0 {\"jsonrpc\":\"2.0\",\"id\":1,\"method\":\"lspmux/stop\"}\n",
     "ed 0 {\"jsonrpc\":\"2.0\",\"id\":1,\"method\":\"x\",\"params\":{\"workDoneToken\":1}}\n",
     "sv 0 {\"jsonrpc\":\"2.0\",\"method\":\"x\"}\n",
-    "tick 1\n",
 ];
 
 #[test]
@@ -687,6 +712,7 @@ fn several_editors_bring_their_lines(rt: HostRuntime) -> Result<(), Fail> {
         &[&REFUSED],
         &[&STATUSES],
         &[&OPENED],
+        &[&OPENING, &IDLING],
     ];
     for parts in sessions {
         play(&rt, alloc, limits(MOST, MOST), parts, Ok(()))?;

@@ -1,9 +1,9 @@
 -- The tables of a multiplexer that heard nothing.
-use Rattle.std.proofs.Common.{◌≡◌, ℕ, ◌<◌, ◌≤◌, ◌^◌, [], refl, arith}
+use Rattle.std.proofs.Common.{◌≡◌, ℕ, ◌<◌, ◌≤◌, ◌^◌, [], refl, sym, arith}
 use Rattle.std.specs.Prelude.{Option, Some, None}
 use Rattle.event_model.specs.Settings.{Settings}
 use Rattle.mux_tables.specs.declared.tables.Tables.{Tables}
-use Rattle.mux_tables.specs.Stands.{Part, of_life, of_ids, of_shown, PartStands, blank, GroupsStand, LastsStand, Stands}
+use Rattle.mux_tables.specs.Stands.{Part, of_life, of_ids, of_shown, of_stop, PartStands, blank, GroupsStand, LastsStand, Stands}
 
 none_some : {A : Type 0} {x : A} → ◌≡◌ {A = Option A} None (Some x) → ⊥
 none_some e = cc
@@ -12,6 +12,7 @@ blank_stands : (limit s : ℕ) → 2 ≤ limit → (p : Part) → PartStands p l
 blank_stands limit s h of_life = refl
 blank_stands limit s h of_ids = record { next = refl; open_requests = refl; ends = refl; order = record { rising = omega arith; within = h } }
 blank_stands limit s h of_shown = (refl, refl)
+blank_stands limit s h of_stop = tt
 
 no_lasts : (limit : ℕ) → 2 ≤ limit → LastsStand limit [] []
 no_lasts limit h = record {
@@ -24,15 +25,16 @@ no_lasts limit h = record {
 no_groups : (settings : Settings) (limit idle : ℕ) → settings.limits.groups ≡ limit → settings.limits.idle ≡ idle → GroupsStand settings (record { limit = limit; idle = idle; groups = [] }) []
 no_groups settings limit idle g i = record { groups = refl; limit = g; idle = i }
 
-pub begins : (settings : Settings) (t : Tables) (groups idle : ℕ) → 2 ≤ t.requests → t.requests < 2 ^ 32 → t.editors ≡ [] → t.groups ≡ record { limit = groups; idle = idle; groups = [] } → t.time ≡ 0 → t.lasts.items ≡ [] → t.origins.items ≡ []
+pub begins : (settings : Settings) (t : Tables) (groups idle : ℕ) → 2 ≤ t.requests → t.requests < 2 ^ 32 → t.editors ≡ [] → t.groups ≡ record { limit = groups; idle = idle; groups = [] } → t.time ≡ 0 → t.lasts.items ≡ [] → t.origins.groups.items ≡ [] → t.origins.stopping.items ≡ []
     → settings.limits.groups ≡ groups → settings.limits.idle ≡ idle → settings.limits.requests ≡ t.requests → Stands settings t []
-begins settings t groups idle h below es gs now ls os limit wait last = record {
+begins settings t groups idle h below es gs now ls os sk limit wait last = record {
   house = record {
     editors = rw es (record { count = refl; phase = λ e. refl; home = λ e. refl; names = λ e. record { own = λ g w h. absurd (none_some h); unplaced = λ n. refl }; meant = λ e w. refl });
     groups = rw gs (no_groups settings groups idle limit wait);
     now = rw now refl;
   };
   origins = rw os (record { count = refl; group = λ s. refl });
+  stopping = sym sk;
   lasts = rw ls (no_lasts t.requests h);
   requests = last;
   range = below;

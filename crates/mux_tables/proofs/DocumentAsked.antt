@@ -200,7 +200,7 @@ module _ (settings : Settings) (t : Tables) (now : List Event) (g e : ℕ) (z : 
   pub last_rest : Rest settings t now last
   last_rest =
       let within = slice_get_within t.lasts.items g z at in
-      let old = known t.requests t.origins.items now g z st.origins (st.lasts.each g z at) in
+      let old = known t.requests t.origins.groups.items now g z st.origins (st.lasts.each g z at) in
       record {
         texts = λ j l k. texts_apart settings j s text (message_of text) mid (ap (is_home j) here ∙ ne_eqb g j (λ q. absurd (omega (arith, q, l, within)))) ∙ (texts_told settings j s now bodies tell ∙ k);
         encoding = λ j l. encoding_stays j mid (said (ToServer s text)) refl ∙ encoding_told j s now bodies;

@@ -124,7 +124,7 @@ pub answer_documents : (settings : Settings) (owed : Owed) (t u : Tables) (event
     → DocumentsStand settings owed t events → DocumentsStand settings owed u (events ++ took (FromServer s body) m ∷ [])
 answer_documents settings owed t u events g s z y body m at within read later runs life set ds vs st =
     subst (λ n. DocumentsStand settings owed t events → DocumentsStand settings owed u (events ++ took (FromServer n body) m ∷ [])) (start_at_place t.lasts.items g s z here at)
-    (documents_last settings owed owed t u events (events ++ took (FromServer z.life.start body) m ∷ []) (rest_from settings t events z.life.start body m told (known t.requests t.origins.items events g z st.origins last)) vs g z y here set (ap (λ v. v.items) ds)
+    (documents_last settings owed owed t u events (events ++ took (FromServer z.life.start body) m ∷ []) (rest_from settings t events z.life.start body m told (known t.requests t.origins.groups.items events g z st.origins last)) vs g z y here set (ap (λ v. v.items) ds)
     (λ d h. subst (λ (l : Standing). SharedStands settings (events ++ took (FromServer z.life.start body) m ∷ []) (owed g) g l.start l.stage d) (sym life) (shared_own settings events (owed g) g z.life.start z.life.stage d body m told stage runs h))
     (λ j w c away there h. shared_other settings events (owed j) j w.life.start w.life.stage c z.life.start body m told (apart t.requests events g j z w away last (st.lasts.each j w there)) h))
   where

@@ -99,7 +99,7 @@ module _ (settings : Settings) (t : Tables) (g : ℕ) (x : Start) (at : slice_ge
     texts = λ j l k. texts_told settings j s events (body ∷ []) (h, tt) ∙ k;
     encoding = λ j l. encoding_stays j events (said (ToServer s body)) refl;
     starts = starts_kept events (said (ToServer s body)) refl;
-    sent = λ n l u. sent_apart n s u body (message_of body) events (ne_eqb s n (λ q. let old = known t.requests t.origins.items events g x st.origins (st.lasts.each g x at) in absurd (omega (arith, q, l, old))));
+    sent = λ n l u. sent_apart n s u body (message_of body) events (ne_eqb s n (λ q. let old = known t.requests t.origins.groups.items events g x st.origins (st.lasts.each g x at) in absurd (omega (arith, q, l, old))));
   }
 
   next_documents : (body : List ℕ) (bodies : List (List ℕ)) (events : List Event) → Stands settings t events → DocumentsStand settings (owes g (body ∷ bodies)) t events → speaks (saying_of (message_of body)) ≡ true → DocumentsStand settings (owes g bodies) t (events ++ said (ToServer s body) ∷ [])

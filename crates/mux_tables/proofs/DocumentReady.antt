@@ -120,7 +120,7 @@ ready_documents settings t u events g s start code z y body m outs at within rea
     let own : start ≡ z.life.start = number ∙ ap (λ (l : Standing). l.start) life in
     let last : LastStands t.requests events g z = st.lasts.each g z here in
     let begins : (life_of z.life.start events).stage ≡ Initializing = ap (λ (l : Life). l.stage) (last.parts of_life) ∙ stage in
-    let old = known t.requests t.origins.items events g z st.origins last in
+    let old = known t.requests t.origins.groups.items events g z st.origins last in
     let d = documents_at settings nothing_owed t events g z here ds in
     let was : SharedStands settings events [] g z.life.start Initializing d.0 = subst (λ (q : Stage). SharedStands settings events [] g z.life.start q d.0) stage (ds.each g z d.0 here d.1) in
     let made : StepAt (ready_row start code) g (Some d.0) t.documents.items outs u.documents.items = subst (λ o. StepAt (ready_row start code) g o t.documents.items outs u.documents.items) d.1 does in

@@ -26,7 +26,7 @@ use Rattle.mux_tables.proofs.DocumentSaid.{documents_said}
 abbrev pub no_documents : ℕ → Documents
 no_documents versions = record { start = None; encoding = None; versions = versions; turn = 0; opens = []; sent = 0; helds = [] }
 
-module _ (settings : Settings) (owed : Owed) (t u : Tables) (events : List Event) (n g : ℕ) (y : Start) (next : n ≡ length t.origins.items) (life : y.life ≡ spawned n g) (vs : u.versions ≡ t.versions) (st : Stands settings t events) where
+module _ (settings : Settings) (owed : Owed) (t u : Tables) (events : List Event) (n g : ℕ) (y : Start) (next : n ≡ length t.origins.groups.items) (life : y.life ≡ spawned n g) (vs : u.versions ≡ t.versions) (st : Stands settings t events) where
   abbrev ev : Event
   ev = did (Spawn n g) not_message
 
@@ -83,10 +83,10 @@ module _ (settings : Settings) (owed : Owed) (t u : Tables) (events : List Event
       go d h = subst (λ (l : Standing). SharedStands settings later (owed g) g l.start l.stage d) (sym life)
           (record { texts = h.texts; versions = h.versions; owned = h.owned; start = (subst (λ k. StartTold k x.life.start (owed g) d later) ended h.start, new_untold s) })
 
-pub found_gives_documents : (settings : Settings) (owed : Owed) (t u : Tables) (base : List Event) (xs ys : List Out) (n g : ℕ) (y : Start) (d : Documents) → n ≡ length t.origins.items → y.life ≡ spawned n g → u.versions ≡ t.versions → g ≡ length t.lasts.items → d ≡ no_documents t.versions → u.lasts.items ≡ t.lasts.items ++ y ∷ []
+pub found_gives_documents : (settings : Settings) (owed : Owed) (t u : Tables) (base : List Event) (xs ys : List Out) (n g : ℕ) (y : Start) (d : Documents) → n ≡ length t.origins.groups.items → y.life ≡ spawned n g → u.versions ≡ t.versions → g ≡ length t.lasts.items → d ≡ no_documents t.versions → u.lasts.items ≡ t.lasts.items ++ y ∷ []
     → u.documents.items ≡ t.documents.items ++ d ∷ [] → ys ≡ xs ++ Spawn n g ∷ [] → Stands settings t (behind base xs) → DocumentsStand settings owed t (behind base xs) → DocumentsStand settings owed u (behind base ys)
 found_gives_documents settings owed t u base xs ys n g y d next life vs place new ls ds is st = documents_said settings owed owed t u (Spawn n g) base xs ys is (found_documents settings owed t u (behind base xs) n g y next life vs st d place new ls ds)
 
-pub respawn_gives_documents : (settings : Settings) (owed : Owed) (t u : Tables) (base : List Event) (xs ys : List Out) (n g : ℕ) (x y : Start) → n ≡ length t.origins.items → y.life ≡ spawned n g → u.versions ≡ t.versions → slice_get t.lasts.items g ≡ Some x → x.life.stage ≡ Ended → u.lasts.items ≡ slice_set t.lasts.items g y
+pub respawn_gives_documents : (settings : Settings) (owed : Owed) (t u : Tables) (base : List Event) (xs ys : List Out) (n g : ℕ) (x y : Start) → n ≡ length t.origins.groups.items → y.life ≡ spawned n g → u.versions ≡ t.versions → slice_get t.lasts.items g ≡ Some x → x.life.stage ≡ Ended → u.lasts.items ≡ slice_set t.lasts.items g y
     → u.documents ≡ t.documents → ys ≡ xs ++ Spawn n g ∷ [] → Stands settings t (behind base xs) → DocumentsStand settings owed t (behind base xs) → DocumentsStand settings owed u (behind base ys)
 respawn_gives_documents settings owed t u base xs ys n g x y next life vs at ended ls ds is st = documents_said settings owed owed t u (Spawn n g) base xs ys is (respawn_documents settings owed t u (behind base xs) n g y next life vs st x at ended ls ds)

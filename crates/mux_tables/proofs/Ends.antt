@@ -9,6 +9,7 @@ use Rattle.group_words.specs.declared.kept.Kept.{Kept}
 use Rattle.group_words.specs.Placing.{all_from, changed, ended, end_where, is_due}
 use Rattle.group_words.specs.Houses.{groups_of, time_of}
 use Rattle.group_words.proofs.Frames.{groups_more}
+use Rattle.group_rows.specs.Ticks.{due_of}
 use Rattle.group_table.specs.Tables.{Table, with_groups}
 use Rattle.mux_tables.specs.declared.tables.Tables.{Tables}
 use Rattle.mux_tables.specs.Stands.{EditorsStand, HouseStands, ends}
@@ -61,3 +62,8 @@ pub tick_heard : (settings : Settings) (events : List Event) (now later : ℕ) (
 tick_heard settings events now later m t u ns l es k n gs s =
     tick_moves settings events now m t u es (ap (λ (w : Table). w.limit) gs) (ap (λ (w : Table). w.idle) gs) (k ∙ l)
     (ap (λ (w : Table). w.groups) gs ∙ (ap (λ ms. ends ms t.groups.groups) n ∙ ap (λ z. ends (all_from 0 (is_due t.groups.idle z) t.groups.groups) t.groups.groups) l)) s
+
+-- the groups that end at a tick
+pub due_seen : (settings : Settings) (events : List Event) (now later : ℕ) (t : Tables) (ns : List ℕ) → later ≡ max t.time now → ns ≡ all_from 0 (is_due t.groups.idle later) t.groups.groups → HouseStands settings t events → ns ≡ due_of settings events now
+due_seen settings events now later t ns l n s = n ∙ ap (λ z. all_from 0 (is_due t.groups.idle z) t.groups.groups) l ∙ ap (λ z. all_from 0 (is_due t.groups.idle (max z now)) t.groups.groups) (sym s.now)
+    ∙ ap (λ z. all_from 0 (is_due z (max (time_of events) now)) t.groups.groups) (sym s.groups.idle) ∙ ap (all_from 0 (is_due settings.limits.idle (max (time_of events) now))) (sym s.groups.groups)

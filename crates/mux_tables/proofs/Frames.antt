@@ -1,5 +1,5 @@
 -- An event leaves alone what it doesn't name: one lemma for each word, by cases of the event, and one for each table.
-use Rattle.std.proofs.Common.{◌≡◌, ℕ, ◌+◌, Bool, true, false, not, List, [], ◌∷◌, ◌++◌, refl, ap, sym, subst, ◌∙◌, nat_eq, arith}
+use Rattle.std.proofs.Common.{◌≡◌, ℕ, ◌+◌, Bool, true, false, not, ◌&&◌, List, [], ◌∷◌, ◌++◌, refl, ap, sym, subst, ◌∙◌, nat_eq, arith}
 use Rattle.std.specs.Prelude.{Option, Some, None, codes, if◌then◌else◌}
 use Rattle.std.proofs.lemmas.Bool.Decides.{nat_tests}
 use Rattle.mux_history.specs.declared.cause.Cause.TheVariants.{Joined, FromEditor, EditorGone, Started, StartFailed, FromServer, ServerGone, Tick}
@@ -13,18 +13,19 @@ use Rattle.event_model.specs.Phases.{Desk, desk_behind, editors_behind}
 use Rattle.event_model.specs.Requests.{is_own}
 use Rattle.event_model.specs.Settings.{Settings}
 use Rattle.event_model.specs.Spawns.{starts_behind, start_behind, group_behind}
-use Rattle.event_model.specs.Stages.{Life, life_behind, is_first_result, stage_hears, stage_told}
+use Rattle.event_model.specs.Stages.{Life, is_ready, life_behind, life_of, is_first_result, stage_hears, stage_told}
 use Rattle.event_model.proofs.Frames.{one_more, never}
 use Rattle.editor_session.specs.declared.session.Session.{Session}
 use Rattle.group_table.specs.Tables as group_tables
-use Rattle.group_words.specs.Houses.{Meant, meant_behind, time_behind}
+use Rattle.group_words.specs.Houses.{Meant, meant_behind, time_behind, time_of}
 use Rattle.group_words.specs.Rows.{result_behind, result_of}
-use Rattle.group_words.proofs.Frames.{touches_groups, names_home, groups_stay, home_stays}
+use Rattle.group_words.proofs.Frames.{touches_groups, names_home, groups_stay, home_stays, past_more}
 use Rattle.id_rewrite.specs.Tables.{Table}
 use Rattle.mux_tables.specs.declared.tables.Start.{Start}
 use Rattle.group_rows.specs.Forwarded.{Forwarding, forwarding_behind, forwarding_of, forwards, moves_ids, numbered}
-use Rattle.mux_tables.specs.Stands.{EditorsStand, GroupsStand, OriginsStand, IdsAt, IdsStand, Part, of_life, of_ids, of_shown, PartStands, LastStands, ShownAt}
+use Rattle.mux_tables.specs.Stands.{EditorsStand, GroupsStand, OriginsStand, IdsAt, IdsStand, Part, of_life, of_ids, of_shown, PartStands, LastStands, ShownAt, of_stop, StopAt}
 use Rattle.mux_tables.proofs.Named.{goes_so, meant_by, named_by}
+use Rattle.group_rows.specs.Ticks.{stop_next, stop_of}
 
 pub itself : (n : ℕ) → nat_eq n n ≡ true
 itself n = grind (arith, nat_tests)
@@ -160,6 +161,8 @@ touches of_ids (did (ToServer n body) m) = moves_ids m
 touches of_ids other = false
 touches of_shown (took (FromServer n body) m) = is_first_result m
 touches of_shown other = false
+touches of_stop (did (ToServer n body) m) = requests (codes "shutdown") m
+touches of_stop other = false
 
 hears_quiet : (g : Stage) (m : Message) → is_first_result m ≡ false → stage_hears g m ≡ g
 hears_quiet Initializing m h = rw h refl
@@ -215,6 +218,26 @@ result_quiet s None (took (FromServer n body) m) h = rw h (either_way (nat_eq n 
 result_quiet s None other h = refl
 result_quiet s (Some b) ev h = refl
 
+-- the moment of its `shutdown`
+pub stop_more : (s : ℕ) (events : List Event) (ev : Event) → stop_of s (events ++ ev ∷ []) ≡ stop_next s events (stop_of s events) ev
+stop_more s events ev = past_more (stop_next s) [] None events ev
+
+stop_alone : (s : ℕ) (events : List Event) (o : Option ℕ) (ev : Event) → names_start s ev ≡ false → stop_next s events o ev ≡ o
+stop_alone s events o (did (ToServer n body) m) h = rw h refl
+stop_alone s events o other h = refl
+
+stop_quiet : (s : ℕ) (events : List Event) (o : Option ℕ) (ev : Event) → touches of_stop ev ≡ false → stop_next s events o ev ≡ o
+stop_quiet s events o (did (ToServer n body) m) h = ap (λ b. if nat_eq n s && (is_ready (life_of s events).stage && b) then Some (time_of events) else o) h ∙ go (nat_eq n s) (is_ready (life_of s events).stage)
+  where
+    go : (a b : Bool) → (if a && (b && false) then Some (time_of events) else o) ≡ o
+    go true true = refl
+    go true false = refl
+    go false b = refl
+stop_quiet s events o other h = refl
+
+stop_by : (limit : ℕ) (x : Start) (events : List Event) (ev : Event) → stop_next x.life.start events (stop_of x.life.start events) ev ≡ stop_of x.life.start events → PartStands of_stop limit x events → PartStands of_stop limit x (events ++ ev ∷ [])
+stop_by limit x events ev same s = subst (λ o. StopAt x.life.stage x.life.stopping o) (sym (stop_more x.life.start events ev ∙ same)) s
+
 -- an event of another start, and an event of another kind
 ids_by : (limit s : ℕ) (t : Table) (events : List Event) (ev : Event) → SameForwarding (forwarding_behind s (forwarding_of s events) ev) (forwarding_of s events) → IdsStand limit s t events → IdsStand limit s t (events ++ ev ∷ [])
 ids_by limit s t events ev same i = subst (λ x. IdsAt limit x t) (sym (one_more (forwarding_behind s) _ _ events ev refl)) (record { next = same.next ∙ i.next; open_requests = same.open_requests ∙ i.open_requests; ends = i.ends; order = i.order })
@@ -226,11 +249,13 @@ pub part_apart : (p : Part) (limit : ℕ) (x : Start) (events : List Event) (ev 
 part_apart of_life limit x events ev h s = one_more (life_behind x.life.start) _ _ events ev s ∙ life_alone x.life.start _ ev h
 part_apart of_ids limit x events ev h s = ids_by limit x.life.start x.ids events ev (forwarding_alone x.life.start (forwarding_of x.life.start events) ev h) s
 part_apart of_shown limit x events ev h s = shown_by limit x events ev (result_alone x.life.start (result_of x.life.start events) ev h) s
+part_apart of_stop limit x events ev h s = stop_by limit x events ev (stop_alone x.life.start events (stop_of x.life.start events) ev h) s
 
 pub part_quiet : (p : Part) (limit : ℕ) (x : Start) (events : List Event) (ev : Event) → touches p ev ≡ false → PartStands p limit x events → PartStands p limit x (events ++ ev ∷ [])
 part_quiet of_life limit x events ev h s = one_more (life_behind x.life.start) _ _ events ev s ∙ life_quiet x.life.start _ ev h
 part_quiet of_ids limit x events ev h s = ids_by limit x.life.start x.ids events ev (forwarding_quiet x.life.start (forwarding_of x.life.start events) ev h) s
 part_quiet of_shown limit x events ev h s = shown_by limit x events ev (result_quiet x.life.start (result_of x.life.start events) ev h) s
+part_quiet of_stop limit x events ev h s = stop_by limit x events ev (stop_quiet x.life.start events (stop_of x.life.start events) ev h) s
 
 -- the last start of a group, where the event doesn't name it, and no start is spawned for the group
 pub last_stands : (limit : ℕ) (events : List Event) (ev : Event) (g : ℕ) (x : Start) → names_start x.life.start ev ≡ false → ((o : Option ℕ) → start_behind g o ev ≡ o) → LastStands limit events g x → LastStands limit (events ++ ev ∷ []) g x

@@ -88,7 +88,7 @@ joined_editors settings t u events e last is s = record {
 
 pub joined_moves : (settings : Settings) (t u : Tables) (events : List Event) (e : ℕ) → e ≡ length t.editors → u.editors ≡ t.editors ++ joined ∷ [] → u.groups ≡ t.groups → u.time ≡ t.time → u.lasts ≡ t.lasts → u.origins ≡ t.origins → u.requests ≡ t.requests
     → Stands settings t events → Stands settings u (events ++ took (Joined e) not_message ∷ [])
-joined_moves settings t u events e last is gs now ls os r s = house_moves settings t u events (took (Joined e) not_message) (λ n. refl) refl (ap (λ v. v.items) ls) (ap (λ v. v.items) os) r (λ h. record {
+joined_moves settings t u events e last is gs now ls os r s = house_moves settings t u events (took (Joined e) not_message) (λ n. refl) refl (ap (λ v. v.items) ls) os r (λ h. record {
   editors = joined_editors settings t.editors u.editors events e last is h.editors;
   groups = subst (λ g. GroupsStand settings g (events ++ took (Joined e) not_message ∷ [])) (sym gs) (groups_stand settings t.groups events (took (Joined e) not_message) refl h.groups);
   now = one_more time_behind _ _ events (took (Joined e) not_message) h.now ∙ sym now;
@@ -168,7 +168,7 @@ module _ (settings : Settings) (t u : Tables) (events : List Event) (e : ℕ) (b
           (one_more (meant_behind settings.servers n) _ _ events ev refl ∙ rw (ne_eqb e n (λ q. h (sym q))) refl) (s.meant n)
 
   all_heard : (GroupsStand settings t.groups events → GroupsStand settings u.groups (events ++ ev ∷ [])) → Stands settings t events → Stands settings u (events ++ ev ∷ [])
-  all_heard go = house_moves settings t u events ev (λ n. refl) refl (ap (λ v. v.items) ls) (ap (λ v. v.items) os) r (λ h. record {
+  all_heard go = house_moves settings t u events ev (λ n. refl) refl (ap (λ v. v.items) ls) os r (λ h. record {
     editors = heard_editors h.editors;
     groups = go h.groups;
     now = one_more time_behind _ _ events ev h.now ∙ sym now;
@@ -254,7 +254,7 @@ pub gone_heard : (settings : Settings) (t u : Tables) (events : List Event) (e :
     → u.groups ≡ with_groups (emptied home was (stays_in mid) t.time t.groups.groups) t.groups
     → Stands settings t events → Stands settings u (events ++ took (EditorGone e why) not_message ∷ [])
 gone_heard settings t u events e why mid p home was l phases homes begun set es now ls os r gs =
-    house_moves settings t u events (took (EditorGone e why) not_message) (λ n. refl) refl (ap (λ v. v.items) ls) (ap (λ v. v.items) os) r
+    house_moves settings t u events (took (EditorGone e why) not_message) (λ n. refl) refl (ap (λ v. v.items) ls) os r
     (gone_by settings events e why not_message t u mid p home was l phases homes begun set es now gs)
 
 -- E7
@@ -264,10 +264,10 @@ pub initialized_moves : (settings : Settings) (before : List Event) (e : ℕ) (b
     → (p ≡ placed_for settings before e body (groups_of settings before)) × Stands settings u (before ++ took (FromEditor e body) (message_of body) ∷ [])
 initialized_moves settings before e body t u mid x p key given id first at new own k d chosen placed busy sits now ls os r s =
     let h = initialize_heard settings before e body (message_of body) t u mid x p key given id first at new own k d chosen placed busy sits now s.house in
-    (h.0, house_moves settings t u before (took (FromEditor e body) (message_of body)) (λ n. refl) refl (ap (λ v. v.items) ls) (ap (λ v. v.items) os) r (λ _. h.1) s)
+    (h.0, house_moves settings t u before (took (FromEditor e body) (message_of body)) (λ n. refl) refl (ap (λ v. v.items) ls) os r (λ _. h.1) s)
 
 -- X7
 pub ticked_moves : (settings : Settings) (t u : Tables) (events : List Event) (now later : ℕ) (ns : List ℕ) → later ≡ max t.time now → u.editors ≡ t.editors → u.time ≡ later → ns ≡ all_from 0 (is_due t.groups.idle later) t.groups.groups
     → u.groups ≡ with_groups (ends ns t.groups.groups) t.groups → u.lasts ≡ t.lasts → u.origins ≡ t.origins → u.requests ≡ t.requests → Stands settings t events → Stands settings u (events ++ took (Tick now) not_message ∷ [])
 ticked_moves settings t u events now later ns l es k n gs ls os r =
-    house_moves settings t u events (took (Tick now) not_message) (λ n. refl) refl (ap (λ v. v.items) ls) (ap (λ v. v.items) os) r (tick_heard settings events now later not_message t u ns l es k n gs)
+    house_moves settings t u events (took (Tick now) not_message) (λ n. refl) refl (ap (λ v. v.items) ls) os r (tick_heard settings events now later not_message t u ns l es k n gs)

@@ -1,3 +1,4 @@
+pub mod Awaited
 pub mod Begins
 pub mod Frames
 pub mod IdMoves

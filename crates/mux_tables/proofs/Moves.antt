@@ -5,13 +5,16 @@ use Rattle.event_model.specs.Event.{Event}
 use Rattle.event_model.specs.Settings.{Settings}
 use Rattle.event_model.specs.Spawns.{start_behind, group_behind, group_of}
 use Rattle.event_model.proofs.Frames.{one_more}
+use Rattle.event_model.specs.Stages.{Life, life_of}
+use Rattle.group_rows.specs.Ticks.{is_stopping}
 use Rattle.group_words.specs.Houses.{time_behind}
 use Rattle.group_words.proofs.Frames.{touches_groups}
 use Rattle.mux_tables.specs.declared.tables.Start.{Start}
 use Rattle.mux_tables.specs.declared.tables.Tables.{Tables}
 use Rattle.mux_tables.specs.Stands.{Part, PartStands, EditorsStand, GroupsStand, OriginsStand, LastStands, LastsStand, HouseStands, Stands}
-use Rattle.mux_tables.proofs.Frames.{names_start, names_editor, spawns, ticks, editors_stand, groups_stand, origins_stand, start_alone, group_alone, time_alone}
+use Rattle.mux_tables.proofs.Frames.{names_start, names_editor, spawns, ticks, editors_stand, groups_stand, origins_stand, start_alone, group_alone, life_alone, time_alone}
 use Rattle.mux_tables.proofs.Lasts.{lasts_stand, one_last}
+use Rattle.mux_tables.proofs.Awaited.{StopsMove, stopping_more, stops_kept}
 
 module _ (settings : Settings) where
   -- an event that editors, groups and the time don't speak of
@@ -26,18 +29,20 @@ module _ (settings : Settings) where
   pub quiet_moves : (t : Tables) (events : List Event) (ev : Event) → names_editor ev ≡ false → touches_groups ev ≡ false → ticks ev ≡ false → ((n : ℕ) → names_start n ev ≡ false) → spawns ev ≡ false → Stands settings t events → Stands settings t (events ++ ev ∷ [])
   quiet_moves t events ev e g w n k s = record {
     house = house_stands t t events ev e (groups_stand settings t.groups events ev g) w refl refl s.house;
-    origins = origins_stand t.origins.items events ev k s.origins;
+    origins = origins_stand t.origins.groups.items events ev k s.origins;
+    stopping = stopping_more events ev k (λ m. ap (λ (l : Life). is_stopping l.stage) (life_alone m (life_of m events) ev (n m))) ∙ s.stopping;
     lasts = lasts_stand t.requests t.lasts.items events ev n k s.lasts;
     requests = s.requests;
     range = s.range;
   }
 
   -- an event that editors, groups and the time alone speak of
-  pub house_moves : (t u : Tables) (events : List Event) (ev : Event) → ((n : ℕ) → names_start n ev ≡ false) → spawns ev ≡ false → u.lasts.items ≡ t.lasts.items → u.origins.items ≡ t.origins.items → u.requests ≡ t.requests
+  pub house_moves : (t u : Tables) (events : List Event) (ev : Event) → ((n : ℕ) → names_start n ev ≡ false) → spawns ev ≡ false → u.lasts.items ≡ t.lasts.items → u.origins ≡ t.origins → u.requests ≡ t.requests
       → (HouseStands settings t events → HouseStands settings u (events ++ ev ∷ [])) → Stands settings t events → Stands settings u (events ++ ev ∷ [])
   house_moves t u events ev n k ls os r go s = record {
     house = go s.house;
-    origins = subst (λ xs. OriginsStand xs (events ++ ev ∷ [])) (sym os) (origins_stand t.origins.items events ev k s.origins);
+    origins = subst (λ v. OriginsStand v.groups.items (events ++ ev ∷ [])) (sym os) (origins_stand t.origins.groups.items events ev k s.origins);
+    stopping = stops_kept t u events ev os k (λ m. ap (λ (l : Life). is_stopping l.stage) (life_alone m (life_of m events) ev (n m))) s.stopping;
     lasts = rw (ls, r) (lasts_stand t.requests t.lasts.items events ev n k s.lasts);
     requests = s.requests ∙ sym r;
     range = subst (λ n. n < 2 ^ 32) (sym r) s.range;
@@ -45,12 +50,13 @@ module _ (settings : Settings) where
 
   -- what moves is the last start of one group
   module _ (t u : Tables) (events : List Event) (ev : Event) (i : ℕ) (x : Start) (e : names_editor ev ≡ false) (g : GroupsStand settings t.groups events → GroupsStand settings u.groups (events ++ ev ∷ [])) (w : ticks ev ≡ false) (k : spawns ev ≡ false) (n : (m : ℕ) → names_start m ev ≡ nat_eq x.life.start m)
-      (at : slice_get t.lasts.items i ≡ Some x) (es : u.editors ≡ t.editors) (now : u.time ≡ t.time) (os : u.origins.items ≡ t.origins.items) (r : u.requests ≡ t.requests) where
+      (at : slice_get t.lasts.items i ≡ Some x) (es : u.editors ≡ t.editors) (now : u.time ≡ t.time) (os : u.origins.groups ≡ t.origins.groups) (sk : StopsMove t u events ev) (r : u.requests ≡ t.requests) where
     last_moves : (y : Start) → u.lasts.items ≡ slice_set t.lasts.items i y → (LastStands t.requests events i x → LastStands t.requests (events ++ ev ∷ []) i y) → Stands settings t events → Stands settings u (events ++ ev ∷ [])
     last_moves y is go s = record {
       house = house_stands t u events ev e g w es now s.house;
-      origins = subst (λ xs. OriginsStand xs (events ++ ev ∷ [])) (sym os) (origins_stand t.origins.items events ev k s.origins);
-      lasts = subst (λ m. LastsStand m u.lasts.items (events ++ ev ∷ [])) (sym r) (one_last t.requests t.origins.items t.lasts.items u.lasts.items events ev i x y n k at is s.origins go s.lasts);
+      origins = subst (λ v. OriginsStand v.items (events ++ ev ∷ [])) (sym os) (origins_stand t.origins.groups.items events ev k s.origins);
+      stopping = sk s.stopping;
+      lasts = subst (λ m. LastsStand m u.lasts.items (events ++ ev ∷ [])) (sym r) (one_last t.requests t.origins.groups.items t.lasts.items u.lasts.items events ev i x y n k at is s.origins go s.lasts);
       requests = s.requests ∙ sym r;
       range = subst (λ n. n < 2 ^ 32) (sym r) s.range;
     }

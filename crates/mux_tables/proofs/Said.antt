@@ -101,7 +101,7 @@ told_does settings t xs ys base e body k is = does_send settings (ToEditor e bod
 pub welcome_does : (settings : Settings) (t u : Tables) (xs ys : List Out) (base : List Event) (e : ℕ) (body : List ℕ) (p : Phase) → e < length t.editors → (desk_of e (behind base xs ++ said (ToEditor e body) ∷ [])).phase ≡ p → u.editors ≡ with_session t.editors e (phased t.editors e p)
     → u.groups ≡ t.groups → u.time ≡ t.time → u.lasts ≡ t.lasts → u.origins ≡ t.origins → u.requests ≡ t.requests → ys ≡ xs ++ ToEditor e body ∷ [] → Does (λ t events. Stands settings t events) (send (ToEditor e body)) base t xs u ys
 welcome_does settings t u xs ys base e body p l k es gs now ls os r is = does_send settings (ToEditor e body) base t u xs ys is
-    (house_moves settings t u (behind base xs) (said (ToEditor e body)) (λ n. refl) refl (ap (λ v. v.items) ls) (ap (λ v. v.items) os) r
+    (house_moves settings t u (behind base xs) (said (ToEditor e body)) (λ n. refl) refl (ap (λ v. v.items) ls) os r
     (λ h. told_house settings (behind base xs) e body t u (subst (λ z. EditorsStand settings z (behind base xs ++ said (ToEditor e body) ∷ [])) (sym (es ∙ told_plain settings t.editors (behind base xs) e p l h.editors body k)) (moved_editors settings (behind base xs) e body t.editors p l k h.editors)) gs now h))
 
 pub close_does : (settings : Settings) (t u : Tables) (xs ys : List Out) (base : List Event) (e : ℕ) (mid : List Session) (before p : Phase) (home : Option ℕ) (was : Bool) → e < length t.editors
@@ -109,5 +109,5 @@ pub close_does : (settings : Settings) (t u : Tables) (xs ys : List Out) (base :
     → mid ≡ with_session t.editors e (phased t.editors e p) → u.editors ≡ mid → u.time ≡ t.time → u.lasts ≡ t.lasts → u.origins ≡ t.origins → u.requests ≡ t.requests
     → u.groups ≡ with_groups (emptied home was (stays_in mid) t.time t.groups.groups) t.groups → ys ≡ xs ++ CloseEditor e ∷ [] → Does (λ t events. Stands settings t events) (send (CloseEditor e)) base t xs u ys
 close_does settings t u xs ys base e mid before p home was l phases homes closes begun set es now ls os r gs is = does_send settings (CloseEditor e) base t u xs ys is
-    (house_moves settings t u (behind base xs) (said (CloseEditor e)) (λ n. refl) refl (ap (λ v. v.items) ls) (ap (λ v. v.items) os) r
+    (house_moves settings t u (behind base xs) (said (CloseEditor e)) (λ n. refl) refl (ap (λ v. v.items) ls) os r
     (closed_by settings (behind base xs) e not_message t u mid before p home was l phases homes closes begun (set ∙ plain t.editors e p (ap is_gone closes ∙ (closed_gone before ∙ ap is_gone phases))) es now gs))

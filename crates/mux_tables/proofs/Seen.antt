@@ -51,8 +51,8 @@ ended_off life e = (ap (λ g. life.started && not (is_ended g)) e ∙ and_off li
 
 -- a start that isn't the last of its group is over, and its program doesn't run
 module _ (settings : Settings) (t : Tables) (events : List Event) (s : ℕ) (st : Stands settings t events) where
-  unspawned : slice_get t.origins.items s ≡ None → life_of s events ≡ record { stage = Unspawned; started = false }
-  unspawned h = st.lasts.fresh s (subst (λ n. n ≤ s) (sym st.origins.count) (past t.origins.items s h)) of_life
+  unspawned : slice_get t.origins.groups.items s ≡ None → life_of s events ≡ record { stage = Unspawned; started = false }
+  unspawned h = st.lasts.fresh s (subst (λ n. n ≤ s) (sym st.origins.count) (past t.origins.groups.items s h)) of_life
     where
       past : (xs : List ℕ) (i : ℕ) → slice_get xs i ≡ None → length xs ≤ i
       past [] i h = omega arith
@@ -62,42 +62,42 @@ module _ (settings : Settings) (t : Tables) (events : List Event) (s : ℕ) (st 
           some x h = cc
       past (x ∷ xs) (suc i) h = let r = past xs i h in omega arith
 
-  pub unspawned_over : slice_get t.origins.items s ≡ None → is_over (life_of s events).stage ≡ true
+  pub unspawned_over : slice_get t.origins.groups.items s ≡ None → is_over (life_of s events).stage ≡ true
   unspawned_over h = ap (λ (l : Life). is_over l.stage) (unspawned h)
 
-  pub unspawned_halted : slice_get t.origins.items s ≡ None → runs (life_of s events) ≡ false
+  pub unspawned_halted : slice_get t.origins.groups.items s ≡ None → runs (life_of s events) ≡ false
   unspawned_halted h = ap runs (unspawned h)
 
-  pub unspawned_settled : slice_get t.origins.items s ≡ None → may_start (life_of s events) ≡ false
+  pub unspawned_settled : slice_get t.origins.groups.items s ≡ None → may_start (life_of s events) ≡ false
   unspawned_settled h = ap may_start (unspawned h)
 
   module _ (P : Life → Type 0) (ended : (life : Life) → life.stage ≡ Ended → P life) where
-    old_start : (g : ℕ) → slice_get t.origins.items s ≡ Some g → (start_of g events ≡ Some s → ⊥) → P (life_of s events)
+    old_start : (g : ℕ) → slice_get t.origins.groups.items s ≡ Some g → (start_of g events ≡ Some s → ⊥) → P (life_of s events)
     old_start g h not_it = go (st.lasts.old s g (st.origins.group s ∙ h))
       where
         go : (start_of g events ≡ Some s) ⊎ ((life_of s events).stage ≡ Ended) → P (life_of s events)
         go (inl e) = absurd (not_it e)
         go (inr e) = ended (life_of s events) e
 
-    outside : (g : ℕ) → slice_get t.origins.items s ≡ Some g → length t.lasts.items ≤ g → P (life_of s events)
+    outside : (g : ℕ) → slice_get t.origins.groups.items s ≡ Some g → length t.lasts.items ≤ g → P (life_of s events)
     outside g h past = old_start g h (λ e. none (sym (st.lasts.none g past) ∙ e))
       where
         none : ◌≡◌ {A = Option ℕ} None (Some s) → ⊥
         none h = cc
 
-    other : (g : ℕ) (z : Start) → slice_get t.origins.items s ≡ Some g → g < length t.lasts.items → z ≡ get_or t.lasts.items g z → (z.life.start ≡ s → ⊥) → P (life_of s events)
+    other : (g : ℕ) (z : Start) → slice_get t.origins.groups.items s ≡ Some g → g < length t.lasts.items → z ≡ get_or t.lasts.items g z → (z.life.start ≡ s → ⊥) → P (life_of s events)
     other g z h within read not_it = old_start g h (λ e. not_it (same_item (sym (st.lasts.each g z (read_here t.lasts.items g z within read)).start ∙ e)))
 
-  pub outside_over : (g : ℕ) → slice_get t.origins.items s ≡ Some g → length t.lasts.items ≤ g → is_over (life_of s events).stage ≡ true
+  pub outside_over : (g : ℕ) → slice_get t.origins.groups.items s ≡ Some g → length t.lasts.items ≤ g → is_over (life_of s events).stage ≡ true
   outside_over = outside (λ life. is_over life.stage ≡ true) ended_over
 
-  pub outside_off : (g : ℕ) → slice_get t.origins.items s ≡ Some g → length t.lasts.items ≤ g → IsOff (life_of s events)
+  pub outside_off : (g : ℕ) → slice_get t.origins.groups.items s ≡ Some g → length t.lasts.items ≤ g → IsOff (life_of s events)
   outside_off = outside IsOff ended_off
 
-  pub other_over : (g : ℕ) (z : Start) → slice_get t.origins.items s ≡ Some g → g < length t.lasts.items → z ≡ get_or t.lasts.items g z → (z.life.start ≡ s → ⊥) → is_over (life_of s events).stage ≡ true
+  pub other_over : (g : ℕ) (z : Start) → slice_get t.origins.groups.items s ≡ Some g → g < length t.lasts.items → z ≡ get_or t.lasts.items g z → (z.life.start ≡ s → ⊥) → is_over (life_of s events).stage ≡ true
   other_over = other (λ life. is_over life.stage ≡ true) ended_over
 
-  pub other_off : (g : ℕ) (z : Start) → slice_get t.origins.items s ≡ Some g → g < length t.lasts.items → z ≡ get_or t.lasts.items g z → (z.life.start ≡ s → ⊥) → IsOff (life_of s events)
+  pub other_off : (g : ℕ) (z : Start) → slice_get t.origins.groups.items s ≡ Some g → g < length t.lasts.items → z ≡ get_or t.lasts.items g z → (z.life.start ≡ s → ⊥) → IsOff (life_of s events)
   other_off = other IsOff ended_off
 
 pub start_read : (xs : List Start) (g s start : ℕ) (z : Start) → g < length xs → z ≡ get_or xs g z → start ≡ z.life.start → start ≡ s → slice_get (map number_in xs) g ≡ Some s

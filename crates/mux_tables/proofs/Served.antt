@@ -20,14 +20,16 @@ use Rattle.id_rewrite.specs.declared.pending.Pending.{Pending}
 use Rattle.id_rewrite.specs.declared.pending.Numbered.{Numbered}
 use Rattle.id_rewrite.specs.Tables.{Table, IsInOrder, pending_of, without}
 use Rattle.restart_replay.specs.Standings.{Standing, moved}
+use Rattle.group_rows.specs.Ticks.{is_stopping, stop_of}
 use Rattle.mux_tables.specs.declared.tables.Start.{Start}
 use Rattle.mux_tables.specs.declared.tables.Tables.{Tables}
 use Rattle.group_rows.specs.Forwarded.{Forwarding, forwarding_behind, forwarding_of, is_under}
-use Rattle.mux_tables.specs.Stands.{Exits, IdsAt, NamesAt, Part, of_life, of_ids, of_shown, PartStands, ShownAt, Stands, begun_at, forwarded_as, is_early, number_in}
+use Rattle.mux_tables.specs.Stands.{Exits, IdsAt, NamesAt, Part, of_life, of_ids, of_shown, of_stop, PartStands, ShownAt, Stands, StopAt, begun_at, forwarded_as, is_early, number_in, unstopped}
 use Rattle.mux_tables.proofs.Exits.{lost_groups, refused_groups}
-use Rattle.mux_tables.proofs.Frames.{itself, groups_stand, names_editor, names_start, result_quiet, spawns, ticks}
+use Rattle.mux_tables.proofs.Frames.{itself, groups_stand, names_editor, names_start, part_quiet, result_quiet, spawns, stop_more, ticks}
 use Rattle.mux_tables.proofs.IdMoves.{answered_ids, ended_ids, failed_ids, unanswered_ids, found_seen}
-use Rattle.mux_tables.proofs.Starts.{groups_kept, is_late, late_shown, not_refused, part_ids, part_life, part_shown, read_back, read_here, start_at_place, start_moves, still_ids, still_shown}
+use Rattle.mux_tables.proofs.Starts.{groups_kept, is_late, late_shown, no_stop, not_refused, part_ids, part_life, part_shown, read_back, read_here, start_at_place, start_moves, still_ids, still_shown, still_stop}
+use Rattle.mux_tables.proofs.Awaited.{StopsMove, hears_same, same_either, started_same, stopping_less, stops_kept}
 
 -- the program runs
 pub begun_start : (g : Stage) (l : Standing) → (begun_at g l).start ≡ l.start
@@ -56,14 +58,25 @@ begun_shown Stopping l shown given h s = rw h s
 begun_shown Ending l shown given h s = rw h s
 begun_shown Ended l shown given h s = rw h s
 
+begun_stop : (g : Stage) (l : Standing) (since : ℕ → Option ℕ) → l.stage ≡ g → StopAt l.stage l.stopping (since l.start) → StopAt (begun_at g l).stage (begun_at g l).stopping (since (begun_at g l).start)
+begun_stop Spawning l since h s = tt
+begun_stop Unspawned l since h s = s
+begun_stop Initializing l since h s = s
+begun_stop Ready l since h s = s
+begun_stop Stopping l since h s = s
+begun_stop Ending l since h s = s
+begun_stop Ended l since h s = s
+
 pub started_moves : (settings : Settings) (t u : Tables) (events : List Event) (g s : ℕ) (z : Start) (life : Standing) → slice_get (map number_in t.lasts.items) g ≡ Some s → g < length t.lasts.items → z ≡ get_or t.lasts.items g z → life ≡ begun_at z.life.stage z.life
     → u.lasts.items ≡ slice_set t.lasts.items g (record z { life = life; started = true }) → u.editors ≡ t.editors → u.groups ≡ t.groups → u.time ≡ t.time → u.origins ≡ t.origins → u.requests ≡ t.requests
     → Stands settings t events → Stands settings u (events ++ took (Started s) not_message ∷ [])
 started_moves settings t u events g s z life at within read is set es gs now os r =
     let y : Start = record z { life = life; started = true } in
     let own : life.start ≡ z.life.start = ap (λ (l : Standing). l.start) is ∙ begun_start z.life.stage z.life in
-    start_moves settings t u events (λ n. took (Started n) not_message) g s z y at within read set own (ap (λ (l : Standing). l.group) is ∙ begun_group z.life.stage z.life) es now os r (λ n. refl) (λ n. refl) (λ n. refl) (λ n m. refl)
-    (λ n _ h. groups_kept settings t.groups u.groups events (took (Started n) not_message) gs (groups_stand settings t.groups events (took (Started n) not_message) refl) h) (part own)
+    start_moves settings t u events (λ n. took (Started n) not_message) g s z y at within read set own (ap (λ (l : Standing). l.group) is ∙ begun_group z.life.stage z.life) es now (ap (λ v. v.groups) os) r (λ n. refl) (λ n. refl) (λ n. refl) (λ n m. refl)
+    (λ n _ h. groups_kept settings t.groups u.groups events (took (Started n) not_message) gs (groups_stand settings t.groups events (took (Started n) not_message) refl) h)
+    (λ n _. stops_kept t u events (took (Started n) not_message) os refl
+    (λ m. same_either (nat_eq n m) (record { stage = stage_started (life_of m events).stage; started = true }) (life_of m events) (started_same (life_of m events).stage))) (part own)
   where
     part : life.start ≡ z.life.start → (p : Part) → PartStands p t.requests z events → PartStands p t.requests (record z { life = life; started = true }) (events ++ took (Started z.life.start) not_message ∷ [])
     part own of_life h = part_life t.requests events (took (Started z.life.start) not_message) z (record z { life = life; started = true }) own
@@ -72,6 +85,8 @@ started_moves settings t u events g s z life at within read is set es gs now os 
     part own of_shown h = part_shown t.requests events (took (Started z.life.start) not_message) z (record z { life = life; started = true }) own
         (λ s. subst (λ (l : Standing). ShownAt l.stage z.shown (result_behind z.life.start (result_of z.life.start events) (took (Started z.life.start) not_message))) (sym is)
         (begun_shown z.life.stage z.life z.shown _ refl (subst (λ o. ShownAt z.life.stage z.shown o) (sym (result_quiet z.life.start (result_of z.life.start events) (took (Started z.life.start) not_message) refl)) s))) h
+    part own of_stop h = subst (λ (l : Standing). StopAt l.stage l.stopping (stop_of l.start (events ++ took (Started z.life.start) not_message ∷ []))) (sym is)
+        (begun_stop z.life.stage z.life (λ n. stop_of n (events ++ took (Started z.life.start) not_message ∷ [])) refl (part_quiet of_stop t.requests z events (took (Started z.life.start) not_message) refl h))
 
 -- the start answers a request, or none
 same_table : (limit : ℕ) (x : Forwarding) (t u : Table) → u.requests ≡ t.requests → u.next ≡ t.next → u.limit ≡ t.limit → (IsInOrder t → IsInOrder u) → IdsAt limit x t → IdsAt limit x u
@@ -93,14 +108,20 @@ hears_answer other m h = refl
 stage_seen : (settings : Settings) (t : Tables) (events : List Event) (g n : ℕ) (z : Start) → Stands settings t events → slice_get t.lasts.items g ≡ Some z → n ≡ z.life.start → (life_of n events).stage ≡ z.life.stage
 stage_seen settings t events g n z st here e = ap (λ k. (life_of k events).stage) e ∙ ap (λ (l : Life). l.stage) ((st.lasts.each g z here).parts of_life)
 
+heard_stops : (t u : Tables) (events : List Event) (s : ℕ) (body : List ℕ) → u.origins ≡ t.origins → StopsMove t u events (took (FromServer s body) (message_of body))
+heard_stops t u events s body os = stops_kept t u events (took (FromServer s body) (message_of body)) os refl
+    (λ m. same_either (nat_eq s m) (record { stage = stage_hears (life_of m events).stage (message_of body); started = (life_of m events).started }) (life_of m events) (hears_same (life_of m events).stage (message_of body)))
+
 module _ (settings : Settings) (t u : Tables) (events : List Event) (g s : ℕ) (z : Start) (body : List ℕ) (n : Option ℕ) (life : Standing) (ids : Table) (shown : Option (List ℕ)) (at : slice_get (map number_in t.lasts.items) g ≡ Some s) (within : g < length t.lasts.items) (read : z ≡ get_or t.lasts.items g z)
+    (awaits : StopAt z.life.stage z.life.stopping (stop_of z.life.start events) → StopAt life.stage life.stopping (stop_of z.life.start events))
     (gives : ShownAt z.life.stage z.shown (result_of z.life.start events) → ShownAt life.stage shown (result_behind z.life.start (result_of z.life.start events) (took (FromServer z.life.start body) (message_of body))))
     (own : life.start ≡ z.life.start) (group : life.group ≡ z.life.group) (hears : stage_hears z.life.stage (message_of body) ≡ life.stage) (refuses : (is_first_error (message_of body) && is_initializing z.life.stage) ≡ false) (named : NamesAt (answered_id (message_of body)) n)
     (taken : MatchOption n (ids.requests ≡ z.ids.requests) (λ k. ids.requests ≡ without k z.ids.requests)) (next : ids.next ≡ z.ids.next) (limit : ids.limit ≡ z.ids.limit) (order : IsInOrder z.ids → IsInOrder ids)
     (set : u.lasts.items ≡ slice_set t.lasts.items g (record z { life = life; ids = ids; shown = shown })) (es : u.editors ≡ t.editors) (gs : u.groups ≡ t.groups) (now : u.time ≡ t.time) (os : u.origins ≡ t.origins) (r : u.requests ≡ t.requests) where
   pub server_moves : Stands settings t events → Stands settings u (events ++ took (FromServer s body) (message_of body) ∷ [])
-  server_moves st = start_moves settings t u events (λ k. took (FromServer k body) (message_of body)) g s z y at within read set own group es now os r (λ k. refl) (λ k. refl) (λ k. refl) (λ k m. refl)
-      (λ k e h. groups_kept settings t.groups u.groups events (took (FromServer k body) (message_of body)) gs (not_refused settings t.groups events k body (message_of body) (ap (λ a. is_first_error (message_of body) && is_initializing a) (stage_seen settings t events g k z st here (e ∙ sym (start_at_place t.lasts.items g s z here at))) ∙ refuses)) h) (part st) st
+  server_moves st = start_moves settings t u events (λ k. took (FromServer k body) (message_of body)) g s z y at within read set own group es now (ap (λ v. v.groups) os) r (λ k. refl) (λ k. refl) (λ k. refl) (λ k m. refl)
+      (λ k e h. groups_kept settings t.groups u.groups events (took (FromServer k body) (message_of body)) gs (not_refused settings t.groups events k body (message_of body) (ap (λ a. is_first_error (message_of body) && is_initializing a) (stage_seen settings t events g k z st here (e ∙ sym (start_at_place t.lasts.items g s z here at))) ∙ refuses)) h)
+      (λ k e. heard_stops t u events k body os) (part st) st
     where
       y : Start
       y = record z { life = life; ids = ids; shown = shown }
@@ -113,6 +134,8 @@ module _ (settings : Settings) (t u : Tables) (events : List Event) (g s : ℕ) 
       part st of_ids h = part_ids t.requests events (took (FromServer z.life.start body) (message_of body)) z y own
           (answered_any t.requests z.life.start z.ids ids (forwarding_of z.life.start events) body (message_of body) n st.range named taken next limit order) h
       part st of_shown h = part_shown t.requests events (took (FromServer z.life.start body) (message_of body)) z y own gives h
+      part st of_stop h = subst (λ k. StopAt life.stage life.stopping (stop_of k (events ++ took (FromServer z.life.start body) (message_of body) ∷ []))) (sym own)
+          (subst (λ o. StopAt life.stage life.stopping o) (sym (stop_more z.life.start events (took (FromServer z.life.start body) (message_of body)))) (awaits h))
 
 -- what was given stays; one that is late keeps nothing
 later_given : (n : ℕ) (o : Option (List ℕ)) (body : List ℕ) (m : Message) → is_first_result m ≡ false → result_behind n o (took (FromServer n body) m) ≡ o
@@ -143,7 +166,7 @@ pub answer_moves : (settings : Settings) (t u : Tables) (events : List Event) (g
 answer_moves settings t u events g s x z body n ids is at within read no_result no_failure named taken next limit order set es gs now os r =
     let same : x ≡ z = same_item (sym is ∙ read_here t.lasts.items g z within read) in
     let later : (is_first_result (message_of body) && is_early z.life.stage) ≡ false = ap (λ (w : Start). is_first_result (message_of body) && is_early w.life.stage) (sym same) ∙ no_result in
-    server_moves settings t u events g s z body n z.life ids z.shown at within read (later_shown z.life.start z.life.stage z.shown (result_of z.life.start events) body (message_of body) later) refl refl
+    server_moves settings t u events g s z body n z.life ids z.shown at within read (λ h. h) (later_shown z.life.start z.life.stage z.shown (result_of z.life.start events) body (message_of body) later) refl refl
     (hears_answer z.life.stage (message_of body) (later_begun (is_first_result (message_of body)) z.life.stage later))
     (ap (λ (w : Start). is_first_error (message_of body) && is_initializing w.life.stage) (sym same) ∙ no_failure) named taken next limit order set es gs now os r
 
@@ -175,7 +198,7 @@ pub result_moves : (settings : Settings) (t u : Tables) (events : List Event) (g
     → u.lasts.items ≡ slice_set t.lasts.items g (record z { life = life; ids = ids; shown = Some shown }) → u.editors ≡ t.editors → u.groups ≡ t.groups → u.time ≡ t.time → u.origins ≡ t.origins → u.requests ≡ t.requests
     → Stands settings t events → Stands settings u (events ++ took (FromServer s body) (message_of body) ∷ [])
 result_moves settings t u events g s z body n life ids shown at within read stage first named shows is taken next limit order set es gs now os r =
-    server_moves settings t u events g s z body n life ids (Some shown) at within read (first_shown z.life.start z.life.stage z.shown (result_of z.life.start events) body shown (message_of body) life z.life is stage first shows)
+    server_moves settings t u events g s z body n life ids (Some shown) at within read (λ _. subst (λ (l : Standing). StopAt l.stage l.stopping (stop_of z.life.start events)) (sym is) tt) (first_shown z.life.start z.life.stage z.shown (result_of z.life.start events) body shown (message_of body) life z.life is stage first shows)
     (ap (λ (l : Standing). l.start) is) (ap (λ (l : Standing). l.group) is)
     (rw (stage, first) refl ∙ ap (λ (l : Standing). l.stage) (sym is)) (no_error (message_of body) first (is_initializing z.life.stage)) named taken next limit order set es gs now os r
 
@@ -195,9 +218,9 @@ pub refusal_moves : (settings : Settings) (t u : Tables) (events : List Event) (
     → u.lasts.items ≡ slice_set t.lasts.items g (record z { ids = ids }) → u.editors ≡ t.editors → u.groups ≡ with_groups (changed g ended t.groups.groups) t.groups → u.time ≡ t.time → u.origins ≡ t.origins → u.requests ≡ t.requests
     → Stands settings t events → Stands settings u (events ++ took (FromServer s body) (message_of body) ∷ [])
 refusal_moves settings t u events g s z body n ids at within read stage refuses named taken next limit order set es gs now os r st =
-    start_moves settings t u events (λ k. took (FromServer k body) (message_of body)) g s z y at within read set refl refl es now os r (λ k. refl) (λ k. refl) (λ k. refl) (λ k m. refl)
+    start_moves settings t u events (λ k. took (FromServer k body) (message_of body)) g s z y at within read set refl refl es now (ap (λ v. v.groups) os) r (λ k. refl) (λ k. refl) (λ k. refl) (λ k m. refl)
     (λ k e h. refused_groups settings events k g body (message_of body) t.groups u.groups refuses (ap is_initializing (stage_seen settings t events g k z st here (e ∙ sym is)) ∙ ap is_initializing stage) (subst (λ m. group_of m events ≡ Some g) (is ∙ sym e) (st.lasts.each g z here).home)
-    (ap (λ w. w.limit) gs) (ap (λ w. w.idle) gs) (ap (λ w. w.groups) gs) h) part st
+    (ap (λ w. w.limit) gs) (ap (λ w. w.idle) gs) (ap (λ w. w.groups) gs) h) (λ k e. heard_stops t u events k body os) part st
   where
     y : Start
     y = record z { ids = ids }
@@ -221,6 +244,7 @@ refusal_moves settings t u events g s z body n ids at within read stage refuses 
     part of_ids h = part_ids t.requests events (took (FromServer z.life.start body) (message_of body)) z y refl
         (answered_any t.requests z.life.start z.ids ids (forwarding_of z.life.start events) body (message_of body) n st.range named taken next limit order) h
     part of_shown h = still_shown t.requests events (took (FromServer z.life.start body) (message_of body)) z y refl refl (no_first (is_first_result (message_of body)) (no_result (message_of body) refuses true)) h
+    part of_stop h = still_stop t.requests events (took (FromServer z.life.start body) (message_of body)) z y refl refl h
 
 -- X1 to X3
 module _ (settings : Settings) (t u : Tables) (events : List Event) (g s : ℕ) (z : Start) (ev : ℕ → Event) (at : slice_get (map number_in t.lasts.items) g ≡ Some s) (within : g < length t.lasts.items) (here : slice_get t.lasts.items g ≡ Some z) (x : Exits settings.limits.restarts t g z u)
@@ -232,13 +256,16 @@ module _ (settings : Settings) (t u : Tables) (events : List Event) (g s : ℕ) 
   over_moves st =
       let own : x.start.life.start ≡ z.life.start = ap (λ (l : Standing). l.start) x.life in
       start_moves settings t u events ev g s z x.start at within (read_back t.lasts.items g z here) x.lasts own (ap (λ (l : Standing). l.group) x.life) x.editors x.time x.origins x.requests editor time spawn one
-      (λ n e h. lost_groups settings events (ev n) n g (loses n) (t.groups) u.groups t.editors (subst (λ m. group_of m events ≡ Some g) (start_at_place t.lasts.items g s z here at ∙ sym e) (st.lasts.each g z here).home) st.house.editors x.groups h) (part own) st
+      (λ n e h. lost_groups settings events (ev n) n g (loses n) (t.groups) u.groups t.editors (subst (λ m. group_of m events ≡ Some g) (start_at_place t.lasts.items g s z here at ∙ sym e) (st.lasts.each g z here).home) st.house.editors x.groups h)
+      (λ n e h. stopping_less events (ev n) n (spawn n) (one n) (ap (λ (l : Life). is_stopping l.stage) (over n (life_of n events))) ∙ ap (unstopped n) h
+      ∙ ap (λ k. unstopped k t.origins.stopping.items) (e ∙ sym (start_at_place t.lasts.items g s z here at)) ∙ sym x.stopping) (part own) st
     where
       part : x.start.life.start ≡ z.life.start → (p : Part) → PartStands p t.requests z events → PartStands p t.requests x.start (events ++ ev z.life.start ∷ [])
       part own of_life h = part_life t.requests events (ev z.life.start) z x.start own (over z.life.start (record { stage = z.life.stage; started = z.started })
           ∙ (ap (λ k. record { stage = k; started = z.started }) (ap (λ (l : Standing). l.stage) (sym x.life)) ∙ ap (λ b. record { stage = x.start.life.stage; started = b }) (sym x.started))) h
       part own of_ids h = part_ids t.requests events (ev z.life.start) z x.start own (λ _. clears z.life.start (forwarding_of z.life.start events)) h
       part own of_shown h = late_shown t.requests (events ++ ev z.life.start ∷ []) x.start (ap (λ (l : Standing). is_late l.stage) x.life)
+      part own of_stop h = no_stop t.requests (events ++ ev z.life.start ∷ []) x.start (ap (λ (l : Standing). is_stopping l.stage) x.life)
 
 gone_clears : (limit n : ℕ) (f : Forwarding) (ids : Table) → ids.requests ≡ [] → ids.next ≡ 2 → ids.limit ≡ limit → IsInOrder ids → IdsAt limit (forwarding_behind n f (took (ServerGone n) not_message)) ids
 gone_clears limit n f ids r k l o = ended_ids limit n ids f not_message (r, k, l, o)

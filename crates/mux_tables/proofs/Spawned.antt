@@ -24,12 +24,14 @@ use Rattle.restart_replay.specs.Standings.{Standing, spawned}
 use Rattle.mux_tables.specs.declared.tables.Start.{Start}
 use Rattle.mux_tables.specs.declared.tables.Tables.{Tables}
 use Rattle.group_rows.specs.Forwarded.{forwarding_behind}
-use Rattle.mux_tables.specs.Stands.{OriginsStand, IdsAt, IdsStand, Part, of_life, of_ids, of_shown, PartStands, ShownAt, blank, LastStands, LastsStand, Stands}
+use Rattle.group_rows.specs.Ticks.{is_stopping}
+use Rattle.mux_tables.specs.Stands.{OriginsStand, IdsAt, IdsStand, Part, of_life, of_ids, of_shown, of_stop, PartStands, ShownAt, blank, LastStands, LastsStand, Stands}
 use Rattle.mux_tables.proofs.Frames.{groups_stand, itself, last_stands, life_alone, part_apart}
 use Rattle.mux_tables.proofs.Lasts.{Last, known, same_place}
 use Rattle.mux_tables.proofs.Moves.{house_stands}
 use Rattle.mux_tables.proofs.Said.{does_send}
-use Rattle.mux_tables.proofs.Starts.{groups_kept}
+use Rattle.mux_tables.proofs.Starts.{groups_kept, no_stop}
+use Rattle.mux_tables.proofs.Awaited.{stopping_spawned}
 
 spawned_origins : (origins after : List ℕ) (events : List Event) (n g : ℕ) → n ≡ length origins → after ≡ origins ++ g ∷ [] → OriginsStand origins events → OriginsStand after (events ++ did (Spawn n g) not_message ∷ [])
 spawned_origins origins after events n g last is s = record {
@@ -70,6 +72,7 @@ spawned_last limit events n g y f new =
       order = new.5;
     }))
     part of_shown = shown_from (one_more (result_behind n) _ _ events (did (Spawn n g) not_message) (f of_shown).1)
+    part of_stop = no_stop limit (events ++ did (Spawn n g) not_message ∷ []) y (ap (λ (l : Standing). is_stopping l.stage) new.0)
 
 -- the other groups
 untouched : (limit : ℕ) (origins : List ℕ) (events : List Event) (n g j : ℕ) (z : Start) → n ≡ length origins → OriginsStand origins events → (j ≡ g → ⊥) → LastStands limit events j z → LastStands limit (events ++ did (Spawn n g) not_message ∷ []) j z
@@ -110,14 +113,15 @@ module _ (limit : ℕ) (origins : List ℕ) (lasts after : List Start) (events :
           inl (one_more (start_behind h) _ _ events ev refl ∙ subst (λ k. (if nat_eq g k then Some n else start_of h events) ≡ Some n) e (rw (itself g) refl))
       go m h (other d) w = kept m h d (compare g h) (s.old m h (before m h d w))
 
-module _ (settings : Settings) (t u : Tables) (events : List Event) (n g : ℕ) (y : Start) (last : n ≡ length t.origins.items) (es : u.editors ≡ t.editors) (gs : u.groups ≡ t.groups) (now : u.time ≡ t.time) (os : u.origins.items ≡ t.origins.items ++ g ∷ []) (r : u.requests ≡ t.requests) (new : IsFresh t.requests n g y) where
+module _ (settings : Settings) (t u : Tables) (events : List Event) (n g : ℕ) (y : Start) (last : n ≡ length t.origins.groups.items) (es : u.editors ≡ t.editors) (gs : u.groups ≡ t.groups) (now : u.time ≡ t.time) (os : u.origins.groups.items ≡ t.origins.groups.items ++ g ∷ []) (sk : u.origins.stopping ≡ t.origins.stopping) (r : u.requests ≡ t.requests) (new : IsFresh t.requests n g y) where
   fresh_parts : Stands settings t events → (p : Part) → PartStands p t.requests (blank t.requests n) events
   fresh_parts s p = s.lasts.fresh n (subst (λ k. k ≤ n) (sym s.origins.count) (omega (arith, last))) p
 
   all_stand : LastsStand t.requests u.lasts.items (events ++ did (Spawn n g) not_message ∷ []) → Stands settings t events → Stands settings u (events ++ did (Spawn n g) not_message ∷ [])
   all_stand lasts s = record {
     house = house_stands settings t u events (did (Spawn n g) not_message) refl (groups_kept settings t.groups u.groups events (did (Spawn n g) not_message) gs (groups_stand settings t.groups events (did (Spawn n g) not_message) refl)) refl es now s.house;
-    origins = spawned_origins t.origins.items u.origins.items events n g last os s.origins;
+    origins = spawned_origins t.origins.groups.items u.origins.groups.items events n g last os s.origins;
+    stopping = stopping_spawned events n g not_message (s.origins.count ∙ sym last) (ap (λ (l : Life). is_stopping l.stage) (fresh_parts s of_life)) ∙ s.stopping ∙ ap (λ v. v.items) (sym sk);
     lasts = subst (λ k. LastsStand k u.lasts.items (events ++ did (Spawn n g) not_message ∷ [])) (sym r) lasts;
     requests = s.requests ∙ sym r;
     range = rw r s.range;
@@ -128,9 +132,9 @@ module _ (settings : Settings) (t u : Tables) (events : List Event) (n g : ℕ) 
   found_moves place ls s =
       let here = spawned_last t.requests events n g y (fresh_parts s) new in
       let long : length u.lasts.items ≡ length t.lasts.items + 1 = ap length ls ∙ length-append t.lasts.items (y ∷ []) in
-      all_stand (spawned_lasts t.requests t.origins.items t.lasts.items u.lasts.items events n g last s.origins s.lasts (omega (arith, long)) (omega (arith, long, place))
+      all_stand (spawned_lasts t.requests t.origins.groups.items t.lasts.items u.lasts.items events n g last s.origins s.lasts (omega (arith, long)) (omega (arith, long, place))
       (each_push (LastStands t.requests events) (LastStands t.requests (events ++ did (Spawn n g) not_message ∷ [])) t.lasts.items u.lasts.items y ls s.lasts.each (subst (λ k. LastStands t.requests (events ++ did (Spawn n g) not_message ∷ []) k y) place here)
-      (λ j z w q. untouched t.requests t.origins.items events n g j z last s.origins (λ e. absurd (omega (arith, w, e, place))) q))
+      (λ j z w q. untouched t.requests t.origins.groups.items events n g j z last s.origins (λ e. absurd (omega (arith, w, e, place))) q))
       (λ m e. absurd (clash (sym (s.lasts.none g (omega (arith, place))) ∙ e)))) s
     where
       clash : {m : ℕ} → ◌≡◌ {A = Option ℕ} None (Some m) → ⊥
@@ -143,21 +147,21 @@ module _ (settings : Settings) (t u : Tables) (events : List Event) (n g : ℕ) 
       let was = s.lasts.each g x at in
       let within = slice_get_within t.lasts.items g x at in
       let long : length u.lasts.items ≡ length t.lasts.items = ap length ls ∙ length-set t.lasts.items g y in
-      all_stand (spawned_lasts t.requests t.origins.items t.lasts.items u.lasts.items events n g last s.origins s.lasts (omega (arith, long)) (omega (arith, long, within))
-      (each_set (LastStands t.requests events) (LastStands t.requests (events ++ did (Spawn n g) not_message ∷ [])) t.lasts.items u.lasts.items g x y at ls s.lasts.each (λ _. here) (λ j z w _ q. untouched t.requests t.origins.items events n g j z last s.origins w q))
+      all_stand (spawned_lasts t.requests t.origins.groups.items t.lasts.items u.lasts.items events n g last s.origins s.lasts (omega (arith, long)) (omega (arith, long, within))
+      (each_set (LastStands t.requests events) (LastStands t.requests (events ++ did (Spawn n g) not_message ∷ [])) t.lasts.items u.lasts.items g x y at ls s.lasts.each (λ _. here) (λ j z w _ q. untouched t.requests t.origins.groups.items events n g j z last s.origins w q))
       (λ m e. subst (λ k. (life_of k events).stage ≡ Ended) (same_place (sym was.start ∙ e)) (ap (λ (l : Life). l.stage) (was.parts of_life) ∙ ended))) s
 
 -- the number is the next one
-spawn_does : (settings : Settings) (t u : Tables) (xs ys : List Out) (base : List Event) (n g : ℕ) → n ≡ length t.origins.items → ys ≡ xs ++ Spawn n g ∷ [] → (Stands settings t (behind base xs) → Stands settings u (behind base xs ++ did (Spawn n g) not_message ∷ [])) → Does (λ t events. Stands settings t events) (spawn g) base t xs u ys
+spawn_does : (settings : Settings) (t u : Tables) (xs ys : List Out) (base : List Event) (n g : ℕ) → n ≡ length t.origins.groups.items → ys ≡ xs ++ Spawn n g ∷ [] → (Stands settings t (behind base xs) → Stands settings u (behind base xs ++ did (Spawn n g) not_message ∷ [])) → Does (λ t events. Stands settings t events) (spawn g) base t xs u ys
 spawn_does settings t u xs ys base n g last is go =
     does_look {Stands = λ t events. Stands settings t events} {f = λ events. send (Spawn (starts_of events) g)} (λ s. ap (λ k. send (Spawn k g)) (s.origins.count ∙ sym last)) (does_send settings (Spawn n g) base t u xs ys is go)
 
-pub found_gives : (settings : Settings) (t u : Tables) (xs ys : List Out) (base : List Event) (n g : ℕ) (y : Start) → n ≡ length t.origins.items → g ≡ length t.lasts.items → u.editors ≡ t.editors → u.groups ≡ t.groups → u.time ≡ t.time → u.origins.items ≡ t.origins.items ++ g ∷ [] → u.lasts.items ≡ t.lasts.items ++ y ∷ [] → u.requests ≡ t.requests
+pub found_gives : (settings : Settings) (t u : Tables) (xs ys : List Out) (base : List Event) (n g : ℕ) (y : Start) → n ≡ length t.origins.groups.items → g ≡ length t.lasts.items → u.editors ≡ t.editors → u.groups ≡ t.groups → u.time ≡ t.time → u.origins.groups.items ≡ t.origins.groups.items ++ g ∷ [] → u.origins.stopping ≡ t.origins.stopping → u.lasts.items ≡ t.lasts.items ++ y ∷ [] → u.requests ≡ t.requests
     → y.life ≡ spawned n g → y.started ≡ false → y.ids.requests ≡ [] → y.ids.next ≡ 2 → y.ids.limit ≡ t.requests → IsInOrder y.ids → y.shown ≡ None → ys ≡ xs ++ Spawn n g ∷ [] → Does (λ t events. Stands settings t events) (spawn (length t.lasts.items)) base t xs u ys
-found_gives settings t u xs ys base n g y last place es gs now os ls r life started requests next ends order blank_shown is = subst (λ h. Does (λ t events. Stands settings t events) (spawn h) base t xs u ys) place
-    (spawn_does settings t u xs ys base n g last is (found_moves settings t u (behind base xs) n g y last es gs now os r (life, started, requests, next, ends, order, blank_shown) place ls))
+found_gives settings t u xs ys base n g y last place es gs now os sk ls r life started requests next ends order blank_shown is = subst (λ h. Does (λ t events. Stands settings t events) (spawn h) base t xs u ys) place
+    (spawn_does settings t u xs ys base n g last is (found_moves settings t u (behind base xs) n g y last es gs now os sk r (life, started, requests, next, ends, order, blank_shown) place ls))
 
-pub respawn_gives : (settings : Settings) (t u : Tables) (xs ys : List Out) (base : List Event) (n g : ℕ) (x y : Start) → n ≡ length t.origins.items → slice_get t.lasts.items g ≡ Some x → x.life.stage ≡ Ended → u.editors ≡ t.editors → u.groups ≡ t.groups → u.time ≡ t.time → u.origins.items ≡ t.origins.items ++ g ∷ [] → u.lasts.items ≡ slice_set t.lasts.items g y → u.requests ≡ t.requests
+pub respawn_gives : (settings : Settings) (t u : Tables) (xs ys : List Out) (base : List Event) (n g : ℕ) (x y : Start) → n ≡ length t.origins.groups.items → slice_get t.lasts.items g ≡ Some x → x.life.stage ≡ Ended → u.editors ≡ t.editors → u.groups ≡ t.groups → u.time ≡ t.time → u.origins.groups.items ≡ t.origins.groups.items ++ g ∷ [] → u.origins.stopping ≡ t.origins.stopping → u.lasts.items ≡ slice_set t.lasts.items g y → u.requests ≡ t.requests
     → y.life ≡ spawned n g → y.started ≡ false → y.ids.requests ≡ [] → y.ids.next ≡ 2 → y.ids.limit ≡ t.requests → IsInOrder y.ids → y.shown ≡ None → ys ≡ xs ++ Spawn n g ∷ [] → Does (λ t events. Stands settings t events) (spawn g) base t xs u ys
-respawn_gives settings t u xs ys base n g x y last at ended es gs now os ls r life started requests next ends order blank_shown is =
-    spawn_does settings t u xs ys base n g last is (respawn_moves settings t u (behind base xs) n g y last es gs now os r (life, started, requests, next, ends, order, blank_shown) x at ended ls)
+respawn_gives settings t u xs ys base n g x y last at ended es gs now os sk ls r life started requests next ends order blank_shown is =
+    spawn_does settings t u xs ys base n g last is (respawn_moves settings t u (behind base xs) n g y last es gs now os sk r (life, started, requests, next, ends, order, blank_shown) x at ended ls)

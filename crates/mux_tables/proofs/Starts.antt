@@ -19,10 +19,12 @@ use Rattle.restart_replay.specs.Standings.{Standing}
 use Rattle.mux_tables.specs.declared.tables.Start.{Start}
 use Rattle.mux_tables.specs.declared.tables.Tables.{Tables}
 use Rattle.group_rows.specs.Forwarded.{forwarding_behind, forwarding_of}
-use Rattle.mux_tables.specs.Stands.{GroupsStand, IdsAt, IdsStand, Part, of_life, of_ids, of_shown, PartStands, ShownAt, Stands, number_in, stage_in}
+use Rattle.group_rows.specs.Ticks.{is_stopping, stop_of}
+use Rattle.mux_tables.specs.Stands.{GroupsStand, IdsAt, IdsStand, Part, of_life, of_ids, of_shown, of_stop, PartStands, ShownAt, StopAt, Stands, number_in, stage_in}
 use Rattle.mux_tables.proofs.Frames.{names_start, names_editor, spawns, ticks, touches, part_quiet}
 use Rattle.mux_tables.proofs.IdMoves.{ids_more}
 use Rattle.mux_tables.proofs.Moves.{parts_move}
+use Rattle.mux_tables.proofs.Awaited.{StopsMove}
 
 pub read_here : (xs : List Start) (g : ℕ) (z : Start) → g < length xs → z ≡ get_or xs g z → slice_get xs g ≡ Some z
 read_here xs g z within read = slice_get_read xs (length xs) g z refl within read
@@ -89,6 +91,17 @@ still_shown limit events ev x y l b q s =
     subst (λ c. ShownAt y.life.stage c (result_of y.life.start (events ++ ev ∷ []))) (sym b)
     (subst (λ (z : Standing). ShownAt z.stage x.shown (result_of z.start (events ++ ev ∷ []))) (sym l) (part_quiet of_shown limit x events ev q s))
 
+pub still_stop : (limit : ℕ) (events : List Event) (ev : Event) (x y : Start) → y.life ≡ x.life → touches of_stop ev ≡ false → PartStands of_stop limit x events → PartStands of_stop limit y (events ++ ev ∷ [])
+still_stop limit events ev x y l q s = subst (λ (z : Standing). StopAt z.stage z.stopping (stop_of z.start (events ++ ev ∷ []))) (sym l) (part_quiet of_stop limit x events ev q s)
+
+-- one whose answer to `shutdown` isn't awaited
+stop_at : (stage : Stage) (kept : Option (ℕ × ℕ)) (since : Option ℕ) → is_stopping stage ≡ false → StopAt stage kept since
+stop_at Stopping kept since h = never h
+stop_at other kept since h = tt
+
+pub no_stop : (limit : ℕ) (events : List Event) (y : Start) → is_stopping y.life.stage ≡ false → PartStands of_stop limit y events
+no_stop limit events y h = stop_at y.life.stage y.life.stopping (stop_of y.life.start events) h
+
 -- nothing is kept of one that is over, or is to be
 abbrev pub is_late : Stage → Bool
 is_late Stopping = true
@@ -110,15 +123,15 @@ late_shown limit events y h = shown_late y.life.stage y.shown (result_of y.life.
 
 -- the event `ev n` names start n alone, and start s is the last one of group g, which goes from z to y
 module _ (settings : Settings) (t u : Tables) (events : List Event) (ev : ℕ → Event) (g s : ℕ) (z y : Start) (at : slice_get (map number_in t.lasts.items) g ≡ Some s) (within : g < length t.lasts.items) (read : z ≡ get_or t.lasts.items g z)
-    (set : u.lasts.items ≡ slice_set t.lasts.items g y) (own : y.life.start ≡ z.life.start) (group : y.life.group ≡ z.life.group) (es : u.editors ≡ t.editors) (now : u.time ≡ t.time) (os : u.origins ≡ t.origins) (r : u.requests ≡ t.requests)
+    (set : u.lasts.items ≡ slice_set t.lasts.items g y) (own : y.life.start ≡ z.life.start) (group : y.life.group ≡ z.life.group) (es : u.editors ≡ t.editors) (now : u.time ≡ t.time) (os : u.origins.groups ≡ t.origins.groups) (r : u.requests ≡ t.requests)
     (e : (n : ℕ) → names_editor (ev n) ≡ false) (w : (n : ℕ) → ticks (ev n) ≡ false) (k : (n : ℕ) → spawns (ev n) ≡ false) (one : (n m : ℕ) → names_start m (ev n) ≡ nat_eq n m) where
-  pub start_moves : ((n : ℕ) → n ≡ s → GroupsStand settings t.groups events → GroupsStand settings u.groups (events ++ ev n ∷ [])) → ((p : Part) → PartStands p t.requests z events → PartStands p t.requests y (events ++ ev z.life.start ∷ []))
+  pub start_moves : ((n : ℕ) → n ≡ s → GroupsStand settings t.groups events → GroupsStand settings u.groups (events ++ ev n ∷ [])) → ((n : ℕ) → n ≡ s → StopsMove t u events (ev n)) → ((p : Part) → PartStands p t.requests z events → PartStands p t.requests y (events ++ ev z.life.start ∷ []))
       → Stands settings t events → Stands settings u (events ++ ev s ∷ [])
-  start_moves groups parts st =
+  start_moves groups stops parts st =
       let here : slice_get t.lasts.items g ≡ Some z = read_here t.lasts.items g z within read in
       let is : z.life.start ≡ s = start_at_place t.lasts.items g s z here at in
       subst (λ n. Stands settings u (events ++ ev n ∷ [])) is
-      (parts_move settings t u events (ev z.life.start) g z (e z.life.start) (groups z.life.start is) (w z.life.start) (k z.life.start) (one z.life.start) here es now (ap (λ v. v.items) os) r y own group set parts st)
+      (parts_move settings t u events (ev z.life.start) g z (e z.life.start) (groups z.life.start is) (w z.life.start) (k z.life.start) (one z.life.start) here es now os (stops z.life.start is) r y own group set parts st)
 
 -- what a start says doesn't end its group, where it isn't answering its `initialize`
 pub not_refused : (settings : Settings) (t : group_tables.Table) (events : List Event) (n : ℕ) (body : List ℕ) (m : Message) → (is_first_error m && is_initializing (life_of n events).stage) ≡ false → GroupsStand settings t events → GroupsStand settings t (events ++ took (FromServer n body) m ∷ [])

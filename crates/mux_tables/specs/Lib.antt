@@ -2,3 +2,4 @@ pub mod Documents
 pub mod Stands
 pub mod Cancels
 pub mod Names
+pub mod Stops

@@ -1,5 +1,5 @@
 -- When the tables stand for events: one record for each table.
-use Rattle.std.specs.Prelude.{◌≡◌, ℕ, ◌<◌, ◌≤◌, ◌^◌, nat_eq, ◌⊎◌, Bool, true, false, ◌&&◌, List, [], ◌∷◌, ◌++◌, map, length, nat_lt}
+use Rattle.std.specs.Prelude.{◌≡◌, ℕ, ◌<◌, ◌≤◌, ◌^◌, nat_eq, not, ◌⊎◌, Bool, true, false, ◌&&◌, List, [], ◌∷◌, ◌++◌, map, length, nat_lt}
 use Rattle.std.specs.List.{filter, range_with_len}
 use Rattle.std.specs.Option.{option_and_then}
 use Rattle.std.specs.Prelude.{Option, Some, None, slice_get, slice_set}
@@ -7,7 +7,7 @@ use Rattle.rpc_message.specs.Message.{Id, result_bytes}
 use Rattle.event_model.specs.declared.phase.Phase.{Phase}
 use Rattle.event_model.specs.declared.phase.Phase.TheVariants.{Absent, Answered, New}
 use Rattle.event_model.specs.declared.stage.Stage.{Stage}
-use Rattle.event_model.specs.declared.stage.Stage.TheVariants.{Unspawned, Spawning, Initializing, Ready, Ended}
+use Rattle.event_model.specs.declared.stage.Stage.TheVariants.{Unspawned, Spawning, Initializing, Ready, Stopping, Ended}
 use Rattle.event_model.specs.Each.{Each}
 use Rattle.event_model.specs.Event.{Event, said}
 use Rattle.mux_history.specs.declared.out.Out.TheVariants.{ToEditor}
@@ -30,6 +30,7 @@ use Rattle.mux_tables.specs.declared.tables.Start.{Start}
 use Rattle.mux_tables.specs.declared.tables.Tables.{Tables}
 use Rattle.mux_tables.specs.Names.{NamesStand}
 use Rattle.group_rows.specs.Forwarded.{Forwarded, Forwarding, forwarding_of, names}
+use Rattle.group_rows.specs.Ticks.{stop_of, stopping_of}
 
 -- the editors: how many joined, and of each its phase, its group, the id of its `initialize`, and before that what it meant by `lspmux/open`
 abbrev pub phase_in : Option Session → Phase
@@ -95,14 +96,25 @@ ShownAt Initializing shown given = (shown ≡ None) × (given ≡ None)
 ShownAt Ready shown given = (body : List ℕ) × (given ≡ Some body) × (shown ≡ Some (shown_of (result_bytes body)))
 ShownAt other shown given = Unit {0}
 
+-- the moment of its `shutdown`, as it is kept
+abbrev pub moment_in : Option (ℕ × ℕ) → Option ℕ
+moment_in None = None
+moment_in (Some x) = Some x.1
+
+-- and by where the start stands: as long as the answer is awaited
+abbrev pub StopAt : Stage → Option (ℕ × ℕ) → Option ℕ → Type 0
+StopAt Stopping kept since = moment_in kept ≡ since
+StopAt other kept since = Unit {0}
+
 -- the tables of one start; a further one is a name here, and a clause
 pub data Part : Type 0 where
-  of_life of_ids of_shown : Part
+  of_life of_ids of_shown of_stop : Part
 
 abbrev pub PartStands : Part → ℕ → Start → List Event → Type 0
 PartStands of_life limit x events = life_of x.life.start events ≡ record { stage = x.life.stage; started = x.started }
 PartStands of_ids limit x events = IdsStand limit x.life.start x.ids events
 PartStands of_shown limit x events = ShownAt x.life.stage x.shown (result_of x.life.start events)
+PartStands of_stop limit x events = StopAt x.life.stage x.life.stopping (stop_of x.life.start events)
 
 -- what is kept of one group's last start stands for what the events say of it
 pub record LastStands (limit : ℕ) (events : List Event) (g : ℕ) (x : Start) : Type 0 where
@@ -137,7 +149,8 @@ pub record HouseStands (settings : Settings) (t : Tables) (events : List Event) 
 
 pub record Stands (settings : Settings) (t : Tables) (events : List Event) : Type 0 where
   pub house : HouseStands settings t events
-  pub origins : OriginsStand t.origins.items events
+  pub origins : OriginsStand t.origins.groups.items events
+  pub stopping : stopping_of events ≡ t.origins.stopping.items
   pub lasts : LastsStand t.requests t.lasts.items events
   pub requests : settings.limits.requests ≡ t.requests
   pub range : t.requests < 2 ^ 32
@@ -183,6 +196,10 @@ Welcomes e body events = (desk_of e (events ++ said (ToEditor e body) ∷ [])).p
 abbrev pub Sends : ℕ → ℕ → List ℕ → List Event → Type 0
 Sends s e id events = (forwarding_of s events).sender ≡ Some (record { editor = e; id = id })
 
+-- the others of these starts
+abbrev pub unstopped : ℕ → List ℕ → List ℕ
+unstopped s starts = filter (λ n. not (nat_eq n s)) starts
+
 -- the last start of a group ended: it is over and has nothing to answer, and the group counts an exit, or ends
 pub record Exits (restarts : ℕ) (t : Tables) (g : ℕ) (z : Start) (u : Tables) : Type 0 where
   pub groups : u.groups ≡ group_tables.with_groups (changed g (exit_of restarts (any_in needs_server t.editors g)) t.groups.groups) t.groups
@@ -196,7 +213,8 @@ pub record Exits (restarts : ℕ) (t : Tables) (g : ℕ) (z : Start) (u : Tables
   pub order : IsInOrder start.ids
   pub editors : u.editors ≡ t.editors
   pub time : u.time ≡ t.time
-  pub origins : u.origins ≡ t.origins
+  pub origins : u.origins.groups ≡ t.origins.groups
+  pub stopping : u.origins.stopping.items ≡ unstopped z.life.start t.origins.stopping.items
   pub requests : u.requests ≡ t.requests
 
 -- no such start was spawned, or its program ended or couldn't be run

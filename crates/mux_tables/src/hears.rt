@@ -6,6 +6,7 @@ ghost use Rattle.event_model.specs.Event.{Event, heard, requests};
 ghost use Rattle.event_model.specs.Phases.{desk_of, is_served};
 ghost use Rattle.event_model.specs.Settings.{Settings};
 ghost use Rattle.group_table.specs.Tables.{Inside, declared_text, with_groups};
+ghost use Rattle.group_rows.specs.Ticks.{due_of};
 ghost use Rattle.group_words.specs.Houses.{declared_for, emptied, groups_of, home_of, is_first_open, key_for, placed_for, places, server_asked, stops};
 ghost use Rattle.mux_history.specs.declared.cause.Cause.TheVariants.{EditorGone, FromEditor, Joined, Tick};
 ghost use Rattle.mux_history.specs.declared.cause.Why.{Why};
@@ -258,8 +259,12 @@ impl Tables {
         Ok(live)
     }
 
-    /// X7: the time is this many seconds: the groups that end by now, rising.
+    /// X7: the time becomes this many seconds, unless it is later: the groups that end by then, rising.
     pub fn hear_tick(&mut self, now: u64) -> Result<Vec<u64>, Memory>
+        ensures requests { self.new.requests ≡ self.old.requests }
+        ensures versions { self.new.versions ≡ self.old.versions }
+        ensures due { (settings : Settings) (events : List Event) → Stands settings self.old events
+            → IfOk result (λ due. due.items ≡ due_of settings events now) }
         ensures stands { (settings : Settings) (events : List Event) → Stands settings self.old events
             → OnOk result (Stands settings self.new (events ++ heard (Tick now) ∷ [])) }
         ensures documents { (settings : Settings) (owed : Owed) (events : List Event) → DocumentsStand settings owed self.old events

@@ -10,6 +10,7 @@ mod says;
 mod seats;
 mod serves;
 mod statuses;
+mod stops;
 mod tables;
 
-pub use tables::{Start, Tables};
+pub use tables::{Origins, Start, Tables};

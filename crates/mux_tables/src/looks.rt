@@ -28,9 +28,9 @@ impl Start {
 impl Tables {
     /// The number of a start's group; none where no such start was spawned.
     pub fn origin(&self, s: u64) -> Option<u64>
-        ensures { result ≡ slice_get self.now.origins.items s }
+        ensures { result ≡ slice_get self.now.origins.groups.items s }
     {
-        self.origins.get(s as usize).copied()
+        self.origins.groups.get(s as usize).copied()
     }
 
     /// The place of the group whose last start this is; where there is none, no such start was spawned, or its program ended or

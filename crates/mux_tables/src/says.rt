@@ -25,6 +25,7 @@ ghost use Rattle.mux_tables.specs.Stands.{Keeps, Sends, Stands, Welcomes, number
 
 use crate::documents::{leave, sync, unready};
 use crate::requests::{keep, mark};
+use crate::stops::{begin_stop, end_stop};
 use crate::tables::{Start, Tables};
 use event_model::Phase;
 use focus_switch::Shared;
@@ -225,7 +226,7 @@ impl Tables {
         Ok(())
     }
 
-    /// The group's last start is sent `shutdown` under this number.
+    /// The group's last start is sent `shutdown` under this number. Where the answer is an error the tables stand for nothing any more.
     pub fn shut(&mut self, outs: &mut Outs, g: usize, n: u32, text: Body) -> Result<(), Memory>
         requires group { g < length self.old.lasts.items }
         requires ready { (x : Start) → slice_get self.old.lasts.items g ≡ Some x → x.life.stage ≡ Ready }
@@ -244,7 +245,9 @@ impl Tables {
         let last = &mut self.lasts[g];
         last.life.stop(n, now);
         last.shown = None;
-        outs.push(Out::ToServer(last.life.start(), text))?;
+        let start = last.life.start();
+        begin_stop(&mut self.origins.stopping, start)?;
+        outs.push(Out::ToServer(start, text))?;
         Ok(())
     }
 
@@ -264,7 +267,9 @@ impl Tables {
         let last = &mut self.lasts[g];
         last.life.end();
         last.shown = None;
-        outs.push(Out::EndServer(last.life.start()))?;
+        let start = last.life.start();
+        end_stop(&mut self.origins.stopping, start);
+        outs.push(Out::EndServer(start))?;
         Ok(())
     }
 
@@ -281,12 +286,12 @@ impl Tables {
             → DocumentsStand settings owed self.old (behind base outs.old)
             → OnOk result (DocumentsStand settings owed self.new (behind base outs.new)) }
     {
-        let s = self.origins.len() as u64;
+        let s = self.origins.groups.len() as u64;
         let g = self.lasts.len() as u64;
         let life = Life::new(s, g);
         let ids = IdTable::new(alloc, self.requests);
         let documents = Shared::new(alloc, self.versions);
-        self.origins.push(g)?;
+        self.origins.groups.push(g)?;
         self.documents.push(documents)?;
         self.lasts.push(Start {
             life,
@@ -309,10 +314,10 @@ impl Tables {
             → DocumentsStand settings owed self.old (behind base outs.old)
             → OnOk result (DocumentsStand settings owed self.new (behind base outs.new)) }
     {
-        let s = self.origins.len() as u64;
+        let s = self.origins.groups.len() as u64;
         let life = Life::new(s, g as u64);
         let ids = IdTable::new(alloc, self.requests);
-        self.origins.push(g as u64)?;
+        self.origins.groups.push(g as u64)?;
         self.lasts[g] = Start {
             life,
             started: false,

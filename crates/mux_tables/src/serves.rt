@@ -22,6 +22,7 @@ ghost use Rattle.mux_tables.specs.Stands.{Exits, NamesAt, Stands, any_in, begun_
 use crate::documents::{ready, unready};
 use crate::requests::{answer, forget};
 use crate::seats::lose;
+use crate::stops::end_stop;
 use crate::tables::Tables;
 use event_model::Stage;
 use id_rewrite::{IdTable, Pending};
@@ -149,6 +150,7 @@ impl Tables {
         last.life.over();
         last.shown = None;
         last.ids = IdTable::new(alloc, self.requests);
+        end_stop(&mut self.origins.stopping, last.life.start());
         Ok(())
     }
 
@@ -212,6 +214,7 @@ impl Tables {
         last.life.over();
         last.shown = None;
         last.ids = IdTable::new(alloc, self.requests);
+        end_stop(&mut self.origins.stopping, last.life.start());
     }
 
     /// A message came from the group's last start that doesn't answer its `initialize`: what was kept of the request that it

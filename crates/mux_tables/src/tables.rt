@@ -23,6 +23,15 @@ pub struct Start {
     pub shown: Option<Body>,
 }
 
+/// What is kept of the starts, beside the last one of each group.
+#[derive(Drop)]
+pub struct Origins {
+    /// The group of each start, by the start's number.
+    pub groups: Vec<u64>,
+    /// The starts, rising, that were sent `shutdown`, as long as the answer is awaited.
+    pub stopping: Vec<u64>,
+}
+
 /// The tables.
 #[derive(Drop)]
 pub struct Tables {
@@ -34,8 +43,8 @@ pub struct Tables {
     pub time: u64,
     /// The last start of each group, by the group's number.
     pub lasts: Vec<Start>,
-    /// The group of each start, by the start's number.
-    pub origins: Vec<u64>,
+    /// The starts.
+    pub origins: Origins,
     /// The documents of each group, by the group's number; they stay where a start is followed by another.
     pub documents: Vec<Shared<PieceText>>,
     /// The number at which requests end.
@@ -66,7 +75,10 @@ impl Tables {
             groups: Groups::new(alloc, groups, idle)?,
             time: 0,
             lasts: Vec::new(alloc),
-            origins: Vec::new(alloc),
+            origins: Origins {
+                groups: Vec::new(alloc),
+                stopping: Vec::new(alloc),
+            },
             documents: Vec::new(alloc),
             requests,
             versions,

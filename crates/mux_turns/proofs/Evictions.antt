@@ -1,15 +1,13 @@
 -- E7: a group ends, and another one is founded in its place.
-use Rattle.std.specs.Str.{chars}
-use Rattle.std.proofs.Common.{◌≡◌, ℕ, ◌<◌, ◌≤◌, ◌^◌, Bool, true, false, ◌&&◌, List, ◌++◌, codes, decimal, refl, ap, sym, subst, ◌∙◌, append-nil, arith, nat_lt}
+use Rattle.std.proofs.Common.{◌≡◌, ℕ, ◌<◌, ◌≤◌, ◌^◌, Bool, true, false, ◌&&◌, List, [], ◌∷◌, ◌++◌, codes, decimal, refl, ap, sym, subst, ◌∙◌, append-nil, arith, nat_lt}
 use Rattle.std.specs.Prelude.{Option, Some, None, slice_get, map}
 use Rattle.std.proofs.lemmas.Bool.Decides.{nat_tests}
 use Rattle.json_text.specs.Json.{Json}
-use Rattle.mux_history.specs.declared.cause.Cause.TheVariants.{FromEditor}
+use Rattle.mux_history.specs.declared.cause.Cause.TheVariants.{FromEditor, Tick}
 use Rattle.mux_history.specs.declared.out.Out.{Out}
 use Rattle.mux_history.specs.declared.out.Out.TheVariants.{ToServer, EndServer}
 use Rattle.rpc_message.specs.Message.{Id, integer, message_of, request}
 use Rattle.rpc_message.specs.Texts.{request_text}
-use Rattle.rpc_message.proofs.Replies.{request_law}
 use Rattle.event_model.specs.declared.stage.Stage.{Stage}
 use Rattle.event_model.specs.declared.stage.Stage.TheVariants.{Unspawned, Spawning, Initializing, Ready, Stopping, Ending, Ended}
 use Rattle.event_model.specs.Does.{Does}
@@ -23,6 +21,7 @@ use Rattle.event_model.proofs.Frames.{one_more}
 use Rattle.event_model.proofs.Turns.{behind_more, does_knowing, does_look, does_nothing, does_then}
 use Rattle.group_facts.specs.Facts.{Numbered}
 use Rattle.group_facts.specs.Why.{is_starting}
+use Rattle.group_facts.proofs.GroupEnds.{shutdown_says}
 use Rattle.group_rows.specs.Forwarded.{Forwarding, forwarding_behind, forwarding_of}
 use Rattle.group_words.specs.declared.placed.Placed.TheVariants.{Evicts}
 use Rattle.group_words.specs.Rows.{end_group, end_start, placed_row, spawn}
@@ -67,11 +66,6 @@ ends_other s Unspawned h k = refl
 ends_other s Stopping h k = refl
 ends_other s Ending h k = refl
 ends_other s Ended h k = refl
-
--- the daemon's own `shutdown`
-shutdown_says : (n : ℕ) → n < 2 ^ 128 → message_of (request_text n (codes "shutdown") None) ≡ request (integer (decimal n)) (codes "shutdown") None
-unfolding chars lib.Utf8.encode
-shutdown_says n h = request_law n (codes "shutdown") None None h (codes "shutdown", (refl, refl)) tt refl (omega arith)
 
 module _ (settings : Settings) (t u : Tables) (base : List Event) (xs ys : List Out) (g s : ℕ) (x : Start) (at : slice_get t.lasts.items g ≡ Some x) (number : slice_get (map number_in t.lasts.items) g ≡ Some s) where
   own : x.life.start ≡ s
@@ -144,9 +138,14 @@ replaces settings t u v before base e g n body xs ys zs next d spawns docs = doe
     let still = next_by n (behind base xs) (behind base ys) (λ h. ap (start_of h) later ∙ evict_spawns h (start_of g (behind base xs)) (behind base xs)) next in
     does_then d (all_does settings u v nothing_owed nothing_owed base ys zs (spawns still) docs))
 
--- an editor's message leaves the numbers alone
+-- a cause that no start's numbers speak of leaves them alone
+numbered_quiet : (before : List Event) (event : Event) → ((s : ℕ) (l : Life) → life_behind s l event ≡ l) → ((s n : ℕ) → number_behind s n event ≡ n) → ((s : ℕ) (f : Forwarding) → (forwarding_behind s f event).next ≡ f.next) → Numbered before → Numbered (before ++ event ∷ [])
+numbered_quiet before event life number next k s ready =
+    let stood : (life_of s before).stage ≡ Ready = sym (ap (λ (l : Life). l.stage) (one_more (life_behind s) _ _ before event refl ∙ life s (life_of s before))) ∙ ready in
+    (one_more (number_behind s) _ _ before event refl ∙ number s (next_number s before)) ∙ (k s stood ∙ sym (ap (λ (f : Forwarding). f.next) (one_more (forwarding_behind s) _ _ before event refl) ∙ next s (forwarding_of s before)))
+
 pub numbered_heard : (before : List Event) (e : ℕ) (body : List ℕ) → Numbered before → Numbered (with_cause before (FromEditor e body))
-numbered_heard before e body k s ready =
-    let cause = heard (FromEditor e body) in
-    let stood : (life_of s before).stage ≡ Ready = sym (ap (λ (l : Life). l.stage) (one_more (life_behind s) _ _ before cause refl)) ∙ ready in
-    (one_more (number_behind s) _ _ before cause refl) ∙ (k s stood ∙ sym (ap (λ (f : Forwarding). f.next) (one_more (forwarding_behind s) _ _ before cause refl)))
+numbered_heard before e body = numbered_quiet before (heard (FromEditor e body)) (λ s l. refl) (λ s n. refl) (λ s f. refl)
+
+pub numbered_ticked : (before : List Event) (t : ℕ) → Numbered before → Numbered (with_cause before (Tick t))
+numbered_ticked before t = numbered_quiet before (heard (Tick t)) (λ s l. refl) (λ s n. refl) (λ s f. refl)

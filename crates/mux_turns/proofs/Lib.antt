@@ -25,3 +25,4 @@ pub mod Serving
 pub mod Stopped
 pub mod Welcoming
 mod Telling
+pub mod Ticking

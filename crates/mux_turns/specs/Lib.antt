@@ -5,3 +5,4 @@ pub mod Leavings
 pub mod Openings
 pub mod Refusing
 pub mod Welcomes
+pub mod Stops

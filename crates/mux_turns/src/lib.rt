@@ -20,6 +20,7 @@ mod requests;
 mod results;
 mod starts;
 mod status;
+mod ticks;
 
 pub use answers::{answered_number, pass_on, take_answer};
 pub use doubled::{doubles, take_doubled, take_doubled_own};
@@ -40,3 +41,4 @@ pub use requests::take_request;
 pub use results::{shown_of, take_result};
 pub use starts::take_started;
 pub use status::take_status;
+pub use ticks::take_tick;

@@ -301,7 +301,12 @@ fn refuses_the_first_line_that_it_cannot_take(rt: HostRuntime) -> Result<(), Fai
         ("join 1\n", 1, "!line 1 absent\n", 0),
         ("hello\n", 1, "!line 1 form\n", 0),
         ("\n", 1, "!line 1 form\n", 0),
-        ("join 0\ntick 1\njoin 0\n", 1, "!line 2 unbuilt\n", 1),
+        (
+            "join 0\ned 0 {\"jsonrpc\":\"2.0\",\"id\":1,\"method\":\"lspmux/stop\"}\njoin 0\n",
+            1,
+            "!line 2 unbuilt\n",
+            1,
+        ),
         ("join 0\njoin 0", 1, "!line 2 absent\n", 1),
         ("join 0\ned 0", 1, "!line 2 form\n", 1),
     ] {

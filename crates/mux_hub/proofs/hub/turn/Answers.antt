@@ -3,8 +3,8 @@ use Rattle.mux_hub.proofs.Starts.{cause_spawns_none}
 use Rattle.mux_hub.proofs.hub.turn.Goals as goal
 
 pub returns-clause-takes : goal.returns-clause-takes
-returns-clause-takes c = λ settings before s d k n f b h.
-    let t = c.in_ok-outs.ensures.takes settings before s d k n f b h.tables h.documents in
+returns-clause-takes c = λ settings before s d g k n f b h.
+    let t = c.in_ok-outs.ensures.takes settings before s d g k n f b h.tables h.documents in
     (t.0, record {
       tables = t.1.0;
       documents = t.1.1;

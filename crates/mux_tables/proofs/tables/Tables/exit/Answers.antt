@@ -5,6 +5,8 @@ use Rattle.group_words.specs.Placing.{changed}
 use Rattle.group_table.specs.Tables.{with_groups}
 use Rattle.restart_replay.specs.Standings.{moved}
 use Rattle.event_model.specs.declared.stage.Stage.TheVariants.{Ended}
+use Rattle.restart_replay.specs.Standings.{Standing}
+use Rattle.mux_tables.specs.Stands.{number_in, unstopped}
 use Rattle.mux_tables.proofs.Starts.{read_here, read_same}
 use Rattle.mux_tables.proofs.tables.Tables.exit.Goals as goal
 
@@ -27,6 +29,7 @@ returns-clause-exits c = λ z at.
       editors = refl;
       time = refl;
       origins = refl;
+      stopping = c.end_stop.ensures ∙ ap (λ n. unstopped n c.args.self.now.origins.stopping.items) (c.start.ensures ∙ ap (λ (l : Standing). l.start) c.over.ensures ∙ ap number_in e);
       requests = refl;
     }
 

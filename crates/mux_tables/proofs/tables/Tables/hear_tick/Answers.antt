@@ -1,5 +1,6 @@
 -- The time goes on.
 use Rattle.std.proofs.Common.{refl, ◌∙◌}
+use Rattle.mux_tables.proofs.Ends.{due_seen}
 use Rattle.mux_tables.proofs.Heard.{ticked_moves}
 use Rattle.mux_tables.proofs.DocumentMoves.{quiet_documents}
 use Rattle.mux_history.specs.declared.cause.Cause.TheVariants.{Tick}
@@ -11,3 +12,6 @@ returns-clause-stands c = λ settings events st. ticked_moves settings c.args.se
 
 pub returns-clause-documents : goal.returns-clause-documents
 returns-clause-documents c = λ settings owed events ds. quiet_documents settings owed c.args.self.now _ events (heard (Tick c.args.now)) refl refl refl refl refl (λ g o k. refl) ds
+
+pub returns-clause-due : goal.returns-clause-due
+returns-clause-due c = λ settings events st. due_seen settings events c.args.now c.later-now.result c.args.self.now c.in_ok-due.due.items c.later-now.ensures c.in_ok-due.ensures st.house
