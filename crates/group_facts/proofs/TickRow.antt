@@ -32,7 +32,7 @@ use Rattle.group_rows.specs.Ticks.{due_of, is_stopping, overdue_of, stop_of, tic
 use Rattle.group_facts.specs.Facts.{Bounded}
 use Rattle.group_facts.specs.Lively.{lives_at}
 use Rattle.group_facts.specs.Why.{Why, is_starting, stopped}
-use Rattle.group_facts.proofs.AnswerRows.{range_below}
+use Rattle.group_facts.proofs.PutOut.{range_below}
 use Rattle.group_facts.proofs.GroupEnds.{Untouched, low, shutdown_says, start_ends}
 use Rattle.group_facts.proofs.LiveGroups.{over_ended}
 use Rattle.group_facts.proofs.Numbers.{number_other}

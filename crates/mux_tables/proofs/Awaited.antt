@@ -14,7 +14,7 @@ use Rattle.event_model.proofs.Frames.{never, one_more}
 use Rattle.mux_model.specs.Rows.{below}
 use Rattle.mux_facts.proofs.Words.{number_same, same_number}
 use Rattle.group_rows.specs.Ticks.{is_stopping, stopping_of}
-use Rattle.group_facts.proofs.AnswerRows.{range_below}
+use Rattle.group_facts.proofs.PutOut.{range_below}
 use Rattle.group_facts.proofs.TickRow.{filter_both}
 use Rattle.mux_tables.specs.declared.tables.Tables.{Tables}
 use Rattle.mux_tables.specs.Stands.{unstopped}
