@@ -59,9 +59,9 @@ joined_editors settings t u events e last is s = record {
     meant_at : (j : ℕ) → Same (length t) j → (desk_of j (events ++ ev ∷ [])).phase ≡ New → meant_in (slice_get u j) ≡ meant_of settings.servers j (events ++ ev ∷ [])
     meant_at _ same w = ap (λ z. meant_in (slice_get z (length t))) is ∙ ap meant_in (get_push_same t joined)
         ∙ sym (one_more (meant_behind settings.servers (length t)) _ _ events ev refl ∙ ap (λ b. if b then no_meant else meant_of settings.servers (length t) events) (ap (λ n. nat_eq n (length t)) last ∙ itself (length t)))
-    meant_at j (other h) = meant_by (goes_so (one_more (desk_behind j) _ _ events ev refl ∙ ap (λ b. if b then record { phase = New; initialize = [] } else desk_of j events) apart))
+    meant_at j (other h) w = meant_by (goes_so (one_more (desk_behind j) _ _ events ev refl ∙ ap (λ b. if b then record { phase = New; initialize = [] } else desk_of j events) apart))
         (ap (λ z. meant_in (slice_get z j)) is ∙ ap meant_in (get_push_other t joined j h))
-        (one_more (meant_behind settings.servers j) _ _ events ev refl ∙ ap (λ b. if b then no_meant else meant_of settings.servers j events) apart) (s.meant j)
+        (one_more (meant_behind settings.servers j) _ _ events ev refl ∙ ap (λ b. if b then no_meant else meant_of settings.servers j events) apart) (s.meant j) w
       where
         apart : nat_eq e j ≡ false
         apart = ap (λ n. nat_eq n j) last ∙ ne_eqb (length t) j (λ q. h (sym q))
@@ -120,11 +120,11 @@ module _ (settings : Settings) (t : List Session) (events : List Event) (e : ℕ
       → (desk_of e (events ++ asking ∷ [])).phase ≡ New → meant_in (Some (record (session_of t e) { phase = p })) ≡ meant_of settings.servers e (events ++ asking ∷ [])
   meant_kept p stays off s w = ap meant_in (sym (slice_get-get_or t e absent l)) ∙ (s.meant e was ∙ sym (meant_next false (ap (λ q. is_new q && opens) (sym was) ∙ off)))
     where
-      was : (desk_of e events).phase ≡ New
-      was = (goes_heard (desk_of e events).phase (desk_of e events).initialize body (message_of body) stays).new (sym (ap (λ (d : Desk). d.phase) heard_desk) ∙ w)
-
       heard_desk : desk_of e (events ++ asking ∷ []) ≡ desk_hears (desk_of e events).phase (desk_of e events).initialize body (message_of body)
       heard_desk = one_more (desk_behind e) _ _ events asking refl ∙ ap (λ b. if b then desk_hears (desk_of e events).phase (desk_of e events).initialize body (message_of body) else desk_of e events) (itself e)
+
+      was : (desk_of e events).phase ≡ New
+      was = (goes_heard (desk_of e events).phase (desk_of e events).initialize body (message_of body) stays).new (sym (ap (λ (d : Desk). d.phase) heard_desk) ∙ w)
 
   -- it is
   meant_first : (o : Option ℕ) → o ≡ server_asked settings.servers body → is_first_open settings.servers events e (message_of body) ≡ true
@@ -170,8 +170,8 @@ module _ (settings : Settings) (t u : Tables) (events : List Event) (e : ℕ) (b
 
       meant_at : (n : ℕ) → Same e n → (desk_of n (events ++ ev ∷ [])).phase ≡ New → meant_in (slice_get (slice_set t.editors e y) n) ≡ meant_of settings.servers n (events ++ ev ∷ [])
       meant_at _ same w = ap meant_in here ∙ means w
-      meant_at n (other h) = meant_by (goes_so (desk_apart e n body (message_of body) events (ne_eqb e n (λ q. h (sym q))))) (ap meant_in (get_set_other t.editors e n y h))
-          (meant_apart settings.servers e n body (message_of body) events (ne_eqb e n (λ q. h (sym q)))) (s.meant n)
+      meant_at n (other h) w = meant_by (goes_so (desk_apart e n body (message_of body) events (ne_eqb e n (λ q. h (sym q))))) (ap meant_in (get_set_other t.editors e n y h))
+          (meant_apart settings.servers e n body (message_of body) events (ne_eqb e n (λ q. h (sym q)))) (s.meant n) w
 
   all_heard : (GroupsStand settings t.groups events → GroupsStand settings u.groups (events ++ ev ∷ [])) → Stands settings t events → Stands settings u (events ++ ev ∷ [])
   all_heard go = house_moves settings t u events ev (λ n. refl) refl (ap (λ v. v.items) ls) (ap (λ v. v.items) os) r (λ h. record {
@@ -193,7 +193,7 @@ stops_asks events e servers m h = ap (λ b. is_new (desk_of e events).phase && (
   where
     unnamed : (m : Message) → requests (codes "lspmux/stop") m ≡ true → requests (codes "lspmux/open") m ≡ false
     unnamed (request id method params) k = ap (bytes_eq (codes "lspmux/open")) (sym ((bytes_eq-Decides (codes "lspmux/stop") method).0 k))
-    unnamed other k = never (sym k)
+    unnamed rest k = never (sym k)
 
 -- the same, as the code sets the phase
 module _ (settings : Settings) (t u : Tables) (events : List Event) (e : ℕ) (body : List ℕ) (p : Phase) (l : e < length t.editors) (set : u.editors ≡ with_session t.editors e (phased t.editors e p))
@@ -225,15 +225,15 @@ module _ (settings : Settings) (t u : Tables) (events : List Event) (e : ℕ) (b
 
   no_first : (m : Message) → requests (codes "lspmux/open") m ≡ true → requests (codes "initialize") m ≡ false
   no_first (request id method params) k = ap (bytes_eq (codes "initialize")) (sym ((bytes_eq-Decides (codes "lspmux/open") method).0 k))
-  no_first other k = never (sym k)
+  no_first rest k = never (sym k)
 
   no_stop : (m : Message) → requests (codes "lspmux/open") m ≡ true → requests (codes "lspmux/stop") m ≡ false
   no_stop (request id method params) k = ap (bytes_eq (codes "lspmux/stop")) (sym ((bytes_eq-Decides (codes "lspmux/open") method).0 k))
-  no_stop other k = never (sym k)
+  no_stop rest k = never (sym k)
 
   only_new : (p : Phase) → is_new p ≡ true → p ≡ New
   only_new New h = refl
-  only_new other h = never (sym h)
+  only_new rest h = never (sym h)
 
   stands_new : EditorsStand settings t.editors events → seen.phase ≡ New
   stands_new s = sym (ap phase_in (slice_get-get_or t.editors e absent l)) ∙ (sym (s.phase e) ∙ only_new (desk_of e events).phase parts.0)
