@@ -9,7 +9,7 @@ use Rattle.event_model.specs.declared.settings.Server.{Server}
 use Rattle.event_model.specs.declared.stage.Stage.{Stage}
 use Rattle.event_model.specs.declared.stage.Stage.TheVariants.{Initializing, Ready}
 use Rattle.event_model.specs.Event.{Event, took, did, requests}
-use Rattle.event_model.specs.Phases.{Desk, desk_behind, editors_behind}
+use Rattle.event_model.specs.Phases.{Desk, desk_behind, desk_hears, desk_of, editors_behind}
 use Rattle.event_model.specs.Requests.{is_own}
 use Rattle.event_model.specs.Settings.{Settings}
 use Rattle.event_model.specs.Spawns.{starts_behind, start_behind, group_behind}
@@ -17,7 +17,7 @@ use Rattle.event_model.specs.Stages.{Life, is_ready, life_behind, life_of, is_fi
 use Rattle.event_model.proofs.Frames.{one_more, never}
 use Rattle.editor_session.specs.declared.session.Session.{Session}
 use Rattle.group_table.specs.Tables as group_tables
-use Rattle.group_words.specs.Houses.{Meant, meant_behind, time_behind, time_of}
+use Rattle.group_words.specs.Houses.{Meant, meant_behind, time_behind, time_of, meant_of, server_asked}
 use Rattle.group_words.specs.Rows.{result_behind, result_of}
 use Rattle.group_words.proofs.Frames.{touches_groups, names_home, groups_stay, home_stays, past_more}
 use Rattle.id_rewrite.specs.Tables.{Table}
@@ -74,6 +74,15 @@ meant_alone : (servers : List Server) (e : ℕ) (x : Meant) (ev : Event) → nam
 meant_alone servers e x (took (Joined n) m) h = never h
 meant_alone servers e x (took (FromEditor n body) m) h = never h
 meant_alone servers e x other h = refl
+
+-- another editor's message
+pub desk_apart : (e n : ℕ) (body : List ℕ) (m : Message) (events : List Event) → nat_eq e n ≡ false → desk_of n (events ++ took (FromEditor e body) m ∷ []) ≡ desk_of n events
+desk_apart e n body m events h = one_more (desk_behind n) _ _ events (took (FromEditor e body) m) refl
+    ∙ ap (λ b. if b then desk_hears (desk_of n events).phase (desk_of n events).initialize body m else desk_of n events) h
+
+pub meant_apart : (servers : List Server) (e n : ℕ) (body : List ℕ) (m : Message) (events : List Event) → nat_eq e n ≡ false → meant_of servers n (events ++ took (FromEditor e body) m ∷ []) ≡ meant_of servers n events
+meant_apart servers e n body m events h = one_more (meant_behind servers n) _ _ events (took (FromEditor e body) m) refl
+    ∙ ap (λ b. if b && (requests (codes "lspmux/open") m && not (meant_of servers n events).opened) then record { opened = true; server = server_asked servers body } else meant_of servers n events) h
 
 homeless : (n : ℕ) (ev : Event) → names_editor ev ≡ false → names_home n ev ≡ false
 homeless n (took (FromEditor e body) m) h = never h

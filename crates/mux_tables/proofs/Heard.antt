@@ -30,7 +30,7 @@ use Rattle.mux_tables.specs.Names.{NameStands, id_in}
 use Rattle.mux_tables.specs.Stands.{EditorsStand, GroupsStand, Stands, ends, phase_in, group_in, meant_in, stays_in}
 use Rattle.mux_tables.proofs.Ends.{tick_heard}
 use Rattle.mux_tables.proofs.Exits.{stop_groups}
-use Rattle.mux_tables.proofs.Frames.{itself, groups_stand}
+use Rattle.mux_tables.proofs.Frames.{desk_apart, itself, groups_stand, meant_apart}
 use Rattle.mux_tables.proofs.Leaves.{gone_by}
 use Rattle.mux_tables.proofs.Moves.{house_moves, quiet_moves}
 use Rattle.mux_tables.proofs.Named.{Goes, goes_heard, goes_so, goes_then, meant_by, named_by, named_new}
@@ -59,8 +59,9 @@ joined_editors settings t u events e last is s = record {
     meant_at : (j : ℕ) → Same (length t) j → (desk_of j (events ++ ev ∷ [])).phase ≡ New → meant_in (slice_get u j) ≡ meant_of settings.servers j (events ++ ev ∷ [])
     meant_at _ same w = ap (λ z. meant_in (slice_get z (length t))) is ∙ ap meant_in (get_push_same t joined)
         ∙ sym (one_more (meant_behind settings.servers (length t)) _ _ events ev refl ∙ ap (λ b. if b then no_meant else meant_of settings.servers (length t) events) (ap (λ n. nat_eq n (length t)) last ∙ itself (length t)))
-    meant_at j (other h) = meant_by (goes_so (one_more (desk_behind j) _ _ events ev refl ∙ rw (apart) refl)) (ap (λ z. meant_in (slice_get z j)) is ∙ ap meant_in (get_push_other t joined j h))
-        (one_more (meant_behind settings.servers j) _ _ events ev refl ∙ rw (apart) refl) (s.meant j)
+    meant_at j (other h) w = meant_by (goes_so (one_more (desk_behind j) _ _ events ev refl ∙ ap (λ b. if b then record { phase = New; initialize = [] } else desk_of j events) apart))
+        (ap (λ z. meant_in (slice_get z j)) is ∙ ap meant_in (get_push_other t joined j h))
+        (one_more (meant_behind settings.servers j) _ _ events ev refl ∙ ap (λ b. if b then no_meant else meant_of settings.servers j events) apart) (s.meant j) w
       where
         apart : nat_eq e j ≡ false
         apart = ap (λ n. nat_eq n j) last ∙ ne_eqb (length t) j (λ q. h (sym q))
@@ -105,8 +106,11 @@ module _ (settings : Settings) (t : List Session) (events : List Event) (e : ℕ
   abbrev opens : Bool
   opens = requests (codes "lspmux/open") (message_of body) && not before.opened
 
+  abbrev named_as : Option ℕ → Meant
+  named_as o = record { opened = true; server = o }
+
   abbrev named : Meant
-  named = record { opened = true; server = server_asked settings.servers body }
+  named = named_as (server_asked settings.servers body)
 
   meant_next : (b : Bool) → opens ≡ b → meant_of settings.servers e (events ++ asking ∷ []) ≡ (if b then named else before)
   meant_next b is = one_more (meant_behind settings.servers e) _ _ events asking refl ∙ (ap (λ c. if c && opens then named else before) (itself e) ∙ ap (λ c. if c then named else before) is)
@@ -116,14 +120,16 @@ module _ (settings : Settings) (t : List Session) (events : List Event) (e : ℕ
       → (desk_of e (events ++ asking ∷ [])).phase ≡ New → meant_in (Some (record (session_of t e) { phase = p })) ≡ meant_of settings.servers e (events ++ asking ∷ [])
   meant_kept p stays off s w = ap meant_in (sym (slice_get-get_or t e absent l)) ∙ (s.meant e was ∙ sym (meant_next false (ap (λ q. is_new q && opens) (sym was) ∙ off)))
     where
+      heard_desk : desk_of e (events ++ asking ∷ []) ≡ desk_hears (desk_of e events).phase (desk_of e events).initialize body (message_of body)
+      heard_desk = one_more (desk_behind e) _ _ events asking refl ∙ ap (λ b. if b then desk_hears (desk_of e events).phase (desk_of e events).initialize body (message_of body) else desk_of e events) (itself e)
+
       was : (desk_of e events).phase ≡ New
-      was = (goes_heard (desk_of e events).phase (desk_of e events).initialize body (message_of body) stays).new
-          (sym (ap (λ (d : Desk). d.phase) (one_more (desk_behind e) _ _ events asking refl ∙ rw (itself e) refl)) ∙ w)
+      was = (goes_heard (desk_of e events).phase (desk_of e events).initialize body (message_of body) stays).new (sym (ap (λ (d : Desk). d.phase) heard_desk) ∙ w)
 
   -- it is
   meant_first : (o : Option ℕ) → o ≡ server_asked settings.servers body → is_first_open settings.servers events e (message_of body) ≡ true
       → meant_in (Some (record (session_of t e) { opened = true; server = o })) ≡ meant_of settings.servers e (events ++ asking ∷ [])
-  meant_first o is first = ap (λ x. record { opened = true; server = x }) is ∙ sym (meant_next true (and_parts (is_new (desk_of e events).phase) opens first).1)
+  meant_first o is first = ap named_as is ∙ sym (meant_next true (and_parts (is_new (desk_of e events).phase) opens first).1)
 
 -- a message that places nobody, and stops nothing
 module _ (settings : Settings) (t u : Tables) (events : List Event) (e : ℕ) (body : List ℕ) (y : Session) (l : e < length t.editors) (is : u.editors ≡ with_session t.editors e y)
@@ -164,8 +170,8 @@ module _ (settings : Settings) (t u : Tables) (events : List Event) (e : ℕ) (b
 
       meant_at : (n : ℕ) → Same e n → (desk_of n (events ++ ev ∷ [])).phase ≡ New → meant_in (slice_get (slice_set t.editors e y) n) ≡ meant_of settings.servers n (events ++ ev ∷ [])
       meant_at _ same w = ap meant_in here ∙ means w
-      meant_at n (other h) = meant_by (goes_so (one_more (desk_behind n) _ _ events ev refl ∙ rw (ne_eqb e n (λ q. h (sym q))) refl)) (ap meant_in (get_set_other t.editors e n y h))
-          (one_more (meant_behind settings.servers n) _ _ events ev refl ∙ rw (ne_eqb e n (λ q. h (sym q))) refl) (s.meant n)
+      meant_at n (other h) w = meant_by (goes_so (desk_apart e n body (message_of body) events (ne_eqb e n (λ q. h (sym q))))) (ap meant_in (get_set_other t.editors e n y h))
+          (meant_apart settings.servers e n body (message_of body) events (ne_eqb e n (λ q. h (sym q)))) (s.meant n) w
 
   all_heard : (GroupsStand settings t.groups events → GroupsStand settings u.groups (events ++ ev ∷ [])) → Stands settings t events → Stands settings u (events ++ ev ∷ [])
   all_heard go = house_moves settings t u events ev (λ n. refl) refl (ap (λ v. v.items) ls) os r (λ h. record {
@@ -187,7 +193,7 @@ stops_asks events e servers m h = ap (λ b. is_new (desk_of e events).phase && (
   where
     unnamed : (m : Message) → requests (codes "lspmux/stop") m ≡ true → requests (codes "lspmux/open") m ≡ false
     unnamed (request id method params) k = ap (bytes_eq (codes "lspmux/open")) (sym ((bytes_eq-Decides (codes "lspmux/stop") method).0 k))
-    unnamed other k = never (sym k)
+    unnamed rest k = never (sym k)
 
 -- the same, as the code sets the phase
 module _ (settings : Settings) (t u : Tables) (events : List Event) (e : ℕ) (body : List ℕ) (p : Phase) (l : e < length t.editors) (set : u.editors ≡ with_session t.editors e (phased t.editors e p))
@@ -219,15 +225,15 @@ module _ (settings : Settings) (t u : Tables) (events : List Event) (e : ℕ) (b
 
   no_first : (m : Message) → requests (codes "lspmux/open") m ≡ true → requests (codes "initialize") m ≡ false
   no_first (request id method params) k = ap (bytes_eq (codes "initialize")) (sym ((bytes_eq-Decides (codes "lspmux/open") method).0 k))
-  no_first other k = never (sym k)
+  no_first rest k = never (sym k)
 
   no_stop : (m : Message) → requests (codes "lspmux/open") m ≡ true → requests (codes "lspmux/stop") m ≡ false
   no_stop (request id method params) k = ap (bytes_eq (codes "lspmux/stop")) (sym ((bytes_eq-Decides (codes "lspmux/open") method).0 k))
-  no_stop other k = never (sym k)
+  no_stop rest k = never (sym k)
 
   only_new : (p : Phase) → is_new p ≡ true → p ≡ New
   only_new New h = refl
-  only_new other h = never (sym h)
+  only_new rest h = never (sym h)
 
   stands_new : EditorsStand settings t.editors events → seen.phase ≡ New
   stands_new s = sym (ap phase_in (slice_get-get_or t.editors e absent l)) ∙ (sym (s.phase e) ∙ only_new (desk_of e events).phase parts.0)
@@ -235,11 +241,15 @@ module _ (settings : Settings) (t u : Tables) (events : List Event) (e : ℕ) (b
   stays_new : (p : Phase) (i : List ℕ) → p ≡ New → (desk_hears p i body (message_of body)).phase ≡ New
   stays_new p i at = rw (at, no_first (message_of body) asks) refl
 
+  now_new : (desk_of e (events ++ heard (FromEditor e body) ∷ [])).phase ≡ New
+  now_new = ap (λ (d : Desk). d.phase) (one_more (desk_behind e) _ _ events (heard (FromEditor e body)) refl)
+      ∙ rw (itself e) (stays_new (desk_of e events).phase (desk_of e events).initialize (only_new (desk_of e events).phase parts.0))
+
   pub open_moves : u.groups ≡ t.groups → Stands settings t events → Stands settings u (events ++ heard (FromEditor e body) ∷ [])
   open_moves gs s = heard_moves settings t u events e body (record seen { opened = true; server = o }) l
       (set ∙ ap (λ p. with_session t.editors e (if is_gone p then seen else record seen { opened = true; server = o })) (stands_new s.house.editors)) now ls os r
       (ap (λ b. is_new (desk_of e events).phase && b) (no_first (message_of body) asks) ∙ and_off (is_new (desk_of e events).phase))
-      (ap (λ (d : Desk). d.phase) (one_more (desk_behind e) _ _ events (heard (FromEditor e body)) refl) ∙ (rw (itself e) (stays_new (desk_of e events).phase (desk_of e events).initialize (only_new (desk_of e events).phase parts.0)) ∙ sym (stands_new s.house.editors)))
+      (now_new ∙ sym (stands_new s.house.editors))
       refl refl (λ w. meant_first settings t.editors events e body l o is first)
       gs (ap (λ b. b && (is_there (desk_of e events).phase && not (is_doubled events e (message_of body)))) (no_stop (message_of body) asks)) s
 

@@ -65,8 +65,8 @@ module _ (settings : Settings) (events : List Event) (ev : Event) (e : ℕ) (lea
 
       meant_at : (n : ℕ) → Same e n → (desk_of n (events ++ ev ∷ [])).phase ≡ New → meant_in (slice_get u n) ≡ meant_of settings.servers n (events ++ ev ∷ [])
       meant_at _ same w = absurd (own.old (sym (ap (λ (d : Desk). d.phase) (one_more (desk_behind e) _ _ events ev refl)) ∙ w))
-      meant_at n (other h) = meant_by (goes_so (one_more (desk_behind n) _ _ events ev refl ∙ rest n (desk_of n events) (ne_eqb e n (λ q. h (sym q))))) (ap (λ z. meant_in (slice_get z n)) is ∙ ap meant_in (get_set_other t e n y h))
-          (one_more (meant_behind settings.servers n) _ _ events ev refl ∙ unmeant n _) (s.meant n)
+      meant_at n (other h) w = meant_by (goes_so (one_more (desk_behind n) _ _ events ev refl ∙ rest n (desk_of n events) (ne_eqb e n (λ q. h (sym q))))) (ap (λ z. meant_in (slice_get z n)) is ∙ ap meant_in (get_set_other t e n y h))
+          (one_more (meant_behind settings.servers n) _ _ events ev refl ∙ unmeant n _) (s.meant n) w
 
       phase_at : (n : ℕ) → Same e n → (desk_behind n (desk_of n events) ev).phase ≡ phase_in (slice_get (slice_set t e y) n)
       phase_at _ same = step (desk_of e events) (s.phase e ∙ ap phase_in at) ∙ ap phase_in (sym here)

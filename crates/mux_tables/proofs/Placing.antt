@@ -16,12 +16,13 @@ use Rattle.event_model.proofs.Places.{Same, same, other, compare, get_set_same, 
 use Rattle.group_words.specs.declared.kept.Kept.{Kept}
 use Rattle.group_words.specs.declared.placed.Placed.{Placed}
 use Rattle.group_words.specs.Placing.{home_by, placed_in, with_editor, end_where, is_live}
-use Rattle.group_words.specs.Houses.{groups_of, home_of, key_for, declared_for, meant_behind, meant_of, placed_for, places, stops, time_behind}
+use Rattle.group_words.specs.Houses.{groups_of, home_of, key_for, declared_for, meant_of, placed_for, places, stops, time_behind}
 use Rattle.group_words.proofs.Frames.{itself, groups_more, home_more}
 use Rattle.group_table.specs.Tables.{Table}
 use Rattle.mux_tables.specs.declared.tables.Tables.{Tables}
 use Rattle.mux_tables.specs.Names.{NameStands, id_in}
 use Rattle.mux_tables.specs.Stands.{EditorsStand, GroupsStand, HouseStands, phase_in, group_in, meant_in}
+use Rattle.mux_tables.proofs.Frames.{desk_apart, meant_apart}
 use Rattle.mux_tables.proofs.Named.{goes_so, meant_by, named_by, named_first}
 use Rattle.event_model.proofs.Frames.{one_more}
 
@@ -63,11 +64,14 @@ module _ (settings : Settings) (events : List Event) (e : ℕ) (body : List ℕ)
       home_at _ same = rw (itself e, here, places_first (desk_of e events).phase m was_new first) (ap (λ gs. home_by (placed gs) (home_of settings e events)) now ∙ (ap (home_by (placed groups)) (s.home e ∙ ap group_in at) ∙ sym home))
       home_at n (other h) = rw (ne_eqb e n (λ q. h (sym q)), get_set_other t e n y h) (s.home n)
 
+      now_waits : (desk_of e (events ++ took (FromEditor e body) m ∷ [])).phase ≡ Waiting
+      now_waits = ap (λ (d : Desk). d.phase) (one_more (desk_behind e) _ _ events (took (FromEditor e body) m) refl)
+          ∙ rw (itself e) (hears_first (desk_of e events).phase (desk_of e events).initialize body m was_new first)
+
       meant_at : (n : ℕ) → Same e n → (desk_of n (events ++ took (FromEditor e body) m ∷ [])).phase ≡ New → meant_in (slice_get u n) ≡ meant_of settings.servers n (events ++ took (FromEditor e body) m ∷ [])
-      meant_at _ same w = absurd (let k : Waiting ≡ New = sym (ap (λ (d : Desk). d.phase) (one_more (desk_behind e) _ _ events (took (FromEditor e body) m) refl)
-          ∙ rw (itself e) (hears_first (desk_of e events).phase (desk_of e events).initialize body m was_new first)) ∙ w in cc)
-      meant_at n (other h) = meant_by (goes_so (one_more (desk_behind n) _ _ events (took (FromEditor e body) m) refl ∙ rw (ne_eqb e n (λ q. h (sym q))) refl)) (ap (λ z. meant_in (slice_get z n)) is ∙ ap meant_in (get_set_other t e n y h))
-          (one_more (meant_behind settings.servers n) _ _ events (took (FromEditor e body) m) refl ∙ rw (ne_eqb e n (λ q. h (sym q))) refl) (s.meant n)
+      meant_at _ same w = absurd (let k : Waiting ≡ New = sym now_waits ∙ w in cc)
+      meant_at n (other h) w = meant_by (goes_so (desk_apart e n body m events (ne_eqb e n (λ q. h (sym q))))) (ap (λ z. meant_in (slice_get z n)) is ∙ ap meant_in (get_set_other t e n y h))
+          (meant_apart settings.servers e n body m events (ne_eqb e n (λ q. h (sym q)))) (s.meant n) w
 
       named : (n : ℕ) → Same e n → NameStands (if nat_eq e n then desk_hears (desk_of n events).phase (desk_of n events).initialize body m else desk_of n events)
           (if nat_eq e n && places (desk_of e events).phase m then home_by (placed (groups_of settings events)) (home_of settings n events) else home_of settings n events) (id_in (slice_get (slice_set t e y) n))

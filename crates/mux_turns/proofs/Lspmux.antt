@@ -34,11 +34,11 @@ or_second true b h = absurd (cc)
 
 by_either : (a b : Bool) (m : Message) → requests (codes "lspmux/open") m ≡ a → requests (codes "lspmux/status") m ≡ b → asks_lspmux m ≡ (a || b)
 by_either a b (request id method params) h k = ap (λ x. x || bytes_eq (codes "lspmux/status") method) h ∙ ap (λ x. a || x) k
-by_either a b (notification method params) h k = ap (λ x. x || b) h ∙ k
-by_either a b (result id r) h k = ap (λ x. x || b) h ∙ k
-by_either a b (error id x) h k = ap (λ x. x || b) h ∙ k
-by_either a b not_json h k = ap (λ x. x || b) h ∙ k
-by_either a b not_message h k = ap (λ x. x || b) h ∙ k
+by_either a b (notification method params) h k = k ∙ ap (λ x. x || b) h
+by_either a b (result id r) h k = k ∙ ap (λ x. x || b) h
+by_either a b (error id x) h k = k ∙ ap (λ x. x || b) h
+by_either a b not_json h k = k ∙ ap (λ x. x || b) h
+by_either a b not_message h k = k ∙ ap (λ x. x || b) h
 
 pub either_asks : (m : Message) → asks_lspmux m ≡ (requests (codes "lspmux/open") m || requests (codes "lspmux/status") m)
 either_asks m = by_either (requests (codes "lspmux/open") m) (requests (codes "lspmux/status") m) m refl refl
