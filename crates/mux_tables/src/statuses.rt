@@ -45,7 +45,6 @@ impl Tables {
     }
 
     /// The numbers, rising, of the editors of this group.
-    #[tactic(auto, using(crate::proofs::Live::begun_so, crate::proofs::Waits::members_inside))]
     pub fn members(&self, g: u64) -> Result<Vec<u64>, Memory>
         ensures inside { IfOk result (λ numbers. All (λ e. e < length self.now.editors) numbers.items) }
         ensures those { (settings : Settings) (events : List Event) → Stands settings self.now events
