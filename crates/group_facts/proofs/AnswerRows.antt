@@ -56,15 +56,7 @@ use Rattle.rpc_message.proofs.Ids.{request_id_bytes}
 use Rattle.json_text.specs.declared.kind.Word.TheVariants.{Null}
 use Rattle.group_facts.proofs.PartingRows.{null_value}
 use Rattle.group_rows.proofs.Exits.{exit_says}
-
--- the numbers below, counted up
-range_last : (a n : ℕ) → range_with_len a (suc n) ≡ range_with_len a n ++ (a + n) ∷ []
-range_last a zero = ap (λ k. k ∷ []) (omega arith)
-range_last a (suc n) = ap (λ ks. a ∷ ks) (range_last (a + 1) n ∙ ap (λ k. range_with_len (a + 1) n ++ k ∷ []) (omega arith))
-
-pub range_below : (n : ℕ) → range_with_len 0 n ≡ below n
-range_below zero = refl
-range_below (suc n) = range_last 0 n ∙ ap₂ (λ z k. z ++ k ∷ []) (range_below n) (omega arith)
+use Rattle.group_rows.proofs.Stops.{range_below}
 
 nobody_found : (fs : List Forwarded) (f : Forwarded) → find (answered_by None) fs ≡ Some f → ⊥
 nobody_found [] f h = cc

@@ -4,6 +4,7 @@ pub mod Frames
 pub mod IdMoves
 pub mod Lasts
 pub mod Seen
+pub mod Overdue
 pub mod Moves
 pub mod Phased
 pub mod Lists
