@@ -62,13 +62,13 @@ pub record Stepped {J : Type 0} (told : J → Option (List Entry)) (hub : HubVie
 
 pub stepped : {J : Type 0} (told : J → Option (List Entry)) (hub : HubView J) (cause : Cause) (xs : List Out) (now : Tables) (counts : List ℕ) (journal : J) (history : List Entry) → HubStands told hub history → hub.spent ≡ false
     → InRange hub.settings → IsTrue (fits history cause) → IsTrue (built hub.settings history cause)
-    → ((settings : Settings) (before : List Event) → settings.servers ≡ hub.settings.servers → settings.default ≡ hub.settings.default → Known settings before → Settled settings before
+    → ((settings : Settings) (before : List Event) → settings.servers ≡ hub.settings.servers → settings.default ≡ hub.settings.default → settings.limits.grace ≡ hub.settings.limits.grace → Known settings before → Settled settings before
     → fits_behind before cause ≡ true → built_behind settings before cause ≡ true → TablesStand settings hub.tables hub.backlogs before → Turns settings before cause xs now counts)
     → told journal ≡ append_told (told hub.journal) (record { cause = cause; outs = xs } ∷ []) → Stepped told hub cause xs now counts journal history
 stepped told hub cause xs now counts journal history h s range f b takes t =
     let events : List Event = events_of history in
     let turned : Turns hub.settings events cause xs now counts =
-    takes hub.settings events refl refl (known_holds hub.settings range history h.legal) (settled_holds hub.settings range history h.legal) f b (h.tables s) in
+    takes hub.settings events refl refl refl (known_holds hub.settings range history h.legal) (settled_holds hub.settings range history h.legal) f b (h.tables s) in
     let outs : xs ≡ emits hub.settings history cause = turned.0 in
     let longer : events_of (history ++ entry_of hub.settings history cause ∷ []) ≡ with_entry events (entry_of hub.settings history cause) = fold-append with_entry [] history (entry_of hub.settings history cause ∷ []) in
     let same : with_entry events (entry_record cause xs) ≡ with_entry events (entry_of hub.settings history cause) = ap (λ ys. with_entry events (entry_record cause ys)) outs in
