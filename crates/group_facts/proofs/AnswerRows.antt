@@ -49,7 +49,7 @@ use Rattle.group_rows.specs.Texts.{texts_of}
 use Rattle.group_facts.specs.Facts.{AllForwarded, Apart, IsAsker, IsForwarded, IsWaiting, IsWritten, Opened, Untold, Written}
 use Rattle.group_facts.proofs.Apart.{alone_answered}
 use Rattle.group_facts.proofs.Forwards.{Still, still_notified, still_now}
-use Rattle.group_facts.proofs.PutOut.{range_below}
+use Rattle.group_rows.proofs.Stops.{range_below}
 use Rattle.group_facts.proofs.RefusedRow.{refused_why}
 use Rattle.group_facts.proofs.SharedRows.{AllTold, replay_told}
 use Rattle.group_facts.proofs.Tellings.{Calm, tells_row}

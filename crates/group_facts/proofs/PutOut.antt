@@ -74,15 +74,6 @@ pub unplaced_closed : (phase : Phase) → is_unplaced (phase_closed phase) ≡ f
 unplaced_closed Gone = refl
 unplaced_closed other = refl
 
--- the numbers below, counted up
-range_last : (a n : ℕ) → range_with_len a (suc n) ≡ range_with_len a n ++ (a + n) ∷ []
-range_last a zero = ap (λ k. k ∷ []) (omega arith)
-range_last a (suc n) = ap (λ ks. a ∷ ks) (range_last (a + 1) n ∙ ap (λ k. range_with_len (a + 1) n ++ k ∷ []) (omega arith))
-
-pub range_below : (n : ℕ) → range_with_len 0 n ≡ below n
-range_below zero = refl
-range_below (suc n) = range_last 0 n ∙ ap₂ (λ z k. z ++ k ∷ []) (range_below n) (omega arith)
-
 -- Behind outs
 
 -- what held before each out, where it holds behind it, held before all

@@ -39,7 +39,8 @@ use Rattle.group_facts.specs.Lively.{lives_at}
 use Rattle.group_facts.specs.Why.{Why, refused, turns_away}
 use Rattle.group_facts.proofs.Housed.{group_more}
 use Rattle.group_facts.proofs.LiveGroups.{lives_emptied}
-use Rattle.group_facts.proofs.PutOut.{begun_outs, homes_stay, no_result, range_below}
+use Rattle.group_rows.proofs.Stops.{range_below}
+use Rattle.group_facts.proofs.PutOut.{begun_outs, homes_stay, no_result}
 
 -- The end of a group
 

@@ -28,27 +28,14 @@ use Rattle.group_words.specs.Houses.{groups_of, time_of}
 use Rattle.group_words.specs.Placing.{is_due, is_since}
 use Rattle.group_words.specs.Rows.{end_group, end_start}
 use Rattle.group_words.proofs.Frames.{groups_more, groups_stay, touches_groups}
+use Rattle.group_rows.proofs.Stops.{filter_both, range_below, stopping_is}
 use Rattle.group_rows.specs.Ticks.{due_of, is_stopping, overdue_of, stop_of, tick_row}
 use Rattle.group_facts.specs.Facts.{Bounded}
 use Rattle.group_facts.specs.Lively.{lives_at}
 use Rattle.group_facts.specs.Why.{Why, is_starting, stopped}
-use Rattle.group_facts.proofs.PutOut.{range_below}
 use Rattle.group_facts.proofs.GroupEnds.{Untouched, low, shutdown_says, start_ends}
 use Rattle.group_facts.proofs.LiveGroups.{over_ended}
 use Rattle.group_facts.proofs.Numbers.{number_other}
-
--- the one test and the other
-pub filter_both : {X : Type 0} (p q : X → Bool) (xs : List X) → filter p (filter q xs) ≡ filter (λ x. q x && p x) xs
-filter_both p q [] = refl
-filter_both p q (x ∷ xs) = go (q x) (filter_both p q xs)
-  where
-    go : (b : Bool) → filter p (filter q xs) ≡ filter (λ y. q y && p y) xs → filter p (cond b (x ∷ filter q xs) (filter q xs)) ≡ cond (b && p x) (x ∷ filter (λ y. q y && p y) xs) (filter (λ y. q y && p y) xs)
-    go true same = ap (λ ys. cond (p x) (x ∷ ys) ys) same
-    go false same = same
-
-stopping_is : (stage : Stage) → is_stopping stage ≡ true → stage ≡ Stopping
-stopping_is Stopping h = refl
-stopping_is other h = never (sym h)
 
 -- behind `shutdown`, or its end, a start isn't ready
 pub told_not : (stage : Stage) (m : Message) → requests (codes "shutdown") m ≡ true → stage_told stage m ≡ Ready → ⊥

@@ -3,3 +3,4 @@ pub mod Exits
 pub mod Frames
 pub mod Worked
 pub mod Statuses
+pub mod Stops

@@ -63,14 +63,14 @@ pub record Stepped {J : Type 0} (told : J → Option (List Entry)) (hub : HubVie
 
 pub stepped : {J : Type 0} (told : J → Option (List Entry)) (hub : HubView J) (cause : Cause) (xs : List Out) (now : Tables) (counts servers : List ℕ) (count : ℕ) (journal : J) (history : List Entry) → HubStands told hub history → hub.spent ≡ false
     → InRange hub.settings → IsTrue (fits history cause) → IsTrue (built hub.settings history cause)
-    → ((settings : Settings) (before : List Event) → settings.servers ≡ hub.settings.servers → settings.default ≡ hub.settings.default → Known settings before → Settled settings before
+    → ((settings : Settings) (before : List Event) → settings.servers ≡ hub.settings.servers → settings.default ≡ hub.settings.default → settings.limits.grace ≡ hub.settings.limits.grace → Known settings before → Settled settings before
     → fits_behind before cause ≡ true → built_behind settings before cause ≡ true → TablesStand settings hub.tables hub.backlogs hub.starts before → Turns settings before cause xs now counts servers)
     → told journal ≡ append_told (told hub.journal) (record { cause = cause; outs = xs } ∷ []) → Some count ≡ (if nat_lt most_events (hub.events + (1 + length xs)) then None else Some (hub.events + (1 + length xs)))
     → Stepped told hub cause xs now counts servers count journal history
 stepped told hub cause xs now counts servers count journal history h s range f b takes t n =
     let events : List Event = events_of history in
     let turned : Turns hub.settings events cause xs now counts servers =
-    takes hub.settings events refl refl (known_holds hub.settings range history h.legal) (settled_holds hub.settings range history h.legal) f b (h.tables s) in
+    takes hub.settings events refl refl refl (known_holds hub.settings range history h.legal) (settled_holds hub.settings range history h.legal) f b (h.tables s) in
     let outs : xs ≡ emits hub.settings history cause = turned.0 in
     let kept : (count ≡ hub.events + (1 + length xs)) × (nat_lt most_events (hub.events + (1 + length xs)) ≡ false) = at_most (hub.events + (1 + length xs)) count n in
     let more : length (events_of (history ++ entry_of hub.settings history cause ∷ [])) ≡ length (events_of history) + (1 + length (emits hub.settings history cause)) = entry_counts history (entry_of hub.settings history cause) in

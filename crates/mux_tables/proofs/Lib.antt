@@ -5,6 +5,7 @@ pub mod IdMoves
 pub mod Idles
 pub mod Lasts
 pub mod Seen
+pub mod Overdue
 pub mod Moves
 pub mod Phased
 pub mod Lists

@@ -174,6 +174,9 @@ ending_same : (g : Stage) → is_stopping (stage_ending g) ≡ false
 ending_same Ended = refl
 ending_same other = refl
 
+ending_over : (s : ℕ) (l : Life) → is_stopping (life_behind s l (said (EndServer s))).stage ≡ false
+ending_over s l = ap (λ b. is_stopping (if b then record { stage = stage_ending l.stage; started = l.started } else l).stage) (itself s) ∙ ending_same l.stage
+
 -- its program is to be ended
 pub end_does : (settings : Settings) (t u : Tables) (xs ys : List Out) (base : List Event) (g s start : ℕ) (z : Start) (life : Standing) → slice_get (map number_in t.lasts.items) g ≡ Some s → g < length t.lasts.items → z ≡ get_or t.lasts.items g z → (z.life.stage ≡ Ended → ⊥) → life ≡ moved Ending z.life → u.origins.stopping.items ≡ unstopped start t.origins.stopping.items
     → u.lasts.items ≡ slice_set t.lasts.items g (record z { life = life; shown = None }) → u.editors ≡ t.editors → u.groups ≡ t.groups → u.time ≡ t.time → u.origins.groups ≡ t.origins.groups → u.requests ≡ t.requests → start ≡ life.start → ys ≡ xs ++ EndServer start ∷ []
@@ -183,11 +186,8 @@ end_does settings t u xs ys base g s start z life at within read runs ends cease
     ended_with settings t u xs ys base g s start z (record z { life = life; shown = None }) at within read set own (ap (λ (l : Standing). l.group) ends) es gs now os r (is ∙ own) said_so (over (is ∙ own ∙ start_at_place t.lasts.items g s z (read_here t.lasts.items g z within read) at)) (λ p h. part own p h)
   where
     over : start ≡ s → StopsMove t u (behind base xs) (said (EndServer s))
-    over same h = stopping_less (behind base xs) (said (EndServer s)) s refl (λ m. refl) (ending_over (life_of s (behind base xs)))
+    over same h = stopping_less (behind base xs) (said (EndServer s)) s refl (λ m. refl) (ending_over s (life_of s (behind base xs)))
         ∙ ap (unstopped s) h ∙ ap (λ k. unstopped k t.origins.stopping.items) (sym same) ∙ sym ceases
-
-    ending_over : (l : Life) → is_stopping (life_behind s l (said (EndServer s))).stage ≡ false
-    ending_over l = ap (λ b. is_stopping (if b then record { stage = stage_ending l.stage; started = l.started } else l).stage) (itself s) ∙ ending_same l.stage
 
     part : life.start ≡ z.life.start → (p : Part) → PartStands p t.requests z (behind base xs) → PartStands p t.requests (record z { life = life; shown = None }) (behind base xs ++ said (EndServer z.life.start) ∷ [])
     part own of_life h = part_life t.requests (behind base xs) (said (EndServer z.life.start)) z (record z { life = life; shown = None }) own

@@ -198,7 +198,7 @@ Sends s e id events = (forwarding_of s events).sender ≡ Some (record { editor 
 
 -- the others of these starts
 abbrev pub unstopped : ℕ → List ℕ → List ℕ
-unstopped s starts = filter (λ n. not (nat_eq n s)) starts
+unstopped s starts = filter (λ n. not (nat_eq s n)) starts
 
 -- the last start of a group ended: it is over and has nothing to answer, and the group counts an exit, or ends
 pub record Exits (restarts : ℕ) (t : Tables) (g : ℕ) (z : Start) (u : Tables) : Type 0 where

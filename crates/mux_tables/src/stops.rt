@@ -27,7 +27,7 @@ pub fn begin_stop(stopping: &mut Vec<u64>, s: u64) -> Result<(), Memory>
 pub fn end_stop(stopping: &mut Vec<u64>, s: u64)
     ensures { stopping.new.items ≡ unstopped s stopping.old.items }
 {
-    stopping.retain(|n| *n != s);
+    stopping.retain(|n| s != *n);
 }
 
 // There is such a moment, and it lies this many seconds back.

@@ -108,7 +108,7 @@ stopping_at (s ∷ starts) (suc i) d events h within =
 pub program_next : (base : List Event) (xs ys : List Out) (starts : List ℕ) (i d : ℕ) → AreStopping (behind base xs) starts → i < length starts → ys ≡ xs ++ outs (each (λ s. send (EndServer s)) (take i starts)) (behind base xs) → (life_of (get_or starts i d) (behind base ys)).stage ≡ Stopping
 program_next base xs ys starts i d h within sent = ap (λ es. (life_of (get_or starts i d) es).stage) (ap (behind base) sent ∙ behind_more base xs (outs (each (λ s. send (EndServer s)) (take i starts)) (behind base xs))) ∙ stopping_at starts i d (behind base xs) h within
 
-IsAwaited : List Event → Out → Type 0
+abbrev IsAwaited : List Event → Out → Type 0
 IsAwaited events (EndServer s) = (life_of s events).stage ≡ Stopping
 IsAwaited events (ToEditor e body) = Unit {0}
 IsAwaited events (ToServer s body) = Unit {0}
@@ -118,6 +118,10 @@ IsAwaited events (CloseEditor e) = Unit {0}
 are_stopping : (starts : List ℕ) (events : List Event) → Reasons IsAwaited events (outs (each (λ s. send (EndServer s)) starts) events) → AreStopping events starts
 are_stopping [] events h = tt
 are_stopping (s ∷ starts) events h = (h.0, are_stopping starts (events ++ said (EndServer s) ∷ []) h.1)
+
+pub stopping_runs : (stage : Stage) → is_stopping stage ≡ true → stage ≡ Ended → ⊥
+stopping_runs Stopping h e = cc
+stopping_runs other h e = never (sym h)
 
 -- one that is awaited is the last start of its group
 module _ (settings : Settings) (t : Tables) (base : List Event) (xs : List Out) (s : ℕ) (at : (life_of s (behind base xs)).stage ≡ Stopping) where

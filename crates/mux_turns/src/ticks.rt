@@ -24,7 +24,12 @@ use mux_tables::Tables;
 use std::alloc::Global;
 
 // These groups end, one after the other.
-fn end_groups(tables: &mut Tables, alloc: Global, outs: &mut Outs, groups: &[u64]) -> Result<(), Memory>
+fn end_groups(
+    tables: &mut Tables,
+    alloc: Global,
+    outs: &mut Outs,
+    groups: &[u64],
+) -> Result<(), Memory>
     ensures requests { tables.new.requests ≡ tables.old.requests }
     ensures versions { tables.new.versions ≡ tables.old.versions }
     ensures does { (settings : Settings) (base : List Event) → Numbered (behind base outs.old)
