@@ -698,7 +698,7 @@ fn sessions_bring_their_lines(rt: HostRuntime) -> Result<(), Fail> {
 #[test]
 fn several_editors_bring_their_lines(rt: HostRuntime) -> Result<(), Fail> {
     let alloc = rt.alloc();
-    let sessions: [&[&[(&str, &str)]]; 11] = [
+    let sessions: [&[&[(&str, &str)]]; 14] = [
         &[&TWO_EDITORS, &A_THIRD],
         &[&TWO_EDITORS, &WRONG_NAMES],
         &[&TWO_EDITORS, &BOTH_ASK],
