@@ -16,6 +16,7 @@ use Rattle.event_model.specs.declared.stage.Stage.TheVariants.{Ready}
 use Rattle.event_model.specs.Does.{Does}
 use Rattle.event_model.specs.Event.{Event, behind, heard, with_cause}
 use Rattle.event_model.specs.Phases.{desk_of, is_served}
+use Rattle.event_model.specs.Requests.{is_own}
 use Rattle.event_model.specs.Row.{look, outs, send, ◌⨾◌}
 use Rattle.event_model.specs.Settings.{Settings}
 use Rattle.event_model.proofs.Frames.{one_more}
