@@ -58,7 +58,7 @@ own_stays : (method : List ℕ) → names_lspmux method ≡ true → (codes "lsp
 own_stays method h same = let clash : names_lspmux (codes "lspmux/stop") ≡ true = subst (λ m. names_lspmux m ≡ true) (sym same) h in cc
 
 request_stays : (p : Phase) (doubled : Bool) (method : List ℕ) (params : Option Json) → built_request p doubled method params ≡ true → (codes "lspmux/stop" ≡ method) → ⊥
-request_stays p doubled method params h = go (bytes_eq (codes "lspmux/status") method) refl h
+request_stays p doubled method params h = go (names_lspmux method) refl h
   where
     go : (b : Bool) → names_lspmux method ≡ b → (b || (is_standard (class_of method Editor false) && (doubled || not (is_served p && is_marked method params)))) ≡ true → (codes "lspmux/stop" ≡ method) → ⊥
     go true k s = own_stays method k

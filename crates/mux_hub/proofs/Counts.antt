@@ -1,5 +1,5 @@
 -- How many editors joined and how many starts were spawned, by the entries of a history and by its events.
-use Rattle.std.proofs.Common.{◌≡◌, ℕ, ◌+◌, ◌≤◌, ◌<◌, List, [], ◌∷◌, ◌++◌, fold, length, map, refl, sym, ◌∙◌, subst, true, false, arith}
+use Rattle.std.proofs.Common.{◌≡◌, ℕ, ◌+◌, ◌≤◌, ◌<◌, List, [], ◌∷◌, ◌++◌, fold, length, map, refl, ap, sym, ◌∙◌, subst, true, false, arith}
 use Rattle.std.specs.Prelude.{Option}
 use Rattle.std.proofs.lemmas.List.Sums.{fold-append}
 use Rattle.mux_history.specs.Cores.{joins, joined, spawns}
@@ -16,7 +16,7 @@ use Rattle.session_laws.proofs.SpawnedLaw.{counts_above, counts_below}
 use Rattle.group_facts.specs.Legal.{Legal}
 use Rattle.group_sessions.proofs.SpawnedLaw.{numbered, spawned_once_law}
 use Rattle.event_model.specs.Spawns.{starts_of}
-use Rattle.mux_hub.proofs.Starts.{servers_count}
+use Rattle.mux_hub.proofs.Spawned.{servers_count}
 use Rattle.mux_hub.specs.Entries.{emits, entry_of}
 use Rattle.mux_hub.specs.Hubs.{HubView, HubStands}
 

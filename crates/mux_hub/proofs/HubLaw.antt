@@ -1,8 +1,8 @@
 -- A step of the hub leads from a history to the longer one.
-use Rattle.std.proofs.Common.{◌≡◌, ℕ, ◌+◌, ◌^◌, ◌<◌, ◌≤◌, List, [], ◌∷◌, ◌++◌, length, nat_lt, if◌then◌else◌, ap, sym, subst, ◌∙◌, append_assoc, append-nil, refl, arith, Bool, true, false}
-use Rattle.std.specs.Prelude.{Option, Some, None, Result, IsTrue, IfOk}
+use Rattle.std.proofs.Common.{◌≡◌, ℕ, ◌+◌, ◌^◌, ◌<◌, ◌≤◌, List, [], ◌∷◌, ◌++◌, length, nat_lt, if◌then◌else◌, ap, sym, subst, ◌∙◌, append_assoc, append-nil, refl, arith, lit≤, Bool, true, false}
+use Rattle.std.specs.Prelude.{Option, Some, None, Result, Err, IsTrue, IfOk}
 use Rattle.std.proofs.lemmas.List.Sums.{fold-append}
-use Rattle.message_body.specs.declared.Memory.{Memory}
+use Rattle.message_body.specs.declared.Memory.{Memory as Wanted}
 use Rattle.mux_history.specs.declared.cause.Cause.{Cause}
 use Rattle.mux_history.specs.declared.out.Out.{Out}
 use Rattle.mux_history.specs.declared.entry.Entry.{Entry}
@@ -23,8 +23,12 @@ use Rattle.mux_tables.specs.Documents.{DocumentsStand, nothing_owed}
 use Rattle.mux_tables.specs.Stands.{Stands}
 use Rattle.mux_turns.specs.Ceilings.{HaveCeilings}
 use Rattle.mux_causes.specs.Backlogs.{BacklogsStand}
-use Rattle.mux_hub.specs.Entries.{emits, entry_of, most_events}
-use Rattle.mux_hub.proofs.Counting.{at_most, entry_counts, few_of, passes_by}
+use Rattle.mux_hub.specs.Entries.{emits, entry_of, most_events, passes}
+use Rattle.mux_hub.specs.Faults.{Counted, step_fault_of}
+use Rattle.mux_hub.specs.declared.fault.StepFault.{StepFault}
+use Rattle.mux_history.specs.declared.journal.JournalFault.{JournalFault}
+use Rattle.mux_history.specs.declared.journal.JournalFault.TheVariants.{Failed, Memory}
+use Rattle.mux_hub.proofs.Counting.{at_most, entry_counts, few_of, passes_by, too_many}
 use Rattle.mux_hub.specs.Hubs.{HubView, HubStands, IsSound, TablesStand, Tells}
 
 legal_from : (settings : Settings) (before rest : List Entry) (cause : Cause) → LegalFrom settings before rest → IsTrue (fits (before ++ rest) cause) → IsTrue (built settings (before ++ rest) cause)
@@ -89,17 +93,36 @@ stepped told hub cause xs now counts servers count journal history h s range f b
       };
     }
 
+-- whether the causes and outs would be too many
+module _ {J : Type 0} (told : J → Option (List Entry)) (hub : HubView J) (cause : Cause) (xs : List Out) (now : Tables) (counts servers : List ℕ) (history : List Entry) (h : HubStands told hub history) (s : hub.spent ≡ false)
+    (range : InRange hub.settings) (f : IsTrue (fits history cause)) (b : IsTrue (built hub.settings history cause))
+    (takes : (settings : Settings) (before : List Event) → settings.servers ≡ hub.settings.servers → settings.default ≡ hub.settings.default → settings.limits.grace ≡ hub.settings.limits.grace → Known settings before → Settled settings before
+    → fits_behind before cause ≡ true → built_behind settings before cause ≡ true → TablesStand settings hub.tables hub.backlogs hub.starts before → Turns settings before cause xs now counts servers) where
+  turned_outs : xs ≡ emits hub.settings history cause
+  turned_outs = (takes hub.settings (events_of history) refl refl refl (known_holds hub.settings range history h.legal) (settled_holds hub.settings range history h.legal) f b (h.tables s)).0
+
+  pub few_says : (count : ℕ) → Some count ≡ (if nat_lt most_events (hub.events + (1 + length xs)) then None else Some (hub.events + (1 + length xs))) → passes hub.settings history cause ≡ false
+  few_says count n = passes_by hub.settings history cause hub.events xs false (h.count s) turned_outs (at_most (hub.events + (1 + length xs)) count n).1
+
+  pub many_says : None ≡ (if nat_lt most_events (hub.events + (1 + length xs)) then None else Some (hub.events + (1 + length xs))) → passes hub.settings history cause ≡ true
+  many_says n = passes_by hub.settings history cause hub.events xs true (h.count s) turned_outs (too_many (hub.events + (1 + length xs)) n)
+
+-- a failed append
+pub append_says : (p : Bool) (fault : JournalFault) (e : StepFault) → e ≡ step_fault_of fault → p ≡ false → Counted p (Err e)
+append_says p Failed e is few = subst (λ x. Counted p (Err x)) (sym is) few
+append_says p Memory e is few = subst (λ x. Counted p (Err x)) (sym is) tt
+
 -- the answer over the tables is that of the history
-pub built_answer : {J : Type 0} (told : J → Option (List Entry)) (hub : HubView J) (history : List Entry) (cause : Cause) (result : Result Bool Memory) → InRange hub.settings
+pub built_answer : {J : Type 0} (told : J → Option (List Entry)) (hub : HubView J) (history : List Entry) (cause : Cause) (result : Result Bool Wanted) → InRange hub.settings
     → ((settings : Settings) (before : List Event) → Known settings before → Settled settings before → Stands settings hub.tables before → IfOk result (λ answer. answer ≡ built_behind settings before cause))
     → HubStands told hub history → hub.spent ≡ false → IfOk result (λ answer. answer ≡ built hub.settings history cause)
 built_answer told hub history cause result range says h s =
     says hub.settings (events_of history) (known_holds hub.settings range history h.legal) (settled_holds hub.settings range history h.legal) (h.tables s).tables
 
 -- tables and counts of nothing stand for the empty history, and are sound
-pub begins : {J : Type 0} (told : J → Option (List Entry)) (settings : Settings) (kept : Tables) (counts : List ℕ) (journal : J) → Tells (told journal) [] → Stands settings kept [] → DocumentsStand settings nothing_owed kept []
-    → BacklogsStand counts [] → HubStands told (record { settings = settings; tables = kept; backlogs = counts; starts = []; events = 0; spent = false; journal = journal }) []
-begins told settings kept counts journal t s d b = record { legal = tt; told_by = t; few = lit≤ tt; count = λ _. refl; tables = λ _. record { tables = s; documents = d; backlogs = b; servers = refl } }
+pub begins : {J : Type 0} (told : J → Option (List Entry)) (settings : Settings) (kept : Tables) (counts places : List ℕ) (journal : J) → Tells (told journal) [] → Stands settings kept [] → DocumentsStand settings nothing_owed kept []
+    → BacklogsStand counts [] → places ≡ [] → HubStands told (record { settings = settings; tables = kept; backlogs = counts; starts = places; events = 0; spent = false; journal = journal }) []
+begins told settings kept counts places journal t s d b p = record { legal = tt; told_by = t; few = lit≤ tt; count = λ _. refl; tables = λ _. record { tables = s; documents = d; backlogs = b; servers = p } }
 
 pub begins_sound : (settings : Settings) (kept : Tables) → 2 ≤ settings.limits.requests → 1 ≤ settings.limits.versions → HaveCeilings settings.servers → Stands settings kept [] → DocumentsStand settings nothing_owed kept []
     → IsSound settings kept

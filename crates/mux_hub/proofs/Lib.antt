@@ -1,4 +1,4 @@
 pub mod Counting
 pub mod Counts
 pub mod HubLaw
-pub mod Starts
+pub mod Spawned

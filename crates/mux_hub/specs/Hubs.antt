@@ -28,11 +28,11 @@ Tells None history = Unit {0}
 Tells (Some entries) history = entries ≡ history
 
 -- the tables owe nothing of documents, the counts are those of what is on its way, and the servers those of the starts
-pub record TablesStand (settings : Settings) (kept : Tables) (counts servers : List ℕ) (events : List Event) : Type 0 where
+pub record TablesStand (settings : Settings) (kept : Tables) (counts places : List ℕ) (events : List Event) : Type 0 where
   pub tables : Stands settings kept events
   pub documents : DocumentsStand settings nothing_owed kept events
   pub backlogs : BacklogsStand counts events
-  pub servers : servers ≡ servers_of settings events
+  pub servers : places ≡ servers_of settings events
 
 -- the history is legal and the journal's, its causes and outs are at most 2^63 - 1, and the tables and the count of a hub that isn't
 -- spent are those of it

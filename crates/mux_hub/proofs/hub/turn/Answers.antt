@@ -1,5 +1,5 @@
 use Rattle.std.proofs.Common.{◌∙◌}
-use Rattle.mux_hub.proofs.Starts.{cause_spawns_none}
+use Rattle.mux_hub.proofs.Spawned.{cause_spawns_none}
 use Rattle.mux_hub.proofs.hub.turn.Goals as goal
 
 pub returns-clause-takes : goal.returns-clause-takes

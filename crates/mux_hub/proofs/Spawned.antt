@@ -1,5 +1,5 @@
 -- The servers of the starts, one event further.
-use Rattle.std.proofs.Common.{◌≡◌, ℕ, zero, suc, ◌+◌, List, [], ◌∷◌, ◌++◌, fold, length, map, take, get_or, refl, ap, sym, subst, ◌∙◌, append_assoc, append-nil, arith, if◌then◌else◌, Bool, true, false, not, ◌&&◌}
+use Rattle.std.proofs.Common.{◌≡◌, ℕ, zero, suc, ◌+◌, List, [], ◌∷◌, ◌++◌, fold, length, map, take, get_or, refl, ap, ap₂, sym, subst, ◌∙◌, append_assoc, append-nil, arith, if◌then◌else◌, Bool, true, false, not, ◌&&◌}
 use Rattle.std.specs.Prelude.{Option, Some, None, slice_get}
 use Rattle.std.proofs.lemmas.List.{length-append}
 use Rattle.mux_history.specs.declared.cause.Cause.{Cause}
@@ -10,7 +10,8 @@ use Rattle.event_model.specs.Event.{Event, behind, did, heard, said, with_cause}
 use Rattle.event_model.specs.Settings.{Settings}
 use Rattle.event_model.specs.Spawns.{starts_of, starts_behind}
 use Rattle.group_words.specs.declared.kept.Kept.{Kept}
-use Rattle.group_words.specs.Houses.{emptied, groups_of, groups_next, house_of, idle_if_live}
+use Rattle.event_model.specs.Phases.{desk_of, is_begun}
+use Rattle.group_words.specs.Houses.{emptied, groups_of, groups_next, has_editor, house_of, idle_if_live, time_of}
 use Rattle.group_words.specs.Past.{past}
 use Rattle.group_words.specs.Placing.{changed, idle_from}
 use Rattle.group_words.proofs.Frames.{groups_more, groups_stay, past_more}
@@ -63,7 +64,7 @@ emptied_keeps default (Some h) was stays now xs g = by (was && not (stays h))
 
 out_keeps : (settings : Settings) (events : List Event) (out : Out) → SameServers settings events (events ++ said out ∷ [])
 out_keeps settings events (CloseEditor e) = λ g. ap (λ xs. server_in settings.default (slice_get xs g)) (groups_more settings events (said (CloseEditor e)))
-    ∙ emptied_keeps settings.default _ _ _ _ (groups_of settings events) g
+    ∙ emptied_keeps settings.default ((house_of settings events).home e) (is_begun (desk_of e events).phase) (λ x. has_editor is_begun x (house_of settings events).home (events ++ said (CloseEditor e) ∷ [])) (time_of events) (groups_of settings events) g
 out_keeps settings events (ToEditor e body) = λ g. ap (λ xs. server_in settings.default (slice_get xs g)) (groups_stay settings events (said (ToEditor e body)) refl)
 out_keeps settings events (ToServer s body) = λ g. ap (λ xs. server_in settings.default (slice_get xs g)) (groups_stay settings events (said (ToServer s body)) refl)
 out_keeps settings events (Spawn s h) = λ g. ap (λ xs. server_in settings.default (slice_get xs g)) (groups_stay settings events (said (Spawn s h)) refl)
@@ -81,11 +82,11 @@ pub spawn_noted : (settings : Settings) (base now : List Event) (s g : ℕ) (ser
 spawn_noted settings base now s g servers server same is given = ap₂ (λ xs n. xs ++ n ∷ []) is (given ∙ same g) ∙ sym (servers_more settings base (said (Spawn s g)))
 
 pub other_noted : (settings : Settings) (base : List Event) (out : Out) (servers : List ℕ) → ((s g : ℕ) → out ≡ Spawn s g → ⊥) → servers ≡ servers_of settings base → servers ≡ servers_of settings (base ++ said out ∷ [])
-other_noted settings base (Spawn s g) servers no is = absurd (no s g refl)
-other_noted settings base (ToEditor e body) servers no is = is ∙ sym (servers_more settings base (said (ToEditor e body)))
-other_noted settings base (ToServer s body) servers no is = is ∙ sym (servers_more settings base (said (ToServer s body)))
-other_noted settings base (CloseEditor e) servers no is = is ∙ sym (servers_more settings base (said (CloseEditor e)))
-other_noted settings base (EndServer s) servers no is = is ∙ sym (servers_more settings base (said (EndServer s)))
+other_noted settings base (Spawn s g) servers apart is = absurd (apart s g refl)
+other_noted settings base (ToEditor e body) servers apart is = is ∙ sym (servers_more settings base (said (ToEditor e body)))
+other_noted settings base (ToServer s body) servers apart is = is ∙ sym (servers_more settings base (said (ToServer s body)))
+other_noted settings base (CloseEditor e) servers apart is = is ∙ sym (servers_more settings base (said (CloseEditor e)))
+other_noted settings base (EndServer s) servers apart is = is ∙ sym (servers_more settings base (said (EndServer s)))
 
 -- those that come behind the first ones of an entry's outs
 pub rest_keeps : (settings : Settings) (base : List Event) (outs : List Out) (i : ℕ) → SameServers settings (behind base (take i outs)) (behind base outs)
