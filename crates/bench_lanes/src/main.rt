@@ -73,7 +73,13 @@ fn run_lanes<R: Threads + Wait + Sync>(
 }
 
 // One body of an editor: what the core says goes to its sink.
-fn answer(alloc: Global, core: &mut Echo, sink: &mut MemSink, editor: u64, body: Body) -> Option<()> {
+fn answer(
+    alloc: Global,
+    core: &mut Echo,
+    sink: &mut MemSink,
+    editor: u64,
+    body: Body,
+) -> Option<()> {
     let outs = core.step(Cause::FromEditor(editor, body)).ok()?;
     for out in outs.as_slice() {
         if let Out::ToEditor(_, body) = out {

@@ -90,8 +90,10 @@ or_second false b h = h
 
 itself : (fs : List Forwarded) → AllByRecursion (λ (f : Forwarded). not f.cancelled ≡ true → Waits fs f.number) fs
 itself [] = tt
-itself (f ∷ fs) = (λ t. or_first (is_uncancelled f.number f) (list_any (is_uncancelled f.number) fs) (ap (λ b. b && not f.cancelled) (same_number f.number) ∙ t),
-    all_of (λ (g : Forwarded). not g.cancelled ≡ true → Waits fs g.number) (λ (g : Forwarded). not g.cancelled ≡ true → Waits (f ∷ fs) g.number) (λ g k t. or_second (is_uncancelled g.number f) (list_any (is_uncancelled g.number) fs) (k t)) fs (itself fs))
+itself (f ∷ fs) = (
+  λ t. or_first (is_uncancelled f.number f) (list_any (is_uncancelled f.number) fs) (ap (λ b. b && not f.cancelled) (same_number f.number) ∙ t),
+  all_of (λ (g : Forwarded). not g.cancelled ≡ true → Waits fs g.number) (λ (g : Forwarded). not g.cancelled ≡ true → Waits (f ∷ fs) g.number) (λ g k t. or_second (is_uncancelled g.number f) (list_any (is_uncancelled g.number) fs) (k t)) fs (itself fs),
+)
 
 other_waits : (n k : ℕ) → n < 2 ^ 64 → k < 2 ^ 64 → n < k → (fs : List Forwarded) → Waits fs k → Waits (map (cancelled_by (Some (number nowhere (decimal n)))) fs) k
 other_waits n k low high less [] h = h

@@ -22,16 +22,17 @@ after_grows settings history cause = entry_counts history (entry_of settings his
 abbrev Grows : List Entry → Outcome → Type 0
 Grows history outcome = length (events_of history) ≤ length (events_of outcome.history)
 
+read_grows : (settings : Settings) (k : ℕ) (history : List Entry) (lines : List Line) (r : Result Cause Refusal) → ((cause : Cause) → Grows (after settings history cause) (drive_from settings (k + 1) (after settings history cause) lines))
+    → Grows history (driven_by settings k history lines r)
+read_grows settings k history lines (Err refusal) more = omega arith
+read_grows settings k history lines (Ok cause) more =
+    let rest : Grows (after settings history cause) (drive_from settings (k + 1) (after settings history cause) lines) = more cause in
+    let one : length (events_of (after settings history cause)) ≡ length (events_of history) + (1 + length (emits settings history cause)) = after_grows settings history cause in
+    omega (arith, rest, one)
+
 drive_grows : (settings : Settings) (k : ℕ) (history : List Entry) (lines : List Line) → Grows history (drive_from settings k history lines)
 drive_grows settings k history [] = omega arith
-drive_grows settings k history (line ∷ lines) = by (reading settings history line)
-  where
-    by : (r : Result Cause Refusal) → Grows history (driven_by settings k history lines r)
-    by (Err refusal) = omega arith
-    by (Ok cause) =
-        let more : Grows (after settings history cause) (drive_from settings (k + 1) (after settings history cause) lines) = drive_grows settings (k + 1) (after settings history cause) lines in
-        let one : length (events_of (after settings history cause)) ≡ length (events_of history) + (1 + length (emits settings history cause)) = after_grows settings history cause in
-        omega (arith, more, one)
+drive_grows settings k history (line ∷ lines) = read_grows settings k history lines (reading settings history line) (λ cause. drive_grows settings (k + 1) (after settings history cause) lines)
 
 many_of : (n : ℕ) → nat_lt most_events n ≡ true → n ≤ most_events → ⊥
 many_of n e few = grind (arith, nat_tests)

@@ -1,8 +1,8 @@
 -- A few inputs worked out by the checker.
 use Rattle.std.proofs.Common.{◌≡◌, [], ◌∷◌, ◌++◌, codes, refl}
 use Rattle.std.specs.Prelude.{Some}
-use Rattle.mux_history.specs.declared.cause.Cause.TheVariants.{Joined}
-use Rattle.lspmux_program.specs.declared.refusal.Refusal.TheVariants.{Form, Absent, Unbuilt}
+use Rattle.mux_history.specs.declared.cause.Cause.TheVariants.{Joined, Tick}
+use Rattle.lspmux_program.specs.declared.refusal.Refusal.TheVariants.{Form, Absent}
 use Rattle.lspmux_program.specs.Lines.{lines_of}
 use Rattle.lspmux_program.specs.Runs.{built_in, drive_of, reading_bytes, after}
 
@@ -20,6 +20,6 @@ join_first : drive_of built_in (codes "join 1") ≡ record { history = []; refus
 unfolding reading_bytes after
 join_first = refl
 
-not_joined : drive_of built_in (codes "join 0" ++ 10 ∷ codes "tick 5" ++ 10 ∷ codes "join 0") ≡ record { history = record { cause = Joined 0; outs = [] } ∷ []; refused = Some (record { line = 2; refusal = Unbuilt }) }
+joined_twice : drive_of built_in (codes "join 0" ++ 10 ∷ codes "tick 5" ++ 10 ∷ codes "join 0") ≡ record { history = record { cause = Joined 0; outs = [] } ∷ record { cause = Tick 5; outs = [] } ∷ []; refused = Some (record { line = 3; refusal = Absent }) }
 unfolding reading_bytes after
-not_joined = refl
+joined_twice = refl

@@ -190,7 +190,7 @@ told_others events n body m other = ap (λ (l : Life). is_stopping l.stage) (lif
 pub stop_added : (events : List Event) (n : ℕ) (body : List ℕ) → n < starts_of events → (life_of n events).stage ≡ Ready → requests (codes "shutdown") (message_of body) ≡ true → Added events n body
 stop_added events n body there ready asks =
     let k : Split (λ m. stops_at m events) (stops_told events n body) n (range_with_len 0 (starts_of events)) =
-        split_in (λ m. stops_at m events) (stops_told events n body) n (ap is_stopping ready) (told_here events n body ready asks) (told_others events n body) 0 (starts_of events) (omega arith) (omega (arith, there)) in
+    split_in (λ m. stops_at m events) (stops_told events n body) n (ap is_stopping ready) (told_here events n body ready asks) (told_others events n body) 0 (starts_of events) (omega arith) (omega (arith, there)) in
     record { low = k.low; high = k.high; was = k.old; now = by_tests events (said (ToServer n body)) (stops_told events n body) refl (λ m. refl) ∙ k.new; under = k.under; over = k.over }
 
 -- A start is spawned
@@ -243,9 +243,9 @@ module _ (s : ℕ) where
   place_is low high at under over inside p = elim (cases_lt at (length low)) [
     | inl l ↦ absurd (not_under (get_or (low ++ high) at 0) (under_at low high at 0 under l) (p.1 at 0 (omega arith) (omega (arith, l, length-append low high))))
     | inr l ↦ elim (cases_lt (length low) at) [
-        | inl m ↦ absurd (not_over (get_or (low ++ high) (length low) 0) (over_at low high (length low) 0 over (omega arith) (omega (arith, m, inside))) (p.0 (length low) 0 (omega arith) m))
-        | inr m ↦ omega (arith, l, m)
-      ]
+      | inl m ↦ absurd (not_over (get_or (low ++ high) (length low) 0) (over_at low high (length low) 0 over (omega arith) (omega (arith, m, inside))) (p.0 (length low) 0 (omega arith) m))
+      | inr m ↦ omega (arith, l, m)
+    ]
   ]
     where
       not_under : (n : ℕ) → n < s → nat_lt n s ≡ false → ⊥
