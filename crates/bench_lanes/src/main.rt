@@ -80,6 +80,9 @@ fn answer(
     editor: u64,
     body: Body,
 ) -> Option<()> {
+    if body.bytes().len() > LIMIT as usize {
+        return None;
+    }
     let outs = core.step(Cause::FromEditor(editor, body)).ok()?;
     for out in outs.as_slice() {
         if let Out::ToEditor(_, body) = out {
@@ -91,15 +94,15 @@ fn answer(
     Some(())
 }
 
-// One link after the other, in pieces of at most 4,096 bytes.
+// One link, a frame at a time.
 fn run_link(alloc: Global, core: &mut Echo, editor: u64, count: u64) -> Option<u64> {
     let bytes = frames(alloc, count)?;
     let mut reader = FrameReader::new(alloc, LIMIT);
     let mut sink = MemSink::new(alloc, Vec::new(alloc), None);
     core.step(Cause::Joined(editor)).ok()?;
-    for piece in bytes.chunks(4096) {
+    for piece in bytes.chunks(26) {
         reader.feed(piece).ok()?;
-        while let Next::Frame(body) = reader.next() {
+        if let Next::Frame(body) = reader.next() {
             answer(alloc, core, &mut sink, editor, body)?;
         }
     }
