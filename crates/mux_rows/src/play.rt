@@ -52,13 +52,17 @@ pub fn play(
     for rows in parts.iter() {
         add(&mut lines, &mut outs, rows)?;
     }
+    let first = Server {
+        name: Body::new(Vec::from_slice(alloc, b"main")?),
+        ceiling: None,
+    };
+    let second = Server {
+        name: Body::new(Vec::from_slice(alloc, b"aux")?),
+        ceiling: None,
+    };
     let mut servers = Vec::new(alloc);
-    for name in ["main", "aux"] {
-        servers.push(Server {
-            name: Body::new(Vec::from_slice(alloc, name.as_bytes())?),
-            ceiling: None,
-        })?;
-    }
+    servers.push(first)?;
+    servers.push(second)?;
     let journal = MemJournal::new(alloc, Vec::new(alloc));
     let Ok(mut hub) = Hub::new(alloc, limits, servers, 0, journal) else {
         return Err(Fail::from("no hub"));
