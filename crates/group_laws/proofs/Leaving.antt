@@ -140,7 +140,7 @@ both_speak (x ∷ xs) ys a b = (a.0, both_speak xs ys a.1 b)
 
 -- what is kept says what the start has
 same_match : (v : Option ℕ) (p : Option Open) (h k : Option HeldText) → Matches v p h → Matches v p k → h ≡ k
-same_match (Some v) (Some p) (Some h) (Some k) a b = ap₂ (λ m (c : List ℕ × List ℕ). Some (record { version = m; language = c.0; text = c.1 })) (a.0 ∙ sym b.0) (ap₂ (λ l t. (l, t)) (a.1.0 ∙ sym b.1.0) (a.1.1 ∙ sym b.1.1))
+same_match (Some v) (Some p) (Some h) (Some k) a b = ap₂ (λ m (c : List ℕ × List ℕ). Some (record { version = m; language = c.0; text = c.1 })) (a.0 ∙ sym b.0) (ap₂ (λ (l t : List ℕ). (l, t)) (a.1.0 ∙ sym b.1.0) (a.1.1 ∙ sym b.1.1))
 same_match (Some v) (Some p) (Some h) None a b = absurd b
 same_match (Some v) (Some p) None k a b = absurd a
 same_match (Some v) None h k a b = absurd a
