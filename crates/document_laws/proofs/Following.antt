@@ -9,7 +9,7 @@ use Rattle.focus_switch.specs.declared.telling.Telling.{Telling}
 use Rattle.focus_switch.specs.declared.telling.Telling.TheVariants.{Closes}
 use Rattle.document_model.specs.Opens.{Open, is_open_at, put_open, drop_open, holder, holder_beside}
 use Rattle.focus_switch.specs.Documents.{Documents, version_held}
-use Rattle.focus_switch.specs.Rows.{Step, nothing, or_nothing, send, touch, forget, differing, open_sends, open_row, close_sends, close_row}
+use Rattle.focus_switch.specs.Rows.{Step, nothing, or_nothing, send, touch, forget, differing, differing_own, open_sends, open_row, close_sends, close_row}
 use Rattle.document_model.specs.Bodies.{close_text}
 use Rattle.document_laws.specs.Follows.{texts_in}
 use Rattle.document_model.specs.Orderly.{IsSpelt}
@@ -17,9 +17,10 @@ use Rattle.document_model.specs.Texts.{found, touched, opened}
 use Rattle.document_model.specs.Helds.{HeldText}
 use Rattle.document_model.specs.Rows.{sent_open, sent_close}
 use Rattle.document_model.specs.Orderly.{Once, Orderly}
-use Rattle.document_laws.specs.Follows.{Matches, Held, told_outs}
+use Rattle.document_laws.specs.Follows.{Agrees, Matches, Held, told_outs}
 use Rattle.document_model.proofs.Holders.{bytes_same, both_true, holder_put, holder_put_other, holder_drop, holder_drop_other, drop_none, find_is, found_holder}
 use Rattle.document_laws.proofs.Sends.{bodies_of, version_behind, Stays, Kept, send_outs, send_silent, send_keeps, told_bodies, row_held, latest_of, find_of, all_there, by_match}
+use Rattle.document_laws.proofs.Owning.{beside_there, differ_own}
 use Rattle.document_laws.proofs.Tellings.{Follows, open_follows, close_follows, differ_follows, differ_sent}
 
 -- behind a touch
@@ -101,18 +102,18 @@ module _ (e : ℕ) (u : List ℕ) (s : Documents) where
       go None h = ap (λ (z : Step). z.outs) (close_none h)
       go (Some o) h = ap (λ (z : Step). z.outs) (close_is o h) ∙ send_silent u (close_sends e u (version_held u s.helds) s) s started
 
-  pub close_outs : (n : ℕ) (o : Open) (held : List ℕ → Option HeldText) → s.start ≡ Some n → Held s held → found e u (texts_in s) ≡ Some o
+  pub close_outs : (n : ℕ) (o : Open) (held : List ℕ → Option HeldText) → s.start ≡ Some n → Once s.opens → Held s held → found e u (texts_in s) ≡ Some o
       → (close_row e u s).outs ≡ map (λ b. ToServer n b) (sent_close s.versions u (holder_beside e u s.opens) (held u))
-  close_outs n o held started follows h = ap (λ (z : Step). z.outs) (close_is o h) ∙ send_outs n u (close_sends e u (version_held u s.helds) s) s started ∙ ap (map (λ b. ToServer n b))
+  close_outs n o held started once follows h = ap (λ (z : Step). z.outs) (close_is o h) ∙ send_outs n u (close_sends e u (version_held u s.helds) s) s started ∙ ap (map (λ b. ToServer n b))
       (by_match (λ v p k. holder u s.opens ≡ p → bodies_of (close_sends e u v s) ≡ sent_close s.versions u (holder_beside e u s.opens) k) (λ d. refl) (λ v p k a b d. go v p k a b d (holder_beside e u s.opens) refl)
       (version_held u s.helds) (holder u s.opens) (held u) (follows u) refl)
     where
-      go : (v : ℕ) (p : Open) (k : HeldText) → k.version ≡ v → k.text ≡ p.text → holder u s.opens ≡ Some p → (rest : Option Open) → holder_beside e u s.opens ≡ rest
-          → bodies_of (option_map_or (λ h. differing h v s) rest (Some (Closes (close_text u)))) ≡ sent_close s.versions u rest (Some k)
+      go : (v : ℕ) (p : Open) (k : HeldText) → k.version ≡ v → Agrees p k → holder u s.opens ≡ Some p → (rest : Option Open) → holder_beside e u s.opens ≡ rest
+          → bodies_of (option_map_or (λ h. differing_own h v s) rest (Some (Closes (close_text u)))) ≡ sent_close s.versions u rest (Some k)
       go v p k a b d None f = refl
-      go v p k a b d (Some q) f = differ_sent s q p v k (ap (λ z. holder z s.opens) (beside_uri q f) ∙ d) a b
+      go v p k a b d (Some q) f = ap bodies_of (differ_own s q v once (beside_there e u s.opens q once f)) ∙ differ_sent s q p v k (ap (λ z. holder z s.opens) (beside_uri q f) ∙ d) a b
 
--- what is sent is of this document alone, and leaves the start with the holder's text
+-- what is sent is of this document alone, and leaves the start with the holder's language and text
 
 pub open_held : (n : ℕ) (code : Encoding) (e : ℕ) (u l v t : List ℕ) (s : Documents) (held : List ℕ → Option HeldText) → s.start ≡ Some n → s.encoding ≡ Some code → Orderly (texts_in s) → Held s held → s.versions < 2 ^ 32
     → IsUtf8 u → IsUtf8 l → IsUtf8 t → Held (open_row e u l v t s).after (λ w. told_outs s.encoding w (held w) (open_row e u l v t s).outs)
@@ -125,25 +126,26 @@ open_held n code e u l v t s held started coded orderly follows small utf8_u utf
     (λ w p h a b d. differ_follows code s o p w h small d a b (utf8_u, utf8_l, utf8_t))
     (version_held u s.helds) (holder u s.opens) (held u) (follows u) refl))
 
-module _ (code : Encoding) (e : ℕ) (u : List ℕ) (s : Documents) (small : s.versions < 2 ^ 32) (utf8 : AllByRecursion IsSpelt s.opens) (o : Open) (there : find (is_open_at e u) s.opens ≡ Some o) where
+module _ (code : Encoding) (e : ℕ) (u : List ℕ) (s : Documents) (small : s.versions < 2 ^ 32) (utf8 : AllByRecursion IsSpelt s.opens) (once : Once s.opens) (o : Open) (there : find (is_open_at e u) s.opens ≡ Some o) where
   utf8_uri : IsUtf8 u
   utf8_uri = subst IsUtf8 (find_is e u s.opens o there).1 (find_of IsSpelt (is_open_at e u) s.opens o utf8 there).0
 
-  rest_follows : (v : ℕ) (p : Open) (h : HeldText) → h.version ≡ v → h.text ≡ p.text → holder u s.opens ≡ Some p → (rest : Option Open) → holder_beside e u s.opens ≡ rest
-      → Follows (Some code) u rest (Some v) (Some h) (option_map_or (λ q. differing q v s) rest (Some (Closes (close_text u))))
+  rest_follows : (v : ℕ) (p : Open) (h : HeldText) → h.version ≡ v → Agrees p h → holder u s.opens ≡ Some p → (rest : Option Open) → holder_beside e u s.opens ≡ rest
+      → Follows (Some code) u rest (Some v) (Some h) (option_map_or (λ q. differing_own q v s) rest (Some (Closes (close_text u))))
   rest_follows v p h a b d None f = close_follows (Some code) u (Some v) (Some h) utf8_uri
   rest_follows v p h a b d (Some q) f =
       let same : q.uri ≡ u = beside_uri e u s q f in
       let good : IsSpelt q = (latest_of IsSpelt (λ p. bytes_eq p.uri u && not (nat_eq p.editor e)) s.opens q utf8 f).0 in
-      subst (λ z. Follows (Some code) z (Some q) (Some v) (Some h) (differing q v s)) same
-      (differ_follows code s q p v h small (ap (λ z. holder z s.opens) same ∙ d) a b good)
+      subst (Follows (Some code) u (Some q) (Some v) (Some h)) (sym (differ_own s q v once (beside_there e u s.opens q once f)))
+      (subst (λ z. Follows (Some code) z (Some q) (Some v) (Some h) (differing q v s)) same
+      (differ_follows code s q p v h small (ap (λ z. holder z s.opens) same ∙ d) a b good))
 
   closed_follows : (v : Option ℕ) (h : Option HeldText) → Matches v (holder u s.opens) h → Follows (Some code) u (holder_beside e u s.opens) v h (close_sends e u v s)
   closed_follows v h m = by_match (λ v p h. holder u s.opens ≡ p → Follows (Some code) u (holder_beside e u s.opens) v h (close_sends e u v s)) (λ d. absurd (found_holder e u s.opens o there d))
       (λ v p h a b d. rest_follows v p h a b d (holder_beside e u s.opens) refl) v (holder u s.opens) h m refl
 
-  closing_held : (n : ℕ) (held : List ℕ → Option HeldText) → s.start ≡ Some n → s.encoding ≡ Some code → Once s.opens → Held s held → Held (closing e u s).after (λ w. told_outs s.encoding w (held w) (closing e u s).outs)
-  closing_held n held started coded once follows =
+  closing_held : (n : ℕ) (held : List ℕ → Option HeldText) → s.start ≡ Some n → s.encoding ≡ Some code → Held s held → Held (closing e u s).after (λ w. told_outs s.encoding w (held w) (closing e u s).outs)
+  closing_held n held started coded follows =
       let x : Option Telling = close_sends e u (version_held u s.helds) s in
       let f : Follows s.encoding u (holder_beside e u s.opens) (version_held u s.helds) (held u) x
       = subst (λ z. Follows z u (holder_beside e u s.opens) (version_held u s.helds) (held u) x) (sym coded) (closed_follows (version_held u s.helds) (held u) (follows u)) in
@@ -157,4 +159,4 @@ close_held n code e u s held started coded orderly follows small utf8 = go (foun
   where
     go : (o : Option Open) → found e u (texts_in s) ≡ o → Held (close_row e u s).after (λ w. told_outs s.encoding w (held w) (close_row e u s).outs)
     go None h = subst (λ (z : Step). Held z.after (λ w. told_outs s.encoding w (held w) z.outs)) (sym (close_none e u s h)) follows
-    go (Some o) h = subst (λ (z : Step). Held z.after (λ w. told_outs s.encoding w (held w) z.outs)) (sym (close_is e u s o h)) (closing_held code e u s small utf8 o h n held started coded orderly.once follows)
+    go (Some o) h = subst (λ (z : Step). Held z.after (λ w. told_outs s.encoding w (held w) z.outs)) (sym (close_is e u s o h)) (closing_held code e u s small utf8 orderly.once o h n held started coded follows)

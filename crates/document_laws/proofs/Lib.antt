@@ -1,5 +1,6 @@
 pub mod Changing
 pub mod Following
 pub mod Keeping
+pub mod Owning
 pub mod Sends
 pub mod Tellings

@@ -12,7 +12,7 @@ use Rattle.focus_switch.specs.Documents.{Documents, version_held}
 use Rattle.focus_switch.specs.Rows.{version_told, bodies_told, tell, send}
 use Rattle.document_model.specs.Sayings.{saying_of}
 use Rattle.document_model.specs.Helds.{HeldText, told}
-use Rattle.document_laws.specs.Follows.{Matches, Held, told_outs}
+use Rattle.document_laws.specs.Follows.{Agrees, Matches, Held, told_outs}
 use Rattle.document_laws.proofs.Keeping.{version_put, version_put_other}
 use Rattle.document_model.proofs.Holders.{pick, bytes_same}
 
@@ -134,7 +134,7 @@ all_there [] = tt
 all_there (o ∷ os) = (tt, all_there os)
 
 -- what the start has matches in two ways
-pub by_match : (R : Option ℕ → Option Open → Option HeldText → Type 0) → R None None None → ((v : ℕ) (p : Open) (h : HeldText) → h.version ≡ v → h.text ≡ p.text → R (Some v) (Some p) (Some h))
+pub by_match : (R : Option ℕ → Option Open → Option HeldText → Type 0) → R None None None → ((v : ℕ) (p : Open) (h : HeldText) → h.version ≡ v → Agrees p h → R (Some v) (Some p) (Some h))
     → (v : Option ℕ) (p : Option Open) (h : Option HeldText) → Matches v p h → R v p h
 by_match R none some None None None m = none
 by_match R none some (Some v) (Some p) (Some h) m = some v p h m.0 m.1

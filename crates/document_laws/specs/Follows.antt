@@ -11,9 +11,13 @@ use Rattle.document_model.specs.Helds.{HeldText, told}
 use Rattle.document_model.specs.Sayings.{saying_of}
 use Rattle.document_model.specs.Texts.{Texts}
 
+-- the start has an editor's language and text
+abbrev pub Agrees : Open → HeldText → Type 0
+Agrees o h = (h.language ≡ o.language) × (h.text ≡ o.text)
+
 -- the version that is kept, the holder, and what the start has
 abbrev pub Matches : Option ℕ → Option Open → Option HeldText → Type 0
-Matches (Some v) (Some o) (Some h) = (h.version ≡ v) × (h.text ≡ o.text)
+Matches (Some v) (Some o) (Some h) = (h.version ≡ v) × Agrees o h
 Matches None None None = Unit {0}
 Matches _ _ _ = ⊥
 
@@ -21,7 +25,7 @@ Matches _ _ _ = ⊥
 abbrev pub texts_in : Documents → Texts
 texts_in s = record { turn = s.turn; opens = s.opens }
 
--- what a ready start has of each document is the holder's text, under the version that is kept
+-- what a ready start has of each document is the holder's text, in the holder's language, under the version that is kept
 abbrev pub Held : Documents → (List ℕ → Option HeldText) → Type 0
 Held s held = (u : List ℕ) → Matches (version_held u s.helds) (holder u s.opens) (held u)
 

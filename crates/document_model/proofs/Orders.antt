@@ -1,6 +1,6 @@
 -- What is open stays in order: each document once at an editor, and each touch before the next turn.
-use Rattle.std.proofs.Common.{◌≡◌, ℕ, ◌+◌, ◌<◌, Bool, true, false, ◌&&◌, List, [], ◌∷◌, refl, sym, ◌∙◌, ap, subst, arith}
-use Rattle.std.specs.Prelude.{Option, Some, None, bytes_eq, if◌then◌else◌}
+use Rattle.std.proofs.Common.{◌≡◌, ℕ, ◌+◌, ◌<◌, Bool, true, false, cond, ◌&&◌, List, [], ◌∷◌, refl, sym, ◌∙◌, ap, subst, arith}
+use Rattle.std.specs.Prelude.{Option, Some, None, find, bytes_eq, if◌then◌else◌}
 use Rattle.std.specs.List.{AllByRecursion}
 use Rattle.std.specs.Option.{option_and_then, option_map, option_map_or}
 use Rattle.std.proofs.lemmas.Bool.{eq-eqb}
@@ -34,6 +34,18 @@ once_put o (p ∷ ps) h = go (is_open_at o.editor o.uri p) refl (once_put o ps h
     go : (b : Bool) → is_open_at o.editor o.uri p ≡ b → Once (put_open o ps) → Once (if b then o ∷ ps else p ∷ put_open o ps)
     go true d r = let q : (p.editor ≡ o.editor) × (p.uri ≡ o.uri) = is_at o.editor o.uri p d in (rest_elsewhere o.editor o.uri p.editor p.uri ps q.0 q.1 h.0, h.1)
     go false d r = (all_put (λ (q : Open). is_open_at p.editor p.uri q ≡ false) o ps (not_each o p d) h.0, r)
+
+-- each document that is open is found
+abbrev pub IsFound : List Open → Open → Type 0
+IsFound os o = find (is_open_at o.editor o.uri) os ≡ Some o
+
+behind_first : (o : Open) (os ps : List Open) → AllByRecursion (λ (p : Open). is_open_at o.editor o.uri p ≡ false) ps → AllByRecursion (IsFound os) ps → AllByRecursion (IsFound (o ∷ os)) ps
+behind_first o os [] once found = tt
+behind_first o os (p ∷ ps) once found = (ap (λ b. cond b (Some o) (find (is_open_at p.editor p.uri) os)) (not_each o p once.0) ∙ found.0, behind_first o os ps once.1 found.1)
+
+pub all_found : (os : List Open) → Once os → AllByRecursion (IsFound os) os
+all_found [] once = tt
+all_found (o ∷ os) once = (ap (λ b. cond b (Some o) (find (is_open_at o.editor o.uri) os)) (here_itself o o refl refl), behind_first o os os once.0 (all_found os once.1))
 
 once_drop : (e : ℕ) (u : List ℕ) (os : List Open) → Once os → Once (drop_open e u os)
 once_drop e u [] h = tt

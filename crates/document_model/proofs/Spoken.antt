@@ -9,7 +9,7 @@ use Rattle.document_model.specs.Bodies.{open_text, full_text, close_text}
 use Rattle.rpc_message.specs.Message.{message_of}
 use Rattle.document_model.specs.Orderly.{IsSpelt}
 use Rattle.document_model.specs.Helds.{HeldText}
-use Rattle.document_model.specs.Rows.{switched, differing, sent_open, versioned, sent_change, sent_close}
+use Rattle.document_model.specs.Rows.{agrees, switched, differing, sent_open, versioned, sent_change, sent_close}
 use Rattle.document_model.specs.Sayings.{Saying, opens, changes, closes, saying_of, speaks}
 use Rattle.document_model.proofs.ScalarTrees.{either_way}
 use Rattle.document_model.proofs.Versioned.{versioned_says}
@@ -45,14 +45,15 @@ close_speaks u s = speaks_by (close_text u) (closes u) (close_says u s) refl
 -- the whole text of an editor
 
 switched_speak : (versions : ℕ) (o : Open) (h : HeldText) → versions < 2 ^ 32 → IsSpelt o → AllSpeak (switched versions o h)
-switched_speak versions o h k s = go (nat_lt h.version versions) refl
+switched_speak versions o h k s = go (bytes_eq h.language o.language) (nat_lt h.version versions) refl
   where
-    go : (b : Bool) → nat_lt h.version versions ≡ b → AllSpeak (if b then full_text o.uri (h.version + 1) o.text ∷ [] else close_text o.uri ∷ open_text o.uri o.language o.text ∷ [])
-    go true e = (full_speaks o (h.version + 1) (next_small versions h.version k e) s, tt)
-    go false e = (close_speaks o.uri s.0, (open_speaks o s, tt))
+    go : (a b : Bool) → nat_lt h.version versions ≡ b → AllSpeak (if a && b then full_text o.uri (h.version + 1) o.text ∷ [] else close_text o.uri ∷ open_text o.uri o.language o.text ∷ [])
+    go true true e = (full_speaks o (h.version + 1) (next_small versions h.version k e) s, tt)
+    go true false e = (close_speaks o.uri s.0, (open_speaks o s, tt))
+    go false b e = (close_speaks o.uri s.0, (open_speaks o s, tt))
 
 differing_speak : (versions : ℕ) (o : Open) (h : HeldText) → versions < 2 ^ 32 → IsSpelt o → AllSpeak (differing versions o h)
-differing_speak versions o h k s = either_way AllSpeak (bytes_eq h.text o.text) [] (switched versions o h) tt (switched_speak versions o h k s)
+differing_speak versions o h k s = either_way AllSpeak (agrees o h) [] (switched versions o h) tt (switched_speak versions o h k s)
 
 -- where an editor opens a document
 
@@ -74,13 +75,13 @@ pub sent_change_speaks : (versions : ℕ) (body u v : List ℕ) (cs : Json) (old
     → AllSpeak (sent_change versions body old new h)
 sent_change_speaks versions body u v cs old new None k s e = tt
 sent_change_speaks versions body u v cs old new (Some h) k s e =
-    either_way AllSpeak (bytes_eq h.text new.text) [] (if nat_lt h.version versions && bytes_eq h.text old.text then versioned (h.version + 1) body ∷ [] else switched versions new h) tt
-    (go (nat_lt h.version versions && bytes_eq h.text old.text) refl)
+    either_way AllSpeak (agrees new h) [] (if nat_lt h.version versions && agrees old h then versioned (h.version + 1) body ∷ [] else switched versions new h) tt
+    (go (nat_lt h.version versions && agrees old h) refl)
   where
-    go : (b : Bool) → (nat_lt h.version versions && bytes_eq h.text old.text) ≡ b → AllSpeak (if b then versioned (h.version + 1) body ∷ [] else switched versions new h)
+    go : (b : Bool) → (nat_lt h.version versions && agrees old h) ≡ b → AllSpeak (if b then versioned (h.version + 1) body ∷ [] else switched versions new h)
     go true f = (
       speaks_by (versioned (h.version + 1) body) (changes u (decimal (h.version + 1)) cs)
-          (versioned_says body (h.version + 1) u v cs (next_small_and versions h.version (bytes_eq h.text old.text) k f) e) refl,
+          (versioned_says body (h.version + 1) u v cs (next_small_and versions h.version (agrees old h) k f) e) refl,
       tt,
     )
     go false f = switched_speak versions new h k s

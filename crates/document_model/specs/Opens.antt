@@ -1,5 +1,5 @@
 -- What editors that share a server have open (LSP 3.17, Text Document Synchronization).
-use Rattle.std.specs.Prelude.{ℕ, Bool, false, not, ◌&&◌, List, [], ◌∷◌, fold, nat_eq, nat_lt, bytes_eq, if◌then◌else◌}
+use Rattle.std.specs.Prelude.{ℕ, Bool, false, not, ◌&&◌, ◌||◌, List, [], ◌∷◌, fold, nat_eq, nat_lt, bytes_eq, if◌then◌else◌}
 use Rattle.std.specs.Prelude.{Option, Some, None}
 use Rattle.std.specs.Option.{option_map_or}
 
@@ -41,6 +41,14 @@ holder u opens = latest (λ o. bytes_eq o.uri u) opens
 abbrev pub holder_beside : ℕ → List ℕ → List Open → Option Open
 holder_beside e u opens = latest (λ o. bytes_eq o.uri u && not (nat_eq o.editor e)) opens
 
--- The server has the holder's text. Is it this text?
-abbrev pub holds : List ℕ → List ℕ → List Open → Bool
-holds u t opens = option_map_or (λ h. bytes_eq h.text t) (holder u opens) false
+-- The server has a document in its holder's language and with its holder's text. Is it this language?
+abbrev pub holds_language : Open → List Open → Bool
+holds_language o opens = option_map_or (λ h. bytes_eq h.language o.language) (holder o.uri opens) false
+
+-- Is it this language and this text?
+abbrev pub holds : Open → List Open → Bool
+holds o opens = option_map_or (λ h. bytes_eq h.language o.language && bytes_eq h.text o.text) (holder o.uri opens) false
+
+-- The same of a document that is open at its editor: the holder's is its own.
+abbrev pub holds_own : Open → List Open → Bool
+holds_own o opens = option_map_or (λ h. nat_eq h.editor o.editor || (bytes_eq h.language o.language && bytes_eq h.text o.text)) (holder o.uri opens) false

@@ -1,5 +1,5 @@
 -- What a ready start is sent where an editor opens, changes or closes a document.
-use Rattle.std.specs.Prelude.{ℕ, ◌+◌, ◌&&◌, List, [], ◌∷◌, nat_lt, bytes_eq, if◌then◌else◌}
+use Rattle.std.specs.Prelude.{ℕ, Bool, ◌+◌, ◌&&◌, List, [], ◌∷◌, nat_lt, bytes_eq, if◌then◌else◌}
 use Rattle.std.specs.Prelude.{Option, Some, None}
 use Rattle.json_text.specs.Tree.{tree_of}
 use Rattle.json_text.specs.Json.{Json}
@@ -8,13 +8,17 @@ use Rattle.document_model.specs.Notices.{with_version}
 use Rattle.document_model.specs.Bodies.{open_text, full_text, close_text}
 use Rattle.document_model.specs.Helds.{HeldText}
 
--- the whole text of an editor, as a change, or, at the limit of versions, by closing and opening
-abbrev pub switched : ℕ → Open → HeldText → List (List ℕ)
-switched versions o h = if nat_lt h.version versions then full_text o.uri (h.version + 1) o.text ∷ [] else close_text o.uri ∷ open_text o.uri o.language o.text ∷ []
+-- The start agrees with an editor: it has the editor's language and text.
+abbrev pub agrees : Open → HeldText → Bool
+agrees o h = bytes_eq h.language o.language && bytes_eq h.text o.text
 
--- where it is another text
+-- the whole text of an editor, as a change, or, from another language or at the limit of versions, by closing and opening
+abbrev pub switched : ℕ → Open → HeldText → List (List ℕ)
+switched versions o h = if bytes_eq h.language o.language && nat_lt h.version versions then full_text o.uri (h.version + 1) o.text ∷ [] else close_text o.uri ∷ open_text o.uri o.language o.text ∷ []
+
+-- where the start doesn't agree
 abbrev pub differing : ℕ → Open → HeldText → List (List ℕ)
-differing versions o h = if bytes_eq h.text o.text then [] else switched versions o h
+differing versions o h = if agrees o h then [] else switched versions o h
 
 -- a document that the start doesn't have is opened
 abbrev pub sent_open : ℕ → Open → Option HeldText → List (List ℕ)
@@ -29,12 +33,12 @@ versioned_in v body None = body
 abbrev pub versioned : ℕ → List ℕ → List ℕ
 versioned v body = versioned_in v body (tree_of body)
 
--- The editor's own message goes on, under the start's next version, where the start has the text that the editor had.
+-- The editor's own message goes on, under the start's next version, where the start agreed with the editor before it.
 abbrev pub sent_change : ℕ → List ℕ → Open → Open → Option HeldText → List (List ℕ)
 sent_change versions body old new None = []
-sent_change versions body old new (Some h) = if bytes_eq h.text new.text then [] else if nat_lt h.version versions && bytes_eq h.text old.text then versioned (h.version + 1) body ∷ [] else switched versions new h
+sent_change versions body old new (Some h) = if agrees new h then [] else if nat_lt h.version versions && agrees old h then versioned (h.version + 1) body ∷ [] else switched versions new h
 
--- The last one that closes a document closes it at the start; else the text of its next holder counts.
+-- The last one that closes a document closes it at the start; else its next holder counts.
 abbrev pub sent_close : ℕ → List ℕ → Option Open → Option HeldText → List (List ℕ)
 sent_close versions u rest None = []
 sent_close versions u None (Some h) = close_text u ∷ []

@@ -10,7 +10,7 @@ use Rattle.mux_history.specs.declared.out.Out.TheVariants.{ToServer}
 use Rattle.rpc_message.specs.Message.{is_integer}
 use Rattle.position_codec.specs.declared.Encoding.TheVariants.{Utf16}
 use Rattle.focus_switch.specs.Documents.{Documents}
-use Rattle.focus_switch.specs.declared.agreement.Agreement.TheVariants.{Agrees}
+use Rattle.focus_switch.specs.declared.agreement.Agreement.TheVariants.{Agrees, Differs}
 use Rattle.focus_switch.specs.Rows.{Step, nothing, or_nothing, open_row, change_row, close_row, ready_row, unready_row, sync_row, agreement}
 use Rattle.document_model.specs.Bodies.{open_text, full_text, close_text}
 
@@ -32,9 +32,15 @@ v = codes "file:///v"
 abbrev x : List ℕ
 x = codes "x"
 
--- editor e opens a document; changes one by a body; closes one
+abbrev y : List ℕ
+y = codes "y"
+
+-- editor e opens a document, in the language x or in another; changes one by a body; closes one
 abbrev opens : ℕ → List ℕ → List ℕ → Documents → Step
 opens e uri text s = open_row e uri x (codes "1") text s
+
+abbrev opens_in : List ℕ → ℕ → List ℕ → List ℕ → Documents → Step
+opens_in l e uri text s = open_row e uri l (codes "1") text s
 
 abbrev changes : ℕ → List ℕ → Documents → Step
 changes e body s = or_nothing (tree_of body) s (λ t. change_row e body t s)
@@ -102,6 +108,22 @@ at_the_limit : outs (opens 0 u (codes "a") ∷ changes 0 whole_b ∷ changes 0 w
 unfolding computes named is_integer chars
 at_the_limit = refl
 
+-- in another language the document is closed and opened, whatever its version, also where the text is the same; a close by the one that isn't the holder changes nothing
+two_languages : outs (opens 0 u (codes "a") ∷ opens_in y 1 u (codes "a") ∷ syncs 1 ∷ syncs 0 ∷ opens 0 u (codes "b") ∷ closes 1 u ∷ []) (begun 100)
+    ≡ sent (open_text u x (codes "a")) ∷ sent (close_text u) ∷ sent (open_text u y (codes "a")) ∷ sent (close_text u) ∷ sent (open_text u x (codes "a")) ∷ sent (full_text u 2 (codes "b")) ∷ []
+two_languages = refl
+
+-- an editor opens a document again, in another language; and the next holder has another one
+another_language : outs (opens 0 u (codes "a") ∷ opens_in y 0 u (codes "a") ∷ opens 1 u (codes "a") ∷ closes 1 u ∷ []) (begun 100)
+    ≡ sent (open_text u x (codes "a")) ∷ sent (close_text u) ∷ sent (open_text u y (codes "a")) ∷ sent (close_text u) ∷ sent (open_text u x (codes "a")) ∷ sent (close_text u) ∷ sent (open_text u y (codes "a")) ∷ []
+another_language = refl
+
+-- a change isn't told as a change where the server has the text before in another language
+changed_between : outs (opens 0 u (codes "a") ∷ opens_in y 1 u (codes "a") ∷ changes 0 whole_b ∷ []) (begun 100)
+    ≡ sent (open_text u x (codes "a")) ∷ sent (close_text u) ∷ sent (open_text u y (codes "a")) ∷ sent (close_text u) ∷ sent (open_text u x (codes "b")) ∷ []
+unfolding computes named is_integer chars
+changed_between = refl
+
 -- without a start nothing is told; the next one is told of each document, as its holder has it
 replayed : outs (opens 0 u (codes "a") ∷ (λ s. nothing (unready_row s)) ∷ opens 1 v (codes "b") ∷ opens 1 u (codes "c") ∷ closes 1 v ∷ opens 1 v (codes "d") ∷ (λ s. ready_row 1 Utf16 s) ∷ []) (begun 100)
     ≡ sent (open_text u x (codes "a")) ∷ ToServer 1 (open_text u x (codes "c")) ∷ ToServer 1 (open_text v x (codes "d")) ∷ []
@@ -117,6 +139,9 @@ nothing_left = refl
 
 counted : agreement 0 u (behind (opens 0 u (codes "a") ∷ opens 0 v (codes "a") ∷ closes 0 u ∷ opens 0 u (codes "a") ∷ opens 1 v (codes "b") ∷ []) (begun 100)) ≡ Agrees 1 4
 counted = refl
+
+languages_counted : (agreement 0 u (behind (opens 0 u (codes "a") ∷ opens_in y 1 u (codes "a") ∷ []) (begun 100)) ≡ Differs) × (agreement 1 u (behind (opens 0 u (codes "a") ∷ opens_in y 1 u (codes "a") ∷ []) (begun 100)) ≡ Agrees 1 3)
+languages_counted = (refl, refl)
 
 at_the_limit_counted : agreement 0 u (behind (opens 0 u (codes "a") ∷ opens 0 u (codes "b") ∷ []) (begun 1)) ≡ Agrees 1 3
 at_the_limit_counted = refl

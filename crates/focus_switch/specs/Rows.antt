@@ -12,7 +12,7 @@ use Rattle.focus_switch.specs.declared.agreement.Agreement.{Agreement}
 use Rattle.focus_switch.specs.declared.agreement.Agreement.TheVariants.{NotOpen, Differs, Agrees}
 use Rattle.focus_switch.specs.declared.telling.Telling.{Telling}
 use Rattle.focus_switch.specs.declared.telling.Telling.TheVariants.{Opens, Changes, Closes, OpensAnew}
-use Rattle.document_model.specs.Opens.{Open, is_open_at, put_open, drop_open, holder, holder_beside, holds}
+use Rattle.document_model.specs.Opens.{Open, is_open_at, put_open, drop_open, holder, holder_beside, holds, holds_language, holds_own}
 use Rattle.focus_switch.specs.Documents.{Documents, held_of, version_held, helds_behind}
 use Rattle.document_model.specs.Notices.{DidChange, did_change, with_version}
 use Rattle.document_model.specs.Bodies.{open_text, full_text, close_text}
@@ -48,13 +48,17 @@ abbrev pub send : List ℕ → Option Telling → Documents → Step
 send u None s = nothing s
 send u (Some x) s = tell s.start u x s
 
--- the server is told the whole text; at the limit of versions it is told to close the document and to open it anew
-abbrev pub switch : ℕ → Open → ℕ → Telling
-switch versions o v = if nat_lt v versions then Changes (v + 1) (full_text o.uri (v + 1) o.text) else OpensAnew (close_text o.uri) (open_text o.uri o.language o.text)
+-- the server, which has the same language or another, is told the whole text; from another language, or at the limit of versions, it is told to close the document and to open it anew
+abbrev pub switch : Bool → ℕ → Open → ℕ → Telling
+switch same versions o v = if same && nat_lt v versions then Changes (v + 1) (full_text o.uri (v + 1) o.text) else OpensAnew (close_text o.uri) (open_text o.uri o.language o.text)
 
--- the server is told an editor's text, where it has another
+-- the server is told an editor's text, where it has another, or another language
 abbrev pub differing : Open → ℕ → Documents → Option Telling
-differing o v s = if holds o.uri o.text s.opens then None else Some (switch s.versions o v)
+differing o v s = if holds o s.opens then None else Some (switch (holds_language o s.opens) s.versions o v)
+
+-- the same of a document that is open
+abbrev pub differing_own : Open → ℕ → Documents → Option Telling
+differing_own o v s = if holds_own o s.opens then None else Some (switch (holds_language o s.opens) s.versions o v)
 
 -- behind a step, an editor touches a document
 abbrev pub touch : Open → Step → Step
@@ -70,17 +74,17 @@ open_row e u l v t s =
     let o : Open = record { editor = e; uri = u; language = l; version = v; text = t; touched = s.turn } in
     touch o (send u (open_sends o (version_held u s.helds) s) s)
 
--- whether the server has the text that an editor has of a document
+-- whether the server has the language and the text that an editor has of a document
 abbrev pub had : ℕ → List ℕ → Documents → Bool
-had e u s = option_map_or (λ o. holds o.uri o.text s.opens) (find (is_open_at e u) s.opens) false
+had e u s = option_map_or (λ o. holds_own o s.opens) (find (is_open_at e u) s.opens) false
 
--- an editor changes a document: its body goes on, where the server has the text before, under the server's next version
+-- an editor changes a document: its body goes on, where the server has the language and the text before, under the server's next version
 abbrev pub change_tells : Open → List ℕ → Json → ℕ → Documents → Telling
-change_tells new body t v s = if nat_lt v s.versions && had new.editor new.uri s then Changes (v + 1) (with_version (v + 1) body t) else switch s.versions new v
+change_tells new body t v s = if nat_lt v s.versions && had new.editor new.uri s then Changes (v + 1) (with_version (v + 1) body t) else switch (holds_language new s.opens) s.versions new v
 
 abbrev pub change_sends : Open → List ℕ → Json → Option ℕ → Documents → Option Telling
 change_sends new body t None s = None
-change_sends new body t (Some v) s = if holds new.uri new.text s.opens then None else Some (change_tells new body t v s)
+change_sends new body t (Some v) s = if holds new s.opens then None else Some (change_tells new body t v s)
 
 abbrev pub changed : Open → DidChange → List ℕ → ℕ → Open
 changed o q t turn = record { editor = o.editor; uri = o.uri; language = o.language; version = q.version; text = t; touched = turn }
@@ -101,10 +105,10 @@ abbrev pub change_row : ℕ → List ℕ → Json → Documents → Step
 change_row e body t s =
     or_nothing (did_change t) s (λ q. or_nothing (changed_open e q s) s (λ new. touch new (send new.uri (change_sends new body t (version_held new.uri s.helds) s) s)))
 
--- an editor closes a document: the last one closes it at the server, and else the next holder's text counts
+-- an editor closes a document: the last one closes it at the server, and else the next holder counts
 abbrev pub close_sends : ℕ → List ℕ → Option ℕ → Documents → Option Telling
 close_sends e u None s = None
-close_sends e u (Some v) s = option_map_or (λ h. differing h v s) (holder_beside e u s.opens) (Some (Closes (close_text u)))
+close_sends e u (Some v) s = option_map_or (λ h. differing_own h v s) (holder_beside e u s.opens) (Some (Closes (close_text u)))
 
 abbrev pub forget : ℕ → List ℕ → Step → Step
 forget e u step = record { outs = step.outs; after = record step.after { opens = drop_open e u step.after.opens } }
@@ -137,11 +141,11 @@ ready_row start encoding s = replay_all (record s { start = Some start; encoding
 abbrev pub unready_row : Documents → Documents
 unready_row s = record s { start = None; sent = 0; helds = [] }
 
--- Before a message of e goes on: of each document that is open at e, in the order of its opening, the server is told e's text, where it has another.
+-- Before a message of e goes on: of each document that is open at e, in the order of its opening, the server is told e's text, where it has another, or another language.
 -- The message is a touch of all of them.
 abbrev pub sync_sends : Open → Option ℕ → Documents → Option Telling
 sync_sends o None s = None
-sync_sends o (Some v) s = differing o v s
+sync_sends o (Some v) s = differing_own o v s
 
 abbrev pub synced : ℕ → Documents → Open → Step
 synced e s o = if nat_eq o.editor e then send o.uri (sync_sends o (version_held o.uri s.helds) s) s else nothing s
@@ -155,10 +159,10 @@ touch_all e step = record { outs = step.outs; after = record step.after { opens 
 abbrev pub sync_row : ℕ → Documents → Step
 sync_row e s = touch_all e (fold (each (synced e)) (nothing s) s.opens)
 
--- whether the server has a document, and with the text that an editor has
+-- whether the server has a document, and in the language and with the text that an editor has
 abbrev pub agreement_of : Open → Option Held → Documents → Agreement
 agreement_of o None s = Differs
-agreement_of o (Some h) s = if holds o.uri o.text s.opens then Agrees h.version h.sent else Differs
+agreement_of o (Some h) s = if holds_own o s.opens then Agrees h.version h.sent else Differs
 
 abbrev pub agreement : ℕ → List ℕ → Documents → Agreement
 agreement e u s = option_map_or (λ o. agreement_of o (held_of o.uri s.helds) s) (find (is_open_at e u) s.opens) NotOpen

@@ -1,9 +1,9 @@
-/// Whether the server has the text that an editor has of a document.
+/// Whether the server has the language and the text that an editor has of a document.
 #[derive(Clone, Copy, Debug, PartialEq, Eq)]
 pub enum Agreement {
     /// The document isn't open at the editor.
     NotOpen,
-    /// The server doesn't have the document, or has another text.
+    /// The server doesn't have the document, or has another language or text.
     Differs,
     Agrees {
         /// The version that the server has.

@@ -1,12 +1,12 @@
 //! The documents that a group of editors shares.
-ghost use Rattle.std.specs.Prelude.{◌≡◌, ◌≤◌, ◌<◌, ◌^◌, ◌+◌, ℕ, List, [], Some, None, IsUtf8, IfOk, OnOk, fold, length, map, option_map, slice_get};
+ghost use Rattle.std.specs.Prelude.{◌≡◌, ◌≤◌, ◌<◌, ◌^◌, ◌+◌, ◌&&◌, bytes_eq, ℕ, List, [], Some, None, IsUtf8, IfOk, OnOk, fold, length, map, option_map, slice_get};
 ghost use Rattle.json_text.specs.Json.{Json};
 ghost use Rattle.json_nodes.specs.At.{At};
 ghost use Rattle.focus_switch.specs.Noted.{FoundChange};
 ghost use Rattle.document_model.specs.Notices.{DidChange};
-ghost use Rattle.document_model.specs.Opens.{Open, holds, put_open};
+ghost use Rattle.document_model.specs.Opens.{Open, holds, holds_language, holds_own, put_open};
 ghost use Rattle.focus_switch.specs.Documents.{held_of, version_held};
-ghost use Rattle.focus_switch.specs.Rows.{Step, agreement, agreement_of, change_row, change_sends, change_tells, changed_open, close_next, close_row, close_sends, differing, each, open_row, open_sends, had, leave_row, nothing, or_nothing, ready_row, replay_all, replay_sends, replayed, send, sync_row, sync_sends, synced, text_after, touched_at, unready_row};
+ghost use Rattle.focus_switch.specs.Rows.{Step, agreement, agreement_of, change_row, change_sends, change_tells, changed_open, close_next, close_row, close_sends, differing, differing_own, each, open_row, open_sends, had, leave_row, nothing, or_nothing, ready_row, replay_all, replay_sends, replayed, send, switch, sync_row, sync_sends, synced, text_after, touched_at, unready_row};
 ghost use Rattle.focus_switch.specs.Shown.{all_bytes, shown};
 
 use crate::agreement::Agreement;
@@ -155,7 +155,7 @@ impl<T: Text + Drop> Shared<T> {
         Ok(outs)
     }
 
-    /// Before a message of an editor goes on to the start: it is told the editor's text of each document, where it has another.
+    /// Before a message of an editor goes on to the start: it is told the editor's text of each document, where it has another, or another language.
     pub fn sync(&mut self, e: u64) -> Result<Outs, Memory>
         ensures { IfOk result (λ outs. record { outs = outs; after = self.new } ≡ sync_row e self.old) }
     {
@@ -176,7 +176,7 @@ impl<T: Text + Drop> Shared<T> {
         Ok(())
     }
 
-    // Tells the start an editor's texts, where it has others.
+    // Tells the start an editor's texts, where it has others, or other languages.
     fn sync_all(&mut self, e: u64) -> Result<Outs, Memory>
         ensures { IfOk result (λ outs. record { outs = outs; after = self.new } ≡ fold (each (synced e)) (nothing self.old) self.old.opens) }
     {
@@ -187,7 +187,7 @@ impl<T: Text + Drop> Shared<T> {
         Ok(outs)
     }
 
-    // Tells the start an editor's text of one document, where it has another.
+    // Tells the start an editor's text of one document, where it has another, or another language.
     fn sync_one(&mut self, e: u64, i: usize) -> Result<Outs, Memory>
         ensures { IfOk result (λ outs. record { outs = outs; after = self.new } ≡ or_nothing (slice_get self.old.opens i) self.old (λ o. synced e self.old o)) }
     {
@@ -208,7 +208,7 @@ impl<T: Text + Drop> Shared<T> {
     {
         match self.helds.version(opening.uri.as_bytes()) {
             None => Ok(None),
-            Some(version) => self.switch_tells(opening, version),
+            Some(version) => self.own_tells(opening, version),
         }
     }
 
@@ -231,7 +231,7 @@ impl<T: Text + Drop> Shared<T> {
         Ok(outs)
     }
 
-    /// Whether the server has the text that an editor has of a document. It takes no memory.
+    /// Whether the server has the language and the text that an editor has of a document. It takes no memory.
     pub fn agrees(&self, e: u64, uri: &[u8]) -> Agreement
         ensures { result ≡ agreement e uri.now self.now }
     {
@@ -245,7 +245,7 @@ impl<T: Text + Drop> Shared<T> {
         ensures { result ≡ agreement_of (shown T.bytes opening.now) (held_of (shown T.bytes opening.now).uri self.now.helds) self.now }
     {
         match self.helds.get(opening.uri.as_bytes()) {
-            Some(held) if self.holds(opening.uri.as_bytes(), &opening.text) => Agreement::Agrees {
+            Some(held) if self.holds_own(opening) => Agreement::Agrees {
                 held: held.version,
                 changed: held.sent,
             },
@@ -321,7 +321,7 @@ impl<T: Text + Drop> Shared<T> {
         let Some(version) = self.helds.version(new.uri.as_bytes()) else {
             return Ok(None)
         };
-        if self.holds(new.uri.as_bytes(), &new.text) {
+        if self.holds(new) {
             return Ok(None);
         }
         let telling = self.change_or_switch(tape, new, version)?;
@@ -341,16 +341,16 @@ impl<T: Text + Drop> Shared<T> {
             let body = with_version(self.alloc, tape, version + 1)?;
             Ok(Telling::Changes(version + 1, body))
         } else {
-            switch(self.alloc, self.versions, new, version)
+            self.switch(new, version)
         }
     }
 
-    // Whether the server has the text that an editor has of a document.
+    // Whether the server has the language and the text that an editor has of a document.
     fn had(&self, e: u64, uri: &[u8]) -> bool
         ensures { result ≡ had e uri.now self.now }
     {
         match self.opens.find(e, uri) {
-            Some(opening) => self.holds(opening.uri.as_bytes(), &opening.text),
+            Some(opening) => self.holds_own(opening),
             None => false,
         }
     }
@@ -363,7 +363,7 @@ impl<T: Text + Drop> Shared<T> {
             return Ok(None)
         };
         match self.opens.holder_beside(e, uri.as_bytes()) {
-            Some(holder) => self.switch_tells(holder, version),
+            Some(holder) => self.own_tells(holder, version),
             None => {
                 let body = close_text(self.alloc, uri)?;
                 Ok(Some(Telling::Closes(body)))
@@ -371,12 +371,32 @@ impl<T: Text + Drop> Shared<T> {
         }
     }
 
-    // Whether the server has this text of the document, where it has the document.
-    fn holds(&self, uri: &[u8], text: &T) -> bool
-        ensures { result ≡ holds uri.now (T.bytes text.now) self.now.opens }
+    // Whether the server has a document in this one's language.
+    fn holds_language(&self, opening: &Opening<T>) -> bool
+        ensures { result ≡ holds_language (shown T.bytes opening.now) self.now.opens }
     {
-        match self.opens.holder(uri) {
-            Some(holder) => holder.text.equals(text),
+        match self.opens.holder(opening.uri.as_bytes()) {
+            Some(holder) => holder.language.as_bytes() == opening.language.as_bytes(),
+            None => false,
+        }
+    }
+
+    // Whether the server has a document in this one's language and with its text.
+    fn holds(&self, opening: &Opening<T>) -> bool
+        ensures { result ≡ holds (shown T.bytes opening.now) self.now.opens }
+    {
+        match self.opens.holder(opening.uri.as_bytes()) {
+            Some(holder) => is_like(holder, opening),
+            None => false,
+        }
+    }
+
+    // The same of a document that is open: where its editor holds it, nothing is compared.
+    fn holds_own(&self, opening: &Opening<T>) -> bool
+        ensures { result ≡ holds_own (shown T.bytes opening.now) self.now.opens }
+    {
+        match self.opens.holder(opening.uri.as_bytes()) {
+            Some(holder) => holder.editor == opening.editor || is_like(holder, opening),
             None => false,
         }
     }
@@ -394,16 +414,34 @@ impl<T: Text + Drop> Shared<T> {
         }
     }
 
-    // What the start is told where an editor's text is to be the server's.
+    // What the start is told where a document is to be the server's.
     fn switch_tells(&self, opening: &Opening<T>, version: u32) -> Result<Option<Telling>, Memory>
         ensures { IfOk result (λ x. x ≡ differing (shown T.bytes opening.now) version self.now) }
     {
-        if self.holds(opening.uri.as_bytes(), &opening.text) {
-            Ok(None)
-        } else {
-            let telling = switch(self.alloc, self.versions, opening, version)?;
-            Ok(Some(telling))
+        if self.holds(opening) {
+            return Ok(None);
         }
+        let telling = self.switch(opening, version)?;
+        Ok(Some(telling))
+    }
+
+    // The same of a document that is open.
+    fn own_tells(&self, opening: &Opening<T>, version: u32) -> Result<Option<Telling>, Memory>
+        ensures { IfOk result (λ x. x ≡ differing_own (shown T.bytes opening.now) version self.now) }
+    {
+        if self.holds_own(opening) {
+            return Ok(None);
+        }
+        let telling = self.switch(opening, version)?;
+        Ok(Some(telling))
+    }
+
+    // The start is told the whole text of a document.
+    fn switch(&self, opening: &Opening<T>, version: u32) -> Result<Telling, Memory>
+        ensures { IfOk result (λ x. x ≡ switch (holds_language (shown T.bytes opening.now) self.now.opens) self.now.versions (shown T.bytes opening.now) version) }
+    {
+        let same_language = self.holds_language(opening);
+        switch(self.alloc, same_language, self.versions, opening, version)
     }
 
     // Tells the start, where one is ready.
@@ -435,6 +473,14 @@ impl<T: Text + Drop> Shared<T> {
         self.turn = turn;
         Ok(())
     }
+}
+
+// Whether two documents have the same language and the same text. The languages are compared first.
+fn is_like<T: Text + Drop>(holder: &Opening<T>, opening: &Opening<T>) -> bool
+    ensures { result
+        ≡ (bytes_eq (shown T.bytes holder.now).language (shown T.bytes opening.now).language && bytes_eq (shown T.bytes holder.now).text (shown T.bytes opening.now).text) }
+{
+    holder.language.as_bytes() == opening.language.as_bytes() && holder.text.equals(&opening.text)
 }
 
 // A text that owns its bytes.

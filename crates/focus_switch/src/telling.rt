@@ -85,16 +85,17 @@ fn changes<T: Text + Drop>(
     full_text(alloc, opening.uri.as_str(), version, text)
 }
 
-/// The start is told the whole text that an editor has: as a change, or, at the limit of versions, by closing and opening.
+/// The start is told the whole text that an editor has: as a change, or, where its language isn't the same or at the limit of versions, by closing and opening.
 pub fn switch<T: Text + Drop>(
     alloc: Global,
+    same_language: bool,
     versions: u32,
     opening: &Opening<T>,
     version: u32,
 ) -> Result<Telling, Memory>
-    ensures { IfOk result (λ x. x ≡ switch versions (shown T.bytes opening.now) version) }
+    ensures { IfOk result (λ x. x ≡ switch same_language versions (shown T.bytes opening.now) version) }
 {
-    if version < versions {
+    if same_language && version < versions {
         let body = changes(alloc, opening, version + 1)?;
         Ok(Telling::Changes(version + 1, body))
     } else {

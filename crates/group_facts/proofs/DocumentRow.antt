@@ -5,7 +5,7 @@ use Rattle.position_codec.specs.declared.Encoding.{Encoding}
 use Rattle.document_model.specs.Helds.{HeldText}
 use Rattle.document_model.specs.Opens.{Open, holder_beside, is_open_at}
 use Rattle.document_model.specs.Orderly.{IsSpelt}
-use Rattle.document_model.specs.Rows.{switched, versioned, sent_open, sent_change, sent_close}
+use Rattle.document_model.specs.Rows.{agrees, switched, versioned, sent_open, sent_change, sent_close}
 use Rattle.document_model.specs.Sayings.{changes, saying_of, Saying, opens, closes, misshapen, saying_by}
 use Rattle.document_model.specs.Sayings as saying
 use Rattle.document_model.specs.Texts.{Texts, found, changed, opened}
@@ -64,7 +64,7 @@ module _ (settings : Settings) (range : InRange settings) (before : List Event) 
 
     changed_keeps : (u v : List ℕ) (cs : Json) → saying_of (message_of body) ≡ changes u v cs → (old new : Open) → IsBehind u new → (h : Option HeldText) → held_at s u before ≡ h → Told (sent_change settings.limits.versions body old new h)
     changed_keeps u v cs says old new k None at = nothing_told
-    changed_keeps u v cs says old new k (Some h) at = go (bytes_eq h.text new.text) (nat_lt h.version settings.limits.versions) (bytes_eq h.text old.text) refl
+    changed_keeps u v cs says old new k (Some h) at = go (agrees new h) (nat_lt h.version settings.limits.versions) (agrees old h) refl
       where
         held : held_at s u now ≡ Some h
         held = held_still u (Some h) at

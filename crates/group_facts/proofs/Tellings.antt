@@ -1,5 +1,5 @@
 -- What a start that is ready is told of documents, body by body, in an entry that begins at `now`.
-use Rattle.std.proofs.Common.{◌≡◌, ℕ, true, false, List, [], ◌∷◌, ◌++◌, map, cond, if◌then◌else◌, Option, None, Some, refl, sym, subst, ◌∙◌, ap, ap₂, ◌+◌, ◌<◌, ◌^◌, Bool, nat_lt, bytes_eq, is_some, codes, decimal, arith, ltb-true, IsUtf8, append_assoc}
+use Rattle.std.proofs.Common.{◌≡◌, ℕ, true, false, List, [], ◌∷◌, ◌++◌, map, cond, if◌then◌else◌, Option, None, Some, refl, sym, subst, ◌∙◌, ap, ap₂, ◌+◌, ◌<◌, ◌^◌, Bool, ◌&&◌, nat_lt, bytes_eq, is_some, codes, decimal, arith, ltb-true, IsUtf8, append_assoc}
 use Rattle.std.proofs.lemmas.List.{map-append}
 use Rattle.std.proofs.lemmas.List.Elements.{filter-append}
 use Rattle.std.specs.List.{list_any}
@@ -11,7 +11,7 @@ use Rattle.document_model.specs.Bodies.{open_text, full_text, close_text}
 use Rattle.document_model.specs.Helds.{HeldText, told}
 use Rattle.document_model.specs.Opens.{Open}
 use Rattle.document_model.specs.Orderly.{IsSpelt}
-use Rattle.document_model.specs.Rows.{switched, differing, versioned}
+use Rattle.document_model.specs.Rows.{agrees, switched, differing, versioned}
 use Rattle.document_model.specs.Sayings.{closes, saying_of, speaks, opens, changes}
 use Rattle.document_model.proofs.Versioned.{versioned_says}
 use Rattle.document_model.proofs.Written.{Spoken, spoken, open_says, FullSays, full_says, close_says}
@@ -153,20 +153,24 @@ module _ (settings : Settings) (range : InRange settings) (before : List Event) 
       → Calm events → held_at s u events ≡ Some h → Tells (Beside u) events (versioned (h.version + 1) body ∷ [])
   versioned_told events body u w cs h says less calm e = change_told events u (versioned (h.version + 1) body) cs h calm e (versioned_says body (h.version + 1) u w cs (next_version h.version less) says)
 
-  -- the text of an editor
+  -- the language and the text of an editor
   pub switched_told : (events : List Event) (o : Open) (h : HeldText) → IsSpelt o → Calm events → held_at s o.uri events ≡ Some h → Tells (Beside o.uri) events (switched settings.limits.versions o h)
-  switched_told events o h k calm e = go (nat_lt h.version settings.limits.versions) refl
+  switched_told events o h k calm e = go (bytes_eq h.language o.language) (nat_lt h.version settings.limits.versions) refl
     where
-      go : (b : Bool) → nat_lt h.version settings.limits.versions ≡ b
-          → Tells (Beside o.uri) events (if b then full_text o.uri (h.version + 1) o.text ∷ [] else close_text o.uri ∷ open_text o.uri o.language o.text ∷ [])
-      go true less = full_told events o.uri o.text h k.0 k.2 less calm e
-      go false more =
+      anew : Tells (Beside o.uri) events (close_text o.uri ∷ open_text o.uri o.language o.text ∷ [])
+      anew =
           let one : Tells (Beside o.uri) events (close_text o.uri ∷ []) = close_told events o.uri h k.0 calm e in
           tells_both events (close_text o.uri ∷ []) (open_text o.uri o.language o.text ∷ []) one
           (open_told (events ++ said (ToServer s (close_text o.uri)) ∷ []) o.uri o.language o.text k.0 k.1 k.2 one.calm (closed_not s events (close_text o.uri) o.uri (close_says o.uri k.0)))
 
+      go : (a b : Bool) → nat_lt h.version settings.limits.versions ≡ b
+          → Tells (Beside o.uri) events (if a && b then full_text o.uri (h.version + 1) o.text ∷ [] else close_text o.uri ∷ open_text o.uri o.language o.text ∷ [])
+      go true true less = full_told events o.uri o.text h k.0 k.2 less calm e
+      go true false less = anew
+      go false b less = anew
+
   pub differing_told : (events : List Event) (o : Open) (h : HeldText) → IsSpelt o → Calm events → held_at s o.uri events ≡ Some h → Tells (Beside o.uri) events (differing settings.limits.versions o h)
-  differing_told events o h k calm e = go (bytes_eq h.text o.text)
+  differing_told events o h k calm e = go (agrees o h)
     where
       go : (b : Bool) → Tells (Beside o.uri) events (if b then [] else switched settings.limits.versions o h)
       go true = tells_none events calm

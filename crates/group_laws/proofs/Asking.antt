@@ -13,7 +13,7 @@ use Rattle.document_model.specs.Opens.{Open, holder, is_open_at}
 use Rattle.document_model.specs.Orderly.{AllSpelt, IsSpelt, Once, Orderly}
 use Rattle.document_model.specs.Texts.{Texts}
 use Rattle.document_model.proofs.Spoken.{AllSpeak, Speaks, sent_open_speaks}
-use Rattle.document_laws.specs.Follows.{Held, Matches, texts_in, told_outs}
+use Rattle.document_laws.specs.Follows.{Agrees, Held, Matches, texts_in, told_outs}
 use Rattle.document_laws.proofs.Sends.{other_way}
 use Rattle.event_model.specs.Event.{Event, behind, heard, said, with_cause}
 use Rattle.event_model.specs.Phases.{desk_of, is_served}
@@ -189,8 +189,8 @@ module _ (settings : Settings) (g s e : ℕ) (code : Encoding) (before : List Ev
         (sync_held s e d held holds.start holds.held code holds.known small texts.orderly.once texts.orderly.turns texts.spelt);
   }
 
-  -- where the request goes on, the start has the editor's own text of each document that is open there
-  pub own_text : (u : List ℕ) (o : Open) → find (is_open_at e u) d.opens ≡ Some o → (h : HeldText) × (held_at s u (behind after_cause (sync_row e d).outs) ≡ Some h) × (h.text ≡ o.text)
+  -- where the request goes on, the start has the editor's own language and text of each document that is open there
+  pub own_text : (u : List ℕ) (o : Open) → find (is_open_at e u) d.opens ≡ Some o → (h : HeldText) × (held_at s u (behind after_cause (sync_row e d).outs) ≡ Some h) × Agrees o h
   own_text u o found =
       let best : holder u (sync_row e d).after.opens ≡ Some (record o { touched = d.turn }) = ap (λ (x : Texts). holder u x.opens) (sync_texts e d) ∙ holder_touched e d.turn u o d.opens texts.orderly.once texts.orderly.turns found in
       let has : Held (sync_row e d).after (λ w. told_outs d.encoding w (held w) (sync_row e d).outs) = sync_held s e d held holds.start holds.held code holds.known small texts.orderly.once texts.orderly.turns texts.spelt in
@@ -198,7 +198,7 @@ module _ (settings : Settings) (g s e : ℕ) (code : Encoding) (before : List Ev
       let t = text_of (version_held u (sync_row e d).after.helds) (told_outs d.encoding u (held u) (sync_row e d).outs) (record o { touched = d.turn }) m in
       (t.0, ap (λ xs. held_at s u (behind after_cause xs)) sync_is ∙ (ap (λ (x : Sent). x.held) (mid_sent u) ∙ (ap₂ (λ c xs. told_outs c u (held u) xs) (sym holds.known) (sym sync_is) ∙ t.1)), t.2)
     where
-      text_of : (v : Option ℕ) (k : Option HeldText) (o : Open) → Matches v (Some o) k → (h : HeldText) × (k ≡ Some h) × (h.text ≡ o.text)
+      text_of : (v : Option ℕ) (k : Option HeldText) (o : Open) → Matches v (Some o) k → (h : HeldText) × (k ≡ Some h) × Agrees o h
       text_of (Some v) (Some h) o m = (h, refl, m.1)
       text_of (Some v) None o m = absurd m
       text_of None k o m = absurd m

@@ -75,7 +75,7 @@ module _ (s e : ℕ) (code : Encoding) (body : List ℕ) (d : Documents) (held :
 
       go : (o : Option Open) → found e u (texts_in d) ≡ o → Right (closes u) (close_row e u d)
       go None h = build [] (ap (λ o. rows.closed_bodies d.versions e u d.opens o (held u)) h) (ap (λ (z : Step). z.outs) (close_none e u d h)) tt
-      go (Some o) h = build (sent_close d.versions u (holder_beside e u d.opens) (held u)) (ap (λ o. rows.closed_bodies d.versions e u d.opens o (held u)) h) (close_outs e u d s o held started follows h)
+      go (Some o) h = build (sent_close d.versions u (holder_beside e u d.opens) (held u)) (ap (λ o. rows.closed_bodies d.versions e u d.opens o (held u)) h) (close_outs e u d s o held started orderly.once follows h)
           (sent_close_speaks d.versions u (holder_beside e u d.opens) (held u) few (closes_spelt body u says) (λ q k. latest_spelt _ d.opens q spelt k))
 
   module _ (tree : Json) (read : tree_of body ≡ Some tree) (u v : List ℕ) (cs : Json) (says : saying_of (message_of body) ≡ changes u v cs) where
@@ -100,7 +100,7 @@ module _ (s e : ℕ) (code : Encoding) (body : List ℕ) (d : Documents) (held :
         at_old (Some old) h (Some new) k =
             let said : IsUtf8 u × _ = subst IsSaidSpelt says (said_spelt body) in
             let fine : IsSpelt new = subst (MayHold IsSpelt) k (document_spelt d.encoding e u v cs (texts_in d) said.0 said.1 spelt) in
-            build (sent_change d.versions body old new (held u)) (same_bodies (Some old) (Some new) h k) (change_outs e body tree u v cs d read says s old new held started follows h k)
+            build (sent_change d.versions body old new (held u)) (same_bodies (Some old) (Some new) h k) (change_outs e body tree u v cs d read says s old new held started orderly.once follows h k)
             (sent_change_speaks d.versions body u v cs old new (held u) few fine says)
 
   -- what isn't JSON says nothing

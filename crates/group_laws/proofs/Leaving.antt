@@ -1,4 +1,4 @@
--- An editor leaves: it closes each of its documents, and what the start has of each is the text of its next holder.
+-- An editor leaves: it closes each of its documents, and what the start has of each is what its next holder has.
 use Rattle.std.proofs.Common.{◌≡◌, ℕ, ◌<◌, ◌^◌, Bool, true, false, cond, not, ◌&&◌, List, [], ◌∷◌, ◌++◌, map, filter, find, flat_map, fold, nat_eq, refl, sym, ◌∙◌, ap, ap₂, subst, append_assoc, append-nil, arith}
 use Rattle.std.proofs.lemmas.Grind.{fold-append}
 use Rattle.std.specs.Prelude.{Option, Some, None, bytes_eq}
@@ -13,7 +13,7 @@ use Rattle.document_model.specs.Helds.{HeldText}
 use Rattle.document_model.specs.Sayings.{closes}
 use Rattle.document_model.specs.Texts.{Texts, found}
 use Rattle.document_model.proofs.Holders.{find_is, holder_drop_other, is_at, pick}
-use Rattle.document_model.proofs.Orders.{orderly_behind}
+use Rattle.document_model.proofs.Orders.{IsFound, all_found, orderly_behind}
 use Rattle.document_model.proofs.Spelt.{drop_spelt, latest_spelt}
 use Rattle.document_model.proofs.Spoken.{AllSpeak, sent_close_speaks}
 use Rattle.focus_switch.specs.Documents.{Documents, version_held}
@@ -25,7 +25,6 @@ use Rattle.mux_model.specs.Documents.{without_editor}
 use Rattle.document_model.specs.Rows.{sent_close}
 use Rattle.group_rows.specs.Leaves as departures
 use Rattle.group_laws.proofs.Syncing.{apart, map_append}
-use Rattle.group_laws.proofs.SyncHeld.{IsFound, all_found}
 
 -- what is open behind it
 
@@ -141,7 +140,7 @@ both_speak (x ∷ xs) ys a b = (a.0, both_speak xs ys a.1 b)
 
 -- what is kept says what the start has
 same_match : (v : Option ℕ) (p : Option Open) (h k : Option HeldText) → Matches v p h → Matches v p k → h ≡ k
-same_match (Some v) (Some p) (Some h) (Some k) a b = ap₂ (λ m t. Some (record { version = m; text = t })) (a.0 ∙ sym b.0) (a.1 ∙ sym b.1)
+same_match (Some v) (Some p) (Some h) (Some k) a b = ap₂ (λ m (c : List ℕ × List ℕ). Some (record { version = m; language = c.0; text = c.1 })) (a.0 ∙ sym b.0) (ap₂ (λ (l t : List ℕ). (l, t)) (a.1.0 ∙ sym b.1.0) (a.1.1 ∙ sym b.1.1))
 same_match (Some v) (Some p) (Some h) None a b = absurd b
 same_match (Some v) (Some p) None k a b = absurd a
 same_match (Some v) None h k a b = absurd a
@@ -241,7 +240,7 @@ module _ (n e : ℕ) (code : Encoding) (s : Documents) (held : List ℕ → Opti
     bodies o = departures.left s.versions e s.opens (held o.uri) o
 
     one_left : (step : Step) (o : Open) → Fine step → Beside step.after → Waits step.after o → (close_row e o.uri step.after).outs ≡ to (bodies o)
-    one_left step o f h x = close_outs e o.uri step.after n o (λ w. told_outs s.encoding w (held w) step.outs) (f.stays.start ∙ started) f.follows x.found
+    one_left step o f h x = close_outs e o.uri step.after n o (λ w. told_outs s.encoding w (held w) step.outs) (f.stays.start ∙ started) f.orderly.once f.follows x.found
         ∙ ap to (ap (λ m. sent_close m o.uri (holder_beside e o.uri step.after.opens) (told_outs s.encoding o.uri (held o.uri) step.outs)) f.stays.versions ∙ ap₂ (λ q k. sent_close s.versions o.uri q k) (h o.uri) (still_held step o f x))
 
     abbrev left : List Open → List (List ℕ)

@@ -1,4 +1,4 @@
--- Behind the replay a start has each holder's text, with version 1, and no other document.
+-- Behind the replay a start has each holder's language and text, with version 1, and no other document.
 use Rattle.std.proofs.Common.{◌≡◌, ℕ, Bool, true, false, cond, List, [], ◌∷◌, ◌++◌, fold, refl, sym, ◌∙◌, ap, subst}
 use Rattle.std.specs.Prelude.{Option, Some, None, bytes_eq, ◌||◌}
 use Rattle.std.specs.List.{AllByRecursion, list_any}
@@ -11,6 +11,7 @@ use Rattle.document_model.specs.Opens.{Open, holder}
 use Rattle.document_model.specs.Orderly.{AllSpelt, Once}
 use Rattle.document_model.specs.Texts.{Texts}
 use Rattle.document_model.proofs.Holders.{bytes_same, pick}
+use Rattle.document_model.proofs.Orders.{all_found}
 use Rattle.document_model.proofs.Spelt.{latest_spelt}
 use Rattle.focus_switch.specs.Documents.{Documents, version_held}
 use Rattle.focus_switch.specs.Rows.{Step, nothing, send, each, replayed, replay_sends, ready_row}
@@ -20,7 +21,6 @@ use Rattle.document_laws.proofs.Tellings.{Follows, open_follows}
 use Rattle.group_rows.specs.Rows as rows
 use Rattle.group_laws.proofs.Replaying.{HasHolder, Versions, first_sends, has_holders, holder_is, more_versions, opening, ready_outs, ready_texts}
 use Rattle.group_laws.proofs.Syncing.{kept_then, same_kept}
-use Rattle.group_laws.proofs.SyncHeld.{all_found}
 
 or_right : (a b : Bool) → b ≡ true → (a || b) ≡ true
 or_right true b h = refl

@@ -10,6 +10,7 @@ use Rattle.document_model.specs.Bodies.{open_text}
 use Rattle.document_model.specs.Opens.{Open, holder}
 use Rattle.document_model.specs.Orderly.{Once}
 use Rattle.document_model.proofs.Holders.{bytes_same, found_holder}
+use Rattle.document_model.proofs.Orders.{IsFound, all_found}
 use Rattle.focus_switch.specs.declared.telling.Telling.{Telling}
 use Rattle.focus_switch.specs.declared.telling.Telling.TheVariants.{Opens}
 use Rattle.focus_switch.specs.Documents.{Documents, version_held}
@@ -18,7 +19,6 @@ use Rattle.document_laws.specs.Follows.{texts_in}
 use Rattle.document_laws.proofs.Sends.{Kept, Stays, latest_of, all_there, send_keeps, send_outs, send_version, send_version_other}
 use Rattle.group_rows.specs.Rows as rows
 use Rattle.group_laws.proofs.Syncing.{kept_then, map_append, same_kept}
-use Rattle.group_laws.proofs.SyncHeld.{IsFound, all_found}
 
 replayed_keeps : (s : Documents) (o : Open) → Kept s (replayed s o).after
 replayed_keeps s o = send_keeps o.uri (replay_sends o (version_held o.uri s.helds) s) s

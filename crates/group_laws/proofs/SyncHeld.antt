@@ -1,73 +1,27 @@
--- Behind a sync the start has each holder's text: of the documents of the editor that asks, its own.
-use Rattle.std.proofs.Common.{◌≡◌, ℕ, ◌<◌, ◌^◌, Bool, true, false, cond, ◌&&◌, List, [], ◌∷◌, ◌++◌, map, filter, find, flat_map, fold, nat_eq, refl, sym, ◌∙◌, ap, ap₂, subst, arith}
+-- Behind a sync the start has each holder's language and text: of the documents of the editor that asks, its own.
+use Rattle.std.proofs.Common.{◌≡◌, ℕ, ◌<◌, ◌^◌, Bool, true, false, cond, ◌&&◌, List, [], ◌∷◌, ◌++◌, map, filter, find, flat_map, fold, nat_eq, refl, sym, ◌∙◌, ap, ap₂, subst}
 use Rattle.std.specs.Prelude.{Option, Some, None, bytes_eq}
 use Rattle.std.specs.List.{AllByRecursion}
-use Rattle.std.proofs.lemmas.Bool.Decides.{nat_tests}
 use Rattle.std.proofs.lemmas.List.Sums.{fold-append}
-use Rattle.std.proofs.lemmas.Slice.Eq.{bytes_eq-Decides}
 use Rattle.position_codec.specs.declared.Encoding.{Encoding}
-use Rattle.document_model.specs.Opens.{Open, holder, holds, is_open_at}
+use Rattle.document_model.specs.Opens.{Open, holder, holds_language, holds_own, is_open_at}
 use Rattle.document_model.specs.Orderly.{IsSpelt, Once}
 use Rattle.document_model.specs.Helds.{HeldText}
 use Rattle.document_model.proofs.Holders.{bytes_same, find_is, found_holder}
+use Rattle.document_model.proofs.Orders.{IsFound, all_found}
 use Rattle.document_model.proofs.Spelt.{all_find}
 use Rattle.focus_switch.specs.declared.telling.Telling.{Telling}
 use Rattle.focus_switch.specs.Documents.{Documents, version_held}
 use Rattle.focus_switch.specs.Rows.{Step, nothing, send, each, synced, switch, sync_sends, sync_row, touched_at}
 use Rattle.document_laws.specs.Follows.{Held, Matches, told_outs}
 use Rattle.document_laws.proofs.Sends.{Kept, bodies_of, by_match, other_way, send_keeps, send_version, send_version_other, told_bodies, told_sent, version_behind}
+use Rattle.document_laws.proofs.Owning.{differ_own}
 use Rattle.document_laws.proofs.Tellings.{Follows, differ_follows}
 use Rattle.group_rows.specs.Rows as rows
 use Rattle.group_laws.proofs.Syncing.{Same, all_keep, all_same, kept_then, rest_same, same_kept, sends_of, sync_outs}
 use Rattle.group_laws.proofs.Touching.{Nowhere, holder_apart, holder_touched, none_nowhere, nowhere_behind}
 
-all_map : (P Q : Open → Type 0) (os : List Open) → ((o : Open) → P o → Q o) → AllByRecursion P os → AllByRecursion Q os
-all_map P Q [] f h = tt
-all_map P Q (o ∷ os) f h = (f o h.0, all_map P Q os f h.1)
-
--- each document that is open is found
-itself_at : (o : Open) → is_open_at o.editor o.uri o ≡ true
-itself_at o = go (nat_eq o.editor o.editor) (bytes_eq o.uri o.uri) (same_number o.editor) (sym ((bytes_eq-Decides o.uri o.uri).1 refl))
-  where
-    same_number : (n : ℕ) → nat_eq n n ≡ true
-    same_number n = grind (arith, nat_tests)
-
-    go : (a b : Bool) → a ≡ true → true ≡ b → (a && b) ≡ true
-    go true true h k = refl
-    go true false h k = absurd (cc)
-    go false b h k = absurd (cc)
-
-and_left : (a b : Bool) → a ≡ false → (a && b) ≡ false
-and_left true b h = absurd (cc)
-and_left false b h = refl
-
-and_right : (a b : Bool) → b ≡ false → (a && b) ≡ false
-and_right true b h = h
-and_right false b h = refl
-
-turned : (o p : Open) → is_open_at o.editor o.uri p ≡ false → is_open_at p.editor p.uri o ≡ false
-turned o p h = go (nat_eq p.editor o.editor) refl (bytes_eq p.uri o.uri) refl h
-  where
-    same_way : (x y : ℕ) → nat_eq y x ≡ nat_eq x y
-    same_way x y = grind (arith, nat_tests)
-
-    go : (a : Bool) → nat_eq p.editor o.editor ≡ a → (b : Bool) → bytes_eq p.uri o.uri ≡ b → (a && b) ≡ false → (nat_eq o.editor p.editor && bytes_eq o.uri p.uri) ≡ false
-    go a j false k h = and_right (nat_eq o.editor p.editor) (bytes_eq o.uri p.uri) (other_way o.uri p.uri k)
-    go true j true k h = absurd (let z : true ≡ false = h in cc)
-    go false j true k h = and_left (nat_eq o.editor p.editor) (bytes_eq o.uri p.uri) (same_way p.editor o.editor ∙ j)
-
-abbrev pub IsFound : List Open → Open → Type 0
-IsFound os o = find (is_open_at o.editor o.uri) os ≡ Some o
-
-behind_first : (o : Open) (os ps : List Open) → AllByRecursion (λ (p : Open). is_open_at o.editor o.uri p ≡ false) ps → AllByRecursion (IsFound os) ps → AllByRecursion (IsFound (o ∷ os)) ps
-behind_first o os [] once found = tt
-behind_first o os (p ∷ ps) once found = (ap (λ b. cond b (Some o) (find (is_open_at p.editor p.uri) os)) (turned o p once.0) ∙ found.0, behind_first o os ps once.1 found.1)
-
-pub all_found : (os : List Open) → Once os → AllByRecursion (IsFound os) os
-all_found [] once = tt
-all_found (o ∷ os) once = (ap (λ b. cond b (Some o) (find (is_open_at o.editor o.uri) os)) (itself_at o), behind_first o os os once.0 (all_found os once.1))
-
-module _ (n e : ℕ) (s : Documents) (held : List ℕ → Option HeldText) (started : s.start ≡ Some n) (follows : Held s held) (code : Encoding) (given : s.encoding ≡ Some code) (small : s.versions < 2 ^ 32) where
+module _ (n e : ℕ) (s : Documents) (held : List ℕ → Option HeldText) (started : s.start ≡ Some n) (follows : Held s held) (code : Encoding) (given : s.encoding ≡ Some code) (small : s.versions < 2 ^ 32) (all_once : Once s.opens) where
   -- it is UTF-8, and found
   abbrev Fine : Open → Type 0
   Fine o = IsSpelt o × IsFound s.opens o
@@ -80,13 +34,13 @@ module _ (n e : ℕ) (s : Documents) (held : List ℕ → Option HeldText) (star
 
   one_follows : (o : Open) → Fine o → Follows (Some code) o.uri (Some o) (version_held o.uri s.helds) (held o.uri) (telling s o)
   one_follows o fine = by_match (λ v p h. holder o.uri s.opens ≡ p → Follows (Some code) o.uri (Some o) v h (sync_sends o v s)) (λ d. absurd (found_holder o.editor o.uri s.opens o fine.1 d))
-      (λ v p h a b d. differ_follows code s o p v h small d a b fine.0) (version_held o.uri s.helds) (holder o.uri s.opens) (held o.uri) (follows o.uri) refl
+      (λ v p h a b d. subst (Follows (Some code) o.uri (Some o) (Some v) (Some h)) (sym (differ_own s o v all_once fine.1)) (differ_follows code s o p v h small d a b fine.0)) (version_held o.uri s.helds) (holder o.uri s.opens) (held o.uri) (follows o.uri) refl
 
-  are_bodies : (o : Open) → bodies_of (telling s o) ≡ bodies o
-  are_bodies o = sends_of n e s held started follows s o (same_kept s) (version_held o.uri s.helds) refl
+  are_bodies : (o : Open) → Fine o → bodies_of (telling s o) ≡ bodies o
+  are_bodies o fine = sends_of n e s held started follows s o (same_kept s) all_once fine.1 (version_held o.uri s.helds) refl
 
   one_silent : (o : Open) → Fine o → (w : List ℕ) (k : Option HeldText) → bytes_eq w o.uri ≡ false → told_bodies (Some code) w k (bodies o) ≡ k
-  one_silent o fine w k away = ap (told_bodies (Some code) w k) (sym (are_bodies o)) ∙ (one_follows o fine).silent w k away
+  one_silent o fine w k away = ap (told_bodies (Some code) w k) (sym (are_bodies o fine)) ∙ (one_follows o fine).silent w k away
 
   told_more : (w : List ℕ) (h : Option HeldText) (xs ys : List (List ℕ)) → told_bodies (Some code) w h (xs ++ ys) ≡ told_bodies (Some code) w (told_bodies (Some code) w h xs) ys
   told_more w h xs ys = fold-append _ h xs ys
@@ -142,7 +96,7 @@ module _ (n e : ℕ) (s : Documents) (held : List ℕ → Option HeldText) (star
     where
       go : (v : Option ℕ) → sync_sends o v t ≡ sync_sends o v s
       go None = refl
-      go (Some v) = ap₂ (λ (os : List Open) (m : ℕ). cond (holds o.uri o.text os) None (Some (switch m o v))) k.opens k.stays.versions
+      go (Some v) = ap₂ (λ (os : List Open) (m : ℕ). cond (holds_own o os) None (Some (switch (holds_language o os) m o v))) k.opens k.stays.versions
 
   version_here : (u : List ℕ) (o : Open) (step : Step) (os : List Open) → Kept s step.after → Once os → Same e s step.after os → find (is_open_at e u) os ≡ Some o
       → version_held u (fold (each (synced e)) step os).after.helds ≡ version_behind (version_held o.uri s.helds) (telling s o)
@@ -166,20 +120,20 @@ module _ (n e : ℕ) (s : Documents) (held : List ℕ → Option HeldText) (star
           rest (step_if true step p) (kept_then s step.after (send p.uri x step.after).after k (send_keeps p.uri x step.after)) (rest_same n e s held started follows step.after p ps k c once.0 same.1) found
       go false c d j found rest = rest (step_if false step p) k same.1 found
 
-  text_alone : (v : Option ℕ) (o p : Open) (h : Option HeldText) → o.text ≡ p.text → Matches v (Some o) h → Matches v (Some p) h
-  text_alone (Some v) o p (Some h) e m = (m.0, m.1 ∙ e)
-  text_alone (Some v) o p None e m = absurd m
-  text_alone None o p h e m = absurd m
+  own_alone : (v : Option ℕ) (o p : Open) (h : Option HeldText) → o.language ≡ p.language → o.text ≡ p.text → Matches v (Some o) h → Matches v (Some p) h
+  own_alone (Some v) o p (Some h) d e m = (m.0, (m.1.0 ∙ d, m.1.1 ∙ e))
+  own_alone (Some v) o p None d e m = absurd m
+  own_alone None o p h d e m = absurd m
 
   match_at : (v w : Option ℕ) (o p : Option Open) (h k : Option HeldText) → v ≡ w → o ≡ p → h ≡ k → Matches v o h → Matches w p k
   match_at v w o p h k a b c m = subst (λ z. Matches w p z) c (subst (λ z. Matches w z h) b (subst (λ z. Matches z o h) a m))
 
-  -- what the start has behind a sync is each holder's text
-  pub sync_held : Once s.opens → AllByRecursion (λ (p : Open). p.touched < s.turn) s.opens → AllByRecursion IsSpelt s.opens → Held (sync_row e s).after (λ w. told_outs s.encoding w (held w) (sync_row e s).outs)
-  sync_held once before spelt w = go (find (is_open_at e w) s.opens) refl
+  -- what the start has behind a sync is each holder's language and text
+  pub sync_held : AllByRecursion (λ (p : Open). p.touched < s.turn) s.opens → AllByRecursion IsSpelt s.opens → Held (sync_row e s).after (λ w. told_outs s.encoding w (held w) (sync_row e s).outs)
+  sync_held before spelt w = go (find (is_open_at e w) s.opens) refl
     where
       fine : AllByRecursion Fine s.opens
-      fine = both s.opens spelt (all_found s.opens once)
+      fine = both s.opens spelt (all_found s.opens all_once)
         where
           both : (os : List Open) → AllByRecursion IsSpelt os → AllByRecursion (IsFound s.opens) os → AllByRecursion Fine os
           both [] a b = tt
@@ -192,7 +146,7 @@ module _ (n e : ℕ) (s : Documents) (held : List ℕ → Option HeldText) (star
       opened = ap₂ (λ (m : ℕ) (os : List Open). holder w (map (touched_at e m) os)) kept.turn kept.opens
 
       said : told_outs s.encoding w (held w) (sync_row e s).outs ≡ told_bodies (Some code) w (held w) (sent s.opens)
-      said = ap₂ (λ c xs. told_outs c w (held w) xs) given (sync_outs n e s held started follows once) ∙ told_sent (Some code) w n (sent s.opens) (held w)
+      said = ap₂ (λ c xs. told_outs c w (held w) xs) given (sync_outs n e s held started follows all_once) ∙ told_sent (Some code) w n (sent s.opens) (held w)
 
       go : (o : Option Open) → find (is_open_at e w) s.opens ≡ o → Matches (version_held w (sync_row e s).after.helds) (holder w (sync_row e s).after.opens) (told_outs s.encoding w (held w) (sync_row e s).outs)
       go None none =
@@ -205,7 +159,7 @@ module _ (n e : ℕ) (s : Documents) (held : List ℕ → Option HeldText) (star
           let here = (one_follows o good).here in
           match_at (version_behind (version_held o.uri s.helds) (telling s o)) (version_held w (sync_row e s).after.helds) (Some (record o { touched = s.turn })) (holder w (sync_row e s).after.opens)
           (told_bodies (Some code) o.uri (held o.uri) (bodies_of (telling s o))) (told_outs s.encoding w (held w) (sync_row e s).outs)
-          (sym (version_here w o (nothing s) s.opens (same_kept s) once (all_same e s s.opens) there))
-          (sym (opened ∙ holder_touched e s.turn w o s.opens once before there))
-          (sym (said ∙ (told_here w o s.opens (held w) once fine there ∙ (ap (λ u. told_bodies (Some code) u (held u) (bodies o)) (sym is.1) ∙ ap (told_bodies (Some code) o.uri (held o.uri)) (sym (are_bodies o))))))
-          (text_alone (version_behind (version_held o.uri s.helds) (telling s o)) o (record o { touched = s.turn }) (told_bodies (Some code) o.uri (held o.uri) (bodies_of (telling s o))) refl here)
+          (sym (version_here w o (nothing s) s.opens (same_kept s) all_once (all_same e s s.opens) there))
+          (sym (opened ∙ holder_touched e s.turn w o s.opens all_once before there))
+          (sym (said ∙ (told_here w o s.opens (held w) all_once fine there ∙ (ap (λ u. told_bodies (Some code) u (held u) (bodies o)) (sym is.1) ∙ ap (told_bodies (Some code) o.uri (held o.uri)) (sym (are_bodies o good))))))
+          (own_alone (version_behind (version_held o.uri s.helds) (telling s o)) o (record o { touched = s.turn }) (told_bodies (Some code) o.uri (held o.uri) (bodies_of (telling s o))) refl refl here)

@@ -12,7 +12,7 @@ use Rattle.position_codec.specs.declared.Encoding.TheVariants.{Utf8, Utf16}
 use Rattle.rpc_message.specs.Message.{message_of, no_name_twice, is_integer, member_bytes}
 use Rattle.rpc_message.specs.Texts.{with_id_text}
 use Rattle.group_words.specs.Example.{with_groups}
-use Rattle.group_rows.specs.Example.{all_outs, events_behind, too_early, too_early_outs, refused_early, refused_early_outs, wrong_names, wrong_names_outs, two_editors, two_editors_outs, both_ask, both_ask_outs, switching, switching_outs, changing, changing_outs, closing, closing_outs, two_groups, an_exit, texts_in, touches_in, one_cancelled, left_outs, parting, parting_outs, links_end, links_end_outs, asking_status, asking_status_outs, opening_servers, opening_servers_outs, opening_late, opening_late_out, two_servers, evicted, evicted_outs, outs_with, before_refusal, refusing, refusing_outs, outs_behind, idling, idling_outs, ticks_behind, end_outs, late_outs}
+use Rattle.group_rows.specs.Example.{all_outs, events_behind, too_early, too_early_outs, refused_early, refused_early_outs, wrong_names, wrong_names_outs, two_editors, two_editors_outs, both_ask, both_ask_outs, switching, switching_outs, changing, changing_outs, closing, closing_outs, two_groups, an_exit, texts_in, touches_in, one_cancelled, left_outs, parting, parting_outs, links_end, links_end_outs, asking_status, asking_status_outs, opening_servers, opening_servers_outs, opening_late, opening_late_out, two_servers, evicted, evicted_outs, outs_with, before_refusal, refusing, refusing_outs, outs_behind, idling, idling_outs, ticks_behind, end_outs, late_outs, two_languages, two_languages_outs}
 use Rattle.mux_history.specs.declared.out.Out.TheVariants.{ToServer}
 use Rattle.event_model.specs.declared.phase.Phase.TheVariants.{Answered}
 use Rattle.event_model.specs.Event.{Event}
@@ -146,3 +146,9 @@ groups_end_at_one_tick = refl
 a_smaller_tick_is_looked_at : ticks_behind 0 ≡ [] ∷ end_outs ∷ late_outs ∷ [] ∷ [] ∷ []
 unfolding computes url_on_literals message_of named no_name_twice is_integer member_bytes with_id_text escape_byte digits own_request own_notification goes_nowhere editor_request
 a_smaller_tick_is_looked_at = refl
+
+-- the language belongs to what a start has of a document
+
+a_document_in_two_languages : all_outs two_languages ≡ two_languages_outs
+unfolding computes url_on_literals message_of named no_name_twice is_integer member_bytes with_id_text escape_byte digits own_request own_notification goes_nowhere editor_request
+a_document_in_two_languages = refl

@@ -4,6 +4,8 @@
 #[cfg(test)]
 mod cores;
 #[cfg(test)]
+mod languages;
+#[cfg(test)]
 mod play;
 #[cfg(test)]
 mod tests;

@@ -4,7 +4,7 @@ use mux_history::{Cause, Journal, MemJournal};
 use mux_hub::{Hub, StepFault};
 use std::test::Fail;
 
-const MOST: u32 = 2_147_483_647;
+pub const MOST: u32 = 2_147_483_647;
 
 // An editor that runs, on a start that is ready; the next number is 2.
 const OPENING: [(&str, &str); 5] = [
@@ -118,7 +118,7 @@ const MALFORMED: [(&str, &str); 12] = [
 ];
 
 // Two editors share a start, and run.
-const TWO_EDITORS: [(&str, &str); 8] = [
+pub const TWO_EDITORS: [(&str, &str); 8] = [
     ("join 0\n", ""),
     (
         "ed 0 {\"jsonrpc\":\"2.0\",\"id\":0,\"method\":\"initialize\",\"params\":{\"rootUri\":\"file:///w\",\"capabilities\":{}}}\n",

@@ -49,7 +49,7 @@ changed_version encoding v cs (Some h) = refl
 told_version : (encoding : Option Encoding) (u : List ℕ) (o : Option HeldText) (x : Saying) → version_in (told encoding u o x) ≡ version_told u (version_in o) x
 told_version encoding u o (opens w l v t) = go (bytes_eq u w)
   where
-    go : (b : Bool) → version_in (if b then Some (record { version = number_of v; text = t }) else o) ≡ (if b then Some (number_of v) else version_in o)
+    go : (b : Bool) → version_in (if b then Some (record { version = number_of v; language = l; text = t }) else o) ≡ (if b then Some (number_of v) else version_in o)
     go true = refl
     go false = refl
 told_version encoding u o (changes w v cs) = go (bytes_eq u w)

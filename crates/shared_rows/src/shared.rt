@@ -38,6 +38,8 @@ enum Act {
     Unready,
     /// With language `x` and version 5.
     Open(u64, &'static str, &'static str),
+    /// With language `y` and version 5.
+    OpenY(u64, &'static str, &'static str),
     Change(u64, &'static str),
     Close(u64, &'static str),
     Sync(u64),
@@ -48,11 +50,12 @@ fn open(
     alloc: Global,
     shared: &mut Shared<DocText>,
     e: u64,
+    language: &str,
     uri: &str,
     text: &str,
 ) -> Result<Outs, Memory> {
     let uri = body(alloc, uri)?;
-    let language = body(alloc, "x")?;
+    let language = body(alloc, language)?;
     let version = body(alloc, "5")?;
     let text = body(alloc, text)?;
     shared.open(e, uri, language, version, text)
@@ -75,7 +78,8 @@ fn done(alloc: Global, shared: &mut Shared<DocText>, act: Act) -> Result<Outs, M
             shared.unready();
             Ok(Outs::new(alloc))
         }
-        Act::Open(e, uri, text) => open(alloc, shared, e, uri, text),
+        Act::Open(e, uri, text) => open(alloc, shared, e, "x", uri, text),
+        Act::OpenY(e, uri, text) => open(alloc, shared, e, "y", uri, text),
         Act::Change(e, text) => change(alloc, shared, e, text),
         Act::Close(e, uri) => shared.close(e, uri.as_bytes()),
         Act::Sync(e) => shared.sync(e),
@@ -131,12 +135,12 @@ fn two_editors_share_a_document(rt: HostRuntime) -> Result<(), Memory> {
 }
 
 #[test]
-fn tells_whose_text_the_server_has(rt: HostRuntime) -> Result<(), Memory> {
+fn tells_whose_text_and_language_the_server_has(rt: HostRuntime) -> Result<(), Memory> {
     let mut shared = Shared::new(rt.alloc(), 100);
     let _none = shared.ready(0, Encoding::Utf16)?;
-    let _opened = open(rt.alloc(), &mut shared, 0, U, "a")?;
-    let _beside = open(rt.alloc(), &mut shared, 0, V, "a")?;
-    let _told = open(rt.alloc(), &mut shared, 1, U, "b")?;
+    let _opened = open(rt.alloc(), &mut shared, 0, "x", U, "a")?;
+    let _beside = open(rt.alloc(), &mut shared, 0, "x", V, "a")?;
+    let _told = open(rt.alloc(), &mut shared, 1, "x", U, "b")?;
     assert_eq!(rt; shared.agrees(0, U.as_bytes()), Agreement::Differs);
     assert_eq!(rt;
         shared.agrees(1, U.as_bytes()),
@@ -147,12 +151,21 @@ fn tells_whose_text_the_server_has(rt: HostRuntime) -> Result<(), Memory> {
     );
     assert_eq!(rt; shared.agrees(1, V.as_bytes()), Agreement::NotOpen);
     let _closed = shared.close(0, V.as_bytes())?;
-    let _again = open(rt.alloc(), &mut shared, 0, V, "a")?;
+    let _again = open(rt.alloc(), &mut shared, 0, "x", V, "a")?;
     assert_eq!(rt;
         shared.agrees(0, V.as_bytes()),
         Agreement::Agrees {
             held: 1,
             changed: 5
+        }
+    );
+    let _other = open(rt.alloc(), &mut shared, 1, "y", V, "a")?;
+    assert_eq!(rt; shared.agrees(0, V.as_bytes()), Agreement::Differs);
+    assert_eq!(rt;
+        shared.agrees(1, V.as_bytes()),
+        Agreement::Agrees {
+            held: 1,
+            changed: 7
         }
     );
     Ok(())
@@ -189,6 +202,63 @@ fn forwards_changes_up_to_the_limit_of_versions(rt: HostRuntime) -> Result<(), M
         ),
     ];
     assert!(rt; tells(rt.alloc(), 2, &acts)?);
+    Ok(())
+}
+
+#[test]
+fn equal_texts_in_two_languages(rt: HostRuntime) -> Result<(), Memory> {
+    let acts = [
+        (Act::Ready(0, Encoding::Utf16), ""),
+        (
+            Act::Open(0, U, "a"),
+            "0 {\"jsonrpc\":\"2.0\",\"method\":\"textDocument/didOpen\",\"params\":{\"textDocument\":{\"uri\":\"file:///u\",\"languageId\":\"x\",\"version\":1,\"text\":\"a\"}}}\n",
+        ),
+        (
+            Act::OpenY(1, U, "a"),
+            "0 {\"jsonrpc\":\"2.0\",\"method\":\"textDocument/didClose\",\"params\":{\"textDocument\":{\"uri\":\"file:///u\"}}}\n0 {\"jsonrpc\":\"2.0\",\"method\":\"textDocument/didOpen\",\"params\":{\"textDocument\":{\"uri\":\"file:///u\",\"languageId\":\"y\",\"version\":1,\"text\":\"a\"}}}\n",
+        ),
+        (Act::Sync(1), ""),
+        (
+            Act::Sync(0),
+            "0 {\"jsonrpc\":\"2.0\",\"method\":\"textDocument/didClose\",\"params\":{\"textDocument\":{\"uri\":\"file:///u\"}}}\n0 {\"jsonrpc\":\"2.0\",\"method\":\"textDocument/didOpen\",\"params\":{\"textDocument\":{\"uri\":\"file:///u\",\"languageId\":\"x\",\"version\":1,\"text\":\"a\"}}}\n",
+        ),
+        (Act::Sync(0), ""),
+        (Act::Close(1, U), ""),
+        (
+            Act::OpenY(0, U, "a"),
+            "0 {\"jsonrpc\":\"2.0\",\"method\":\"textDocument/didClose\",\"params\":{\"textDocument\":{\"uri\":\"file:///u\"}}}\n0 {\"jsonrpc\":\"2.0\",\"method\":\"textDocument/didOpen\",\"params\":{\"textDocument\":{\"uri\":\"file:///u\",\"languageId\":\"y\",\"version\":1,\"text\":\"a\"}}}\n",
+        ),
+        (Act::OpenY(0, U, "a"), ""),
+    ];
+    assert!(rt; tells(rt.alloc(), 100, &acts)?);
+    Ok(())
+}
+
+#[test]
+fn another_text_in_another_language(rt: HostRuntime) -> Result<(), Memory> {
+    let acts = [
+        (Act::Ready(0, Encoding::Utf16), ""),
+        (
+            Act::Open(0, U, "a"),
+            "0 {\"jsonrpc\":\"2.0\",\"method\":\"textDocument/didOpen\",\"params\":{\"textDocument\":{\"uri\":\"file:///u\",\"languageId\":\"x\",\"version\":1,\"text\":\"a\"}}}\n",
+        ),
+        (
+            Act::OpenY(1, U, "b"),
+            "0 {\"jsonrpc\":\"2.0\",\"method\":\"textDocument/didClose\",\"params\":{\"textDocument\":{\"uri\":\"file:///u\"}}}\n0 {\"jsonrpc\":\"2.0\",\"method\":\"textDocument/didOpen\",\"params\":{\"textDocument\":{\"uri\":\"file:///u\",\"languageId\":\"y\",\"version\":1,\"text\":\"b\"}}}\n",
+        ),
+        (
+            Act::Change(
+                0,
+                "{\"jsonrpc\":\"2.0\",\"method\":\"textDocument/didChange\",\"params\":{\"textDocument\":{\"uri\":\"file:///u\",\"version\":6},\"contentChanges\":[{\"text\":\"b\"}]}}",
+            ),
+            "0 {\"jsonrpc\":\"2.0\",\"method\":\"textDocument/didClose\",\"params\":{\"textDocument\":{\"uri\":\"file:///u\"}}}\n0 {\"jsonrpc\":\"2.0\",\"method\":\"textDocument/didOpen\",\"params\":{\"textDocument\":{\"uri\":\"file:///u\",\"languageId\":\"x\",\"version\":1,\"text\":\"b\"}}}\n",
+        ),
+        (
+            Act::Close(0, U),
+            "0 {\"jsonrpc\":\"2.0\",\"method\":\"textDocument/didClose\",\"params\":{\"textDocument\":{\"uri\":\"file:///u\"}}}\n0 {\"jsonrpc\":\"2.0\",\"method\":\"textDocument/didOpen\",\"params\":{\"textDocument\":{\"uri\":\"file:///u\",\"languageId\":\"y\",\"version\":1,\"text\":\"b\"}}}\n",
+        ),
+    ];
+    assert!(rt; tells(rt.alloc(), 100, &acts)?);
     Ok(())
 }
 
