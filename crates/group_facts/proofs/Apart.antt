@@ -105,7 +105,7 @@ module _ (settings : Settings) (before : List Event) (cause : Cause) (events : L
       (λ z other k. subst (λ (x : Forwarding). All3 Q x.open_requests) (sym (forwarding_other events n body z other)) k) t h
 
   -- an editor's request: it alone is new
-  module _ (k : IsForward settings cause events n body) where
+  module _ (k : IsForward settings before cause events n body) where
     new : Forwarded
     new = record { number = (forwarding_of n events).next; editor = (k.sender).editor; id = (k.sender).id; cancelled = false }
 

@@ -138,7 +138,7 @@ module _ (settings : Settings) (before : List Event) (cause : Cause) (events : L
   numbered_known : (o : Option Sender) (a : Sender) (k : ℕ) → o ≡ Some a → IsAsker sent a.editor a.id → AllByRecursion (IsForwarded sent) (numbered o k)
   numbered_known o a k e known = subst (λ z. AllByRecursion (IsForwarded sent) (numbered z k)) (sym e) (known, tt)
 
-  asked_on : IsForward settings cause events n body → Later n
+  asked_on : IsForward settings before cause events n body → Later n
   asked_on k h = by_message (request (integer (decimal (forwarding_of n events).next)) k.method k.params) k.says
       (subst (λ c. AllByRecursion (IsForwarded sent) (if c then forwarding_of n events else more_requests (forwarding_of n events)).open_requests) (sym k.other)
       (all_join (IsForwarded sent) (forwarding_of n events).open_requests (numbered (forwarding_of n events).sender (forwarding_of n events).next) (still (forwarding_of n events).open_requests h)

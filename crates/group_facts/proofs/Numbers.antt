@@ -232,7 +232,7 @@ module _ (settings : Settings) where
         (omega (arith, a, f, asked, sent_on), omega (arith, f, sent_on))
 
     -- an editor's request
-    asked_on : IsForward settings cause events n body → InBounds n events → InBounds n sent
+    asked_on : IsForward settings before cause events n body → InBounds n events → InBounds n sent
     asked_on k b =
         let m : Message = request (integer (decimal (forwarding_of n events).next)) k.method k.params in
         let a : next_number n sent ≡ next_number n events + 1 = (number_sent events n body m k.says) in

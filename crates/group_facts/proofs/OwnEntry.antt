@@ -210,13 +210,13 @@ module _ (settings : Settings) (before : List Event) (n : ℕ) (body : List ℕ)
           quiet_sync : AllByRecursion NoSpawn sync
           quiet_sync = all_outs NoSpawn now sync (quiet_bodies s _ now).why
 
-          forward_is : IsForward settings (FromEditor n body) synced s text
-          forward_is = goes_on settings before n body id method params says there (alone_by before (facts.steady).asked n id fresh) range (facts.base).opened late other g s can
+          forward_is : IsForward settings before (FromEditor n body) synced s text
+          forward_is = goes_on settings before n body id method params says there (alone_by before (facts.steady).asked n id fresh) range (facts.base).opened late other g s start can
 
           list_now : (forwarding_of s gone).open_requests ≡ (forwarding_of s synced).open_requests ++ numbered (Some (record { editor = n; id = id_bytes body })) (forwarding_of s synced).next
           list_now = ap (λ (x : Forwarding). x.open_requests) (forwarding_sent synced s text (request (integer (decimal (forwarding_of s synced).next)) forward_is.method forward_is.params) forward_is.says
               ∙ ap (λ c. if c then forwarding_of s synced else more_requests (forwarding_of s synced)) forward_is.other)
-              ∙ ap (λ o. (forwarding_of s synced).open_requests ++ numbered o (forwarding_of s synced).next) (synced_sender settings before n body id method params says there (alone_by before (facts.steady).asked n id fresh) range (facts.base).opened late other g s can)
+              ∙ ap (λ o. (forwarding_of s synced).open_requests ++ numbered o (forwarding_of s synced).next) (synced_sender settings before n body id method params says there (alone_by before (facts.steady).asked n id fresh) range (facts.base).opened late other g s start can)
 
           sent_now : SentAt settings gone n id
           sent_now = record {

@@ -1,5 +1,5 @@
 -- E8 and E10: a request of an editor comes too early, or goes on behind a sync, or is refused.
-use Rattle.std.proofs.Common.{◌≡◌, ℕ, Bool, true, false, ◌||◌, List, [], ◌∷◌, ◌<◌, ◌^◌, nat_lt, codes, bytes_eq, decimal, if◌then◌else◌, Option, None, Some, refl, sym, ◌∙◌, ap, ap₂, subst, arith, ltb-true}
+use Rattle.std.proofs.Common.{◌≡◌, ℕ, Bool, true, false, ◌||◌, List, [], ◌∷◌, ◌<◌, ◌^◌, map, nat_lt, codes, bytes_eq, decimal, if◌then◌else◌, Option, None, Some, refl, sym, ◌∙◌, ap, ap₂, subst, arith, ltb-true}
 use Rattle.std.proofs.lemmas.Bool.{and_parts}
 use Rattle.std.proofs.lemmas.Slice.Eq.{bytes_eq-Decides}
 use Rattle.json_text.specs.declared.kind.Word.TheVariants.{Null}
@@ -7,6 +7,8 @@ use Rattle.json_text.specs.Json.{Json, word}
 use Rattle.document_model.specs.Opens.{Open}
 use Rattle.mux_history.specs.declared.cause.Cause.TheVariants.{FromEditor}
 use Rattle.mux_history.specs.declared.out.Out.{Out}
+use Rattle.mux_history.specs.declared.out.Out.TheVariants.{ToServer}
+use Rattle.document_model.specs.Sayings.{saying_of, speaks}
 use Rattle.rpc_message.specs.Message.{Message, request, result, Id, integer, message_of, id_bytes}
 use Rattle.rpc_message.specs.Texts.{Code, invalid_params, invalid_request, ok_text, with_id_text, request_failed, error_tree}
 use Rattle.rpc_message.proofs.Decimals.{decimal_law}
@@ -200,10 +202,17 @@ module _ (settings : Settings) (before : List Event) (e : ℕ) (body : List ℕ)
     late_refused code late = early code (λ at. absurd (late_not (desk_of e asked).phase (late_taken before e body late) at))
 
     module _ (range : InRange settings) (opened : Opened settings before) (late : is_early (desk_of e before).phase ≡ false) (other : is_own method ≡ false) where
+      no_shutdown : bytes_eq (codes "shutdown") method ≡ false
+      no_shutdown = turned_round (codes "shutdown") method (right (bytes_eq method (codes "initialize")) (bytes_eq method (codes "shutdown")) other)
+        where
+          right : (a b : Bool) → (a || b) ≡ false → b ≡ false
+          right true b h = absurd (cc)
+          right false b h = h
+
       fails : Because R asked (answer_error e body request_failed)
       fails = late_refused request_failed late
 
-      module _ (g s : ℕ) (can : can_ask settings s before ≡ true) where
+      module _ (g s : ℕ) (start : start_of g before ≡ Some s) (can : can_ask settings s before ≡ true) where
         abbrev bodies : List (List ℕ)
         bodies = sync_bodies settings.limits.versions (λ u. held_at s u before) e (texts_of settings g before).opens
 
@@ -218,11 +227,20 @@ module _ (settings : Settings) (before : List Event) (e : ℕ) (body : List ℕ)
         sync = sync_told settings range before (FromEditor e body) asked s (λ u. held_at s u before) e (texts_of settings g before).opens (opened g).orderly.once (opened g).spelt asked
             (calm_now settings range before e body s parts.0) (all_held (texts_of settings g before).opens)
 
-        goes : (events : List Event) → Calm settings range before (FromEditor e body) asked s events → IsForward settings (FromEditor e body) events s (with_id_text body (decimal (forwarding_of s events).next))
-        goes events calm = record {
+        goes : (events : List Event) → events ≡ behind asked (map (λ text. ToServer s text) bodies) → Calm settings range before (FromEditor e body) asked s events
+            → IsForward settings before (FromEditor e body) events s (with_id_text body (decimal (forwarding_of s events).next))
+        goes events place calm = record {
           sender = record { editor = e; id = id_bytes body };
           asked = body;
           from = refl;
+          synced = record {
+            group = g;
+            start = start;
+            ready = parts.0;
+            stays = ap (requests (codes "shutdown")) says ∙ no_shutdown;
+            silent = ap (λ m. speaks (saying_of m)) says;
+            place = place;
+          };
           bytes = refl;
           id = id;
           method = method;
@@ -254,17 +272,17 @@ module _ (settings : Settings) (before : List Event) (e : ℕ) (body : List ℕ)
         pub synced_sender : (forwarding_of s synced).sender ≡ Some (record { editor = e; id = id_bytes body })
         synced_sender = synced_calm.still.sender ∙ ap (λ (x : Forwarding). x.sender) (forwarding_more s before (heard (FromEditor e body))) ∙ ap (sender_of e body) says
 
-        pub goes_on : IsForward settings (FromEditor e body) synced s (with_id_text body (decimal (forwarding_of s synced).next))
-        goes_on = goes synced synced_calm
+        pub goes_on : IsForward settings before (FromEditor e body) synced s (with_id_text body (decimal (forwarding_of s synced).next))
+        goes_on = goes synced (ap (behind asked) (outs_to_start s bodies asked)) synced_calm
 
         asks : Because R asked (sync_row settings before g s e ⨾ forward s body)
         asks = by_then (tells_row settings range before (FromEditor e body) asked s asked bodies sync) (by_look (by_send (forwarded goes_on)))
 
-      at_start : (g s : ℕ) → Because R asked (request_at settings before e body g s)
-      at_start g s = by_choose (λ can. asks g s can) (λ cannot. fails)
+      at_start : (g s : ℕ) → start_of g before ≡ Some s → Because R asked (request_at settings before e body g s)
+      at_start g s start = by_choose (λ can. asks g s start can) (λ cannot. fails)
 
       at_group : (g : ℕ) → Because R asked (on (start_of g before) (answer_error e body request_failed) (request_at settings before e body g))
-      at_group g = by_on (λ none. fails) (λ s start. at_start g s)
+      at_group g = by_on (λ none. fails) (λ s start. at_start g s start)
 
       -- E10
       pub request_why : Because R asked (request_row settings before e body)

@@ -1,5 +1,5 @@
 -- Why each out of the routing table over several editors and groups is sent, with what is known at its place: `before` are the events before the entry, `events` those before the out.
-use Rattle.std.specs.Prelude.{◌≡◌, ℕ, ◌<◌, Bool, true, false, not, ◌&&◌, List, [], ◌∷◌, ◌++◌, find, length, nat_eq, nat_lt, codes, decimal}
+use Rattle.std.specs.Prelude.{◌≡◌, ℕ, ◌<◌, Bool, true, false, not, ◌&&◌, List, [], ◌∷◌, ◌++◌, find, length, map, nat_eq, nat_lt, codes, decimal}
 use Rattle.std.specs.Prelude.{Option, Some, None}
 use Rattle.std.specs.List.{list_any}
 use Rattle.std.specs.Option.{option_map}
@@ -16,14 +16,14 @@ use Rattle.rpc_message.specs.ValueTexts.{IsIdText}
 use Rattle.event_model.specs.declared.phase.Phase.TheVariants.{Waiting}
 use Rattle.event_model.specs.declared.stage.Stage.{Stage}
 use Rattle.event_model.specs.declared.stage.Stage.TheVariants.{Spawning, Initializing, Ready, Stopping}
-use Rattle.event_model.specs.Event.{Event, events_of, heard, said, with_cause, same_id}
+use Rattle.event_model.specs.Event.{Event, behind, events_of, heard, requests, said, with_cause, same_id}
 use Rattle.event_model.specs.Members.{named_of}
 use Rattle.event_model.specs.Parts.{server_part}
 use Rattle.event_model.specs.Phases.{desk_of, has_id, is_there, is_malformed}
 use Rattle.event_model.specs.Requests.{next_number, answered_id, open_of, is_open, is_own}
 use Rattle.event_model.specs.Settings.{Settings}
-use Rattle.event_model.specs.Spawns.{starts_of}
-use Rattle.event_model.specs.Stages.{is_first_result, is_initializing, is_spawning, life_of}
+use Rattle.event_model.specs.Spawns.{start_of, starts_of}
+use Rattle.event_model.specs.Stages.{is_first_result, is_initializing, is_ready, is_spawning, life_of}
 use Rattle.mux_facts.specs.Allowed.{AllowsSaying, is_response}
 use Rattle.mux_model.specs.Documents.{held_at}
 use Rattle.document_model.specs.Helds.{HeldText}
@@ -31,6 +31,8 @@ use Rattle.group_words.specs.Houses.{groups_of}
 use Rattle.group_rows.specs.Ends.{answers_shutdown}
 use Rattle.group_rows.specs.Forwarded.{Forwarded, Sender, answered_by, forwarding_of}
 use Rattle.group_rows.specs.Leaves.{cancel_text}
+use Rattle.group_rows.specs.Rows.{sync_bodies}
+use Rattle.group_rows.specs.Texts.{texts_of}
 use Rattle.group_facts.specs.Built.{is_left}
 use Rattle.group_facts.specs.Facts.{IsAlone, IsWaiting, ends_link, is_early, turned_away}
 use Rattle.group_facts.specs.Lively.{IsDying}
@@ -73,11 +75,21 @@ pub record IsGreeting (before : List Event) (cause : Cause) (events : List Event
   pub part : server_part s events ≡ server_part s before ++ heard cause ∷ []
   pub says : message_of body ≡ notification (codes "initialized") params
 
+-- s, the ready start of e's group, was told of e's documents and of nothing else in this entry, which is about a message of e that changes no document (LSP 3.17, Text Document Synchronization)
+pub record IsBehindSync (settings : Settings) (before : List Event) (events : List Event) (s e : ℕ) (asked : List ℕ) : Type 0 where
+  pub group : ℕ
+  pub start : start_of group before ≡ Some s
+  pub ready : is_ready (life_of s before).stage ≡ true
+  pub stays : requests (codes "shutdown") (message_of asked) ≡ false
+  pub silent : speaks (saying_of (message_of asked)) ≡ false
+  pub place : events ≡ behind (with_cause before (FromEditor e asked)) (map (λ text. ToServer s text) (sync_bodies settings.limits.versions (λ u. held_at s u before) e (texts_of settings group before).opens))
+
 -- the request of an editor, which is at work, goes under the next number to s, which is ready
-pub record IsForward (settings : Settings) (cause : Cause) (events : List Event) (s : ℕ) (body : List ℕ) : Type 0 where
+pub record IsForward (settings : Settings) (before : List Event) (cause : Cause) (events : List Event) (s : ℕ) (body : List ℕ) : Type 0 where
   pub sender : Sender
   pub asked : List ℕ
   pub from : cause ≡ FromEditor sender.editor asked
+  pub synced : IsBehindSync settings before events s sender.editor asked
   pub bytes : body ≡ with_id_text asked (decimal (forwarding_of s events).next)
   pub id : Id
   pub method : List ℕ
@@ -148,7 +160,7 @@ pub record IsExit (before : List Event) (cause : Cause) (events : List Event) (s
 pub data WhyToServer (settings : Settings) (before : List Event) (cause : Cause) (events : List Event) (s : ℕ) (body : List ℕ) : Type 0 where
   begins : IsBeginning before cause events s body → WhyToServer settings before cause events s body
   greets : IsGreeting before cause events s body → WhyToServer settings before cause events s body
-  forwarded : IsForward settings cause events s body → WhyToServer settings before cause events s body
+  forwarded : IsForward settings before cause events s body → WhyToServer settings before cause events s body
   tells : IsTelling before cause events s body → WhyToServer settings before cause events s body
   shuts : IsShutting settings before cause events s body → WhyToServer settings before cause events s body
   cancels : IsCancel before cause events s body → WhyToServer settings before cause events s body

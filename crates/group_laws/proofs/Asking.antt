@@ -97,7 +97,7 @@ sync_speaks versions e held (o ∷ os) small spelt = go (nat_eq o.editor e) (syn
     go true rest = all_append Speaks (rows.synced versions o (held o.uri)) (rows.sync_bodies versions held e os) (synced_speaks versions o (held o.uri) small spelt.0) rest
     go false rest = rest
 
-abbrev to : ℕ → List (List ℕ) → List Out
+abbrev pub to : ℕ → List (List ℕ) → List Out
 to s bodies = map (λ b. ToServer s b) bodies
 
 -- bodies to a start leave whose message is at work, and the groups of the starts

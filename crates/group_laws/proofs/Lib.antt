@@ -10,3 +10,4 @@ pub mod Replaying
 pub mod Syncing
 pub mod SyncHeld
 pub mod Touching
+pub mod OwnTexts

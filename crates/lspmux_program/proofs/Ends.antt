@@ -15,6 +15,7 @@ use Rattle.lspmux_program.proofs.Driving.{append_both, take_more}
 use Rattle.lspmux_program.proofs.Passing.{not_too_many}
 use Rattle.lspmux_program.specs.Lines.{lines_of}
 use Rattle.drive_text.specs.Outs.{outs_text}
+use Rattle.group_facts.specs.OwnTexts.{OwnTexts}
 use Rattle.group_sessions.proofs.Sessions.{sessions_kept}
 use Rattle.lspmux_program.specs.Program.{status_of, fault_line, status_line, refused_line, Ran, Drove, JournalTells, words_line, IsUnrefused, Undisturbed}
 use Rattle.lspmux_program.specs.Reports.{Wrote, Reported, said, unsaid}
@@ -26,6 +27,7 @@ ran_built_in : {J : Type 0} (told : J → Option (List Entry)) (journal : J) (in
 ran_built_in told journal input left w v hub result d s j = record {
   history = d.history;
   legal = subst (λ q. Legal q d.history) s d.stands.legal;
+  own = subst (λ q. OwnTexts q d.history) s d.stands.own;
   few = d.stands.few;
   told_by = subst (λ q. Tells (told q) d.history) (sym j) d.stands.told_by;
   rest = d.rest;
@@ -53,6 +55,7 @@ pub never_ran : {J : Type 0} (told : J → Option (List Entry)) (journal : J) (i
 never_ran told journal input w t = record {
   history = [];
   legal = tt;
+  own = tt;
   few = lit≤ tt;
   told_by = t;
   rest = option_map lines_of input;
@@ -72,6 +75,7 @@ drove_done told journal input left w v failed r = record {
   history = r.history;
   legal = r.legal;
   sessions = sessions_kept built_in (record { requests = lit< tt; versions = lit< tt }) r.history r.legal;
+  own = r.own;
   few = r.few;
   told_by = r.told_by;
   finished = λ _. record { gives = given_input input (record { history = r.history; refused = None }) r.done.1; wrote = r.done.0 };
@@ -108,6 +112,7 @@ silent told journal input left w v u failed s status r m six seven nine l e = re
   history = r.history;
   legal = r.legal;
   sessions = sessions_kept built_in (record { requests = lit< tt; versions = lit< tt }) r.history r.legal;
+  own = r.own;
   few = r.few;
   told_by = r.told_by;
   finished = λ e. absurd (omega (arith, e, m));
@@ -142,6 +147,7 @@ spoken told journal input left w v u failed s status r m o f six seven nine = re
   history = r.history;
   legal = r.legal;
   sessions = sessions_kept built_in (record { requests = lit< tt; versions = lit< tt }) r.history r.legal;
+  own = r.own;
   few = r.few;
   told_by = r.told_by;
   finished = λ e. absurd (omega (arith, e, m));
@@ -164,6 +170,7 @@ refused_at told journal input left w v u failed k refusal r f = record {
   history = r.history;
   legal = r.legal;
   sessions = sessions_kept built_in (record { requests = lit< tt; versions = lit< tt }) r.history r.legal;
+  own = r.own;
   few = r.few;
   told_by = r.told_by;
   finished = λ e. absurd (omega (arith, e));
@@ -200,6 +207,7 @@ drove_words told journal input left w v failed t f = record {
   history = [];
   legal = tt;
   sessions = sessions_kept built_in (record { requests = lit< tt; versions = lit< tt }) [] tt;
+  own = tt;
   few = lit≤ tt;
   told_by = t;
   finished = λ e. absurd (omega (arith, e));

@@ -8,6 +8,7 @@ use Rattle.mux_hub.specs.Hubs.{Tells}
 use Rattle.event_model.specs.Event.{events_of}
 use Rattle.session_laws.specs.Sessions.{KeepsSessions}
 use Rattle.group_facts.specs.Legal.{Legal}
+use Rattle.group_facts.specs.OwnTexts.{OwnTexts}
 use Rattle.outside_io.specs.Faults.{Rose}
 use Rattle.lspmux_program.specs.declared.refusal.Refusal.{Refusal}
 use Rattle.lspmux_program.specs.declared.refusal.Refusal.TheVariants.{Form, Absent, Unbuilt}
@@ -78,6 +79,7 @@ JournalRose faults _ _ = ⊥
 pub record Ran {J : Type 0} (told : J → Option (List Entry)) (journal : J) (input left : Option (List ℕ)) (written now : Option (List ℕ)) (result : Result (Unit {0}) Stop) : Type 0 where
   pub history : List Entry
   pub legal : Legal built_in history
+  pub own : OwnTexts built_in history
   pub few : length (events_of history) ≤ most_events
   pub told_by : Tells (told journal) history
   pub rest : Option (List Line)
@@ -114,12 +116,13 @@ pub record CutOff (input left before now : Option (List ℕ)) (failed : Type 0) 
   -- status 9: the next line isn't refused; with its entry the causes and outs would be more than 2^63 - 1
   pub too_many : status ≡ 9 → IfSome rest (PassesFirst built_in history)
 
--- a run of the program: there is a legal history of conforming sessions, of at most 2^63 - 1 causes and outs, which the journal tells
--- where it tells
+-- a run of the program: there is a legal history of conforming sessions, in which each message that went on behind a sync stood on its
+-- editor's own texts, of at most 2^63 - 1 causes and outs, which the journal tells where it tells
 pub record Drove {J : Type 0} (told : J → Option (List Entry)) (journal : Option J) (input left before now : Option (List ℕ)) (failed : Type 0) (status : ℕ) : Type 0 where
   pub history : List Entry
   pub legal : Legal built_in history
   pub sessions : KeepsSessions history
+  pub own : OwnTexts built_in history
   pub few : length (events_of history) ≤ most_events
   pub told_by : JournalTells told journal history
   pub finished : status ≡ 0 → Finished input before now history

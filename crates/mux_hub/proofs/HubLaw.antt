@@ -28,6 +28,7 @@ use Rattle.mux_hub.specs.Faults.{Counted, step_fault_of}
 use Rattle.mux_hub.specs.declared.fault.StepFault.{StepFault}
 use Rattle.mux_history.specs.declared.journal.JournalFault.{JournalFault}
 use Rattle.mux_history.specs.declared.journal.JournalFault.TheVariants.{Failed, Memory}
+use Rattle.mux_hub.proofs.OwnTexts.{own_more}
 use Rattle.mux_hub.proofs.Counting.{at_most, entry_counts, few_of, passes_by, too_many}
 use Rattle.mux_hub.specs.Hubs.{HubView, HubStands, IsSound, TablesStand, Tells}
 
@@ -82,14 +83,16 @@ stepped told hub cause xs now counts servers count journal history h s range f b
     let old : hub.events ≡ length (events_of history) = h.count s in
     let longer : events_of (history ++ entry_of hub.settings history cause ∷ []) ≡ with_entry events (entry_of hub.settings history cause) = fold-append with_entry [] history (entry_of hub.settings history cause ∷ []) in
     let same : with_entry events (entry_record cause xs) ≡ with_entry events (entry_of hub.settings history cause) = ap (λ ys. with_entry events (entry_record cause ys)) outs in
+    let standing : TablesStand hub.settings now counts servers (events_of (history ++ entry_of hub.settings history cause ∷ [])) = subst (λ evs. TablesStand hub.settings now counts servers evs) (same ∙ sym longer) turned.1 in
     record {
       outs = outs;
       stands = record {
         legal = legal_more hub.settings history cause h.legal f b;
         told_by = told_more (told journal) (told hub.journal) history (entry_of hub.settings history cause) (entry_record cause xs) h.told_by t (ap (entry_record cause) outs);
+        own = own_more hub.settings range hub.tables now history cause h.legal b (h.tables s).tables (h.tables s).documents standing.tables standing.documents h.own;
         few = few_of (length (events_of (history ++ entry_of hub.settings history cause ∷ []))) (ap (nat_lt most_events) more ∙ passes_by hub.settings history cause hub.events xs false old outs kept.1);
         count = λ _. omega (arith, kept.0, more, same_outs, old);
-        tables = λ n. subst (λ evs. TablesStand hub.settings now counts servers evs) (same ∙ sym longer) turned.1;
+        tables = λ n. standing;
       };
     }
 
@@ -122,7 +125,7 @@ built_answer told hub history cause result range says h s =
 -- tables and counts of nothing stand for the empty history, and are sound
 pub begins : {J : Type 0} (told : J → Option (List Entry)) (settings : Settings) (kept : Tables) (counts places : List ℕ) (journal : J) → Tells (told journal) [] → Stands settings kept [] → DocumentsStand settings nothing_owed kept []
     → BacklogsStand counts [] → places ≡ [] → HubStands told (record { settings = settings; tables = kept; backlogs = counts; starts = places; events = 0; spent = false; journal = journal }) []
-begins told settings kept counts places journal t s d b p = record { legal = tt; told_by = t; few = lit≤ tt; count = λ _. refl; tables = λ _. record { tables = s; documents = d; backlogs = b; servers = p } }
+begins told settings kept counts places journal t s d b p = record { legal = tt; told_by = t; own = tt; few = lit≤ tt; count = λ _. refl; tables = λ _. record { tables = s; documents = d; backlogs = b; servers = p } }
 
 pub begins_sound : (settings : Settings) (kept : Tables) → 2 ≤ settings.limits.requests → 1 ≤ settings.limits.versions → HaveCeilings settings.servers → Stands settings kept [] → DocumentsStand settings nothing_owed kept []
     → IsSound settings kept

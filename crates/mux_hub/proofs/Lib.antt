@@ -1,4 +1,5 @@
 pub mod Counting
 pub mod Counts
 pub mod HubLaw
+pub mod OwnTexts
 pub mod Spawned

@@ -5,6 +5,7 @@ use Rattle.event_model.specs.Event.{Event, events_of}
 use Rattle.event_model.specs.Settings.{Settings}
 use Rattle.mux_facts.specs.Ranges.{InRange}
 use Rattle.group_facts.specs.Legal.{Legal}
+use Rattle.group_facts.specs.OwnTexts.{OwnTexts}
 use Rattle.mux_tables.specs.declared.tables.Tables.{Tables}
 use Rattle.mux_tables.specs.Documents.{DocumentsStand, nothing_owed}
 use Rattle.mux_tables.specs.Stands.{Stands}
@@ -34,11 +35,12 @@ pub record TablesStand (settings : Settings) (kept : Tables) (counts places : Li
   pub backlogs : BacklogsStand counts events
   pub servers : places ≡ servers_of settings events
 
--- the history is legal and the journal's, its causes and outs are at most 2^63 - 1, and the tables and the count of a hub that isn't
--- spent are those of it
+-- the history is legal and the journal's, each message that went on behind a sync stood on its editor's own texts, its causes and
+-- outs are at most 2^63 - 1, and the tables and the count of a hub that isn't spent are those of it
 pub record HubStands {J : Type 0} (told : J → Option (List Entry)) (hub : HubView J) (history : List Entry) : Type 0 where
   pub legal : Legal hub.settings history
   pub told_by : Tells (told hub.journal) history
+  pub own : OwnTexts hub.settings history
   pub few : length (events_of history) ≤ most_events
   pub count : hub.spent ≡ false → hub.events ≡ length (events_of history)
   pub tables : hub.spent ≡ false → TablesStand hub.settings hub.tables hub.backlogs hub.starts (events_of history)

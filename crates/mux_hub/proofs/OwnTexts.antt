@@ -1,0 +1,155 @@
+-- Behind one more entry each message that went on behind a sync stood on its editor's own texts.
+use Rattle.std.proofs.Common.{◌≡◌, ℕ, ◌≤◌, ◌<◌, ◌^◌, Bool, true, false, not, ◌||◌, List, [], ◌∷◌, ◌++◌, length, map, fold, codes, bytes_eq, nat_lt, refl, sym, ◌∙◌, ap, ap₂, subst, append-nil, append_assoc, arith, ltb-true}
+use Rattle.std.specs.Prelude.{Option, Some, None, slice_get, IsTrue}
+use Rattle.std.proofs.lemmas.Bool.Decides.{nat_tests}
+use Rattle.std.proofs.lemmas.Option.{same_Some}
+use Rattle.mux_history.specs.declared.cause.Cause.{Cause}
+use Rattle.mux_history.specs.declared.cause.Cause.TheVariants.{FromEditor}
+use Rattle.mux_history.specs.declared.entry.Entry.{Entry}
+use Rattle.mux_history.specs.declared.out.Out.{Out}
+use Rattle.mux_history.specs.declared.out.Out.TheVariants.{ToEditor, ToServer, Spawn, CloseEditor, EndServer}
+use Rattle.rpc_message.specs.Message.{Message, request, notification, message_of}
+use Rattle.rpc_message.specs.Message as message
+use Rattle.document_model.specs.Helds.{HeldText}
+use Rattle.document_model.specs.Opens.{Open, holder}
+use Rattle.document_model.specs.Sayings.{saying_of, speaks}
+use Rattle.document_model.specs.Texts.{Texts, found}
+use Rattle.document_laws.specs.Follows.{Matches}
+use Rattle.event_model.specs.declared.stage.Stage.{Stage}
+use Rattle.event_model.specs.declared.stage.Stage.TheVariants.{Ready}
+use Rattle.event_model.specs.Event.{Event, behind, events_of, heard, said, with_cause}
+use Rattle.event_model.specs.Settings.{Settings}
+use Rattle.event_model.specs.Spawns.{group_behind, group_of, start_of}
+use Rattle.event_model.specs.Stages.{Life, is_ready, life_of}
+use Rattle.event_model.proofs.Frames.{never, one_more, outs_more}
+use Rattle.event_model.proofs.Places.{item_at}
+use Rattle.focus_switch.specs.Documents.{Documents, version_held}
+use Rattle.mux_facts.specs.Allowed.{is_response}
+use Rattle.mux_facts.specs.Ranges.{InRange}
+use Rattle.mux_facts.proofs.DocumentRow.{ready_is}
+use Rattle.mux_facts.proofs.Reasons.{Reasons}
+use Rattle.mux_model.specs.Documents.{held_at}
+use Rattle.group_rows.specs.Texts.{is_synced, texts_of, worker_behind, worker_of}
+use Rattle.group_facts.specs.Built.{built}
+use Rattle.group_facts.specs.Legal.{Legal}
+use Rattle.group_facts.specs.OwnTexts.{Agrees, AllHaveHolders, AllOnOwnTexts, HasHolders, OnOwnTexts, OwnTexts, OwnTextsFrom}
+use Rattle.group_facts.specs.Why.{IsBehindSync, IsForward, Why, WhyToServer, begins, cancels, exits, forwarded, greets, responds, shuts, tells}
+use Rattle.group_facts.proofs.Known.{facts_hold}
+use Rattle.group_facts.proofs.Table.{reasons}
+use Rattle.group_laws.specs.Stands.{HeldStands}
+use Rattle.group_laws.proofs.OwnTexts.{own_texts}
+use Rattle.group_laws.proofs.Asking.{to}
+use Rattle.mux_tables.specs.declared.tables.Start.{Start}
+use Rattle.mux_tables.specs.declared.tables.Tables.{Tables}
+use Rattle.mux_tables.specs.Documents.{DocumentsStand, SharedStands, nothing_owed}
+use Rattle.mux_tables.specs.Stands.{Stands, of_life}
+use Rattle.mux_tables.proofs.DocumentAsked.{worker_stays}
+use Rattle.mux_tables.proofs.DocumentMoves.{documents_at}
+use Rattle.mux_hub.specs.Entries.{emits, entry_of}
+
+module _ (settings : Settings) (t : Tables) (before : List Event) (st : Stands settings t before) (ds : DocumentsStand settings nothing_owed t before) where
+  -- the last start of a group that has one
+  last_of : (g s : ℕ) → start_of g before ≡ Some s → (x : Start) × (slice_get t.lasts.items g ≡ Some x) × (x.life.start ≡ s)
+  last_of g s is = by (nat_lt g (length t.lasts.items)) refl
+    where
+      by : (b : Bool) → nat_lt g (length t.lasts.items) ≡ b → (x : Start) × (slice_get t.lasts.items g ≡ Some x) × (x.life.start ≡ s)
+      by true l = let at = item_at t.lasts.items g (ltb-true g (length t.lasts.items) l) in (at.0, at.1, same_Some (sym ((st.lasts.each g at.0 at.1).start) ∙ is))
+      by false l = let h : length t.lasts.items ≤ g = grind (arith, nat_tests) in absurd (let e : start_of g before ≡ None = st.lasts.none g h in cc)
+
+  -- the documents of a group whose last start is ready
+  shared_of : (g s : ℕ) (x : Start) (d : Documents) → slice_get t.lasts.items g ≡ Some x → x.life.start ≡ s → slice_get t.documents.items g ≡ Some d → is_ready (life_of s before).stage ≡ true → SharedStands settings before [] g s Ready d
+  shared_of g s x d at same has ready =
+      let stage : x.life.stage ≡ Ready = ready_is x.life.stage (ap (λ (l : Life). is_ready l.stage) (sym (subst (λ n. life_of n before ≡ record { stage = x.life.stage; started = x.started }) same ((st.lasts.each g x at).parts of_life))) ∙ ready) in
+      subst (λ n. SharedStands settings before [] g n Ready d) same (subst (λ (q : Stage). SharedStands settings before [] g x.life.start q d) stage (ds.each g x d at has))
+
+  group_told : (s n : ℕ) (bodies : List (List ℕ)) (w : Option ℕ) → fold (group_behind n) w (map said (to s bodies)) ≡ w
+  group_told s n [] w = refl
+  group_told s n (b ∷ bodies) w = group_told s n bodies w
+
+  -- the editor's documents were told to the start of its group
+  behind_sync : (events : List Event) (s e : ℕ) (asked : List ℕ) → IsBehindSync settings before events s e asked → (w g : ℕ) → worker_of events ≡ Some w → group_of s events ≡ Some g
+      → (u : List ℕ) (o : Open) → found w u (texts_of settings g events) ≡ Some o → Agrees o (held_at s u events)
+  behind_sync events s e asked k w g works home u o is =
+      let x = last_of k.group s k.start in
+      let d = documents_at settings nothing_owed t before k.group x.0 x.1 ds in
+      let shared = shared_of k.group s x.0 d.0 x.1 x.2 d.1 k.ready in
+      let few : d.0.versions < 2 ^ 32 = subst (λ n. n < 2 ^ 32) (sym (shared.versions ∙ ds.versions)) ds.range in
+      let holds : HeldStands s shared.start.code d.0 before = subst (λ es. HeldStands s shared.start.code d.0 es) (append-nil before) shared.start.holds in
+      let worker : w ≡ e = same_Some (sym works ∙ (ap worker_of k.place ∙ (worker_stays (with_cause before (FromEditor e asked)) _ ∙ one_more worker_behind None (worker_of before) before (heard (FromEditor e asked)) refl))) in
+      let lived : group_of s before ≡ Some k.group = subst (λ n. group_of n before ≡ Some k.group) x.2 (st.lasts.each k.group x.0 x.1).home in
+      let group : g ≡ k.group = same_Some (sym home ∙ (ap (group_of s) k.place ∙ (outs_more (group_behind s) None (Some k.group) (with_cause before (FromEditor e asked)) _ (one_more (group_behind s) None (Some k.group) before (heard (FromEditor e asked)) lived) ∙ group_told s s _ (Some k.group)))) in
+      let own = own_texts settings k.group s e shared.start.code before asked d.0 k.stays k.silent shared.versions few shared.texts holds u o
+          (subst (λ es. found e u (texts_of settings k.group es) ≡ Some o) k.place (subst (λ n. found e u (texts_of settings n events) ≡ Some o) group (subst (λ n. found n u (texts_of settings g events) ≡ Some o) worker is))) in
+      subst (λ es. Agrees o (held_at s u es)) (sym k.place) (agrees (held_at s u _) own.0 own.1 own.2)
+    where
+      agrees : (k : Option HeldText) (h : HeldText) → k ≡ Some h → h.text ≡ o.text → Agrees o k
+      agrees k h is same = subst (Agrees o) (sym is) same
+
+  -- what else goes to a start goes without a sync
+  unsynced : {A : Type 0} (body : List ℕ) (m : Message) → message_of body ≡ m → is_synced m ≡ false → is_synced (message_of body) ≡ true → A
+  unsynced body m says aside goes = never (sym goes ∙ (ap is_synced says ∙ aside))
+
+  spoken_aside : (m : Message) → speaks (saying_of m) ≡ true → is_synced m ≡ false
+  spoken_aside (notification method ps) h = rw h refl
+  spoken_aside other h = never (sym h)
+
+  answer_aside : (m : Message) → is_response m ≡ true → is_synced m ≡ false
+  answer_aside (request id method ps) h = never (sym h)
+  answer_aside (notification method ps) h = never (sym h)
+  answer_aside other h = refl
+
+  by_reason : (cause : Cause) (events : List Event) (s : ℕ) (body : List ℕ) → WhyToServer settings before cause events s body → is_synced (message_of body) ≡ true → (w g : ℕ) → worker_of events ≡ Some w → group_of s events ≡ Some g
+      → (u : List ℕ) (o : Open) → found w u (texts_of settings g events) ≡ Some o → Agrees o (held_at s u events)
+  by_reason cause events s body (begins k) goes = unsynced body _ k.says refl goes
+  by_reason cause events s body (greets k) goes = unsynced body _ k.says refl goes
+  by_reason cause events s body (forwarded k) goes = behind_sync events s k.sender.editor k.asked k.synced
+  by_reason cause events s body (tells k) goes = never (sym goes ∙ spoken_aside (message_of body) k.spoken)
+  by_reason cause events s body (shuts k) goes = unsynced body _ k.says refl goes
+  by_reason cause events s body (cancels k) goes = unsynced body _ k.says refl goes
+  by_reason cause events s body (responds k) goes = never (sym goes ∙ answer_aside (message_of body) k.response)
+  by_reason cause events s body (exits k) goes = unsynced body _ k.says refl goes
+
+  by_why : (cause : Cause) (events : List Event) (out : Out) → Why settings before cause events out → OnOwnTexts settings events out
+  by_why cause events (ToServer s body) why = by_reason cause events s body why
+  by_why cause events (ToEditor e body) why = tt
+  by_why cause events (Spawn s g) why = tt
+  by_why cause events (CloseEditor e) why = tt
+  by_why cause events (EndServer s) why = tt
+
+  pub entry_own : (cause : Cause) (events : List Event) (outs : List Out) → Reasons (Why settings before cause) events outs → AllOnOwnTexts settings events outs
+  entry_own cause events [] why = tt
+  entry_own cause events (out ∷ outs) why = (by_why cause events out why.0, entry_own cause (events ++ said out ∷ []) outs why.1)
+
+  -- what a ready start of a group has
+  pub holders : AllHaveHolders settings before
+  holders g s is ready u =
+      let x = last_of g s is in
+      let d = documents_at settings nothing_owed t before g x.0 x.1 ds in
+      let shared = shared_of g s x.0 d.0 x.1 x.2 d.1 ready in
+      let same : HeldStands s shared.start.code d.0 before = subst (λ es. HeldStands s shared.start.code d.0 es) (append-nil before) shared.start.holds in
+      subst (λ (y : Texts). HasHolders (holder u y.opens) (held_at s u before)) (sym shared.texts.texts) (by (version_held u d.0.helds) (holder u d.0.opens) (held_at s u before) (same.held u))
+    where
+      by : (v : Option ℕ) (o : Option Open) (h : Option HeldText) → Matches v o h → HasHolders o h
+      by (Some v) (Some o) (Some h) m = m.1
+      by (Some v) (Some o) None m = absurd m
+      by (Some v) None h m = absurd m
+      by None (Some o) h m = absurd m
+      by None None (Some h) m = absurd m
+      by None None None m = tt
+
+-- one more entry
+own_from : (settings : Settings) (before rest : List Entry) (entry : Entry) → OwnTextsFrom settings before rest → AllOnOwnTexts settings (with_cause (events_of (before ++ rest)) entry.cause) entry.outs
+    → AllHaveHolders settings (events_of (before ++ (rest ++ entry ∷ []))) → OwnTextsFrom settings before (rest ++ entry ∷ [])
+own_from settings before [] entry h k l = (subst (λ es. AllOnOwnTexts settings (with_cause (events_of es) entry.cause) entry.outs) (append-nil before) k, l, tt)
+own_from settings before (first ∷ rest) entry h k l =
+    let e : (before ++ first ∷ []) ++ rest ≡ before ++ first ∷ rest = append_assoc before (first ∷ []) rest in
+    let f : (before ++ first ∷ []) ++ (rest ++ entry ∷ []) ≡ before ++ first ∷ (rest ++ entry ∷ []) = append_assoc before (first ∷ []) (rest ++ entry ∷ []) in
+    (h.0, h.1, own_from settings (before ++ first ∷ []) rest entry h.2 (subst (λ es. AllOnOwnTexts settings (with_cause (events_of es) entry.cause) entry.outs) (sym e) k) (subst (λ es. AllHaveHolders settings (events_of es)) (sym f) l))
+
+pub own_more : (settings : Settings) → InRange settings → (t u : Tables) (history : List Entry) (cause : Cause) → Legal settings history → IsTrue (built settings history cause) → Stands settings t (events_of history) → DocumentsStand settings nothing_owed t (events_of history)
+    → Stands settings u (events_of (history ++ entry_of settings history cause ∷ [])) → DocumentsStand settings nothing_owed u (events_of (history ++ entry_of settings history cause ∷ []))
+    → OwnTexts settings history → OwnTexts settings (history ++ entry_of settings history cause ∷ [])
+own_more settings range t u history cause legal b st ds now later own =
+    own_from settings [] history (entry_of settings history cause) own
+        (entry_own settings t (events_of history) st ds cause (with_cause (events_of history) cause) (emits settings history cause) (reasons settings range (events_of history) (facts_hold settings range history legal) cause b).why)
+        (holders settings u (events_of (history ++ entry_of settings history cause ∷ [])) now later)
