@@ -23,9 +23,9 @@ use Rattle.document_model.specs.Orderly.{IsSpelt}
 use Rattle.document_model.specs.Sayings.{changes, saying_of}
 use Rattle.document_model.specs.Texts.{found, touched, text_after, changed, texts_behind}
 use Rattle.document_model.specs.Helds.{HeldText}
-use Rattle.document_model.specs.Rows.{agrees, versioned_in, versioned, sent_change}
+use Rattle.document_model.specs.Rows.{Agrees, agrees, versioned_in, versioned, sent_change}
 use Rattle.document_model.specs.Orderly.{Once, Orderly}
-use Rattle.document_laws.specs.Follows.{Agrees, Matches, Held, told_outs}
+use Rattle.document_laws.specs.Follows.{Matches, Held, told_outs}
 use Rattle.document_model.proofs.Holders.{both_true, find_is, found_holder}
 use Rattle.document_model.proofs.Orders.{ChangedTo, changed_is, changed_found}
 use Rattle.document_laws.proofs.Sends.{bodies_of, Stays, send_outs, send_silent, by_match}

@@ -15,9 +15,9 @@ use Rattle.document_laws.specs.Follows.{texts_in}
 use Rattle.document_model.specs.Orderly.{IsSpelt}
 use Rattle.document_model.specs.Texts.{found, touched, opened}
 use Rattle.document_model.specs.Helds.{HeldText}
-use Rattle.document_model.specs.Rows.{sent_open, sent_close}
+use Rattle.document_model.specs.Rows.{Agrees, sent_open, sent_close}
 use Rattle.document_model.specs.Orderly.{Once, Orderly}
-use Rattle.document_laws.specs.Follows.{Agrees, Matches, Held, told_outs}
+use Rattle.document_laws.specs.Follows.{Matches, Held, told_outs}
 use Rattle.document_model.proofs.Holders.{bytes_same, both_true, holder_put, holder_put_other, holder_drop, holder_drop_other, drop_none, find_is, found_holder}
 use Rattle.document_laws.proofs.Sends.{bodies_of, version_behind, Stays, Kept, send_outs, send_silent, send_keeps, told_bodies, row_held, latest_of, find_of, all_there, by_match}
 use Rattle.document_laws.proofs.Owning.{beside_there, differ_own}

@@ -12,7 +12,8 @@ use Rattle.focus_switch.specs.Documents.{Documents, version_held}
 use Rattle.focus_switch.specs.Rows.{version_told, bodies_told, tell, send}
 use Rattle.document_model.specs.Sayings.{saying_of}
 use Rattle.document_model.specs.Helds.{HeldText, told}
-use Rattle.document_laws.specs.Follows.{Agrees, Matches, Held, told_outs}
+use Rattle.document_model.specs.Rows.{Agrees}
+use Rattle.document_laws.specs.Follows.{Matches, Held, told_outs}
 use Rattle.document_laws.proofs.Keeping.{version_put, version_put_other}
 use Rattle.document_model.proofs.Holders.{pick, bytes_same}
 

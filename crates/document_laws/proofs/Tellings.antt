@@ -19,7 +19,8 @@ use Rattle.document_model.specs.Sayings.{Saying, opens, changes, closes, saying_
 use Rattle.document_model.specs.Texts.{text_after}
 use Rattle.document_model.specs.Helds.{HeldText, number_of, changed_held, told}
 use Rattle.document_model.specs.Rows as sent
-use Rattle.document_laws.specs.Follows.{Agrees, Matches}
+use Rattle.document_model.specs.Rows.{Agrees}
+use Rattle.document_laws.specs.Follows.{Matches}
 use Rattle.document_model.proofs.Holders.{both_true, bytes_same}
 use Rattle.document_laws.proofs.Sends.{bodies_of, version_behind, told_bodies}
 

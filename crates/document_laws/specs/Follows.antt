@@ -8,12 +8,9 @@ use Rattle.position_codec.specs.declared.Encoding.{Encoding}
 use Rattle.document_model.specs.Opens.{Open, holder}
 use Rattle.focus_switch.specs.Documents.{Documents, version_held}
 use Rattle.document_model.specs.Helds.{HeldText, told}
+use Rattle.document_model.specs.Rows.{Agrees}
 use Rattle.document_model.specs.Sayings.{saying_of}
 use Rattle.document_model.specs.Texts.{Texts}
-
--- the start has an editor's language and text
-abbrev pub Agrees : Open → HeldText → Type 0
-Agrees o h = (h.language ≡ o.language) × (h.text ≡ o.text)
 
 -- the version that is kept, the holder, and what the start has
 abbrev pub Matches : Option ℕ → Option Open → Option HeldText → Type 0

@@ -1,5 +1,5 @@
 -- What a ready start is sent where an editor opens, changes or closes a document.
-use Rattle.std.specs.Prelude.{ℕ, Bool, ◌+◌, ◌&&◌, List, [], ◌∷◌, nat_lt, bytes_eq, if◌then◌else◌}
+use Rattle.std.specs.Prelude.{◌≡◌, ℕ, Bool, ◌+◌, ◌&&◌, List, [], ◌∷◌, nat_lt, bytes_eq, if◌then◌else◌}
 use Rattle.std.specs.Prelude.{Option, Some, None}
 use Rattle.json_text.specs.Tree.{tree_of}
 use Rattle.json_text.specs.Json.{Json}
@@ -11,6 +11,10 @@ use Rattle.document_model.specs.Helds.{HeldText}
 -- The start agrees with an editor: it has the editor's language and text.
 abbrev pub agrees : Open → HeldText → Bool
 agrees o h = bytes_eq h.language o.language && bytes_eq h.text o.text
+
+-- the same, as a relation
+abbrev pub Agrees : Open → HeldText → Type 0
+Agrees o h = (h.language ≡ o.language) × (h.text ≡ o.text)
 
 -- the whole text of an editor, as a change, or, from another language or at the limit of versions, by closing and opening
 abbrev pub switched : ℕ → Open → HeldText → List (List ℕ)

@@ -7,6 +7,7 @@ use Rattle.mux_history.specs.declared.out.Out.TheVariants.{ToServer}
 use Rattle.rpc_message.specs.Message.{message_of}
 use Rattle.document_model.specs.Helds.{HeldText}
 use Rattle.document_model.specs.Opens.{Open, holder}
+use Rattle.document_model.specs.Rows.{Agrees}
 use Rattle.document_model.specs.Texts.{found}
 use Rattle.event_model.specs.Event.{Event, events_of, said, with_cause}
 use Rattle.event_model.specs.Settings.{Settings}
@@ -15,15 +16,15 @@ use Rattle.event_model.specs.Stages.{is_ready, life_of}
 use Rattle.mux_model.specs.Documents.{held_at}
 use Rattle.group_rows.specs.Texts.{is_synced, texts_of, worker_of}
 
--- a start that has this of a document has it as this editor
-abbrev pub Agrees : Open → Option HeldText → Type 0
-Agrees o None = ⊥
-Agrees o (Some h) = h.text ≡ o.text
+-- a start that has this of a document agrees with an editor
+abbrev pub Owns : Open → Option HeldText → Type 0
+Owns o None = ⊥
+Owns o (Some h) = Agrees o h
 
--- At a body that goes to s behind a sync: of each document that is open at the editor whose message is at work, s has what that editor has.
+-- At a body that goes to s behind a sync: of each document that is open at the editor whose message is at work, s has the text of that editor in its language.
 abbrev pub OnOwnTexts : Settings → List Event → Out → Type 0
 OnOwnTexts settings events (ToServer s body) = is_synced (message_of body) ≡ true → (e g : ℕ) → worker_of events ≡ Some e → group_of s events ≡ Some g
-    → (u : List ℕ) (o : Open) → found e u (texts_of settings g events) ≡ Some o → Agrees o (held_at s u events)
+    → (u : List ℕ) (o : Open) → found e u (texts_of settings g events) ≡ Some o → Owns o (held_at s u events)
 OnOwnTexts settings events other = Unit {0}
 
 -- at each of these outs, behind these events
@@ -35,7 +36,7 @@ AllOnOwnTexts settings events (out ∷ outs) = OnOwnTexts settings events out ×
 abbrev pub HasHolders : Option Open → Option HeldText → Type 0
 HasHolders None None = Unit {0}
 HasHolders None (Some h) = ⊥
-HasHolders (Some o) held = Agrees o held
+HasHolders (Some o) held = Owns o held
 
 -- so do the ready ones, of what is open at the editors of their groups
 abbrev pub AllHaveHolders : Settings → List Event → Type 0

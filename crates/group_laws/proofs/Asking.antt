@@ -13,7 +13,8 @@ use Rattle.document_model.specs.Opens.{Open, holder, is_open_at}
 use Rattle.document_model.specs.Orderly.{AllSpelt, IsSpelt, Once, Orderly}
 use Rattle.document_model.specs.Texts.{Texts}
 use Rattle.document_model.proofs.Spoken.{AllSpeak, Speaks, sent_open_speaks}
-use Rattle.document_laws.specs.Follows.{Agrees, Held, Matches, texts_in, told_outs}
+use Rattle.document_model.specs.Rows.{Agrees}
+use Rattle.document_laws.specs.Follows.{Held, Matches, texts_in, told_outs}
 use Rattle.document_laws.proofs.Sends.{other_way}
 use Rattle.event_model.specs.Event.{Event, behind, heard, said, with_cause}
 use Rattle.event_model.specs.Phases.{desk_of, is_served}

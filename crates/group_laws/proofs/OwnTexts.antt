@@ -1,4 +1,4 @@
--- Where a message of an editor goes on behind a sync, the start has the editor's own text of each document that is open there.
+-- Where a message of an editor goes on behind a sync, the start has of each document that is open there the editor's own text in its language.
 use Rattle.std.proofs.Common.{◌≡◌, ℕ, ◌<◌, ◌^◌, Bool, true, false, ◌&&◌, List, map, find, codes, refl, sym, ◌∙◌, ap, ap₂, subst, if◌then◌else◌, arith}
 use Rattle.std.specs.Prelude.{Option, Some, None}
 use Rattle.mux_history.specs.declared.cause.Cause.TheVariants.{FromEditor}
@@ -7,6 +7,7 @@ use Rattle.rpc_message.specs.Message.{message_of}
 use Rattle.position_codec.specs.declared.Encoding.{Encoding}
 use Rattle.document_model.specs.Helds.{HeldText}
 use Rattle.document_model.specs.Opens.{Open, holder, is_open_at}
+use Rattle.document_model.specs.Rows.{Agrees}
 use Rattle.document_model.specs.Sayings.{Saying, opens, changes, closes, misshapen, nothing, saying_of, speaks}
 use Rattle.document_model.specs.Texts.{Texts, found, texts_behind}
 use Rattle.document_model.proofs.Spoken.{AllSpeak}
@@ -82,7 +83,7 @@ module _ (settings : Settings) (g s e : ℕ) (code : Encoding) (before : List Ev
   mid_held u = ap (λ (x : Sent). x.held) (all_told s u code (held u) bodies now (heard_sent s e u asked code (held u) before (known_sent s u code before holds.given)))
       ∙ ap₂ (λ c xs. told_outs c u (held u) xs) (sym holds.known) (sym outs_are)
 
-  pub own_texts : (u : List ℕ) (o : Open) → found e u (texts_of settings g mid) ≡ Some o → (h : HeldText) × (held_at s u mid ≡ Some h) × (h.text ≡ o.text)
+  pub own_texts : (u : List ℕ) (o : Open) → found e u (texts_of settings g mid) ≡ Some o → (h : HeldText) × (held_at s u mid ≡ Some h) × Agrees o h
   own_texts u o is =
       let at : find (is_open_at e u) d.opens ≡ Some o = ap (λ (x : Texts). find (is_open_at e u) x.opens) (sym mid_texts) ∙ is in
       let best : holder u (sync_row e d).after.opens ≡ Some (record o { touched = d.turn }) = ap (λ (x : Texts). holder u x.opens) (sync_texts e d) ∙ holder_touched e d.turn u o d.opens texts.orderly.once texts.orderly.turns at in
@@ -91,7 +92,7 @@ module _ (settings : Settings) (g s e : ℕ) (code : Encoding) (before : List Ev
       let t = text_of (version_held u (sync_row e d).after.helds) (told_outs d.encoding u (held u) (sync_row e d).outs) (record o { touched = d.turn }) m in
       (t.0, mid_held u ∙ t.1, t.2)
     where
-      text_of : (v : Option ℕ) (k : Option HeldText) (o : Open) → Matches v (Some o) k → (h : HeldText) × (k ≡ Some h) × (h.text ≡ o.text)
+      text_of : (v : Option ℕ) (k : Option HeldText) (o : Open) → Matches v (Some o) k → (h : HeldText) × (k ≡ Some h) × Agrees o h
       text_of (Some v) (Some h) o m = (h, refl, m.1)
       text_of (Some v) None o m = absurd m
       text_of None k o m = absurd m
