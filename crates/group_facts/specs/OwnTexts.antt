@@ -17,14 +17,14 @@ use Rattle.mux_model.specs.Documents.{held_at}
 use Rattle.group_rows.specs.Texts.{is_synced, texts_of, worker_of}
 
 -- a start that has this of a document agrees with an editor
-abbrev pub Owns : Open → Option HeldText → Type 0
-Owns o None = ⊥
-Owns o (Some h) = Agrees o h
+abbrev pub HasOwn : Open → Option HeldText → Type 0
+HasOwn o None = ⊥
+HasOwn o (Some h) = Agrees o h
 
 -- At a body that goes to s behind a sync: of each document that is open at the editor whose message is at work, s has the text of that editor in its language.
 abbrev pub OnOwnTexts : Settings → List Event → Out → Type 0
 OnOwnTexts settings events (ToServer s body) = is_synced (message_of body) ≡ true → (e g : ℕ) → worker_of events ≡ Some e → group_of s events ≡ Some g
-    → (u : List ℕ) (o : Open) → found e u (texts_of settings g events) ≡ Some o → Owns o (held_at s u events)
+    → (u : List ℕ) (o : Open) → found e u (texts_of settings g events) ≡ Some o → HasOwn o (held_at s u events)
 OnOwnTexts settings events other = Unit {0}
 
 -- at each of these outs, behind these events
@@ -36,7 +36,7 @@ AllOnOwnTexts settings events (out ∷ outs) = OnOwnTexts settings events out ×
 abbrev pub HasHolders : Option Open → Option HeldText → Type 0
 HasHolders None None = Unit {0}
 HasHolders None (Some h) = ⊥
-HasHolders (Some o) held = Owns o held
+HasHolders (Some o) held = HasOwn o held
 
 -- so do the ready ones, of what is open at the editors of their groups
 abbrev pub AllHaveHolders : Settings → List Event → Type 0

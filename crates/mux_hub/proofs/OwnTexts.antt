@@ -33,7 +33,7 @@ use Rattle.mux_model.specs.Documents.{held_at}
 use Rattle.group_rows.specs.Texts.{is_synced, texts_of, worker_behind, worker_of}
 use Rattle.group_facts.specs.Built.{built}
 use Rattle.group_facts.specs.Legal.{Legal}
-use Rattle.group_facts.specs.OwnTexts.{AllHaveHolders, AllOnOwnTexts, HasHolders, OnOwnTexts, OwnTexts, OwnTextsFrom, Owns}
+use Rattle.group_facts.specs.OwnTexts.{AllHaveHolders, AllOnOwnTexts, HasHolders, OnOwnTexts, OwnTexts, OwnTextsFrom, HasOwn}
 use Rattle.group_facts.specs.Why.{IsBehindSync, IsForward, Why, WhyToServer, begins, cancels, exits, forwarded, greets, responds, shuts, tells}
 use Rattle.group_facts.proofs.Known.{facts_hold}
 use Rattle.group_facts.proofs.Table.{reasons}
@@ -69,7 +69,7 @@ module _ (settings : Settings) (t : Tables) (before : List Event) (st : Stands s
 
   -- the editor's documents were told to the start of its group
   behind_sync : (events : List Event) (s e : ℕ) (asked : List ℕ) → IsBehindSync settings before events s e asked → (w g : ℕ) → worker_of events ≡ Some w → group_of s events ≡ Some g
-      → (u : List ℕ) (o : Open) → found w u (texts_of settings g events) ≡ Some o → Owns o (held_at s u events)
+      → (u : List ℕ) (o : Open) → found w u (texts_of settings g events) ≡ Some o → HasOwn o (held_at s u events)
   behind_sync events s e asked k w g works home u o is =
       let x = last_of k.group s k.start in
       let d = documents_at settings nothing_owed t before k.group x.0 x.1 ds in
@@ -81,10 +81,10 @@ module _ (settings : Settings) (t : Tables) (before : List Event) (st : Stands s
       let group : g ≡ k.group = same_Some (sym home ∙ (ap (group_of s) k.place ∙ (outs_more (group_behind s) None (Some k.group) (with_cause before (FromEditor e asked)) _ (one_more (group_behind s) None (Some k.group) before (heard (FromEditor e asked)) lived) ∙ group_told s s _ (Some k.group)))) in
       let own = own_texts settings k.group s e shared.start.code before asked d.0 k.stays k.silent shared.versions few shared.texts holds u o
           (subst (λ es. found e u (texts_of settings k.group es) ≡ Some o) k.place (subst (λ n. found e u (texts_of settings n events) ≡ Some o) group (subst (λ n. found n u (texts_of settings g events) ≡ Some o) worker is))) in
-      subst (λ es. Owns o (held_at s u es)) (sym k.place) (agrees (held_at s u _) own.0 own.1 own.2)
+      subst (λ es. HasOwn o (held_at s u es)) (sym k.place) (agrees (held_at s u _) own.0 own.1 own.2)
     where
-      agrees : (k : Option HeldText) (h : HeldText) → k ≡ Some h → Agrees o h → Owns o k
-      agrees k h is same = subst (Owns o) (sym is) same
+      agrees : (k : Option HeldText) (h : HeldText) → k ≡ Some h → Agrees o h → HasOwn o k
+      agrees k h is same = subst (HasOwn o) (sym is) same
 
   -- what else goes to a start goes without a sync
   unsynced : {A : Type 0} (body : List ℕ) (m : Message) → message_of body ≡ m → is_synced m ≡ false → is_synced (message_of body) ≡ true → A
@@ -100,7 +100,7 @@ module _ (settings : Settings) (t : Tables) (before : List Event) (st : Stands s
   answer_aside other h = refl
 
   by_reason : (cause : Cause) (events : List Event) (s : ℕ) (body : List ℕ) → WhyToServer settings before cause events s body → is_synced (message_of body) ≡ true → (w g : ℕ) → worker_of events ≡ Some w → group_of s events ≡ Some g
-      → (u : List ℕ) (o : Open) → found w u (texts_of settings g events) ≡ Some o → Owns o (held_at s u events)
+      → (u : List ℕ) (o : Open) → found w u (texts_of settings g events) ≡ Some o → HasOwn o (held_at s u events)
   by_reason cause events s body (begins k) goes = unsynced body _ k.says refl goes
   by_reason cause events s body (greets k) goes = unsynced body _ k.says refl goes
   by_reason cause events s body (forwarded k) goes = behind_sync events s k.sender.editor k.asked k.synced
