@@ -32,10 +32,10 @@ use Rattle.group_laws.proofs.Touching.{holder_touched}
 
 -- what speaks of no document changes none
 silent_stays : (code : Option Encoding) (e : ℕ) (y : Saying) (x : Texts) → speaks y ≡ false → texts_behind code e y x ≡ x
-silent_stays code e (opens u l v t) x h = never (sym h)
-silent_stays code e (changes u v cs) x h = never (sym h)
-silent_stays code e (closes u) x h = never (sym h)
-silent_stays code e misshapen x h = never (sym h)
+silent_stays code e (opens u l v t) x h = never h
+silent_stays code e (changes u v cs) x h = never h
+silent_stays code e (closes u) x h = never h
+silent_stays code e misshapen x h = never h
 silent_stays code e nothing x h = refl
 
 module _ (settings : Settings) (g s e : ℕ) (code : Encoding) (before : List Event) (asked : List ℕ) (d : Documents)
@@ -66,7 +66,7 @@ module _ (settings : Settings) (g s e : ℕ) (code : Encoding) (before : List Ev
   heard_texts = texts_more settings g before (heard (FromEditor e asked)) ∙ either (is_home g (home_of settings e before) && is_served (desk_of e before).phase)
     where
       said : (b : Bool) → requests (codes "shutdown") (message_of asked) ≡ b → b ≡ false → texts_heard g before e (message_of asked) was ≡ was
-      said true is h = never (sym h)
+      said true is h = never h
       said false is h = rw is (silent_stays (encoding_of g before) e (saying_of (message_of asked)) was silent)
 
       either : (b : Bool) → (if b then texts_heard g before e (message_of asked) was else was) ≡ was
