@@ -1,5 +1,5 @@
 -- The handshake with a start.
-use Rattle.std.proofs.Common.{◌≡◌, ℕ, ◌<◌, ◌≤◌, Bool, true, false, ◌&&◌, cond, Option, List, [], ◌∷◌, ◌++◌, filter, map, fold, codes, nat_eq, IsTrue, if◌then◌else◌, None, Some, refl, sym, ◌∙◌, ap, ap₂, subst, append_assoc, arith}
+use Rattle.std.proofs.Common.{◌≡◌, ℕ, ◌<◌, ◌≤◌, Bool, true, false, not, ◌&&◌, cond, Option, List, [], ◌∷◌, ◌++◌, filter, map, fold, bytes_eq, codes, nat_eq, IsTrue, if◌then◌else◌, None, Some, refl, sym, ◌∙◌, ap, ap₂, subst, append_assoc, arith}
 use Rattle.std.specs.Prelude.{slice_get}
 use Rattle.std.proofs.lemmas.Bool.{and_parts}
 use Rattle.std.proofs.lemmas.List.Elements.{filter-append}
@@ -10,7 +10,7 @@ use Rattle.mux_history.specs.declared.cause.Cause.TheVariants.{Joined, FromEdito
 use Rattle.mux_history.specs.declared.entry.Entry.{Entry}
 use Rattle.mux_history.specs.declared.out.Out.{Out}
 use Rattle.mux_history.specs.declared.out.Out.TheVariants.{ToEditor, ToServer, CloseEditor, EndServer, Spawn}
-use Rattle.rpc_message.specs.Message.{Message, request, integer, message_of}
+use Rattle.rpc_message.specs.Message.{Message, request, notification, integer, message_of}
 use Rattle.rpc_message.specs.Texts.{initialized_text}
 use Rattle.event_model.specs.declared.stage.Stage.{Stage}
 use Rattle.event_model.specs.declared.stage.Stage.TheVariants.{Unspawned, Spawning, Initializing, Ready, Stopping, Ending, Ended}

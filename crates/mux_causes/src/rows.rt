@@ -27,9 +27,7 @@ use event_model::{Phase, Stage};
 use lsp_method::Class;
 use message_body::{Body, Memory};
 use mux_history::Cause;
-use mux_members::{
-    class_in, has_token, is_cancelling, is_first_result, reads_versions,
-};
+use mux_members::{class_in, has_token, is_cancelling, is_first_result, reads_versions};
 use mux_tables::Tables;
 use mux_turns::{answered_number, asks_lspmux, doubles, shown_of};
 use rpc_message::{Malformed, Message, Sort};

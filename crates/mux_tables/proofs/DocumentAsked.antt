@@ -50,6 +50,7 @@ use Rattle.mux_tables.proofs.DocumentEvents.{shared_beside}
 use Rattle.mux_tables.proofs.DocumentFrames.{all_owned, owner_stays, sent_apart, sent_silent, shared_stays, start_stays}
 use Rattle.mux_tables.proofs.DocumentMoves.{Rest, documents_at, documents_set, set_same, starts_kept}
 use Rattle.mux_tables.proofs.DocumentOwed.{stands_told}
+use Rattle.mux_tables.proofs.DocumentSaid.{cancel_silent}
 use Rattle.mux_tables.proofs.Frames.{itself}
 use Rattle.mux_tables.proofs.IdMoves.{sent_as}
 use Rattle.mux_tables.proofs.Lasts.{apart, known}
@@ -113,16 +114,15 @@ sender_told n s (body ∷ bodies) events e id h k = subst (λ es. Sends n e id e
 
 -- a notification that goes on behind a sync speaks of no document, and cancels nothing
 plain_notice : (method : List ℕ) (ps : Option Json) → is_synced (notification method ps) ≡ true → (saying_by method ps ≡ nothing) × (bytes_eq method (codes "$/cancelRequest") ≡ false)
-plain_notice method ps h = (quiet (saying_by method ps) (is_aside method) h, kept (speaks (saying_by method ps)) (bytes_eq method (codes "$/cancelRequest")) h)
+plain_notice method ps h = (quiet (saying_by method ps) (is_aside method) h, kept (bytes_eq method (codes "$/cancelRequest")) refl)
   where
     quiet : (x : Saying) (a : Bool) → not (speaks x || a) ≡ true → x ≡ nothing
     quiet nothing a h = refl
     quiet other a h = absurd (cc)
 
-    kept : (a b : Bool) → not (a || (b || (bytes_eq method (codes "window/workDoneProgress/cancel") || (bytes_eq method (codes "initialized") || bytes_eq method (codes "exit"))))) ≡ true → b ≡ false
-    kept false false h = refl
-    kept false true h = absurd (cc)
-    kept true b h = absurd (cc)
+    kept : (b : Bool) → bytes_eq method (codes "$/cancelRequest") ≡ b → b ≡ false
+    kept true cancels = never (sym h ∙ (cancel_silent method ps cancels).1)
+    kept false other = refl
 
 module _ (settings : Settings) (t : Tables) (now : List Event) (g e : ℕ) (z : Start) (d : Documents) (text : List ℕ) (at : slice_get t.lasts.items g ≡ Some z) (has : slice_get t.documents.items g ≡ Some d) (ready : z.life.stage ≡ Ready)
     (silent : saying_of (message_of text) ≡ nothing) (synced : is_synced (message_of text) ≡ true) (works : worker_of now ≡ Some e) (st : Stands settings t now) (ds : DocumentsStand settings nothing_owed t now) where

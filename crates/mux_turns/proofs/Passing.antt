@@ -1,5 +1,5 @@
 -- An editor's notification goes on behind a sync.
-use Rattle.std.proofs.Common.{◌≡◌, ℕ, Bool, true, false, List, [], ◌∷◌, ◌++◌, map, refl, ap, ap₂, sym, subst, ◌∙◌}
+use Rattle.std.proofs.Common.{◌≡◌, ℕ, true, false, ◌&&◌, List, [], ◌++◌, map, ap, ap₂, sym, subst, ◌∙◌, codes}
 use Rattle.std.specs.Prelude.{Option, Some, slice_get}
 use Rattle.json_text.specs.Json.{Json}
 use Rattle.lsp_method.specs.Class.{class_of}
@@ -32,7 +32,6 @@ use Rattle.mux_tables.specs.Stands.{Stands, number_in, of_life}
 use Rattle.mux_tables.proofs.Starts.{start_at_place}
 use Rattle.mux_turns.proofs.Asides.{and_off}
 use Rattle.mux_turns.proofs.Ready.{start_from}
-use Rattle.mux_turns.proofs.Rows.{none_noted, noted_at, unnoted_at}
 use Rattle.mux_turns.proofs.Synced.{same_sync}
 
 -- where a group's last start stands, by the tables
@@ -60,7 +59,7 @@ module _ (method : List ℕ) (params : Option Json) (going : goes_on (class_of m
     now = behind base xs
 
     same_outs : outs (look (λ es. to_start s (syncing settings es g s e) ⨾ send (ToServer s text))) now ≡ outs (sync_row settings before g s e ⨾ send (ToServer s body)) now
-    same_outs = ap₂ (λ bs w. outs (to_start s bs ⨾ send (ToServer s w)) now) (same_sync settings before body e xs first g s (ap (requests _) says) (ap saying_of says ∙ going_silent method going params)) is
+    same_outs = ap₂ (λ bs w. outs (to_start s bs ⨾ send (ToServer s w)) now) (same_sync settings before body e xs first g s (ap (requests (codes "shutdown")) says) (ap saying_of says ∙ going_silent method going params)) is
 
     pub passes_on : Does (λ k events. AllStand settings k events) (look (λ es. to_start s (syncing settings es g s e) ⨾ send (ToServer s text))) base (t, nothing_owed) xs (u, nothing_owed) ys
         → Does (λ k events. AllStand settings k events) (sync_row settings before g s e ⨾ send (ToServer s body)) base (t, nothing_owed) xs (u, nothing_owed) ys
