@@ -1,13 +1,11 @@
 -- E8 and E10: a request of an editor comes too early, or goes on behind a sync, or is refused.
-use Rattle.std.proofs.Common.{◌≡◌, ℕ, Bool, true, false, ◌||◌, List, [], ◌∷◌, ◌<◌, ◌^◌, map, nat_lt, codes, bytes_eq, decimal, if◌then◌else◌, Option, None, Some, refl, sym, ◌∙◌, ap, ap₂, subst, arith, ltb-true}
+use Rattle.std.proofs.Common.{◌≡◌, ℕ, Bool, true, false, ◌||◌, List, ◌<◌, ◌^◌, nat_lt, codes, bytes_eq, decimal, if◌then◌else◌, Option, None, Some, refl, sym, ◌∙◌, ap, ap₂, subst, arith, ltb-true}
 use Rattle.std.proofs.lemmas.Bool.{and_parts}
 use Rattle.std.proofs.lemmas.Slice.Eq.{bytes_eq-Decides}
 use Rattle.json_text.specs.declared.kind.Word.TheVariants.{Null}
 use Rattle.json_text.specs.Json.{Json, word}
-use Rattle.document_model.specs.Opens.{Open}
 use Rattle.mux_history.specs.declared.cause.Cause.TheVariants.{FromEditor}
 use Rattle.mux_history.specs.declared.out.Out.{Out}
-use Rattle.mux_history.specs.declared.out.Out.TheVariants.{ToServer}
 use Rattle.document_model.specs.Sayings.{saying_of, speaks}
 use Rattle.rpc_message.specs.Message.{Message, request, result, Id, integer, message_of, id_bytes}
 use Rattle.rpc_message.specs.Texts.{Code, invalid_params, invalid_request, ok_text, with_id_text, request_failed, error_tree}
@@ -24,8 +22,6 @@ use Rattle.event_model.specs.Settings.{Settings}
 use Rattle.event_model.specs.Spawns.{start_of}
 use Rattle.event_model.specs.Stages.{is_ready, life_of}
 use Rattle.event_model.proofs.Frames.{never}
-use Rattle.mux_model.specs.Documents.{held_at}
-use Rattle.mux_model.proofs.DocumentFolds.{outs_to_start}
 use Rattle.mux_facts.specs.Ranges.{InRange}
 use Rattle.mux_facts.proofs.Bodies.{refusal_says}
 use Rattle.mux_facts.proofs.Asked.{hears_open}
@@ -37,18 +33,16 @@ use Rattle.mux_facts.proofs.Why.{is_early}
 use Rattle.mux_facts.proofs.Words.{id_same, same_number}
 use Rattle.group_words.specs.Houses.{server_asked}
 use Rattle.group_rows.specs.Forwarded.{Forwarding, forwarding_of, sender_of}
-use Rattle.group_rows.specs.Rows.{answer_error, can_ask, forward, named_row, open_row, request_at, request_row, status_row, sync_bodies, sync_row}
+use Rattle.group_rows.specs.Rows.{answer_error, can_ask, forward, named_row, open_row, request_at, request_row, status_row, sync_row}
 use Rattle.group_rows.specs.Status.{items_of, status_text}
 use Rattle.group_rows.proofs.Statuses.{status_deep, status_value, told_tree}
-use Rattle.group_rows.specs.Texts.{texts_of}
 use Rattle.group_facts.specs.Facts.{IsAlone, Opened}
 use Rattle.group_facts.proofs.Apart.{asks_fewer}
-use Rattle.group_facts.proofs.DocumentRow.{calm_now, held_still}
 use Rattle.group_facts.proofs.Forwards.{alone_fewer, forwarding_more}
 use Rattle.group_facts.proofs.Nulls.{null_said}
-use Rattle.group_facts.proofs.SharedRows.{AllTold, Held, sync_told}
-use Rattle.group_facts.proofs.Tellings.{Calm, tells_row}
-use Rattle.group_facts.specs.Why.{IsBeside, IsForward, Why, answers, forwarded, refuses}
+use Rattle.group_facts.proofs.SyncRow.{behind_sync, sync_why, synced_calm}
+use Rattle.group_facts.proofs.Tellings.{Calm}
+use Rattle.group_facts.specs.Why.{IsBehindSync, IsBeside, IsForward, Why, answers, forwarded, refuses}
 
 -- a request that is neither `initialize` nor `shutdown` is no one of the daemon's own
 turned_round : (a b : List ℕ) → bytes_eq b a ≡ false → bytes_eq a b ≡ false
@@ -213,34 +207,16 @@ module _ (settings : Settings) (before : List Event) (e : ℕ) (body : List ℕ)
       fails = late_refused request_failed late
 
       module _ (g s : ℕ) (start : start_of g before ≡ Some s) (can : can_ask settings s before ≡ true) where
-        abbrev bodies : List (List ℕ)
-        bodies = sync_bodies settings.limits.versions (λ u. held_at s u before) e (texts_of settings g before).opens
-
         parts : (is_ready (life_of s before).stage ≡ true) × (nat_lt (forwarding_of s before).next settings.limits.requests ≡ true)
         parts = and_parts (is_ready (life_of s before).stage) (nat_lt (forwarding_of s before).next settings.limits.requests) can
 
-        all_held : (os : List Open) → Held settings range before (FromEditor e body) asked s (λ u. held_at s u before) e asked os
-        all_held [] = tt
-        all_held (o ∷ os) = (λ k. held_still settings range before e body s o.uri (held_at s o.uri before) refl, all_held os)
-
-        sync : AllTold settings range before (FromEditor e body) asked s asked bodies
-        sync = sync_told settings range before (FromEditor e body) asked s (λ u. held_at s u before) e (texts_of settings g before).opens (opened g).orderly.once (opened g).spelt asked
-            (calm_now settings range before e body s parts.0) (all_held (texts_of settings g before).opens)
-
-        goes : (events : List Event) → events ≡ behind asked (map (λ text. ToServer s text) bodies) → Calm settings range before (FromEditor e body) asked s events
+        goes : (events : List Event) → IsBehindSync settings before events s e body → Calm settings range before (FromEditor e body) asked s events
             → IsForward settings before (FromEditor e body) events s (with_id_text body (decimal (forwarding_of s events).next))
-        goes events place calm = record {
+        goes events told calm = record {
           sender = record { editor = e; id = id_bytes body };
           asked = body;
           from = refl;
-          synced = record {
-            group = g;
-            start = start;
-            ready = parts.0;
-            stays = ap (requests (codes "shutdown")) says ∙ no_shutdown;
-            silent = ap (λ m. speaks (saying_of m)) says;
-            place = place;
-          };
+          synced = told;
           bytes = refl;
           id = id;
           method = method;
@@ -266,17 +242,17 @@ module _ (settings : Settings) (before : List Event) (e : ℕ) (body : List ℕ)
         abbrev synced : List Event
         synced = behind asked (outs (sync_row settings before g s e) asked)
 
-        synced_calm : Calm settings range before (FromEditor e body) asked s synced
-        synced_calm = subst (λ z. Calm settings range before (FromEditor e body) asked s (behind asked z)) (sym (outs_to_start s bodies asked)) sync.calm
+        calm_there : Calm settings range before (FromEditor e body) asked s synced
+        calm_there = synced_calm settings range before opened e body g s parts.0
 
         pub synced_sender : (forwarding_of s synced).sender ≡ Some (record { editor = e; id = id_bytes body })
-        synced_sender = synced_calm.still.sender ∙ ap (λ (x : Forwarding). x.sender) (forwarding_more s before (heard (FromEditor e body))) ∙ ap (sender_of e body) says
+        synced_sender = calm_there.still.sender ∙ ap (λ (x : Forwarding). x.sender) (forwarding_more s before (heard (FromEditor e body))) ∙ ap (sender_of e body) says
 
-        pub goes_on : IsForward settings before (FromEditor e body) synced s (with_id_text body (decimal (forwarding_of s synced).next))
-        goes_on = goes synced (ap (behind asked) (outs_to_start s bodies asked)) synced_calm
+        pub is_forward : IsForward settings before (FromEditor e body) synced s (with_id_text body (decimal (forwarding_of s synced).next))
+        is_forward = goes synced (behind_sync settings range before opened e body g s parts.0 start (ap (requests (codes "shutdown")) says ∙ no_shutdown) (ap (λ m. speaks (saying_of m)) says)) calm_there
 
         asks : Because R asked (sync_row settings before g s e ⨾ forward s body)
-        asks = by_then (tells_row settings range before (FromEditor e body) asked s asked bodies sync) (by_look (by_send (forwarded goes_on)))
+        asks = by_then (sync_why settings range before opened e body g s parts.0) (by_look (by_send (forwarded is_forward)))
 
       at_start : (g s : ℕ) → start_of g before ≡ Some s → Because R asked (request_at settings before e body g s)
       at_start g s start = by_choose (λ can. asks g s start can) (λ cannot. fails)

@@ -1,5 +1,5 @@
 -- Behind one more entry each message that went on behind a sync stood on its editor's own texts.
-use Rattle.std.proofs.Common.{◌≡◌, ℕ, ◌≤◌, ◌<◌, ◌^◌, Bool, true, false, not, ◌||◌, List, [], ◌∷◌, ◌++◌, length, map, fold, codes, bytes_eq, nat_lt, refl, sym, ◌∙◌, ap, ap₂, subst, append-nil, append_assoc, arith, ltb-true}
+use Rattle.std.proofs.Common.{◌≡◌, ℕ, ◌≤◌, ◌<◌, ◌^◌, Bool, true, false, List, [], ◌∷◌, ◌++◌, length, map, fold, nat_lt, refl, sym, ◌∙◌, ap, subst, append-nil, append_assoc, arith, ltb-true}
 use Rattle.std.specs.Prelude.{Option, Some, None, slice_get, IsTrue}
 use Rattle.std.proofs.lemmas.Bool.Decides.{nat_tests}
 use Rattle.std.proofs.lemmas.Option.{same_Some}
@@ -18,7 +18,7 @@ use Rattle.document_model.specs.Texts.{Texts, found}
 use Rattle.document_laws.specs.Follows.{Matches}
 use Rattle.event_model.specs.declared.stage.Stage.{Stage}
 use Rattle.event_model.specs.declared.stage.Stage.TheVariants.{Ready}
-use Rattle.event_model.specs.Event.{Event, behind, events_of, heard, said, with_cause}
+use Rattle.event_model.specs.Event.{Event, events_of, heard, said, with_cause}
 use Rattle.event_model.specs.Settings.{Settings}
 use Rattle.event_model.specs.Spawns.{group_behind, group_of, start_of}
 use Rattle.event_model.specs.Stages.{Life, is_ready, life_of}
@@ -34,7 +34,7 @@ use Rattle.group_rows.specs.Texts.{is_synced, texts_of, worker_behind, worker_of
 use Rattle.group_facts.specs.Built.{built}
 use Rattle.group_facts.specs.Legal.{Legal}
 use Rattle.group_facts.specs.OwnTexts.{AllHaveHolders, AllOnOwnTexts, HasHolders, OnOwnTexts, OwnTexts, OwnTextsFrom, HasOwn}
-use Rattle.group_facts.specs.Why.{IsBehindSync, IsForward, Why, WhyToServer, begins, cancels, exits, forwarded, greets, responds, shuts, tells}
+use Rattle.group_facts.specs.Why.{IsBehindSync, Why, WhyToServer, begins, cancels, exits, forwarded, greets, notes, responds, shuts, tells}
 use Rattle.group_facts.proofs.Known.{facts_hold}
 use Rattle.group_facts.proofs.Table.{reasons}
 use Rattle.group_laws.specs.Stands.{HeldStands}
@@ -104,6 +104,7 @@ module _ (settings : Settings) (t : Tables) (before : List Event) (st : Stands s
   by_reason cause events s body (begins k) goes = unsynced body _ k.says refl goes
   by_reason cause events s body (greets k) goes = unsynced body _ k.says refl goes
   by_reason cause events s body (forwarded k) goes = behind_sync events s k.sender.editor k.asked k.synced
+  by_reason cause events s body (notes k) goes = behind_sync events s k.editor body k.synced
   by_reason cause events s body (tells k) goes = never (sym goes ∙ spoken_aside (message_of body) k.spoken)
   by_reason cause events s body (shuts k) goes = unsynced body _ k.says refl goes
   by_reason cause events s body (cancels k) goes = unsynced body _ k.says refl goes
