@@ -80,7 +80,7 @@ module _ (settings : Settings) (t : Tables) (before : List Event) (st : Stands s
       let lived : group_of s before ≡ Some k.group = subst (λ n. group_of n before ≡ Some k.group) x.2 (st.lasts.each k.group x.0 x.1).home in
       let group : g ≡ k.group = same_Some (sym home ∙ (ap (group_of s) k.place ∙ (outs_more (group_behind s) None (Some k.group) (with_cause before (FromEditor e asked)) _ (one_more (group_behind s) None (Some k.group) before (heard (FromEditor e asked)) lived) ∙ group_told s s _ (Some k.group)))) in
       let own = own_texts settings k.group s e shared.start.code before asked d.0 k.stays k.silent shared.versions few shared.texts holds u o
-          (subst (λ es. found e u (texts_of settings k.group es) ≡ Some o) k.place (subst (λ n. found e u (texts_of settings n events) ≡ Some o) group (subst (λ n. found n u (texts_of settings g events) ≡ Some o) worker is))) in
+      (subst (λ es. found e u (texts_of settings k.group es) ≡ Some o) k.place (subst (λ n. found e u (texts_of settings n events) ≡ Some o) group (subst (λ n. found n u (texts_of settings g events) ≡ Some o) worker is))) in
       subst (λ es. HasOwn o (held_at s u es)) (sym k.place) (agrees (held_at s u _) own.0 own.1 own.2)
     where
       agrees : (k : Option HeldText) (h : HeldText) → k ≡ Some h → Agrees o h → HasOwn o k
@@ -153,5 +153,5 @@ pub own_more : (settings : Settings) → InRange settings → (t u : Tables) (hi
     → OwnTexts settings history → OwnTexts settings (history ++ entry_of settings history cause ∷ [])
 own_more settings range t u history cause legal b st ds now later own =
     own_from settings [] history (entry_of settings history cause) own
-        (entry_own settings t (events_of history) st ds cause (with_cause (events_of history) cause) (emits settings history cause) (reasons settings range (events_of history) (facts_hold settings range history legal) cause b).why)
-        (holders settings u (events_of (history ++ entry_of settings history cause ∷ [])) now later)
+    (entry_own settings t (events_of history) st ds cause (with_cause (events_of history) cause) (emits settings history cause) (reasons settings range (events_of history) (facts_hold settings range history legal) cause b).why)
+    (holders settings u (events_of (history ++ entry_of settings history cause ∷ [])) now later)
