@@ -158,5 +158,5 @@ a_smaller_tick_is_looked_at = refl
 -- the language belongs to what a start has of a document
 
 a_document_in_two_languages : all_outs two_languages ≡ two_languages_outs
-unfolding computes url_on_literals message_of named no_name_twice is_integer member_bytes with_id_text escape_byte digits own_request own_notification goes_nowhere editor_request
+unfolding computes url_on_literals message_of named no_name_twice is_integer member_bytes with_id_text escape_byte digits own_request own_notification goes_nowhere editor_request editor_notification
 a_document_in_two_languages = refl
