@@ -1,6 +1,6 @@
 use lsp_method::Class;
 use mux_members::{
-    Notice, class_in, encoding, has_token, is_dollar, is_dropped, is_first_result, is_initialize,
+    Notice, class_in, encoding, goes_on, has_token, is_dollar, is_first_result, is_initialize,
     is_initialized, is_wrong, notice_in, reads_versions, speaks,
 };
 use position_codec::Encoding;
@@ -35,7 +35,7 @@ fn tells_names_of_notifications(rt: HostRuntime) {
         panic!(rt; "no text");
     };
     assert!(rt; is_wrong(&asked) && is_dollar(&asked));
-    assert!(rt; is_dropped(&told) && !speaks(&told));
+    assert!(rt; !goes_on(&told) && !speaks(&told));
 }
 
 #[test]

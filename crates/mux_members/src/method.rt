@@ -4,7 +4,7 @@ ghost use Rattle.json_text.specs.Json.{Json};
 ghost use Rattle.lsp_method.specs.Class.{class_of};
 ghost use Rattle.lsp_method.specs.declared.variants.Origin.TheVariants.{Editor};
 ghost use Rattle.rpc_message.specs.Message.{Id, message_of, notification, request};
-ghost use Rattle.mux_model.specs.Methods.{is_dollar, is_dropped, is_wrong};
+ghost use Rattle.mux_model.specs.Methods.{goes_on, is_cancelling, is_dollar, is_wrong};
 ghost use Rattle.rpc_message.specs.Parsed.{IsRead};
 ghost use Rattle.event_model.specs.Event.{notifies, requests};
 
@@ -32,22 +32,45 @@ pub fn is_wrong(m: &Message) -> bool
     matches!(class_in(m), Class::Wrong)
 }
 
-// Whether this is the class of notifications that go nowhere.
-fn goes_nowhere(class: Class) -> bool
-    ensures { result ≡ is_dropped class }
-{
-    matches!(class, Class::Dropped)
-}
-
-/// Whether an editor's notification goes nowhere, by its method.
-pub fn is_dropped(m: &Message) -> bool
+// The class of an editor's notification, by its method.
+fn notice_class(m: &Message) -> Class
     ensures { (bytes method : List ℕ) (params : Option Json) → IsRead m.now bytes → message_of bytes ≡ notification method params
-        → result ≡ is_dropped (class_of method Editor true) }
+        → result ≡ class_of method Editor true }
 {
     match m.method() {
-        Some(method) => goes_nowhere(class(method, Origin::Editor, true)),
-        None => false,
+        Some(method) => class(method, Origin::Editor, true),
+        None => Class::Other,
     }
+}
+
+// Whether notifications of this class go on.
+fn class_goes_on(class: Class) -> bool
+    ensures { result ≡ goes_on class }
+{
+    matches!(class, Class::Configuration | Class::Other)
+}
+
+// Whether those of this class cancel a request, or the work of a token.
+fn class_cancels(class: Class) -> bool
+    ensures { result ≡ is_cancelling class }
+{
+    matches!(class, Class::Cancel | Class::ProgressCancel)
+}
+
+/// E16 and E17: whether an editor's notification goes on to a server, by its method.
+pub fn goes_on(m: &Message) -> bool
+    ensures { (bytes method : List ℕ) (params : Option Json) → IsRead m.now bytes → message_of bytes ≡ notification method params
+        → result ≡ goes_on (class_of method Editor true) }
+{
+    class_goes_on(notice_class(m))
+}
+
+/// E11: whether it cancels a request, or the work of a token, by its method (LSP 3.17, Cancellation Support, and Work Done Progress).
+pub fn is_cancelling(m: &Message) -> bool
+    ensures { (bytes method : List ℕ) (params : Option Json) → IsRead m.now bytes → message_of bytes ≡ notification method params
+        → result ≡ is_cancelling (class_of method Editor true) }
+{
+    class_cancels(notice_class(m))
 }
 
 // Whether a method has this name.

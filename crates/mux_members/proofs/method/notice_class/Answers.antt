@@ -2,12 +2,11 @@ use Rattle.std.proofs.Common.{option_map, ◌∙◌, ap}
 use Rattle.lsp_method.specs.Class.{editor_notification}
 use Rattle.mux_members.proofs.Encoded.{notice_encoded}
 use Rattle.mux_members.proofs.Told.{notice_told, no_notice_told}
-use Rattle.mux_model.specs.Methods.{is_dropped}
-use Rattle.mux_members.proofs.method.is_dropped.Goals as goal
+use Rattle.mux_members.proofs.method.notice_class.Goals as goal
 
 pub returns-in-Some : goal.returns-in-Some
 returns-in-Some c = λ bytes method params read is.
-    c.goes_nowhere.ensures ∙ ap is_dropped (c.class.ensures ∙ ap editor_notification (notice_told bytes c.in-Some.method.now method params is (option_map (λ b. b.now) c.method.result) (ap (λ o. option_map (λ b. b.now) o) c.in-Some.is) (c.method.ensures bytes read)) ∙ notice_encoded method)
+    c.class.ensures ∙ ap editor_notification (notice_told bytes c.in-Some.method.now method params is (option_map (λ b. b.now) c.method.result) (ap (λ o. option_map (λ b. b.now) o) c.in-Some.is) (c.method.ensures bytes read)) ∙ notice_encoded method
 
 pub returns-in-None : goal.returns-in-None
 returns-in-None c = λ bytes method params read is. absurd (no_notice_told bytes method params is (option_map (λ b. b.now) c.method.result) (ap (λ o. option_map (λ b. b.now) o) c.in-None.is) (c.method.ensures bytes read))
