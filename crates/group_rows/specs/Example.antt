@@ -128,6 +128,26 @@ switching_outs = two_editors_outs
     ∷ ToServer 0 (codes "{\"jsonrpc\":\"2.0\",\"id\":4,\"method\":\"textDocument/hover\",\"params\":{}}")
     ∷ []
 
+-- the first editor tells of its configuration, with two texts of a document open: the start is switched to its text, the body goes on as it came, and the second one's notification switches back. Class Dropped goes nowhere
+abbrev pub notifying : List Cause
+notifying = two_editors
+    ++ FromEditor 0 (codes "{\"jsonrpc\":\"2.0\",\"method\":\"textDocument/didOpen\",\"params\":{\"textDocument\":{\"uri\":\"file:///u\",\"languageId\":\"x\",\"version\":5,\"text\":\"a\"}}}")
+    ∷ FromEditor 1 (codes "{\"jsonrpc\":\"2.0\",\"method\":\"textDocument/didOpen\",\"params\":{\"textDocument\":{\"uri\":\"file:///u\",\"languageId\":\"x\",\"version\":9,\"text\":\"b\"}}}")
+    ∷ FromEditor 0 (codes "{ \"jsonrpc\":\"2.0\",\"method\":\"workspace/didChangeConfiguration\",\"params\":{\"settings\":null}}")
+    ∷ FromEditor 0 (codes "{\"jsonrpc\":\"2.0\",\"method\":\"$/setTrace\",\"params\":{\"value\":\"off\"}}")
+    ∷ FromEditor 1 (codes "{\"jsonrpc\":\"2.0\",\"method\":\"x/y\"}")
+    ∷ []
+
+abbrev pub notifying_outs : List Out
+notifying_outs = two_editors_outs
+    ++ ToServer 0 (codes "{\"jsonrpc\":\"2.0\",\"method\":\"textDocument/didOpen\",\"params\":{\"textDocument\":{\"uri\":\"file:///u\",\"languageId\":\"x\",\"version\":1,\"text\":\"a\"}}}")
+    ∷ ToServer 0 (codes "{\"jsonrpc\":\"2.0\",\"method\":\"textDocument/didChange\",\"params\":{\"textDocument\":{\"uri\":\"file:///u\",\"version\":2},\"contentChanges\":[{\"text\":\"b\"}]}}")
+    ∷ ToServer 0 (codes "{\"jsonrpc\":\"2.0\",\"method\":\"textDocument/didChange\",\"params\":{\"textDocument\":{\"uri\":\"file:///u\",\"version\":3},\"contentChanges\":[{\"text\":\"a\"}]}}")
+    ∷ ToServer 0 (codes "{ \"jsonrpc\":\"2.0\",\"method\":\"workspace/didChangeConfiguration\",\"params\":{\"settings\":null}}")
+    ∷ ToServer 0 (codes "{\"jsonrpc\":\"2.0\",\"method\":\"textDocument/didChange\",\"params\":{\"textDocument\":{\"uri\":\"file:///u\",\"version\":4},\"contentChanges\":[{\"text\":\"b\"}]}}")
+    ∷ ToServer 0 (codes "{\"jsonrpc\":\"2.0\",\"method\":\"x/y\"}")
+    ∷ []
+
 -- and changed by each of the two
 abbrev pub changing : List Cause
 changing = switching

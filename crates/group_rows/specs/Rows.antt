@@ -1,5 +1,5 @@
--- The routing table over several editors and groups, in part: J1, J2, E2 to E5, E7 to E10, E12 to E15, E19, S1, S2 with X4, S3, S4, S5 without versions, X1 to X3 of groups that live no more, and X5 to X7.
-use Rattle.std.specs.Prelude.{ℕ, Bool, false, ◌&&◌, ◌||◌, List, [], ◌∷◌, ◌++◌, filter, find, flat_map, codes, nat_eq, nat_lt, decimal, bytes_eq, if◌then◌else◌}
+-- The routing table over several editors and groups, in part: J1, J2, E2 to E5, E7 to E10, E12 to E17, E19, S1, S2 with X4, S3, S4, S5 without versions, X1 to X3 of groups that live no more, and X5 to X7.
+use Rattle.std.specs.Prelude.{ℕ, Bool, true, false, ◌&&◌, ◌||◌, List, [], ◌∷◌, ◌++◌, filter, find, flat_map, codes, nat_eq, nat_lt, decimal, bytes_eq, if◌then◌else◌}
 use Rattle.std.specs.Prelude.{Option, Some, None, slice_get}
 use Rattle.std.specs.List.{list_any}
 use Rattle.std.specs.Option.{option_map_or}
@@ -7,6 +7,7 @@ use Rattle.mux_history.specs.declared.cause.Cause.{Cause}
 use Rattle.mux_history.specs.declared.cause.Cause.TheVariants.{FromEditor, EditorGone, Started, FromServer, Tick}
 use Rattle.mux_history.specs.declared.out.Out.{Out}
 use Rattle.mux_history.specs.declared.out.Out.TheVariants.{ToEditor, ToServer, CloseEditor, EndServer}
+use Rattle.json_text.specs.Json.{Json}
 use Rattle.position_codec.specs.declared.Encoding.{Encoding}
 use Rattle.lsp_method.specs.Class.{class_of}
 use Rattle.lsp_method.specs.declared.variants.Origin.TheVariants.{Editor}
@@ -31,7 +32,7 @@ use Rattle.event_model.specs.Settings.{Settings}
 use Rattle.event_model.specs.Spawns.{group_of, start_of}
 use Rattle.event_model.specs.Stages.{life_of, is_ready, is_first_result}
 use Rattle.mux_model.specs.Documents.{held_at}
-use Rattle.mux_model.specs.Methods.{is_dollar, is_wrong}
+use Rattle.mux_model.specs.Methods.{goes_on, is_dollar, is_wrong}
 use Rattle.mux_model.specs.Rows.{malformed_row, to_start}
 use Rattle.group_words.specs.Houses.{editors_in, groups_of, home_of, is_doubled, is_first_error, is_first_open, server_asked}
 use Rattle.group_words.specs.Rows.{initialize_of, initialize_row, shown_of}
@@ -101,6 +102,13 @@ document_at settings before e body x g s =
 abbrev pub document_row : Settings → List Event → ℕ → List ℕ → Saying → Row
 document_row settings before e body x = on (home_of settings e before) nothing (λ g. on (start_of g before) nothing (document_at settings before e body x g))
 
+-- E16 and E17: the notification goes to the start of the editor's group as it came, behind a sync, where the start is ready; no later start is told of a configuration yet, since a group has one start
+abbrev pub notice_at : Settings → List Event → ℕ → List ℕ → ℕ → ℕ → Row
+notice_at settings before e body g s = choose (is_ready (life_of s before).stage) (sync_row settings before g s e ⨾ send (ToServer s body)) nothing
+
+abbrev pub notice_row : Settings → List Event → ℕ → List ℕ → Row
+notice_row settings before e body = on (home_of settings e before) nothing (λ g. on (start_of g before) nothing (notice_at settings before e body g))
+
 -- E3, and `exit` of E9: the editor's link is to be ended, and it leaves
 abbrev pub closing_row : Settings → List Event → ℕ → Row
 closing_row settings before e = send (CloseEditor e) ⨾ leave_row settings before e
@@ -133,9 +141,14 @@ abbrev pub served_request : Settings → List Event → ℕ → List ℕ → Lis
 served_request settings before e body method = choose (is_misplaced method) (answer_error e body (wrong_code method invalid_request))
     (choose (bytes_eq (codes "shutdown") method) (shutdown_row settings before e body) (request_row settings before e body))
 
+-- E9, and E12 to E17; E15: what speaks of no document and doesn't go on gives nothing
+abbrev pub served_notice : Settings → List Event → ℕ → List ℕ → List ℕ → Option Json → Row
+served_notice settings before e body method params = choose (bytes_eq (codes "exit") method) (closing_row settings before e)
+    (choose (goes_on (class_of method Editor true)) (notice_row settings before e body) (document_row settings before e body (saying_by method params)))
+
 abbrev pub served_row : Settings → List Event → ℕ → List ℕ → Message → Row
 served_row settings before e body (request id method params) = served_request settings before e body method
-served_row settings before e body (notification method params) = choose (bytes_eq (codes "exit") method) (closing_row settings before e) (document_row settings before e body (saying_by method params))
+served_row settings before e body (notification method params) = served_notice settings before e body method params
 served_row settings before e body other = nothing
 
 -- E8: behind `shutdown` each request is refused (LSP 3.17, Shutdown Request)
