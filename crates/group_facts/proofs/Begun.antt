@@ -37,7 +37,7 @@ use Rattle.group_words.specs.Rows.{end_group, end_start, initialize_row, placed_
 use Rattle.group_words.proofs.Frames.{changed_length, groups_more, groups_stay, touches_groups}
 use Rattle.group_rows.specs.Forwarded.{Forwarded, forwarding_of}
 use Rattle.group_rows.specs.Leaves.{cancel, cancel_text, cancels, closings, leave_bodies, leave_row, uncancelled_of}
-use Rattle.group_rows.specs.Rows.{answer_error, begin_in, closing_row, document_at, document_bodies, document_row, down_row, early_row, exit_row, first_result, from_server, gone_row, lspmux_row, message_row, named_row, open_row, outs_of, pass_on, replay_bodies, request_at, request_row, response_row, result_in, row_of, served_request, served_row, started, sync_bodies, taken_row, waiting_in, welcome, hasty_row, close_all, refusal, refused_row}
+use Rattle.group_rows.specs.Rows.{answer_error, begin_in, closing_row, document_at, document_bodies, document_row, down_row, early_row, exit_row, first_result, from_server, gone_row, lspmux_row, message_row, named_row, notice_at, notice_row, open_row, outs_of, pass_on, replay_bodies, request_at, request_row, response_row, result_in, row_of, served_request, served_row, started, sync_bodies, taken_row, waiting_in, welcome, hasty_row, close_all, refusal, refused_row}
 use Rattle.group_rows.specs.Texts.{encoding_of, texts_of}
 use Rattle.group_rows.specs.Ticks.{due_of, overdue_of, tick_row}
 use Rattle.group_facts.specs.Built.{built_behind}
@@ -136,6 +136,15 @@ module _ (settings : Settings) (before : List Event) where
   quiet_request : (e : ℕ) (body : List ℕ) (events : List Event) → Quiet events (request_row settings before e body)
   quiet_request e body events = by_on (λ none. by_send tt) (λ g home. quiet_group e body events g)
 
+  quiet_noticed : (e : ℕ) (body : List ℕ) (events : List Event) (g s : ℕ) → Quiet events (notice_at settings before e body g s)
+  quiet_noticed e body events g s = by_choose (λ ready. by_then (quiet_bodies s (sync_bodies settings.limits.versions (λ u. held_at s u before) e (texts_of settings g before).opens) events) (by_send tt)) (λ off. by_nothing)
+
+  quiet_notices : (e : ℕ) (body : List ℕ) (events : List Event) (g : ℕ) → Quiet events (on (start_of g before) nothing (notice_at settings before e body g))
+  quiet_notices e body events g = by_on (λ none. by_nothing) (λ s start. quiet_noticed e body events g s)
+
+  quiet_notice : (e : ℕ) (body : List ℕ) (events : List Event) → Quiet events (notice_row settings before e body)
+  quiet_notice e body events = by_on (λ none. by_nothing) (λ g home. quiet_notices e body events g)
+
   quiet_told : (e : ℕ) (body : List ℕ) (x : Saying) (events : List Event) (g s : ℕ) → Quiet events (document_at settings before e body x g s)
   quiet_told e body x events g s = by_choose (λ ready. quiet_bodies s (document_bodies settings.limits.versions (encoding_of g before) (texts_of settings g before) (λ u. held_at s u before) e body x) events) (λ off. by_nothing)
 
@@ -180,7 +189,7 @@ module _ (settings : Settings) (before : List Event) where
 
   quiet_served : (e : ℕ) (body : List ℕ) (m : Message) (events : List Event) → Quiet events (served_row settings before e body m)
   quiet_served e body (request id method params) events = quiet_asked e body method events
-  quiet_served e body (notification method params) events = by_choose (λ yes. quiet_closing e events) (λ no. quiet_document e body (saying_by method params) events)
+  quiet_served e body (notification method params) events = by_choose (λ yes. quiet_closing e events) (λ no. by_choose (λ going. quiet_notice e body events) (λ off. quiet_document e body (saying_by method params) events))
   quiet_served e body (result id r) events = by_nothing
   quiet_served e body (error id x) events = by_nothing
   quiet_served e body not_json events = by_nothing

@@ -17,6 +17,7 @@ pub mod Levels
 pub mod LiveGroups
 pub mod Lively
 pub mod Multiplexer
+pub mod NoticeRow
 pub mod Nulls
 pub mod Numbered
 pub mod Numbers
@@ -35,6 +36,7 @@ pub mod Seated
 pub mod Sent
 pub mod Settling
 pub mod SharedRows
+pub mod SyncRow
 pub mod Table
 pub mod Tellings
 pub mod TickRow

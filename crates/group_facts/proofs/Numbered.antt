@@ -31,7 +31,7 @@ use Rattle.group_rows.specs.Forwarded.{Forwarding, forwarding_of, numbered}
 use Rattle.group_rows.specs.Rows.{outs_of, started}
 use Rattle.group_facts.specs.Built.{built_behind}
 use Rattle.group_facts.specs.Facts.{Housed, IsHoused, IsWritten, Unbegun, Written}
-use Rattle.group_facts.specs.Why.{IsForward, WhyToServer, begins, greets, forwarded, tells, shuts, cancels, responds, IsShutting, exits}
+use Rattle.group_facts.specs.Why.{IsForward, WhyToServer, begins, greets, forwarded, notes, tells, shuts, cancels, responds, IsShutting, exits}
 use Rattle.group_facts.proofs.AnswerRows.{get_all}
 use Rattle.group_facts.proofs.Facts.{AllTied, OthersTied, Tied, TiedAt, begins_now}
 use Rattle.group_facts.proofs.Forwards.{notified_next}
@@ -130,6 +130,7 @@ module _ (settings : Settings) (cause : Cause) (events : List Event) (n : ℕ) (
     one_tied (begins k) rest h = never (sym (ap (λ c. begins_now c n) k.from ∙ same_number n) ∙ rest)
     one_tied (greets k) rest h = notified (codes "initialized") k.params Ready k.says k.ready refl rest h
     one_tied (forwarded k) rest h = goes k h
+    one_tied (notes k) rest h = notified k.method k.params Ready k.says k.ready refl rest h
     one_tied (tells k) rest h = let m : Spoken (message_of body) = spoken (message_of body) k.spoken in notified m.method m.params Ready m.is k.ready refl rest h
     one_tied (cancels k) rest h = notified (codes "$/cancelRequest") (Some k.params) Ready k.says k.ready refl rest h
     one_tied (responds k) rest h = tied_by n events sent Initializing (stage_now (message_of body) refl ∙ ap (λ z. stage_told z (message_of body)) k.waiting)

@@ -24,14 +24,14 @@ use Rattle.event_model.specs.Settings.{Settings}
 use Rattle.event_model.specs.Spawns.{start_of}
 use Rattle.event_model.proofs.Frames.{never}
 use Rattle.mux_model.specs.Documents.{held_at}
-use Rattle.mux_model.specs.Methods.{is_wrong}
+use Rattle.mux_model.specs.Methods.{goes_on, is_wrong}
 use Rattle.mux_model.specs.Rows.{malformed_code, malformed_row, malformed_text, to_start}
 use Rattle.mux_facts.specs.Ranges.{InRange}
 use Rattle.mux_facts.proofs.Bodies.{malformed_says, refusal_says}
 use Rattle.mux_facts.proofs.Folds.{opens_more}
 use Rattle.mux_facts.proofs.Keeps.{behind_both}
 use Rattle.mux_facts.proofs.Late.{error_told, told_late}
-use Rattle.mux_facts.proofs.Reasons.{Because, by_nothing, by_choose, by_on}
+use Rattle.mux_facts.proofs.Reasons.{Because, by_nothing, by_send, by_then, by_choose, by_on}
 use Rattle.mux_facts.proofs.Table.{late_taken}
 use Rattle.mux_facts.proofs.Why.{is_early}
 use Rattle.mux_facts.proofs.Words.{same_id_itself, same_number}
@@ -41,7 +41,7 @@ use Rattle.group_words.specs.Rows.{initialize_row}
 use Rattle.group_words.proofs.Frames.{home_more, home_stays}
 use Rattle.group_rows.specs.Forwarded.{Forwarding, forwarding_of, numbered}
 use Rattle.group_rows.specs.Leaves.{leave_row}
-use Rattle.group_rows.specs.Rows.{answer_error, asks_lspmux, can_ask, closing_row, document_at, document_bodies, document_row, early_code, early_row, exit_row, forward, from_editor, is_misplaced, lspmux_row, message_row, named_row, names_lspmux, open_row, outs_of, request_at, request_row, served_request, served_row, shutdown_row, status_row, sync_row, taken_row, told_row, wrong_code}
+use Rattle.group_rows.specs.Rows.{answer_error, asks_lspmux, can_ask, closing_row, document_at, document_bodies, document_row, early_code, early_row, exit_row, forward, from_editor, is_misplaced, lspmux_row, message_row, named_row, names_lspmux, notice_at, notice_row, open_row, outs_of, request_at, request_row, served_request, served_row, shutdown_row, status_row, sync_bodies, sync_row, taken_row, told_row, wrong_code}
 use Rattle.group_rows.specs.Status.{items_of, status_text}
 use Rattle.group_rows.proofs.Statuses.{told_tree}
 use Rattle.group_rows.specs.Texts.{encoding_of, texts_of}
@@ -55,7 +55,7 @@ use Rattle.group_facts.proofs.Forwards.{more_requests}
 use Rattle.group_facts.proofs.Numbers.{forwarding_sent}
 use Rattle.group_facts.proofs.Multiplexer.{lspmux_apart}
 use Rattle.group_facts.proofs.Nulls.{null_said}
-use Rattle.group_facts.proofs.RequestRow.{beside, beside_other, desk_taken, goes_on, not_own, status_said, synced_sender}
+use Rattle.group_facts.proofs.RequestRow.{beside, beside_other, desk_taken, is_forward, not_own, status_said, synced_sender}
 use Rattle.group_facts.proofs.Sent.{IsOf, OneOf, SentAt, one_last, sent_did, sent_heard}
 use Rattle.group_facts.proofs.PutOut.{home_did, homes_stay}
 use Rattle.group_facts.proofs.OpenByPhase.{OpenDesk, OpenIf, if_asked, if_hears, if_null, if_other, reply_told, without_last}
@@ -211,7 +211,7 @@ module _ (settings : Settings) (before : List Event) (n : ℕ) (body : List ℕ)
           quiet_sync = all_outs NoSpawn now sync (quiet_bodies s _ now).why
 
           forward_is : IsForward settings (FromEditor n body) synced s text
-          forward_is = goes_on settings before n body id method params says there (alone_by before (facts.steady).asked n id fresh) range (facts.base).opened late other g s can
+          forward_is = is_forward settings before n body id method params says there (alone_by before (facts.steady).asked n id fresh) range (facts.base).opened late other g s can
 
           list_now : (forwarding_of s gone).open_requests ≡ (forwarding_of s synced).open_requests ++ numbered (Some (record { editor = n; id = id_bytes body })) (forwarding_of s synced).next
           list_now = ap (λ (x : Forwarding). x.open_requests) (forwarding_sent synced s text (request (integer (decimal (forwarding_of s synced).next)) forward_is.method forward_is.params) forward_is.says
@@ -370,6 +370,18 @@ module _ (settings : Settings) (before : List Event) (n : ℕ) (body : List ℕ)
         bodies : (x : Saying) → Because (λ places out. ToStart out) now (document_row settings before n body x)
         bodies x = by_on (λ none. by_nothing) (λ g home. told_group x g)
 
+    notice_rests : (method : List ℕ) (params : Option Json) → message_of body ≡ notification method params → Rests (outs (notice_row settings before n body) now)
+    notice_rests method params says = open_bodies settings n Nobody now (outs (notice_row settings before n body) now) (all_outs ToStart now _ bodies.why) (no_request (notification method params) says refl refl)
+      where
+        told_at : (g s : ℕ) → Because (λ places out. ToStart out) now (notice_at settings before n body g s)
+        told_at g s = by_choose (λ ready. by_then (starts_bodies s (sync_bodies settings.limits.versions (λ u. held_at s u before) n (texts_of settings g before).opens) now) (by_send tt)) (λ off. by_nothing)
+
+        told_group : (g : ℕ) → Because (λ places out. ToStart out) now (on (start_of g before) nothing (notice_at settings before n body g))
+        told_group g = by_on (λ none. by_nothing) (λ s start. told_at g s)
+
+        bodies : Because (λ places out. ToStart out) now (notice_row settings before n body)
+        bodies = by_on (λ none. by_nothing) (λ g home. told_group g)
+
     exit_rests : (method : List ℕ) (params : Option Json) → message_of body ≡ notification method params → Rests (outs (exit_row settings before n (notification method params)) now)
     exit_rests method params says = go (bytes_eq (codes "exit") method)
       where
@@ -378,11 +390,12 @@ module _ (settings : Settings) (before : List Event) (n : ℕ) (body : List ℕ)
         go false = rests_here (no_request (notification method params) says refl refl)
 
     served_rests : (method : List ℕ) (params : Option Json) → message_of body ≡ notification method params → Rests (outs (served_row settings before n body (notification method params)) now)
-    served_rests method params says = go (bytes_eq (codes "exit") method)
+    served_rests method params says = go (bytes_eq (codes "exit") method) (goes_on (class_of method Editor true))
       where
-        go : (b : Bool) → Rests (outs (choose b (closing_row settings before n) (document_row settings before n body (saying_by method params))) now)
-        go true = closing_rests
-        go false = document_rests method params says
+        go : (a b : Bool) → Rests (outs (choose a (closing_row settings before n) (choose b (notice_row settings before n body) (document_row settings before n body (saying_by method params)))) now)
+        go true b = closing_rests
+        go false true = notice_rests method params says
+        go false false = document_rests method params says
 
     notified_rests : (method : List ℕ) (params : Option Json) → message_of body ≡ notification method params → (phase : Phase) → Rests (outs (message_row settings before n body (notification method params) phase) now)
     notified_rests method params says phase = subst (λ xs. Rests xs) (sym (by_single (notification method params) phase refl refl)) (go phase)

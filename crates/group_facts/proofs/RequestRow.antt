@@ -4,7 +4,6 @@ use Rattle.std.proofs.lemmas.Bool.{and_parts}
 use Rattle.std.proofs.lemmas.Slice.Eq.{bytes_eq-Decides}
 use Rattle.json_text.specs.declared.kind.Word.TheVariants.{Null}
 use Rattle.json_text.specs.Json.{Json, word}
-use Rattle.document_model.specs.Opens.{Open}
 use Rattle.mux_history.specs.declared.cause.Cause.TheVariants.{FromEditor}
 use Rattle.mux_history.specs.declared.out.Out.{Out}
 use Rattle.rpc_message.specs.Message.{Message, request, result, Id, integer, message_of, id_bytes}
@@ -22,8 +21,6 @@ use Rattle.event_model.specs.Settings.{Settings}
 use Rattle.event_model.specs.Spawns.{start_of}
 use Rattle.event_model.specs.Stages.{is_ready, life_of}
 use Rattle.event_model.proofs.Frames.{never}
-use Rattle.mux_model.specs.Documents.{held_at}
-use Rattle.mux_model.proofs.DocumentFolds.{outs_to_start}
 use Rattle.mux_facts.specs.Ranges.{InRange}
 use Rattle.mux_facts.proofs.Bodies.{refusal_says}
 use Rattle.mux_facts.proofs.Asked.{hears_open}
@@ -35,17 +32,15 @@ use Rattle.mux_facts.proofs.Why.{is_early}
 use Rattle.mux_facts.proofs.Words.{id_same, same_number}
 use Rattle.group_words.specs.Houses.{server_asked}
 use Rattle.group_rows.specs.Forwarded.{Forwarding, forwarding_of, sender_of}
-use Rattle.group_rows.specs.Rows.{answer_error, can_ask, forward, named_row, open_row, request_at, request_row, status_row, sync_bodies, sync_row}
+use Rattle.group_rows.specs.Rows.{answer_error, can_ask, forward, named_row, open_row, request_at, request_row, status_row, sync_row}
 use Rattle.group_rows.specs.Status.{items_of, status_text}
 use Rattle.group_rows.proofs.Statuses.{status_deep, status_value, told_tree}
-use Rattle.group_rows.specs.Texts.{texts_of}
 use Rattle.group_facts.specs.Facts.{IsAlone, Opened}
 use Rattle.group_facts.proofs.Apart.{asks_fewer}
-use Rattle.group_facts.proofs.DocumentRow.{calm_now, held_still}
 use Rattle.group_facts.proofs.Forwards.{alone_fewer, forwarding_more}
 use Rattle.group_facts.proofs.Nulls.{null_said}
-use Rattle.group_facts.proofs.SharedRows.{AllTold, Held, sync_told}
-use Rattle.group_facts.proofs.Tellings.{Calm, tells_row}
+use Rattle.group_facts.proofs.SyncRow.{sync_why, synced_calm}
+use Rattle.group_facts.proofs.Tellings.{Calm}
 use Rattle.group_facts.specs.Why.{IsBeside, IsForward, Why, answers, forwarded, refuses}
 
 -- a request that is neither `initialize` nor `shutdown` is no one of the daemon's own
@@ -204,19 +199,8 @@ module _ (settings : Settings) (before : List Event) (e : ℕ) (body : List ℕ)
       fails = late_refused request_failed late
 
       module _ (g s : ℕ) (can : can_ask settings s before ≡ true) where
-        abbrev bodies : List (List ℕ)
-        bodies = sync_bodies settings.limits.versions (λ u. held_at s u before) e (texts_of settings g before).opens
-
         parts : (is_ready (life_of s before).stage ≡ true) × (nat_lt (forwarding_of s before).next settings.limits.requests ≡ true)
         parts = and_parts (is_ready (life_of s before).stage) (nat_lt (forwarding_of s before).next settings.limits.requests) can
-
-        all_held : (os : List Open) → Held settings range before (FromEditor e body) asked s (λ u. held_at s u before) e asked os
-        all_held [] = tt
-        all_held (o ∷ os) = (λ k. held_still settings range before e body s o.uri (held_at s o.uri before) refl, all_held os)
-
-        sync : AllTold settings range before (FromEditor e body) asked s asked bodies
-        sync = sync_told settings range before (FromEditor e body) asked s (λ u. held_at s u before) e (texts_of settings g before).opens (opened g).orderly.once (opened g).spelt asked
-            (calm_now settings range before e body s parts.0) (all_held (texts_of settings g before).opens)
 
         goes : (events : List Event) → Calm settings range before (FromEditor e body) asked s events → IsForward settings (FromEditor e body) events s (with_id_text body (decimal (forwarding_of s events).next))
         goes events calm = record {
@@ -248,17 +232,17 @@ module _ (settings : Settings) (before : List Event) (e : ℕ) (body : List ℕ)
         abbrev synced : List Event
         synced = behind asked (outs (sync_row settings before g s e) asked)
 
-        synced_calm : Calm settings range before (FromEditor e body) asked s synced
-        synced_calm = subst (λ z. Calm settings range before (FromEditor e body) asked s (behind asked z)) (sym (outs_to_start s bodies asked)) sync.calm
+        calm_there : Calm settings range before (FromEditor e body) asked s synced
+        calm_there = synced_calm settings range before opened e body g s parts.0
 
         pub synced_sender : (forwarding_of s synced).sender ≡ Some (record { editor = e; id = id_bytes body })
-        synced_sender = synced_calm.still.sender ∙ ap (λ (x : Forwarding). x.sender) (forwarding_more s before (heard (FromEditor e body))) ∙ ap (sender_of e body) says
+        synced_sender = calm_there.still.sender ∙ ap (λ (x : Forwarding). x.sender) (forwarding_more s before (heard (FromEditor e body))) ∙ ap (sender_of e body) says
 
-        pub goes_on : IsForward settings (FromEditor e body) synced s (with_id_text body (decimal (forwarding_of s synced).next))
-        goes_on = goes synced synced_calm
+        pub is_forward : IsForward settings (FromEditor e body) synced s (with_id_text body (decimal (forwarding_of s synced).next))
+        is_forward = goes synced calm_there
 
         asks : Because R asked (sync_row settings before g s e ⨾ forward s body)
-        asks = by_then (tells_row settings range before (FromEditor e body) asked s asked bodies sync) (by_look (by_send (forwarded goes_on)))
+        asks = by_then (sync_why settings range before opened e body g s parts.0) (by_look (by_send (forwarded is_forward)))
 
       at_start : (g s : ℕ) → Because R asked (request_at settings before e body g s)
       at_start g s = by_choose (λ can. asks g s can) (λ cannot. fails)

@@ -10,7 +10,7 @@ use Rattle.rpc_message.specs.Texts.{error_tree, invalid_request}
 use Rattle.event_model.specs.declared.phase.Phase.{Phase}
 use Rattle.event_model.specs.declared.phase.Phase.TheVariants.{Absent, New, Waiting, Answered, Running, Down, Closed, Gone}
 use Rattle.event_model.specs.Event.{Event, notifies, requests, with_cause}
-use Rattle.event_model.specs.Phases.{desk_of, is_begun, is_malformed, is_there}
+use Rattle.event_model.specs.Phases.{desk_of, is_begun, is_malformed, is_served, is_there}
 use Rattle.event_model.specs.Requests.{is_open, open_of}
 use Rattle.event_model.specs.Row.{Row}
 use Rattle.event_model.specs.Settings.{Settings}
@@ -27,7 +27,7 @@ use Rattle.mux_facts.proofs.Why.{is_early}
 use Rattle.group_words.specs.Houses.{is_doubled}
 use Rattle.group_words.specs.Rows.{shown_of}
 use Rattle.group_rows.specs.Forwarded.{forwarding_of}
-use Rattle.group_rows.specs.Rows.{asks_lspmux, closing_row, down_row, early_code, early_row, exit_row, from_editor, lspmux_row, message_row, row_of, served_request, served_row, taken_row, wrong_code}
+use Rattle.group_rows.specs.Rows.{asks_lspmux, closing_row, down_row, early_code, early_row, exit_row, from_editor, lspmux_row, message_row, row_of, served_notice, served_request, served_row, taken_row, wrong_code}
 use Rattle.group_facts.specs.Built.{built_behind, built_early, built_from_server, is_shown_whole}
 use Rattle.group_facts.specs.Facts.{IsAlone, is_parting}
 use Rattle.group_facts.proofs.AnswerRows.{server_why, start_why}
@@ -35,6 +35,7 @@ use Rattle.group_facts.proofs.Apart.{alone_by, alone_early}
 use Rattle.group_facts.proofs.DocumentRow.{document_why}
 use Rattle.group_facts.proofs.Facts.{Facts}
 use Rattle.group_facts.proofs.Multiplexer.{lspmux_apart}
+use Rattle.group_facts.proofs.NoticeRow.{notice_why}
 use Rattle.group_facts.proofs.PartingRows.{closing_why, gone_why, or_second, shutdown_why}
 use Rattle.group_facts.proofs.PlacingRow.{initialize_why}
 use Rattle.group_facts.proofs.RequestRow.{R, asked, early_new, early_waiting, late_refused, not_own, open_why, request_why, status_why}
@@ -69,13 +70,21 @@ module _ (settings : Settings) (range : InRange settings) (before : List Event) 
       (λ down. shutdown_why settings range before (facts.base).opened (facts.steady).bounded e body id method params says there late lonely)
       (λ on. request_why settings before e body id method params says there lonely range (facts.base).opened late (not_own method (off_first (bytes_eq (codes "initialize") method) (is_wrong (class_of method Editor false)) placed) on)))
 
-  served_why : (m : Message) → message_of body ≡ m → is_early (desk_of e before).phase ≡ false → is_there (desk_of e before).phase ≡ true → is_doubled before e m ≡ false → Mine (served_row settings before e body m)
-  served_why (request id method params) says late there single = asked_why id method params says late there (alone_by before (facts.steady).asked e id single)
-  served_why (notification method params) says late there single = by_choose (λ yes. parting there (exit_parts method params says yes)) (λ no. document_why settings range before e body (facts.base).opened method params says)
-  served_why (result id r) says late there single = by_nothing
-  served_why (error id x) says late there single = by_nothing
-  served_why not_json says late there single = by_nothing
-  served_why not_message says late there single = by_nothing
+  -- E9, E12 to E17
+  noticed_why : (method : List ℕ) (params : Option Json) → message_of body ≡ notification method params → is_served (desk_of e before).phase ≡ true → is_there (desk_of e before).phase ≡ true → Mine (served_notice settings before e body method params)
+  noticed_why method params says served there = by_choose
+      (λ yes. parting there (exit_parts method params says yes))
+      (λ no. by_choose
+      (λ going. notice_why settings range before (facts.base).opened e body served method params says going)
+      (λ off. document_why settings range before e body (facts.base).opened method params says))
+
+  served_why : (m : Message) → message_of body ≡ m → is_served (desk_of e before).phase ≡ true → is_early (desk_of e before).phase ≡ false → is_there (desk_of e before).phase ≡ true → is_doubled before e m ≡ false → Mine (served_row settings before e body m)
+  served_why (request id method params) says served late there single = asked_why id method params says late there (alone_by before (facts.steady).asked e id single)
+  served_why (notification method params) says served late there single = noticed_why method params says served there
+  served_why (result id r) says served late there single = by_nothing
+  served_why (error id x) says served late there single = by_nothing
+  served_why not_json says served late there single = by_nothing
+  served_why not_message says served late there single = by_nothing
 
   -- behind `shutdown`
   down_why : (m : Message) → message_of body ≡ m → (desk_of e before).phase ≡ Down → is_doubled before e m ≡ false → Mine (down_row settings before e body m)
@@ -151,8 +160,8 @@ module _ (settings : Settings) (range : InRange settings) (before : List Event) 
   taken_why : (phase : Phase) → (desk_of e before).phase ≡ phase → (is_begun phase && is_doubled before e (message_of body)) ≡ false → Mine (taken_row settings before e body (message_of body) phase)
   taken_why New at single = new_why (message_of body) refl at
   taken_why Waiting at single = waiting_why (message_of body) refl at single
-  taken_why Answered at single = served_why (message_of body) refl (ap is_early at) (ap is_there at) single
-  taken_why Running at single = served_why (message_of body) refl (ap is_early at) (ap is_there at) single
+  taken_why Answered at single = served_why (message_of body) refl (ap is_served at) (ap is_early at) (ap is_there at) single
+  taken_why Running at single = served_why (message_of body) refl (ap is_served at) (ap is_early at) (ap is_there at) single
   taken_why Down at single = down_why (message_of body) refl at single
   taken_why Absent at single = by_nothing
   taken_why Closed at single = by_nothing

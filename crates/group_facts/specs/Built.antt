@@ -1,15 +1,14 @@
 -- Which causes meet only rows of the table over several editors and groups that are built, until all are.
--- Not built of an editor: `lspmux/stop` (E6), and while it is served requests that go on with tokens (E10), and the notifications that go on (E11, E16, E17).
+-- Not built of an editor: `lspmux/stop` (E6), and while it is served requests that go on with tokens (E10), and the notifications that cancel (E11).
 -- Not built of a start: its requests and notifications while it is ready, and results that read versions (S5). Nor the end of a program whose group lives.
 -- Of S2, what is read back must be what was meant: editors are shown all of the result.
-use Rattle.std.specs.Prelude.{ℕ, Bool, true, false, not, ◌&&◌, ◌||◌, List, find, codes, bytes_eq}
+use Rattle.std.specs.Prelude.{ℕ, Bool, true, false, not, ◌&&◌, ◌||◌, List, find, bytes_eq}
 use Rattle.std.specs.Prelude.{Option, Some, None}
 use Rattle.std.specs.Option.{option_map_or}
 use Rattle.mux_history.specs.declared.cause.Cause.{Cause}
 use Rattle.mux_history.specs.declared.cause.Cause.TheVariants.{Joined, FromEditor, EditorGone, Started, StartFailed, FromServer, ServerGone, Drained, Tick}
 use Rattle.mux_history.specs.declared.entry.Entry.{Entry}
 use Rattle.json_text.specs.Json.{Json}
-use Rattle.document_model.specs.Sayings.{speaks, saying_by}
 use Rattle.lsp_method.specs.Class.{class_of}
 use Rattle.lsp_method.specs.declared.variants.Class.{Class}
 use Rattle.lsp_method.specs.declared.variants.Class.TheVariants.{Initialize, Shutdown, Wrong, Other}
@@ -26,7 +25,7 @@ use Rattle.event_model.specs.Settings.{Settings}
 use Rattle.event_model.specs.Spawns.{group_of}
 use Rattle.event_model.specs.Stages.{life_of, is_first_result}
 use Rattle.mux_model.specs.Built.{is_other}
-use Rattle.mux_model.specs.Methods.{is_dropped}
+use Rattle.mux_model.specs.Methods.{is_cancelling}
 use Rattle.group_words.specs.Houses.{groups_of}
 use Rattle.group_words.specs.Rows.{shown_of}
 use Rattle.group_rows.specs.Forwarded.{Forwarded, answered_by, forwarding_of}
@@ -57,17 +56,14 @@ doubles phase id ids = is_begun phase && is_open id ids
 abbrev pub built_request : Phase → Bool → List ℕ → Option Json → Bool
 built_request phase doubled method params = names_lspmux method || (is_standard (class_of method Editor false) && (doubled || not (is_served phase && is_marked method params)))
 
--- E9, E12 to E15: `exit`, `initialized`, what is on documents, and class Dropped
-abbrev pub is_quiet : List ℕ → Option Json → Bool
-is_quiet method params = bytes_eq (codes "exit") method || (bytes_eq (codes "initialized") method || (speaks (saying_by method params) || is_dropped (class_of method Editor true)))
-
-abbrev pub built_notice : Phase → List ℕ → Option Json → Bool
-built_notice phase method params = not (is_served phase) || is_quiet method params
+-- all but E11
+abbrev pub built_notice : Phase → List ℕ → Bool
+built_notice phase method = not (is_served phase && is_cancelling (class_of method Editor true))
 
 -- E19: a response answers nothing, since nothing is asked of editors yet
 abbrev pub built_from_editor : Phase → List Id → Message → Bool
 built_from_editor phase ids (request id method params) = built_request phase (doubles phase id ids) method params
-built_from_editor phase ids (notification method params) = built_notice phase method params
+built_from_editor phase ids (notification method params) = built_notice phase method
 built_from_editor phase ids other = true
 
 -- S2: editors are shown all of the result

@@ -7,6 +7,8 @@ use Rattle.json_text.specs.Json.{Json}
 use Rattle.document_model.specs.Sayings.{saying_of, speaks}
 use Rattle.mux_history.specs.declared.cause.Cause.{Cause}
 use Rattle.mux_history.specs.declared.cause.Cause.TheVariants.{Started, FromServer, FromEditor}
+use Rattle.lsp_method.specs.Class.{class_of}
+use Rattle.lsp_method.specs.declared.variants.Origin.TheVariants.{Editor}
 use Rattle.mux_history.specs.declared.entry.Entry.{Entry}
 use Rattle.mux_history.specs.declared.out.Out.{Out}
 use Rattle.mux_history.specs.declared.out.Out.TheVariants.{ToEditor, ToServer, Spawn, CloseEditor, EndServer}
@@ -19,13 +21,14 @@ use Rattle.event_model.specs.declared.stage.Stage.TheVariants.{Spawning, Initial
 use Rattle.event_model.specs.Event.{Event, events_of, heard, said, with_cause, same_id}
 use Rattle.event_model.specs.Members.{named_of}
 use Rattle.event_model.specs.Parts.{server_part}
-use Rattle.event_model.specs.Phases.{desk_of, has_id, is_there, is_malformed}
+use Rattle.event_model.specs.Phases.{desk_of, has_id, is_there, is_malformed, is_served}
 use Rattle.event_model.specs.Requests.{next_number, answered_id, open_of, is_open, is_own}
 use Rattle.event_model.specs.Settings.{Settings}
 use Rattle.event_model.specs.Spawns.{starts_of}
 use Rattle.event_model.specs.Stages.{is_first_result, is_initializing, is_spawning, life_of}
 use Rattle.mux_facts.specs.Allowed.{AllowsSaying, is_response}
 use Rattle.mux_model.specs.Documents.{held_at}
+use Rattle.mux_model.specs.Methods.{goes_on}
 use Rattle.document_model.specs.Helds.{HeldText}
 use Rattle.group_words.specs.Houses.{groups_of}
 use Rattle.group_rows.specs.Ends.{answers_shutdown}
@@ -104,6 +107,17 @@ pub record IsTelling (before : List Event) (cause : Cause) (events : List Event)
   pub spoken : speaks (saying_of (message_of body)) ≡ true
   pub allowed : AllowsSaying (versions_at s events) (saying_of (message_of body))
 
+-- a notification of an editor that is served goes on to s, which is ready, as it came
+pub record IsNotice (before : List Event) (cause : Cause) (events : List Event) (s : ℕ) (body : List ℕ) : Type 0 where
+  pub editor : ℕ
+  pub method : List ℕ
+  pub params : Option Json
+  pub from : cause ≡ FromEditor editor body
+  pub served : is_served (desk_of editor before).phase ≡ true
+  pub says : message_of body ≡ notification method params
+  pub going : goes_on (class_of method Editor true) ≡ true
+  pub ready : (life_of s events).stage ≡ Ready
+
 -- the daemon's own `shutdown` to a ready start, which sent nothing and was sent nothing in this entry before: its group ended, for another one (E7) or since it was idle (X7)
 pub record IsShutting (settings : Settings) (before : List Event) (cause : Cause) (events : List Event) (s : ℕ) (body : List ℕ) : Type 0 where
   pub ready : (life_of s events).stage ≡ Ready
@@ -149,6 +163,7 @@ pub data WhyToServer (settings : Settings) (before : List Event) (cause : Cause)
   begins : IsBeginning before cause events s body → WhyToServer settings before cause events s body
   greets : IsGreeting before cause events s body → WhyToServer settings before cause events s body
   forwarded : IsForward settings cause events s body → WhyToServer settings before cause events s body
+  notes : IsNotice before cause events s body → WhyToServer settings before cause events s body
   tells : IsTelling before cause events s body → WhyToServer settings before cause events s body
   shuts : IsShutting settings before cause events s body → WhyToServer settings before cause events s body
   cancels : IsCancel before cause events s body → WhyToServer settings before cause events s body
