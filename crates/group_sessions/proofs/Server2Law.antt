@@ -1,5 +1,5 @@
 -- The handshake with a start.
-use Rattle.std.proofs.Common.{◌≡◌, ℕ, ◌<◌, ◌≤◌, Bool, true, false, ◌&&◌, cond, Option, List, [], ◌∷◌, ◌++◌, filter, map, fold, codes, nat_eq, IsTrue, if◌then◌else◌, None, Some, refl, sym, ◌∙◌, ap, ap₂, subst, append_assoc, arith}
+use Rattle.std.proofs.Common.{◌≡◌, ℕ, ◌<◌, ◌≤◌, Bool, true, false, not, ◌&&◌, cond, Option, List, [], ◌∷◌, ◌++◌, filter, map, fold, bytes_eq, codes, nat_eq, IsTrue, if◌then◌else◌, None, Some, refl, sym, ◌∙◌, ap, ap₂, subst, append_assoc, arith}
 use Rattle.std.specs.Prelude.{slice_get}
 use Rattle.std.proofs.lemmas.Bool.{and_parts}
 use Rattle.std.proofs.lemmas.List.Elements.{filter-append}
@@ -10,7 +10,7 @@ use Rattle.mux_history.specs.declared.cause.Cause.TheVariants.{Joined, FromEdito
 use Rattle.mux_history.specs.declared.entry.Entry.{Entry}
 use Rattle.mux_history.specs.declared.out.Out.{Out}
 use Rattle.mux_history.specs.declared.out.Out.TheVariants.{ToEditor, ToServer, CloseEditor, EndServer, Spawn}
-use Rattle.rpc_message.specs.Message.{Message, request, integer, message_of}
+use Rattle.rpc_message.specs.Message.{Message, request, notification, integer, message_of}
 use Rattle.rpc_message.specs.Texts.{initialized_text}
 use Rattle.event_model.specs.declared.stage.Stage.{Stage}
 use Rattle.event_model.specs.declared.stage.Stage.TheVariants.{Unspawned, Spawning, Initializing, Ready, Stopping, Ending, Ended}
@@ -33,8 +33,9 @@ use Rattle.group_words.specs.Houses.{groups_of}
 use Rattle.group_words.specs.Rows.{initialize_of}
 use Rattle.group_rows.specs.Rows.{outs_of, result_in}
 use Rattle.group_facts.specs.Facts.{Housed, IsHoused, IsWritten, Written, is_unready}
+use Rattle.group_rows.proofs.Going.{no_initialized}
 use Rattle.group_facts.specs.Legal.{Legal}
-use Rattle.group_facts.specs.Why.{IsTelling, Turn, WhyToServer, begins, greets, forwarded, tells, shuts, cancels, stays, greeted, moves, responds, exits}
+use Rattle.group_facts.specs.Why.{IsTelling, Turn, WhyToServer, begins, greets, forwarded, notes, tells, shuts, cancels, stays, greeted, moves, responds, exits}
 use Rattle.group_facts.proofs.AnswerRows.{get_all}
 use Rattle.group_facts.proofs.Facts.{Facts}
 use Rattle.group_facts.proofs.RestLaws.{RestLaw}
@@ -194,6 +195,10 @@ open_absorbs (event ∷ events) = open_absorbs events
 asked_on : (w : Handshake) (n : ℕ) (body : List ℕ) (m : Message) (number method : List ℕ) (params : Option Json) → m ≡ request (integer number) method params → w ≡ open_to_all → IsTrue (allows w m) × Link (stage_told Ready m) (handshake_behind w (did (ToServer n body) m))
 asked_on w n body m number method params says h = (ap₂ allows h says, still_open (requests (codes "shutdown") m) (handshake_behind w (did (ToServer n body) m)) (ap (λ z. handshake_behind z (did (ToServer n body) m)) h))
 
+-- a notification that isn't `initialized`, likewise
+noted_on : (w : Handshake) (n : ℕ) (body : List ℕ) (m : Message) (method : List ℕ) (params : Option Json) → m ≡ notification method params → bytes_eq (codes "initialized") method ≡ false → w ≡ open_to_all → IsTrue (allows w m) × Link (stage_told Ready m) (handshake_behind w (did (ToServer n body) m))
+noted_on w n body m method params says other h = (ap₂ allows h says ∙ ap not other, still_open (requests (codes "shutdown") m) (handshake_behind w (did (ToServer n body) m)) (ap (λ z. handshake_behind z (did (ToServer n body) m)) h))
+
 module _ (settings : Settings) (range : InRange settings) (before : List Event) (cause : Cause) (events : List Event) (s : ℕ) (body : List ℕ) where
   abbrev OpenStep : Type 0
   OpenStep = hand s events ≡ open_to_all → IsTrue (allows (hand s events) (message_of body)) × Link (stage_told Ready (message_of body)) (handshake_behind (hand s events) (said (ToServer s body)))
@@ -240,6 +245,7 @@ module _ (settings : Settings) (range : InRange settings) (before : List Event) 
       let moving : moves before cause s ≡ true = ap (λ c. moves before c s) k.from ∙ ap₂ (λ a z. a && (is_initializing z && is_first_result (message_of k.answer))) (same_number s) k.stage ∙ k.first in
       record { allowed = ap₂ allows now k.says; next = λ still. absurd (cc) }
   step (forwarded k) h m = ready_step k.ready (ap (λ c. moves before c s) k.from) m (λ o. asked_on (hand s events) s body (message_of body) _ k.method k.params k.says o)
+  step (notes k) h m = ready_step k.ready (ap (λ c. moves before c s) k.from) m (λ o. noted_on (hand s events) s body (message_of body) k.method k.params k.says (no_initialized k.method k.going) o)
   step (tells k) h m = told_step k h m (λ o. tells_on settings range (hand s events) s body (message_of body) k.spoken o)
   step (cancels k) h m = ready_step k.ready k.stays m (λ o. (ap₂ allows o k.says, still_open (requests (codes "shutdown") (message_of body)) (handshake_behind (hand s events) (said (ToServer s body))) (ap (λ z. handshake_behind z (said (ToServer s body))) o)))
   step (responds k) h m =

@@ -1,5 +1,5 @@
 -- A start is told of documents as it may be.
-use Rattle.std.proofs.Common.{ℕ, List, sym, subst}
+use Rattle.std.proofs.Common.{ℕ, List, sym, subst, ap, ◌∙◌}
 use Rattle.document_model.specs.Sayings.{saying_of}
 use Rattle.mux_history.specs.declared.cause.Cause.{Cause}
 use Rattle.mux_history.specs.declared.entry.Entry.{Entry}
@@ -11,8 +11,9 @@ use Rattle.mux_facts.specs.Ranges.{InRange}
 use Rattle.session_laws.specs.ServerRules.{KeepsServer4, ServerRule4}
 use Rattle.session_laws.proofs.PartLaws.{No}
 use Rattle.session_laws.proofs.Server4Law.{by_part, free}
+use Rattle.group_rows.proofs.Going.{going_silent}
 use Rattle.group_facts.specs.Legal.{Legal}
-use Rattle.group_facts.specs.Why.{WhyToServer, begins, greets, forwarded, tells, shuts, cancels, versions_at, responds, exits}
+use Rattle.group_facts.specs.Why.{WhyToServer, begins, greets, forwarded, notes, tells, shuts, cancels, versions_at, responds, exits}
 use Rattle.group_facts.proofs.RestLaws.{Inside}
 use Rattle.group_sessions.proofs.PartLaws.{ServerRule, no_law, server_history}
 use Rattle.group_facts.proofs.Numbers.{response_silent}
@@ -22,6 +23,7 @@ module _ (settings : Settings) (before : List Event) (cause : Cause) (events : L
   allowed (begins k) = subst (λ m. AllowsSaying (versions_at s events) (saying_of m)) (sym k.says) tt
   allowed (greets k) = subst (λ m. AllowsSaying (versions_at s events) (saying_of m)) (sym k.says) tt
   allowed (forwarded k) = subst (λ m. AllowsSaying (versions_at s events) (saying_of m)) (sym k.says) tt
+  allowed (notes k) = subst (AllowsSaying (versions_at s events)) (sym (ap saying_of k.says ∙ going_silent k.method k.going k.params)) tt
   allowed (tells k) = k.allowed
   allowed (cancels k) = subst (λ m. AllowsSaying (versions_at s events) (saying_of m)) (sym k.says) tt
   allowed (responds k) = subst (AllowsSaying (versions_at s events)) (sym (response_silent (message_of body) k.response)) tt
