@@ -1,21 +1,25 @@
--- E10: a request of an editor goes on behind a sync, and what is kept of the group stands for the events behind it.
+-- E10, E16 and E17: what an editor says goes on behind a sync, and what is kept of the group stands for the events behind it.
+-- It is a request that isn't the daemon's own, or a notification (`request_goes`, `notice_goes`).
 use Rattle.std.proofs.Common.{◌≡◌, ℕ, ◌+◌, ◌<◌, ◌^◌, Bool, true, false, cond, not, ◌||◌, List, [], ◌∷◌, ◌++◌, map, filter, find, flat_map, fold, nat_eq, codes, refl, sym, ◌∙◌, ap, ap₂, subst, arith}
 use Rattle.std.specs.Prelude.{Option, Some, None, bytes_eq}
 use Rattle.std.specs.List.{AllByRecursion}
 use Rattle.json_text.specs.Json.{Json}
+use Rattle.lsp_method.specs.Class.{class_of}
+use Rattle.lsp_method.specs.declared.variants.Origin.TheVariants.{Editor}
 use Rattle.mux_history.specs.declared.cause.Cause.TheVariants.{FromEditor}
 use Rattle.mux_history.specs.declared.out.Out.{Out}
 use Rattle.mux_history.specs.declared.out.Out.TheVariants.{ToServer}
-use Rattle.rpc_message.specs.Message.{Id, message_of, request}
+use Rattle.rpc_message.specs.Message.{Id, Message, message_of, notification, request}
 use Rattle.position_codec.specs.declared.Encoding.{Encoding}
 use Rattle.document_model.specs.Helds.{HeldText}
 use Rattle.document_model.specs.Opens.{Open, holder, is_open_at}
 use Rattle.document_model.specs.Orderly.{AllSpelt, IsSpelt, Once, Orderly}
+use Rattle.document_model.specs.Sayings.{nothing, saying_of}
 use Rattle.document_model.specs.Texts.{Texts}
 use Rattle.document_model.proofs.Spoken.{AllSpeak, Speaks, sent_open_speaks}
 use Rattle.document_laws.specs.Follows.{Held, Matches, texts_in, told_outs}
 use Rattle.document_laws.proofs.Sends.{other_way}
-use Rattle.event_model.specs.Event.{Event, behind, heard, said, with_cause}
+use Rattle.event_model.specs.Event.{Event, behind, heard, requests, said, with_cause}
 use Rattle.event_model.specs.Phases.{desk_of, is_served}
 use Rattle.event_model.specs.Requests.{is_own}
 use Rattle.event_model.specs.Settings.{Settings}
@@ -25,11 +29,13 @@ use Rattle.event_model.proofs.Turns.{behind_more}
 use Rattle.focus_switch.specs.Documents.{Documents, version_held}
 use Rattle.focus_switch.specs.Rows.{sync_row}
 use Rattle.mux_model.specs.Documents.{Sent, held_at, sent_behind, sent_of}
+use Rattle.mux_model.specs.Methods.{goes_on}
 use Rattle.mux_model.proofs.DocumentFolds.{sent_encoding}
 use Rattle.group_words.specs.Houses.{home_of, is_home}
 use Rattle.group_rows.specs.Texts.{encoding_of, is_synced, texts_of, touch_all, touched_at, worker_behind, worker_of}
 use Rattle.group_rows.specs.Rows as rows
 use Rattle.group_rows.proofs.Frames.{encoding_stays, texts_more}
+use Rattle.group_rows.proofs.Going.{going_silent, going_synced}
 use Rattle.group_laws.specs.Stands.{HeldStands, TextsStand}
 use Rattle.group_laws.proofs.Entries.{all_told, encoding_told, heard_sent, held_same, itself, known_sent, texts_told}
 use Rattle.group_laws.proofs.Syncing.{sync_outs, sync_stays, sync_texts}
@@ -116,8 +122,30 @@ not_shutdown method h = other_way (codes "shutdown") method (right (bytes_eq met
     right true b h = absurd (cc)
     right false b h = h
 
-module _ (settings : Settings) (g s e : ℕ) (code : Encoding) (before : List Event) (body text method : List ℕ) (i k : Id) (params others : Option Json) (d : Documents)
-    (reads : message_of body ≡ request i method params) (goes : message_of text ≡ request k method others) (other : is_own method ≡ false)
+-- what the editor says opens, changes and closes no document
+pub record Says (m : Message) : Type 0 where
+  pub stays : requests (codes "shutdown") m ≡ false
+  pub silent : saying_of m ≡ nothing
+
+-- and nor does the body that goes on, behind a sync
+pub record Goes (m : Message) : Type 0 where
+  pub synced : is_synced m ≡ true
+  pub silent : saying_of m ≡ nothing
+
+pub request_says : (id : Id) (method : List ℕ) (params : Option Json) → is_own method ≡ false → Says (request id method params)
+request_says id method params other = record { stays = not_shutdown method other; silent = refl }
+
+pub request_goes : (id : Id) (method : List ℕ) (params : Option Json) → is_own method ≡ false → Goes (request id method params)
+request_goes id method params other = record { synced = ap not other; silent = refl }
+
+pub notice_says : (method : List ℕ) (params : Option Json) → goes_on (class_of method Editor true) ≡ true → Says (notification method params)
+notice_says method params going = record { stays = refl; silent = going_silent method going params }
+
+pub notice_goes : (method : List ℕ) (params : Option Json) → goes_on (class_of method Editor true) ≡ true → Goes (notification method params)
+notice_goes method params going = record { synced = going_synced method going params; silent = going_silent method going params }
+
+module _ (settings : Settings) (g s e : ℕ) (code : Encoding) (before : List Event) (body text : List ℕ) (d : Documents)
+    (said_so : Says (message_of body)) (goes : Goes (message_of text))
     (home : is_home g (home_of settings e before) ≡ true) (served : is_served (desk_of e before).phase ≡ true) (there : group_of s before ≡ Some g) (small : d.versions < 2 ^ 32)
     (texts : TextsStand settings g d before) (holds : HeldStands s code d before) where
   abbrev held : List ℕ → Option HeldText
@@ -146,7 +174,7 @@ module _ (settings : Settings) (g s e : ℕ) (code : Encoding) (before : List Ev
   all_behind = behind_more after_cause (sync_row e d).outs (ToServer s text ∷ []) ∙ ap (λ xs. behind after_cause xs ++ last ∷ []) sync_is
 
   heard_texts : texts_of settings g after_cause ≡ texts_in d
-  heard_texts = texts_more settings g before (heard (FromEditor e body)) ∙ (rw (home, served, reads, not_shutdown method other) refl ∙ texts.texts)
+  heard_texts = texts_more settings g before (heard (FromEditor e body)) ∙ (rw (home, served, said_so.stays, said_so.silent) refl ∙ texts.texts)
 
   mid_texts : texts_of settings g mid ≡ texts_in d
   mid_texts = texts_told settings g s after_cause bodies (sync_speaks d.versions e held d.opens small texts.spelt) ∙ heard_texts
@@ -157,11 +185,8 @@ module _ (settings : Settings) (g s e : ℕ) (code : Encoding) (before : List Ev
   mid_group : group_of s mid ≡ Some g
   mid_group = outs_more (group_behind s) None (Some g) after_cause (to s bodies) (one_more (group_behind s) None (Some g) before (heard (FromEditor e body)) there) ∙ group_told s s bodies (Some g)
 
-  goes_on : is_synced (message_of text) ≡ true
-  goes_on = ap is_synced goes ∙ ap not other
-
   last_texts : texts_of settings g (mid ++ last ∷ []) ≡ touch_all (Some e) (texts_in d)
-  last_texts = texts_more settings g mid last ∙ (rw (mid_group, itself g, goes_on, mid_worker) refl ∙ ap (touch_all (Some e)) mid_texts)
+  last_texts = texts_more settings g mid last ∙ (rw (mid_group, itself g, goes.synced, mid_worker) refl ∙ ap (touch_all (Some e)) mid_texts)
 
   pub asked_texts : TextsStand settings g (sync_row e d).after (behind after_cause ((sync_row e d).outs ++ ToServer s text ∷ []))
   asked_texts = record {
@@ -175,7 +200,7 @@ module _ (settings : Settings) (g s e : ℕ) (code : Encoding) (before : List Ev
   mid_sent u = all_told s u code (held u) bodies after_cause (heard_sent s e u body code (held u) before (known_sent s u code before holds.given))
 
   last_sent : (u : List ℕ) → sent_of s u (mid ++ last ∷ []) ≡ record { encoding = Some code; held = told_outs (Some code) u (held u) (to s bodies) }
-  last_sent u = one_more (sent_behind s u) _ _ mid last (mid_sent u) ∙ rw (itself s, goes) refl
+  last_sent u = one_more (sent_behind s u) _ _ mid last (mid_sent u) ∙ rw (itself s, goes.silent) refl
 
   held_now : (u : List ℕ) → held_at s u (behind after_cause ((sync_row e d).outs ++ ToServer s text ∷ [])) ≡ told_outs d.encoding u (held u) (sync_row e d).outs
   held_now u = ap (held_at s u) all_behind ∙ (ap (λ (x : Sent). x.held) (last_sent u) ∙ ap₂ (λ c xs. told_outs c u (held u) xs) (sym holds.known) (sym sync_is))
@@ -189,7 +214,7 @@ module _ (settings : Settings) (g s e : ℕ) (code : Encoding) (before : List Ev
         (sync_held s e d held holds.start holds.held code holds.known small texts.orderly.once texts.orderly.turns texts.spelt);
   }
 
-  -- where the request goes on, the start has the editor's own text of each document that is open there
+  -- where it goes on, the start has the editor's own text of each document that is open there
   pub own_text : (u : List ℕ) (o : Open) → find (is_open_at e u) d.opens ≡ Some o → (h : HeldText) × (held_at s u (behind after_cause (sync_row e d).outs) ≡ Some h) × (h.text ≡ o.text)
   own_text u o found =
       let best : holder u (sync_row e d).after.opens ≡ Some (record o { touched = d.turn }) = ap (λ (x : Texts). holder u x.opens) (sync_texts e d) ∙ holder_touched e d.turn u o d.opens texts.orderly.once texts.orderly.turns found in
