@@ -1,5 +1,5 @@
--- E10: a request goes to a ready start behind a sync.
-use Rattle.std.proofs.Common.{◌≡◌, ℕ, ◌≤◌, ◌<◌, ◌^◌, ◌+◌, Bool, true, false, not, List, [], ◌∷◌, ◌++◌, length, map, fold, get_or, nat_eq, codes, refl, sym, ap, ap₂, subst, ◌∙◌, append-nil, append_assoc, arith, if◌then◌else◌}
+-- E10, E16 and E17: what an editor says goes to a ready start behind a sync.
+use Rattle.std.proofs.Common.{◌≡◌, ℕ, ◌≤◌, ◌<◌, ◌^◌, ◌+◌, Bool, true, false, not, ◌||◌, List, [], ◌∷◌, ◌++◌, length, map, fold, get_or, nat_eq, codes, refl, sym, ap, ap₂, subst, ◌∙◌, append-nil, append_assoc, arith, if◌then◌else◌}
 use Rattle.std.specs.Prelude.{Option, Some, None, bytes_eq, slice_get, slice_set}
 use Rattle.std.specs.List.{AllByRecursion}
 use Rattle.std.proofs.lemmas.Bool.{ne_eqb}
@@ -10,13 +10,13 @@ use Rattle.mux_history.specs.declared.out.Out.TheVariants.{ToEditor, ToServer, S
 use Rattle.rpc_message.specs.Message.{Id, Message, message_of, notification, request}
 use Rattle.document_model.specs.Opens.{Open}
 use Rattle.document_model.specs.Orderly.{AllSpelt, Orderly}
-use Rattle.document_model.specs.Sayings.{saying_of, speaks}
+use Rattle.document_model.specs.Sayings.{Saying, nothing, saying_by, saying_of, speaks}
 use Rattle.document_model.specs.Texts.{Texts}
 use Rattle.document_laws.specs.Follows.{texts_in, told_outs}
 use Rattle.event_model.specs.declared.stage.Stage.{Stage}
 use Rattle.event_model.specs.declared.stage.Stage.TheVariants.{Ready}
 use Rattle.event_model.specs.Does.{Does}
-use Rattle.event_model.specs.Event.{Event, behind, said}
+use Rattle.event_model.specs.Event.{Event, behind, requests, said}
 use Rattle.event_model.specs.Requests.{is_own}
 use Rattle.event_model.specs.Members.{named_of}
 use Rattle.event_model.specs.Phases.{desk_of, is_served}
@@ -31,9 +31,9 @@ use Rattle.mux_model.specs.Documents.{Sent, held_at, sent_of}
 use Rattle.mux_model.specs.Rows.{to_start}
 use Rattle.mux_model.proofs.DocumentFolds.{outs_to_start, sent_encoding}
 use Rattle.group_words.specs.Houses.{home_of, is_home}
-use Rattle.group_rows.specs.Forwarded.{Forwarding, cancelled_by, forwarding_behind, forwarding_of, forwards}
+use Rattle.group_rows.specs.Forwarded.{Forwarding, cancelled_by, forwarding_behind, forwarding_of, forwards, moves_ids}
 use Rattle.group_rows.specs.Rows as rows
-use Rattle.group_rows.specs.Texts.{is_synced, texts_of, touch_all, touched_at, worker_behind, worker_of}
+use Rattle.group_rows.specs.Texts.{is_aside, is_synced, texts_of, touch_all, touched_at, worker_behind, worker_of}
 use Rattle.group_rows.proofs.Frames.{encoding_stays, texts_apart, texts_more}
 use Rattle.group_laws.specs.Stands.{HeldStands}
 use Rattle.group_laws.proofs.Asking.{spelt_touched, sync_speaks, touch_orderly}
@@ -48,12 +48,13 @@ use Rattle.mux_tables.specs.Documents.{AllStand, AllTell, DocumentsStand, IsOwne
 use Rattle.mux_tables.specs.Stands.{Sends, Stands, forwarded_of, number_in}
 use Rattle.mux_tables.proofs.DocumentEvents.{shared_beside}
 use Rattle.mux_tables.proofs.DocumentFrames.{all_owned, owner_stays, sent_apart, sent_silent, shared_stays, start_stays}
-use Rattle.mux_tables.proofs.DocumentMoves.{Rest, documents_at, documents_set, starts_kept}
+use Rattle.mux_tables.proofs.DocumentMoves.{Rest, documents_at, documents_set, set_same, starts_kept}
 use Rattle.mux_tables.proofs.DocumentOwed.{stands_told}
+use Rattle.mux_tables.proofs.DocumentSaid.{cancel_silent}
 use Rattle.mux_tables.proofs.Frames.{itself}
 use Rattle.mux_tables.proofs.IdMoves.{sent_as}
 use Rattle.mux_tables.proofs.Lasts.{apart, known}
-use Rattle.mux_tables.proofs.Sent.{forward_does}
+use Rattle.mux_tables.proofs.Sent.{forward_does, unmoved_does}
 use Rattle.mux_tables.proofs.Starts.{read_here, start_at_place}
 
 -- bodies to a start leave whose message is at work, and what other groups have
@@ -111,8 +112,20 @@ sender_told n s (body ∷ bodies) events e id h k = subst (λ es. Sends n e id e
     keeps true x m h = sent_by x m h
     keeps false x m h = refl
 
-module _ (settings : Settings) (t : Tables) (now : List Event) (g e : ℕ) (z : Start) (d : Documents) (text method : List ℕ) (name : Id) (ps : Option Json) (at : slice_get t.lasts.items g ≡ Some z) (has : slice_get t.documents.items g ≡ Some d) (ready : z.life.stage ≡ Ready)
-    (says : message_of text ≡ request name method ps) (goes : is_own method ≡ false) (works : worker_of now ≡ Some e) (st : Stands settings t now) (ds : DocumentsStand settings nothing_owed t now) where
+-- a notification that goes on behind a sync speaks of no document, and cancels nothing
+plain_notice : (method : List ℕ) (ps : Option Json) → is_synced (notification method ps) ≡ true → (saying_by method ps ≡ nothing) × (bytes_eq method (codes "$/cancelRequest") ≡ false)
+plain_notice method ps h = (quiet (saying_by method ps) (is_aside method) h, kept (bytes_eq method (codes "$/cancelRequest")) refl)
+  where
+    quiet : (x : Saying) (a : Bool) → not (speaks x || a) ≡ true → x ≡ nothing
+    quiet nothing a h = refl
+    quiet other a h = absurd (cc)
+
+    kept : (b : Bool) → bytes_eq method (codes "$/cancelRequest") ≡ b → b ≡ false
+    kept true cancels = never (sym h ∙ (cancel_silent method ps cancels).1)
+    kept false other = refl
+
+module _ (settings : Settings) (t : Tables) (now : List Event) (g e : ℕ) (z : Start) (d : Documents) (text : List ℕ) (at : slice_get t.lasts.items g ≡ Some z) (has : slice_get t.documents.items g ≡ Some d) (ready : z.life.stage ≡ Ready)
+    (silent : saying_of (message_of text) ≡ nothing) (synced : is_synced (message_of text) ≡ true) (works : worker_of now ≡ Some e) (st : Stands settings t now) (ds : DocumentsStand settings nothing_owed t now) where
   abbrev s : ℕ
   s = z.life.start
 
@@ -146,9 +159,6 @@ module _ (settings : Settings) (t : Tables) (now : List Event) (g e : ℕ) (z : 
   pub mid_stands : Stands settings t mid
   mid_stands = stands_told settings t g z at bodies now tell st
 
-  synced : is_synced (message_of text) ≡ true
-  synced = ap is_synced says ∙ ap not goes
-
   here : group_of s mid ≡ Some g
   here = (mid_stands.lasts.each g z at).home
 
@@ -159,7 +169,7 @@ module _ (settings : Settings) (t : Tables) (now : List Event) (g e : ℕ) (z : 
   mid_sent u = all_told s u was.start.code (held_at s u now) bodies now (known_sent s u was.start.code now holds.given)
 
   last_sent : (u : List ℕ) → sent_of s u last ≡ record { encoding = Some was.start.code; held = told_outs (Some was.start.code) u (held_at s u now) (to s bodies) }
-  last_sent u = sent_silent s s u text (message_of text) mid (ap saying_of says) ∙ mid_sent u
+  last_sent u = sent_silent s s u text (message_of text) mid silent ∙ mid_sent u
 
   told_last : Told s [] (sync_row e d).after last
   told_last = record {
@@ -194,7 +204,7 @@ module _ (settings : Settings) (t : Tables) (now : List Event) (g e : ℕ) (z : 
 
   pub other_last : (j n : ℕ) (stage : Stage) (c : Documents) → nat_eq g j ≡ false → nat_eq s n ≡ false → SharedStands settings now [] j n stage c → SharedStands settings last [] j n stage c
   other_last j n stage c away off h = shared_stays settings mid last [] j n stage c (texts_apart settings j s text (message_of text) mid (ap (is_home j) here ∙ away)) (encoding_stays j mid (said (ToServer s text)) refl)
-      (start_stays n [] c mid last (λ u. sent_silent n s u text (message_of text) mid (ap saying_of says)) stage) (λ q. all_owned (IsOwned settings mid j) (IsOwned settings last j) c.opens (λ o k. owner_stays settings mid j o (said (ToServer s text)) refl k) q)
+      (start_stays n [] c mid last (λ u. sent_silent n s u text (message_of text) mid silent) stage) (λ q. all_owned (IsOwned settings mid j) (IsOwned settings last j) c.opens (λ o k. owner_stays settings mid j o (said (ToServer s text)) refl k) q)
       (beside_all settings [] j n s stage c bodies now tell off h)
 
   pub last_rest : Rest settings t now last
@@ -205,49 +215,109 @@ module _ (settings : Settings) (t : Tables) (now : List Event) (g e : ℕ) (z : 
         texts = λ j l k. texts_apart settings j s text (message_of text) mid (ap (is_home j) here ∙ ne_eqb g j (λ q. absurd (omega (arith, q, l, within)))) ∙ (texts_told settings j s now bodies tell ∙ k);
         encoding = λ j l. encoding_stays j mid (said (ToServer s text)) refl ∙ encoding_told j s now bodies;
         starts = λ n l. subst (λ m. m ≤ n) (outs_more starts_behind 0 (starts_of now) now (to s bodies) refl ∙ starts_told s bodies (starts_of now)) (starts_kept mid (said (ToServer s text)) refl n l);
-        sent = λ n l u. sent_silent n s u text (message_of text) mid (ap saying_of says) ∙ sent_beside n s u bodies now (ne_eqb s n (λ q. absurd (omega (arith, q, l, old))));
+        sent = λ n l u. sent_silent n s u text (message_of text) mid silent ∙ sent_beside n s u bodies now (ne_eqb s n (λ q. absurd (omega (arith, q, l, old))));
       }
 
--- all tables behind it, and what was sent before the request
-asked : (settings : Settings) (t u : Tables) (now : List Event) (g s e : ℕ) (z : Start) (d : Documents) (ids : Table) (pending : Pending) (text id method : List ℕ) (name : Id) (ps : Option Json) → slice_get (map number_in t.lasts.items) g ≡ Some s → g < length t.lasts.items → z ≡ get_or t.lasts.items g z
-    → z.life.stage ≡ Ready → message_of text ≡ request name method ps → is_own method ≡ false → Sends s e id now → worker_of now ≡ Some e → forwarded_of (record { number = z.ids.next; pending = pending }) ≡ sent_as (record { editor = e; id = id }) z.ids.next
-    → ids.requests ≡ z.ids.requests ++ record { number = z.ids.next; pending = pending } ∷ [] → ids.next ≡ z.ids.next + 1 → ids.limit ≡ z.ids.limit → IsInOrder ids
-    → u.lasts.items ≡ slice_set t.lasts.items g (record z { ids = ids }) → u.editors ≡ t.editors → u.groups ≡ t.groups → u.time ≡ t.time → u.origins ≡ t.origins → u.requests ≡ t.requests → u.versions ≡ t.versions
-    → slice_get t.documents.items g ≡ Some d → u.documents.items ≡ slice_set t.documents.items g (sync_row e d).after → Stands settings t now → DocumentsStand settings nothing_owed t now
-    → ((sync_row e d).outs ≡ to s (syncing settings now g s e)) × AllStand settings (u, nothing_owed) (behind (behind now (to s (syncing settings now g s e))) (ToServer s text ∷ []))
-asked settings t u now g s e z d ids pending text id method name ps at within read ready says own sends works kept put next limit order set es gs time os r vs has docs st ds =
-    let here : slice_get t.lasts.items g ≡ Some z = read_here t.lasts.items g z within read in
-    let number : z.life.start ≡ s = start_at_place t.lasts.items g s z here at in
-    let mid = behind now (to z.life.start (rows.sync_bodies d.versions (λ u. held_at z.life.start u now) e d.opens)) in
-    let last = mid ++ said (ToServer z.life.start text) ∷ [] in
-    let sends_on : Sends z.life.start e id mid = sender_told z.life.start z.life.start (rows.sync_bodies d.versions (λ u. held_at z.life.start u now) e d.opens) now e id (tell settings t now g e z d text method name ps here has ready says own works st ds) (subst (λ n. Sends n e id now) (sym number) sends) in
-    let docs_last : DocumentsStand settings nothing_owed u last = documents_set settings nothing_owed nothing_owed t u now last (last_rest settings t now g e z d text method name ps here has ready says own works st ds) vs g z (record z { ids = ids }) d (sync_row e d).after here has set docs
-    (λ _. subst (λ (q : Stage). SharedStands settings last [] g z.life.start q (sync_row e d).after) (sym ready) (now_shared settings t now g e z d text method name ps here has ready says own works st ds))
-    (λ j w c off there h. other_last settings t now g e z d text method name ps here has ready says own works st ds j w.life.start w.life.stage c (ne_eqb g j (λ q. off (sym q))) (apart t.requests now g j z w off (st.lasts.each g z here) (st.lasts.each j w there)) h) ds in
-    let stands_last : Stands settings u last = (does_entry (mid_stands settings t now g e z d text method name ps here has ready says own works st ds)
-    (forward_does settings t u [] (ToServer z.life.start text ∷ []) mid g z.life.start z.life.start e z ids pending text id method name ps (subst (λ n. slice_get (map number_in t.lasts.items) g ≡ Some n) (sym number) at) within read says own
-    (subst (λ es. Sends z.life.start e id es) (sym (append-nil mid)) sends_on) kept put next limit order set es gs time os r refl refl)).stands in
-    subst (λ n. ((sync_row e d).outs ≡ to n (syncing settings now g n e)) × AllStand settings (u, nothing_owed) (behind (behind now (to n (syncing settings now g n e))) (ToServer n text ∷ []))) number (
-      bodies_are settings t now g e z d text method name ps here has ready says own works st ds ∙ ap (to z.life.start) (sym (row_bodies settings t now g e z d text method name ps here has ready says own works st ds)),
-      subst (λ bs. AllStand settings (u, nothing_owed) (behind (behind now (to z.life.start bs)) (ToServer z.life.start text ∷ []))) (sym (row_bodies settings t now g e z d text method name ps here has ready says own works st ds)) (stands_last, docs_last),
+  -- all tables, where those of editors and starts stand behind the body itself
+  module _ (u : Tables) (ids : Table) (put : u.lasts.items ≡ slice_set t.lasts.items g (record z { ids = ids })) (vs : u.versions ≡ t.versions) (set : u.documents.items ≡ slice_set t.documents.items g (sync_row e d).after) (stands : Stands settings t mid → Stands settings u last) where
+    docs_last : DocumentsStand settings nothing_owed u last
+    docs_last = documents_set settings nothing_owed nothing_owed t u now last last_rest vs g z (record z { ids = ids }) d (sync_row e d).after at has put set
+        (λ _. subst (λ (q : Stage). SharedStands settings last [] g s q (sync_row e d).after) (sym ready) now_shared)
+        (λ j w c off there h. other_last j w.life.start w.life.stage c (ne_eqb g j (λ q. off (sym q))) (apart t.requests now g j z w off (st.lasts.each g z at) (st.lasts.each j w there)) h) ds
+
+    -- and what was sent before it
+    pub all_last : (n : ℕ) → s ≡ n → ((sync_row e d).outs ≡ to n (syncing settings now g n e)) × AllStand settings (u, nothing_owed) (behind (behind now (to n (syncing settings now g n e))) (ToServer n text ∷ []))
+    all_last n number = subst (λ m. ((sync_row e d).outs ≡ to m (syncing settings now g m e)) × AllStand settings (u, nothing_owed) (behind (behind now (to m (syncing settings now g m e))) (ToServer m text ∷ []))) number (
+      bodies_are ∙ ap (to s) (sym row_bodies),
+      subst (λ bs. AllStand settings (u, nothing_owed) (behind (behind now (to s bs)) (ToServer s text ∷ []))) (sym row_bodies) (stands mid_stands, docs_last),
     )
 
+-- the outs of the code: a sync, and then the body
+abbrev Ran : Settings → Tables → Tables → List Event → ℕ → ℕ → ℕ → List ℕ → Documents → Type 0
+Ran settings t u now g s e text d = slice_get t.documents.items g ≡ Some d → u.documents.items ≡ slice_set t.documents.items g (sync_row e d).after → Stands settings t now → DocumentsStand settings nothing_owed t now
+    → ((sync_row e d).outs ≡ to s (syncing settings now g s e)) × AllStand settings (u, nothing_owed) (behind (behind now (to s (syncing settings now g s e))) (ToServer s text ∷ []))
+
+synced_does : (settings : Settings) (t u : Tables) (xs ys told : List Out) (base : List Event) (g s start e : ℕ) (z : Start) (text : List ℕ) → slice_get t.lasts.items g ≡ Some z → z.life.start ≡ s → ((d : Documents) → Ran settings t u (behind base xs) g s e text d)
+    → StepAt (sync_row e) g (slice_get t.documents.items g) t.documents.items told u.documents.items → start ≡ z.life.start → ys ≡ (xs ++ told) ++ ToServer start text ∷ []
+    → Does (λ k events. AllStand settings k events) (look (λ now. to_start s (syncing settings now g s e) ⨾ send (ToServer s text))) base (t, nothing_owed) xs (u, nothing_owed) ys
+synced_does settings t u xs ys told base g s start e z text here number ran does is said_so = record {
+  done = λ k.
+      let d = documents_at settings nothing_owed t (behind base xs) g z here k.1 in
+      let made : StepAt (sync_row e) g (Some d.0) t.documents.items told u.documents.items = subst (λ o. StepAt (sync_row e) g o t.documents.items told u.documents.items) d.1 does in
+      let now = ran d.0 d.1 made.1 k.0 k.1 in
+      let all : ys ≡ xs ++ (to s (syncing settings (behind base xs) g s e) ++ ToServer s text ∷ []) = said_so ∙ (ap (λ n. (xs ++ told) ++ ToServer n text ∷ []) (is ∙ number) ∙ (append_assoc xs told (ToServer s text ∷ []) ∙ ap (λ ws. xs ++ (ws ++ ToServer s text ∷ [])) (made.0 ∙ now.0))) in
+      record {
+        outs = all ∙ ap (λ ws. xs ++ (ws ++ ToServer s text ∷ [])) (sym (outs_to_start s (syncing settings (behind base xs) g s e) (behind base xs)));
+        stands = subst (λ es. AllStand settings (u, nothing_owed) es) (sym (ap (behind base) all ∙ (behind_more base xs (to s (syncing settings (behind base xs) g s e) ++ ToServer s text ∷ []) ∙ behind_more (behind base xs) (to s (syncing settings (behind base xs) g s e)) (ToServer s text ∷ [])))) now.1;
+      };
+}
+
+-- a request
 pub asked_does : (settings : Settings) (t u : Tables) (xs ys told : List Out) (base : List Event) (g s start e : ℕ) (z : Start) (ids : Table) (pending : Pending) (text id method : List ℕ) (name : Id) (ps : Option Json) → slice_get (map number_in t.lasts.items) g ≡ Some s → g < length t.lasts.items → z ≡ get_or t.lasts.items g z
     → z.life.stage ≡ Ready → message_of text ≡ request name method ps → is_own method ≡ false → Sends s e id (behind base xs) → worker_of (behind base xs) ≡ Some e → forwarded_of (record { number = z.ids.next; pending = pending }) ≡ sent_as (record { editor = e; id = id }) z.ids.next
     → ids.requests ≡ z.ids.requests ++ record { number = z.ids.next; pending = pending } ∷ [] → ids.next ≡ z.ids.next + 1 → ids.limit ≡ z.ids.limit → IsInOrder ids
     → u.lasts.items ≡ slice_set t.lasts.items g (record z { ids = ids }) → u.editors ≡ t.editors → u.groups ≡ t.groups → u.time ≡ t.time → u.origins ≡ t.origins → u.requests ≡ t.requests → u.versions ≡ t.versions
     → StepAt (sync_row e) g (slice_get t.documents.items g) t.documents.items told u.documents.items → start ≡ z.life.start → ys ≡ (xs ++ told) ++ ToServer start text ∷ []
     → Does (λ k events. AllStand settings k events) (look (λ now. to_start s (syncing settings now g s e) ⨾ send (ToServer s text))) base (t, nothing_owed) xs (u, nothing_owed) ys
-asked_does settings t u xs ys told base g s start e z ids pending text id method name ps at within read ready says own sends works kept put next limit order set es gs time os r vs does is said_so = record {
-  done = λ k.
-      let here : slice_get t.lasts.items g ≡ Some z = read_here t.lasts.items g z within read in
-      let number : z.life.start ≡ s = start_at_place t.lasts.items g s z here at in
-      let d = documents_at settings nothing_owed t (behind base xs) g z here k.1 in
-      let made : StepAt (sync_row e) g (Some d.0) t.documents.items told u.documents.items = subst (λ o. StepAt (sync_row e) g o t.documents.items told u.documents.items) d.1 does in
-      let ran = asked settings t u (behind base xs) g s e z d.0 ids pending text id method name ps at within read ready says own sends works kept put next limit order set es gs time os r vs d.1 made.1 k.0 k.1 in
-      let all : ys ≡ xs ++ (to s (syncing settings (behind base xs) g s e) ++ ToServer s text ∷ []) = said_so ∙ (ap (λ n. (xs ++ told) ++ ToServer n text ∷ []) (is ∙ number) ∙ (append_assoc xs told (ToServer s text ∷ []) ∙ ap (λ ws. xs ++ (ws ++ ToServer s text ∷ [])) (made.0 ∙ ran.0))) in
-      record {
-        outs = all ∙ ap (λ ws. xs ++ (ws ++ ToServer s text ∷ [])) (sym (outs_to_start s (syncing settings (behind base xs) g s e) (behind base xs)));
-        stands = subst (λ es. AllStand settings (u, nothing_owed) es) (sym (ap (behind base) all ∙ (behind_more base xs (to s (syncing settings (behind base xs) g s e) ++ ToServer s text ∷ []) ∙ behind_more (behind base xs) (to s (syncing settings (behind base xs) g s e)) (ToServer s text ∷ [])))) ran.1;
-      };
-}
+asked_does settings t u xs ys told base g s start e z ids pending text id method name ps at within read ready says own sends works kept put next limit order set es gs time os r vs does is said_so =
+    synced_does settings t u xs ys told base g s start e z text here number (λ d has docs st ds. all_last settings t now g e z d text here has ready silent synced works st ds u ids set vs docs (stands d has st ds) s number) does is said_so
+  where
+    now : List Event
+    now = behind base xs
+
+    here : slice_get t.lasts.items g ≡ Some z
+    here = read_here t.lasts.items g z within read
+
+    number : z.life.start ≡ s
+    number = start_at_place t.lasts.items g s z here at
+
+    silent : saying_of (message_of text) ≡ nothing
+    silent = ap saying_of says
+
+    synced : is_synced (message_of text) ≡ true
+    synced = ap is_synced says ∙ ap not own
+
+    stands : (d : Documents) → slice_get t.documents.items g ≡ Some d → Stands settings t now → DocumentsStand settings nothing_owed t now
+        → Stands settings t (behind now (to z.life.start (rows.sync_bodies d.versions (λ u. held_at z.life.start u now) e d.opens)))
+        → Stands settings u (behind now (to z.life.start (rows.sync_bodies d.versions (λ u. held_at z.life.start u now) e d.opens)) ++ said (ToServer z.life.start text) ∷ [])
+    stands d has st ds mid_st =
+        let bodies = rows.sync_bodies d.versions (λ u. held_at z.life.start u now) e d.opens in
+        let mid = behind now (to z.life.start bodies) in
+        let sends_on : Sends z.life.start e id mid = sender_told z.life.start z.life.start bodies now e id (tell settings t now g e z d text here has ready silent synced works st ds) (subst (λ n. Sends n e id now) (sym number) sends) in
+        (does_entry mid_st (forward_does settings t u [] (ToServer z.life.start text ∷ []) mid g z.life.start z.life.start e z ids pending text id method name ps (subst (λ n. slice_get (map number_in t.lasts.items) g ≡ Some n) (sym number) at) within read says own
+        (subst (λ es. Sends z.life.start e id es) (sym (append-nil mid)) sends_on) kept put next limit order set es gs time os r refl refl)).stands
+
+-- a notification
+pub passed_does : (settings : Settings) (t u : Tables) (xs ys told : List Out) (base : List Event) (g s start e : ℕ) (z : Start) (text method : List ℕ) (ps : Option Json) → slice_get (map number_in t.lasts.items) g ≡ Some s → g < length t.lasts.items → z ≡ get_or t.lasts.items g z
+    → z.life.stage ≡ Ready → message_of text ≡ notification method ps → is_synced (message_of text) ≡ true → worker_of (behind base xs) ≡ Some e
+    → u.lasts ≡ t.lasts → u.editors ≡ t.editors → u.groups ≡ t.groups → u.time ≡ t.time → u.origins ≡ t.origins → u.requests ≡ t.requests → u.versions ≡ t.versions
+    → StepAt (sync_row e) g (slice_get t.documents.items g) t.documents.items told u.documents.items → start ≡ z.life.start → ys ≡ (xs ++ told) ++ ToServer start text ∷ []
+    → Does (λ k events. AllStand settings k events) (look (λ now. to_start s (syncing settings now g s e) ⨾ send (ToServer s text))) base (t, nothing_owed) xs (u, nothing_owed) ys
+passed_does settings t u xs ys told base g s start e z text method ps at within read ready says synced works ls es gs time os r vs does is said_so =
+    synced_does settings t u xs ys told base g s start e z text here number (λ d has docs st ds. all_last settings t now g e z d text here has ready silent synced works st ds u z.ids put vs docs (stands d) s number) does is said_so
+  where
+    now : List Event
+    now = behind base xs
+
+    here : slice_get t.lasts.items g ≡ Some z
+    here = read_here t.lasts.items g z within read
+
+    number : z.life.start ≡ s
+    number = start_at_place t.lasts.items g s z here at
+
+    put : u.lasts.items ≡ slice_set t.lasts.items g z
+    put = ap (λ v. v.items) ls ∙ sym (set_same t.lasts.items g z here)
+
+    -- it speaks of no document, and cancels nothing
+    plain : (saying_by method ps ≡ nothing) × (bytes_eq method (codes "$/cancelRequest") ≡ false)
+    plain = plain_notice method ps (ap is_synced (sym says) ∙ synced)
+
+    silent : saying_of (message_of text) ≡ nothing
+    silent = ap saying_of says ∙ plain.0
+
+    stands : (d : Documents) → Stands settings t (behind now (to z.life.start (rows.sync_bodies d.versions (λ u. held_at z.life.start u now) e d.opens)))
+        → Stands settings u (behind now (to z.life.start (rows.sync_bodies d.versions (λ u. held_at z.life.start u now) e d.opens)) ++ said (ToServer z.life.start text) ∷ [])
+    stands d mid_st =
+        let mid = behind now (to z.life.start (rows.sync_bodies d.versions (λ u. held_at z.life.start u now) e d.opens)) in
+        (does_entry mid_st (unmoved_does settings t u [] (ToServer z.life.start text ∷ []) mid g z.life.start z.life.start z text (subst (λ n. slice_get (map number_in t.lasts.items) g ≡ Some n) (sym number) at) within read
+        (ap (requests (codes "shutdown")) says) (ap moves_ids says ∙ plain.1) (ap (λ v. v.items) ls) es gs time os r refl refl)).stands

@@ -54,7 +54,7 @@ notified_documents settings owed t u base xs ys n text silent aside ls ds vs is 
     (λ g x d at h. shared_notified settings (behind base xs) (owed g) g x.life.start x.life.stage d n text (message_of text) silent aside h))
 
 -- a cancel
-cancel_silent : (method : List ℕ) (ps : Option Json) → bytes_eq method (codes "$/cancelRequest") ≡ true → (saying_by method ps ≡ nothing) × (is_synced (notification method ps) ≡ false)
+pub cancel_silent : (method : List ℕ) (ps : Option Json) → bytes_eq method (codes "$/cancelRequest") ≡ true → (saying_by method ps ≡ nothing) × (is_synced (notification method ps) ≡ false)
 cancel_silent method ps h = subst (λ w. (saying_by w ps ≡ nothing) × (is_synced (notification w ps) ≡ false)) (sym ((bytes_eq-Decides method (codes "$/cancelRequest")).0 h)) (refl, refl)
 
 pub cancel_documents : (settings : Settings) (owed : Owed) (t u : Tables) (base : List Event) (xs ys : List Out) (g start : ℕ) (z y : Start) (text method : List ℕ) (ps : Option Json) → g < length t.lasts.items → z ≡ get_or t.lasts.items g z → message_of text ≡ notification method ps → bytes_eq method (codes "$/cancelRequest") ≡ true

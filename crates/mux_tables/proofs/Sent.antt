@@ -64,17 +64,23 @@ module _ (settings : Settings) (t u : Tables) (xs ys : List Out) (base : List Ev
       (λ n _ h. groups_kept settings t.groups u.groups (behind base xs) (did (EndServer n) not_message) gs (groups_stand settings t.groups (behind base xs) (did (EndServer n) not_message) refl) h)
       (λ n e. subst (λ k. StopsMove t u (behind base xs) (said (EndServer k))) (sym e) stops) parts st)
 
--- one that moves nothing
-pub notify_does : (settings : Settings) (t : Tables) (xs ys : List Out) (base : List Event) (g s start : ℕ) (z : Start) (text : List ℕ) → slice_get (map number_in t.lasts.items) g ≡ Some s → g < length t.lasts.items → z ≡ get_or t.lasts.items g z
-    → requests (codes "shutdown") (message_of text) ≡ false → moves_ids (message_of text) ≡ false → start ≡ z.life.start → ys ≡ xs ++ ToServer start text ∷ [] → Does (λ t events. Stands settings t events) (send (ToServer s text)) base t xs t ys
-notify_does settings t xs ys base g s start z text at within read runs counts is said_so =
-    sent_does settings t t xs ys base g s start z z text at within read (sym (same_set t.lasts.items g z (read_here t.lasts.items g z within read))) refl refl refl refl refl refl refl is said_so (λ st. told_stops t t (behind base xs) s text refl runs) (λ st p h. part p h)
+-- one that moves no table of a start
+pub unmoved_does : (settings : Settings) (t u : Tables) (xs ys : List Out) (base : List Event) (g s start : ℕ) (z : Start) (text : List ℕ) → slice_get (map number_in t.lasts.items) g ≡ Some s → g < length t.lasts.items → z ≡ get_or t.lasts.items g z
+    → requests (codes "shutdown") (message_of text) ≡ false → moves_ids (message_of text) ≡ false → u.lasts.items ≡ t.lasts.items → u.editors ≡ t.editors → u.groups ≡ t.groups → u.time ≡ t.time → u.origins ≡ t.origins → u.requests ≡ t.requests
+    → start ≡ z.life.start → ys ≡ xs ++ ToServer start text ∷ [] → Does (λ t events. Stands settings t events) (send (ToServer s text)) base t xs u ys
+unmoved_does settings t u xs ys base g s start z text at within read runs counts ls es gs now os r is said_so =
+    sent_does settings t u xs ys base g s start z z text at within read (ls ∙ sym (same_set t.lasts.items g z (read_here t.lasts.items g z within read))) refl refl es gs now (ap (λ v. v.groups) os) r is said_so (λ st. told_stops t u (behind base xs) s text os runs) (λ st p h. part p h)
   where
     part : (p : Part) → PartStands p t.requests z (behind base xs) → PartStands p t.requests z (behind base xs ++ said (ToServer z.life.start text) ∷ [])
     part of_life h = part_quiet of_life t.requests z (behind base xs) (said (ToServer z.life.start text)) runs h
     part of_ids h = part_quiet of_ids t.requests z (behind base xs) (said (ToServer z.life.start text)) counts h
     part of_shown h = part_quiet of_shown t.requests z (behind base xs) (said (ToServer z.life.start text)) refl h
     part of_stop h = part_quiet of_stop t.requests z (behind base xs) (said (ToServer z.life.start text)) runs h
+
+-- nor any other
+pub notify_does : (settings : Settings) (t : Tables) (xs ys : List Out) (base : List Event) (g s start : ℕ) (z : Start) (text : List ℕ) → slice_get (map number_in t.lasts.items) g ≡ Some s → g < length t.lasts.items → z ≡ get_or t.lasts.items g z
+    → requests (codes "shutdown") (message_of text) ≡ false → moves_ids (message_of text) ≡ false → start ≡ z.life.start → ys ≡ xs ++ ToServer start text ∷ [] → Does (λ t events. Stands settings t events) (send (ToServer s text)) base t xs t ys
+notify_does settings t xs ys base g s start z text at within read runs counts is said_so = unmoved_does settings t t xs ys base g s start z text at within read runs counts refl refl refl refl refl refl is said_so
 
 not_shutdown : (method : List ℕ) → is_own method ≡ false → bytes_eq (codes "shutdown") method ≡ false
 not_shutdown method h = go (bytes_eq (codes "shutdown") method) refl

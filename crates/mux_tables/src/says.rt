@@ -204,6 +204,34 @@ impl Tables {
         Ok(())
     }
 
+    /// E16 and E17: an editor's notification goes to the group's last start, which is ready, as it came. Before it the start is sent the
+    /// editor's text of each of its documents, where it has another. Where the answer is an error the tables stand for nothing any more.
+    pub fn pass_notice(
+        &mut self,
+        alloc: Global,
+        outs: &mut Outs,
+        g: usize,
+        e: u64,
+        text: Body,
+    ) -> Result<(), Memory>
+        requires group { g < length self.old.lasts.items }
+        requires ready { (x : Start) → slice_get self.old.lasts.items g ≡ Some x → x.life.stage ≡ Ready }
+        ensures requests { self.new.requests ≡ self.old.requests }
+        ensures versions { self.new.versions ≡ self.old.versions }
+        ensures lasts { self.new.lasts ≡ self.old.lasts }
+        ensures does { (settings : Settings) (base : List Event) (s : ℕ) (method : List ℕ) (ps : Option Json)
+            → slice_get (map number_in self.old.lasts.items) g ≡ Some s → message_of text ≡ message.notification method ps
+            → is_synced (message_of text) ≡ true → worker_of (behind base outs.old) ≡ Some e
+            → OnOk result (Does (λ k events. AllStand settings k events)
+            (look (λ now. to_start s (syncing settings now g s e) ⨾ send (ToServer s text))) base
+            (self.old, nothing_owed) outs.old (self.new, nothing_owed) outs.new) }
+    {
+        let told = sync(alloc, &mut self.documents, g, e)?;
+        outs.append(told)?;
+        outs.push(Out::ToServer(self.lasts[g].life.start(), text))?;
+        Ok(())
+    }
+
     /// The request of a number is cancelled at the group's last start: `text` is the notification `$/cancelRequest` that names it.
     pub fn cancel(&mut self, outs: &mut Outs, g: usize, n: u32, text: Body) -> Result<(), Memory>
         requires { g < length self.old.lasts.items }
