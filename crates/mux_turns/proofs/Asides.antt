@@ -20,7 +20,7 @@ use Rattle.group_words.specs.Houses.{is_doubled, is_first_open, meant_of, places
 use Rattle.mux_tables.specs.Documents.{changes_documents}
 use Rattle.mux_tables.proofs.Frames.{itself}
 
-and_off : (a : Bool) → (a && false) ≡ false
+pub and_off : (a : Bool) → (a && false) ≡ false
 and_off true = refl
 and_off false = refl
 

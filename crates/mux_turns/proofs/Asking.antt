@@ -1,6 +1,6 @@
 -- An editor's request goes on behind a sync.
-use Rattle.std.proofs.Common.{◌≡◌, ℕ, ◌<◌, ◌^◌, Bool, true, false, ◌&&◌, List, [], ◌∷◌, ◌++◌, map, flat_map, filter, nat_eq, refl, ap, ap₂, sym, subst, ◌∙◌, append-nil, arith, if◌then◌else◌}
-use Rattle.std.specs.Prelude.{Option, Some, None, decimal, slice_get}
+use Rattle.std.proofs.Common.{◌≡◌, ℕ, ◌<◌, ◌^◌, true, false, not, List, [], ◌∷◌, ◌++◌, map, refl, ap, sym, subst, ◌∙◌, codes, arith}
+use Rattle.std.specs.Prelude.{Option, Some, decimal, slice_get}
 use Rattle.json_text.specs.Json.{Json}
 use Rattle.mux_history.specs.declared.cause.Cause.TheVariants.{FromEditor}
 use Rattle.mux_history.specs.declared.out.Out.{Out}
@@ -9,25 +9,20 @@ use Rattle.rpc_message.specs.Message.{Id, id_bytes, integer, message_of, request
 use Rattle.rpc_message.specs.Texts.{with_id_text}
 use Rattle.rpc_message.proofs.Decimals.{decimal_law}
 use Rattle.rpc_message.proofs.Ids.{request_with_id}
-use Rattle.document_model.specs.Helds.{HeldText}
-use Rattle.document_model.specs.Opens.{Open}
-use Rattle.document_model.specs.Texts.{Texts}
+use Rattle.document_model.specs.Sayings.{nothing, saying_of}
 use Rattle.event_model.specs.declared.stage.Stage.TheVariants.{Ready}
 use Rattle.event_model.specs.Does.{Does}
-use Rattle.event_model.specs.Event.{Event, behind, heard, with_cause}
-use Rattle.event_model.specs.Phases.{desk_of, is_served}
+use Rattle.event_model.specs.Event.{Event, behind, heard, requests, with_cause}
 use Rattle.event_model.specs.Requests.{is_own}
 use Rattle.event_model.specs.Row.{look, outs, send, ◌⨾◌}
 use Rattle.event_model.specs.Settings.{Settings}
 use Rattle.event_model.proofs.Frames.{one_more}
-use Rattle.mux_model.specs.Documents.{Sent, held_at, sent_behind, without_editor}
+use Rattle.mux_model.specs.Documents.{held_at}
 use Rattle.mux_model.specs.Rows.{to_start}
 use Rattle.mux_model.proofs.DocumentFolds.{outs_to_start}
-use Rattle.group_words.specs.Houses.{home_of, is_home}
 use Rattle.group_rows.specs.Forwarded.{Forwarding, forwarding_behind, forwarding_of, sender_of}
-use Rattle.group_rows.specs.Rows.{forward, sync_bodies, sync_row, synced}
-use Rattle.group_rows.specs.Texts.{texts_heard, texts_of, worker_behind, worker_of}
-use Rattle.group_rows.proofs.Frames.{texts_more}
+use Rattle.group_rows.specs.Rows.{forward, sync_bodies, sync_row}
+use Rattle.group_rows.specs.Texts.{is_synced, texts_of, worker_of}
 use Rattle.mux_tables.specs.declared.tables.Start.{Start}
 use Rattle.mux_tables.specs.declared.tables.Tables.{Tables}
 use Rattle.mux_tables.specs.Documents.{AllStand, AllTell, nothing_owed, syncing, to}
@@ -37,14 +32,7 @@ use Rattle.mux_tables.proofs.DocumentMoves.{documents_at}
 use Rattle.mux_tables.proofs.DocumentOwed.{stands_told}
 use Rattle.mux_tables.proofs.Starts.{start_at_place}
 use Rattle.mux_turns.proofs.Classes.{Serves}
-
--- a sync by what a start has, said in another way
-flat_same : {A B : Type 0} (f g : A → List B) → ((a : A) → f a ≡ g a) → (xs : List A) → flat_map f xs ≡ flat_map g xs
-flat_same f g h [] = refl
-flat_same f g h (x ∷ xs) = ap₂ (λ a b. a ++ b) (h x) (flat_same f g h xs)
-
-sync_same : (versions e : ℕ) (h k : List ℕ → Option HeldText) (os : List Open) → ((u : List ℕ) → h u ≡ k u) → sync_bodies versions h e os ≡ sync_bodies versions k e os
-sync_same versions e h k os same = flat_same (λ (o : Open). synced versions o (h o.uri)) (λ (o : Open). synced versions o (k o.uri)) (λ o. ap (synced versions o) (same o.uri)) (filter (λ (o : Open). nat_eq o.editor e) os)
+use Rattle.mux_turns.proofs.Synced.{at_work, here_first, same_sync}
 
 module _ (settings : Settings) (t : Tables) (before : List Event) (body method : List ℕ) (id : Id) (params : Option Json) (e g s n : ℕ) (x : Start) (xs : List Out) (first : xs ≡ [])
     (at : slice_get t.lasts.items g ≡ Some x) (number : slice_get (map number_in t.lasts.items) g ≡ Some s) (ready : x.life.stage ≡ Ready) (next : n ≡ x.ids.next) (left : x.ids.next < x.ids.limit)
@@ -56,7 +44,7 @@ module _ (settings : Settings) (t : Tables) (before : List Event) (body method :
   now = behind base xs
 
   here : now ≡ base
-  here = ap (behind base) first ∙ append-nil base
+  here = here_first settings before body e xs first
 
   -- whose request is at work
   pub sends : (bytes : List ℕ) → bytes ≡ id_bytes body → Sends s e bytes now
@@ -64,28 +52,13 @@ module _ (settings : Settings) (t : Tables) (before : List Event) (body method :
       ∙ (ap (sender_of e body) says ∙ ap (λ w. Some (record { editor = e; id = w })) (sym is)))
 
   pub works : worker_of now ≡ Some e
-  works = ap worker_of here ∙ one_more worker_behind None (worker_of before) before (heard (FromEditor e body)) refl
-
-  -- the request itself says nothing of documents
-  still_texts : texts_of settings g base ≡ texts_of settings g before
-  still_texts = texts_more settings g before (heard (FromEditor e body))
-      ∙ (ap (λ m. if is_home g (home_of settings e before) && is_served (desk_of e before).phase then texts_heard g before e m (texts_of settings g before) else texts_of settings g before) says
-      ∙ calm (is_home g (home_of settings e before) && is_served (desk_of e before).phase) (texts_of settings g before))
-    where
-      calm : (b : Bool) (w : Texts) → (if b then texts_heard g before e (request id method params) w else w) ≡ w
-      calm true w = ap (λ c. if c then without_editor e w else w) serves.stays
-      calm false w = refl
-
-  still_held : (u : List ℕ) → held_at s u base ≡ held_at s u before
-  still_held u = ap (λ (k : Sent). k.held) (one_more (sent_behind s u) _ _ before (heard (FromEditor e body)) refl)
+  works = at_work settings before body e xs first
 
   abbrev bodies : List (List ℕ)
   bodies = sync_bodies settings.limits.versions (λ u. held_at s u before) e (texts_of settings g before).opens
 
   same_bodies : syncing settings now g s e ≡ bodies
-  same_bodies = ap (λ es. syncing settings es g s e) here
-      ∙ (sync_same settings.limits.versions e (λ u. held_at s u base) (λ u. held_at s u before) (texts_of settings g base).opens still_held
-      ∙ ap (λ (w : Texts). sync_bodies settings.limits.versions (λ u. held_at s u before) e w.opens) still_texts)
+  same_bodies = same_sync settings before body e xs first g s (ap (requests (codes "shutdown")) says ∙ serves.stays) (ap saying_of says)
 
   own : x.life.start ≡ s
   own = start_at_place t.lasts.items g s x at number
@@ -105,8 +78,10 @@ module _ (settings : Settings) (t : Tables) (before : List Event) (body method :
     next_told k =
         let d = documents_at settings nothing_owed t now g x at k.1 in
         let goes = text_says (bound k.0) in
-        let row = row_bodies settings t now g e x d.0 text method (integer (decimal n)) params at d.1 ready goes passed works k.0 k.1 in
-        let speak : AllTell (syncing settings now g x.life.start e) = subst AllTell (sym row) (tell settings t now g e x d.0 text method (integer (decimal n)) params at d.1 ready goes passed works k.0 k.1) in
+        let silent : saying_of (message_of text) ≡ nothing = ap saying_of goes in
+        let goes_behind : is_synced (message_of text) ≡ true = ap is_synced goes ∙ ap not passed in
+        let row = row_bodies settings t now g e x d.0 text at d.1 ready silent goes_behind works k.0 k.1 in
+        let speak : AllTell (syncing settings now g x.life.start e) = subst AllTell (sym row) (tell settings t now g e x d.0 text at d.1 ready silent goes_behind works k.0 k.1) in
         let st = stands_told settings t g x at (syncing settings now g x.life.start e) now speak k.0 in
         let told : (forwarding_of s (behind now (to s (syncing settings now g s e)))).next ≡ x.ids.next = subst (λ m. (forwarding_of m (behind now (to m (syncing settings now g m e)))).next ≡ x.ids.next) own ((st.lasts.each g x at).parts of_ids).next in
         ap (λ bs. (forwarding_of s (behind now (to s bs))).next) (sym same_bodies) ∙ (told ∙ sym next)

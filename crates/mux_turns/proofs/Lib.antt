@@ -18,11 +18,13 @@ pub mod Matched
 pub mod Noticing
 pub mod Numbers
 pub mod Ready
+pub mod Passing
 pub mod PutOut
 pub mod Replies
 pub mod Rows
 pub mod Serving
 pub mod Stopped
+pub mod Synced
 pub mod Welcoming
 mod Telling
 pub mod Ticking

@@ -2,18 +2,19 @@
 use Rattle.std.proofs.Common.{◌≡◌, ℕ, Bool, true, false, List, refl, ap, sym, ◌∙◌}
 use Rattle.std.specs.Prelude.{Option, Some, None}
 use Rattle.std.specs.Option.{option_and_then}
+use Rattle.mux_history.specs.declared.out.Out.TheVariants.{ToServer}
 use Rattle.rpc_message.specs.Texts.{request_failed}
 use Rattle.event_model.specs.declared.stage.Stage.{Stage}
 use Rattle.event_model.specs.Does.{Alike}
 use Rattle.event_model.specs.Event.{Event}
-use Rattle.event_model.specs.Row.{Row, nothing, choose, each, on, ◌⨾◌}
+use Rattle.event_model.specs.Row.{Row, nothing, choose, each, on, send, ◌⨾◌}
 use Rattle.event_model.specs.Settings.{Settings}
 use Rattle.event_model.specs.Spawns.{start_of}
 use Rattle.event_model.specs.Stages.{is_ready, life_of}
 use Rattle.event_model.proofs.Turns.{alike, alike_then, alike_true, alike_false}
 use Rattle.group_rows.specs.Forwarded.{forwarding_of}
 use Rattle.group_rows.specs.Leaves.{cancel, cancels, cancels_row, uncancelled_of}
-use Rattle.group_rows.specs.Rows.{answer_error, can_ask, forward, request_at, request_row, sync_row}
+use Rattle.group_rows.specs.Rows.{answer_error, can_ask, forward, notice_at, notice_row, request_at, request_row, sync_row}
 use Rattle.group_words.specs.Houses.{home_of}
 use Rattle.mux_tables.specs.Stands.{start_for}
 
@@ -46,6 +47,20 @@ module _ (settings : Settings) (before : List Event) (e : ℕ) where
   pub ready_left : (g s : ℕ) (stage : Stage) (ns : List ℕ) → home_of settings e before ≡ Some g → start_of g before ≡ Some s → stage ≡ (life_of s before).stage → is_ready stage ≡ true → ns ≡ uncancelled_of e (forwarding_of s before).open_requests
       → Alike (cancels_row settings before e) (each (cancel s) ns)
   ready_left g s stage ns h k at r is = alike_then (is_first (left_at g s h k) (ap is_ready (sym at) ∙ r)) (alike (ap (each (cancel s)) (sym is)))
+
+  -- E16 and E17
+  module _ (body : List ℕ) where
+    pub none_noted : start_for settings e before ≡ None → Alike (notice_row settings before e body) nothing
+    none_noted h = alike (no_start (home_of settings e before) (λ g. start_of g before) nothing (notice_at settings before e body) h)
+
+    noted : (g s : ℕ) → home_of settings e before ≡ Some g → start_of g before ≡ Some s → notice_row settings before e body ≡ notice_at settings before e body g s
+    noted g s h k = some_start (home_of settings e before) (λ g. start_of g before) nothing (notice_at settings before e body) g s h k
+
+    pub unnoted_at : (g s : ℕ) (stage : Stage) → home_of settings e before ≡ Some g → start_of g before ≡ Some s → stage ≡ (life_of s before).stage → is_ready stage ≡ false → Alike (notice_row settings before e body) nothing
+    unnoted_at g s stage h k at r = is_second (noted g s h k) (ap is_ready (sym at) ∙ r)
+
+    pub noted_at : (g s : ℕ) (stage : Stage) → home_of settings e before ≡ Some g → start_of g before ≡ Some s → stage ≡ (life_of s before).stage → is_ready stage ≡ true → Alike (notice_row settings before e body) (sync_row settings before g s e ⨾ send (ToServer s body))
+    noted_at g s stage h k at r = is_first (noted g s h k) (ap is_ready (sym at) ∙ r)
 
   -- E10
   module _ (body : List ℕ) where

@@ -22,8 +22,8 @@ use mux_tables::Tables;
 use rpc_message::Message;
 use std::alloc::Global;
 
-/// E12 to E15: a notification other than `exit` comes from an editor that is served, in a group that has a start. Where it opens,
-/// changes or closes a document, and the start is ready, the start is told so; another one gives nothing.
+/// E12 to E15: a notification that doesn't go on, other than `exit`, comes from an editor that is served, in a group that has a start.
+/// Where it opens, changes or closes a document, and the start is ready, the start is told so; another one gives nothing.
 pub fn take_notice(
     tables: &mut Tables,
     alloc: Global,
