@@ -28,12 +28,12 @@ use event_model::{Phase, Server};
 use lsp_method::Class;
 use message_body::{Body, Memory};
 use mux_history::Outs;
-use mux_members::{class_in, is_exit, is_initialize, is_open};
+use mux_members::{class_in, goes_on, is_exit, is_initialize, is_open};
 use mux_tables::Tables;
 use mux_turns::{
     asks_lspmux, doubles, take_closed, take_doubled, take_doubled_own, take_down, take_early,
-    take_exit, take_gone, take_initialize, take_malformed, take_notice, take_open, take_quiet,
-    take_request, take_shutdown, take_status, take_wrong,
+    take_exit, take_gone, take_initialize, take_malformed, take_notice, take_open, take_passed,
+    take_quiet, take_request, take_shutdown, take_status, take_wrong,
 };
 use rpc_message::{Malformed, Message, Sort};
 use std::alloc::Global;
@@ -222,7 +222,7 @@ fn from_asking(
     }
 }
 
-// E9, E12 to E15: a notification of an editor that is served.
+// E9, E12 to E17: a notification of an editor that is served.
 fn from_noting(
     tables: &mut Tables,
     alloc: Global,
@@ -242,13 +242,16 @@ fn from_noting(
     if is_exit(message) {
         take_exit(tables, alloc, outs, e)?;
         Ok(())
+    } else if goes_on(message) {
+        take_passed(tables, alloc, outs, e, message)?;
+        Ok(())
     } else {
         take_notice(tables, alloc, outs, e, message)?;
         Ok(())
     }
 }
 
-// E8 to E10, E12 to E15, and E19: a message of an editor that is served.
+// E8 to E10, E12 to E17, and E19: a message of an editor that is served.
 fn from_served(
     tables: &mut Tables,
     alloc: Global,
@@ -499,7 +502,7 @@ fn from_malformed(
 }
 
 /// A body comes from an editor: E2 where it is no message; E3 where it is a request under an id that is open; E4 and E5 where it is
-/// one of the multiplexer's own; else E7 to E10, or E12 to E15, by where the editor stands, or nothing.
+/// one of the multiplexer's own; else E7 to E10, or E12 to E17, by where the editor stands, or nothing.
 pub fn from_editor(
     tables: &mut Tables,
     alloc: Global,

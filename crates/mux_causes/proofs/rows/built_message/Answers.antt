@@ -19,7 +19,7 @@ returns-in-Request c = λ settings before body facts known st read.
 pub returns-in-Notification : goal.returns-in-Notification
 returns-in-Notification c = λ settings before body facts known st read.
     let q = is_notification (message_of body) (c.sort.ensures body read ∙ ap (λ x. Some x) c.in-Notification.is) in
-    c.built_notice.ensures body q.0 q.1.0 read q.1.1 ∙ ap (λ p. built_notice p q.0 q.1.0) (c.phase-in-Notification.ensures settings before st) ∙ ap (built_from_editor (desk_of c.args.e before).phase (open_of c.args.e before)) (sym q.1.1)
+    c.built_notice.ensures body q.0 q.1.0 read q.1.1 ∙ ap (λ p. built_notice p q.0) (c.phase-in-Notification.ensures settings before st) ∙ ap (built_from_editor (desk_of c.args.e before).phase (open_of c.args.e before)) (sym q.1.1)
 
 pub returns-in-Result : goal.returns-in-Result
 returns-in-Result c = λ settings before body facts known st read. response_built (desk_of c.args.e before).phase (open_of c.args.e before) (message_of body) c.sort.result (c.sort.ensures body read) c.in-Result.is

@@ -2,6 +2,10 @@
 use Rattle.std.proofs.Common.{◌≡◌, ap, bytes_eq, codes, refl, sym, ◌∙◌, false, true}
 use Rattle.event_model.specs.Event.{notifies}
 use Rattle.event_model.specs.Phases.{desk_of}
+use Rattle.event_model.proofs.Turns.{alike_then}
+use Rattle.lsp_method.specs.Class.{class_of}
+use Rattle.lsp_method.specs.declared.variants.Origin.TheVariants.{Editor}
+use Rattle.mux_model.specs.Methods.{goes_on}
 use Rattle.rpc_message.specs.Message.{message_of}
 use Rattle.mux_tables.specs.Documents.{AllStand}
 use Rattle.mux_turns.proofs.Rows.{is_first, is_second}
@@ -14,10 +18,18 @@ returns-in_ok-take_exit-clause-does c = λ settings before body method params re
     let exits : notifies (codes "exit") (message_of body) ≡ true = sym (c.is_exit.ensures body read) ∙ c.if-is_exit.true in
     done_alike (λ k events. AllStand settings k events) (is_first refl (ap (notifies (codes "exit")) (sym says) ∙ exits)) (c.in_ok-take_exit.ensures.does settings before body exits first st ds)
 
+pub returns-in_ok-take_passed-clause-does : goal.returns-in_ok-take_passed-clause-does
+returns-in_ok-take_passed-clause-does c = λ settings before body method params read says served first settled st ds.
+    let stays : bytes_eq (codes "exit") method ≡ false = ap (notifies (codes "exit")) (sym says) ∙ (sym (c.is_exit.ensures body read) ∙ c.if-is_exit.false) in
+    let going : goes_on (class_of method Editor true) ≡ true = sym (c.goes_on.ensures body method params read says) ∙ c.if-goes_on.true in
+    done_alike (λ k events. AllStand settings k events) (alike_then (is_second refl stays) (is_first refl going))
+    (c.in_ok-take_passed.ensures.does settings before body method params read says going served first st ds)
+
 pub returns-in_ok-take_notice-clause-does : goal.returns-in_ok-take_notice-clause-does
 returns-in_ok-take_notice-clause-does c = λ settings before body method params read says served first settled st ds.
     let e = c.args.e in
     let stays : bytes_eq (codes "exit") method ≡ false = ap (notifies (codes "exit")) (sym says) ∙ (sym (c.is_exit.ensures body read) ∙ c.if-is_exit.false) in
     let seat = settled.seated e (served_needs (desk_of e before).phase served) in
-    done_alike (λ k events. AllStand settings k events) (is_second refl stays)
+    let off : goes_on (class_of method Editor true) ≡ false = sym (c.goes_on.ensures body method params read says) ∙ c.if-goes_on.false in
+    done_alike (λ k events. AllStand settings k events) (alike_then (is_second refl stays) (is_second refl off))
     (c.in_ok-take_notice.ensures.does settings before body method params seat.group seat.start read says stays served seat.home seat.last first st ds)
