@@ -185,6 +185,35 @@ const BOTH_ASK: [(&str, &str); 5] = [
     ("sv 0 {\"jsonrpc\":\"2.0\",\"id\":2,\"result\":null}\n", ""),
 ];
 
+// Both have a document open, in two texts: notifications go on as they came, behind the text of the one that sends them. A request
+// finds the text that the last of them switched to.
+const NOTIFYING: [(&str, &str); 6] = [
+    (
+        "ed 0 {\"jsonrpc\":\"2.0\",\"method\":\"textDocument/didOpen\",\"params\":{\"textDocument\":{\"uri\":\"file:///u\",\"languageId\":\"x\",\"version\":5,\"text\":\"a\"}}}\n",
+        ">sv 0 {\"jsonrpc\":\"2.0\",\"method\":\"textDocument/didOpen\",\"params\":{\"textDocument\":{\"uri\":\"file:///u\",\"languageId\":\"x\",\"version\":1,\"text\":\"a\"}}}\n",
+    ),
+    (
+        "ed 1 {\"jsonrpc\":\"2.0\",\"method\":\"textDocument/didOpen\",\"params\":{\"textDocument\":{\"uri\":\"file:///u\",\"languageId\":\"x\",\"version\":9,\"text\":\"a\"}}}\n",
+        "",
+    ),
+    (
+        "ed 1 {\"jsonrpc\":\"2.0\",\"method\":\"textDocument/didChange\",\"params\":{\"textDocument\":{\"uri\":\"file:///u\",\"version\":10},\"contentChanges\":[{\"text\":\"b\"}]}}\n",
+        ">sv 0 {\"jsonrpc\":\"2.0\",\"method\":\"textDocument/didChange\",\"params\":{\"textDocument\":{\"uri\":\"file:///u\",\"version\":2},\"contentChanges\":[{\"text\":\"b\"}]}}\n",
+    ),
+    (
+        "ed 0 { \"jsonrpc\":\"2.0\",\"method\":\"workspace/didChangeConfiguration\",\"params\":{\"settings\":null}}\n",
+        ">sv 0 {\"jsonrpc\":\"2.0\",\"method\":\"textDocument/didChange\",\"params\":{\"textDocument\":{\"uri\":\"file:///u\",\"version\":3},\"contentChanges\":[{\"text\":\"a\"}]}}\n>sv 0 { \"jsonrpc\":\"2.0\",\"method\":\"workspace/didChangeConfiguration\",\"params\":{\"settings\":null}}\n",
+    ),
+    (
+        "ed 1 {\"jsonrpc\":\"2.0\",\"method\":\"workspace/didChangeWatchedFiles\",\"params\":{\"changes\":[ ]}}\n",
+        ">sv 0 {\"jsonrpc\":\"2.0\",\"method\":\"textDocument/didChange\",\"params\":{\"textDocument\":{\"uri\":\"file:///u\",\"version\":4},\"contentChanges\":[{\"text\":\"b\"}]}}\n>sv 0 {\"jsonrpc\":\"2.0\",\"method\":\"workspace/didChangeWatchedFiles\",\"params\":{\"changes\":[ ]}}\n",
+    ),
+    (
+        "ed 1 {\"jsonrpc\":\"2.0\",\"id\":1,\"method\":\"textDocument/hover\",\"params\":{}}\n",
+        ">sv 0 {\"jsonrpc\":\"2.0\",\"id\":2,\"method\":\"textDocument/hover\",\"params\":{}}\n",
+    ),
+];
+
 // Both have a document open, in two texts: the start is switched to the text of the one that asks.
 const SWITCHING: [(&str, &str); 5] = [
     (
@@ -669,7 +698,8 @@ const IDLING: [(&str, &str); 10] = [
 ];
 
 // Lines that fit, and that no row takes yet.
-const UNBUILT: [&str; 3] = [
+const UNBUILT: [&str; 4] = [
+    "ed 0 {\"jsonrpc\":\"2.0\",\"method\":\"$/cancelRequest\",\"params\":{\"id\":1}}\n",
     "ed 0 {\"jsonrpc\":\"2.0\",\"id\":1,\"method\":\"lspmux/stop\"}\n",
     "ed 0 {\"jsonrpc\":\"2.0\",\"id\":1,\"method\":\"x\",\"params\":{\"workDoneToken\":1}}\n",
     "sv 0 {\"jsonrpc\":\"2.0\",\"method\":\"x\"}\n",
@@ -698,10 +728,11 @@ fn sessions_bring_their_lines(rt: HostRuntime) -> Result<(), Fail> {
 #[test]
 fn several_editors_bring_their_lines(rt: HostRuntime) -> Result<(), Fail> {
     let alloc = rt.alloc();
-    let sessions: [&[&[(&str, &str)]]; 14] = [
+    let sessions: [&[&[(&str, &str)]]; 15] = [
         &[&TWO_EDITORS, &A_THIRD],
         &[&TWO_EDITORS, &WRONG_NAMES],
         &[&TWO_EDITORS, &BOTH_ASK],
+        &[&TWO_EDITORS, &NOTIFYING],
         &[&TWO_EDITORS, &SWITCHING, &CHANGING],
         &[&TWO_EDITORS, &CLOSING],
         &[&TWO_GROUPS],
