@@ -105,7 +105,7 @@ module _ (settings : Settings) (cause : Cause) (events : List Event) (n : ℕ) (
       (subst (λ z. TiedAt z (next_number n events) (forwarding_of n events).next) at h)
 
   -- an editor's request
-  goes : (k : IsForward settings before cause events n body) → Tied events n → Tied sent n
+  goes : {before : List Event} (k : IsForward settings before cause events n body) → Tied events n → Tied sent n
   goes k h =
       let m : Message = request (integer (decimal (forwarding_of n events).next)) k.method k.params in
       let a : next_number n sent ≡ next_number n events + 1 = (number_sent events n body m k.says) in

@@ -40,6 +40,7 @@ use Rattle.group_facts.specs.Facts.{IsAlone, Opened}
 use Rattle.group_facts.proofs.Apart.{asks_fewer}
 use Rattle.group_facts.proofs.Forwards.{alone_fewer, forwarding_more}
 use Rattle.group_facts.proofs.Nulls.{null_said}
+use Rattle.group_facts.proofs.Numbered.{no_shutdown}
 use Rattle.group_facts.proofs.SyncRow.{behind_sync, sync_why, synced_calm}
 use Rattle.group_facts.proofs.Tellings.{Calm}
 use Rattle.group_facts.specs.Why.{IsBehindSync, IsBeside, IsForward, Why, answers, forwarded, refuses}
@@ -196,13 +197,6 @@ module _ (settings : Settings) (before : List Event) (e : ℕ) (body : List ℕ)
     late_refused code late = early code (λ at. absurd (late_not (desk_of e asked).phase (late_taken before e body late) at))
 
     module _ (range : InRange settings) (opened : Opened settings before) (late : is_early (desk_of e before).phase ≡ false) (other : is_own method ≡ false) where
-      no_shutdown : bytes_eq (codes "shutdown") method ≡ false
-      no_shutdown = turned_round (codes "shutdown") method (right (bytes_eq method (codes "initialize")) (bytes_eq method (codes "shutdown")) other)
-        where
-          right : (a b : Bool) → (a || b) ≡ false → b ≡ false
-          right true b h = absurd (cc)
-          right false b h = h
-
       fails : Because R asked (answer_error e body request_failed)
       fails = late_refused request_failed late
 
@@ -249,7 +243,7 @@ module _ (settings : Settings) (before : List Event) (e : ℕ) (body : List ℕ)
         synced_sender = calm_there.still.sender ∙ ap (λ (x : Forwarding). x.sender) (forwarding_more s before (heard (FromEditor e body))) ∙ ap (sender_of e body) says
 
         pub is_forward : IsForward settings before (FromEditor e body) synced s (with_id_text body (decimal (forwarding_of s synced).next))
-        is_forward = goes synced (behind_sync settings range before opened e body g s parts.0 start (ap (requests (codes "shutdown")) says ∙ no_shutdown) (ap (λ m. speaks (saying_of m)) says)) calm_there
+        is_forward = goes synced (behind_sync settings range before opened e body g s parts.0 start (ap (requests (codes "shutdown")) says ∙ no_shutdown method other) (ap (λ m. speaks (saying_of m)) says)) calm_there
 
         asks : Because R asked (sync_row settings before g s e ⨾ forward s body)
         asks = by_then (sync_why settings range before opened e body g s parts.0) (by_look (by_send (forwarded is_forward)))
