@@ -1,6 +1,5 @@
-use Rattle.std.proofs.Common.{◌∙◌, sym, ap, rules}
+use Rattle.std.proofs.Common.{◌∙◌, ap, rules}
 use Rattle.std.specs.Prelude.{Some, None}
-use Rattle.std.specs.BTreeMap.{BTreeMap}
 use Rattle.number_index.specs.Numbers.{Same, with_number}
 use Rattle.number_index.proofs.Keys.{found, changed, changed_not, left, set_other, whatever, rows}
 use Rattle.number_index.proofs.index.Index.add.Goals as goal

@@ -1,4 +1,4 @@
-use Rattle.std.proofs.Common.{◌∙◌, ap, subst, List, ℕ, refl, sym}
+use Rattle.std.proofs.Common.{◌∙◌, ap, subst, List, ℕ}
 use Rattle.std.specs.Prelude.{Some, []}
 use Rattle.number_index.specs.Numbers.{with_number, Changes}
 use Rattle.number_index.proofs.Keys.{changed, insert_other, rows}
