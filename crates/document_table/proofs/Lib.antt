@@ -1,0 +1,4 @@
+mod Keeping
+mod Mapping
+mod Numbering
+mod Standing

@@ -1,0 +1,8 @@
+//! What editors have open: a table of documents in the order of opening, with indexes by their URIs and by their editors (LSP 3.17, Text Document Synchronization).
+#![tactic(auto)]
+
+mod numbers;
+mod opens;
+mod rows;
+
+pub use opens::{Opening, Opens};
