@@ -1,0 +1,6 @@
+mod Making
+mod ReadLaw
+mod Rising
+mod Stamps
+mod Walks
+mod Worked

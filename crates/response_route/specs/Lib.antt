@@ -1,0 +1,4 @@
+pub mod Edits
+pub mod Reading
+pub mod Results
+pub mod Versions

@@ -1,0 +1,16 @@
+//! The versions of documents in what a start of a server answers: where they are read, and the editor's own in their place (V1 and V2).
+#![tactic(auto)]
+
+mod documents;
+mod edits;
+mod fault;
+mod laws;
+mod mapping;
+mod versions;
+
+pub use documents::documents_of;
+pub use edits::changes_of;
+pub use fault::EditFault;
+pub use laws::edits_law;
+pub use mapping::Mapping;
+pub use versions::{Stamp, Versions};
