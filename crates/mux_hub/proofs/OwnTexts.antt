@@ -2,7 +2,6 @@
 use Rattle.std.proofs.Common.{◌≡◌, ℕ, ◌≤◌, ◌<◌, ◌^◌, Bool, true, false, List, [], ◌∷◌, ◌++◌, length, map, fold, nat_lt, refl, sym, ◌∙◌, ap, subst, append-nil, append_assoc, arith, ltb-true}
 use Rattle.std.specs.Prelude.{Option, Some, None, slice_get, IsTrue}
 use Rattle.std.proofs.lemmas.Bool.Decides.{nat_tests}
-use Rattle.std.proofs.lemmas.Option.{same_Some}
 use Rattle.mux_history.specs.declared.cause.Cause.{Cause}
 use Rattle.mux_history.specs.declared.cause.Cause.TheVariants.{FromEditor}
 use Rattle.mux_history.specs.declared.entry.Entry.{Entry}
@@ -23,7 +22,7 @@ use Rattle.event_model.specs.Settings.{Settings}
 use Rattle.event_model.specs.Spawns.{group_behind, group_of, start_of}
 use Rattle.event_model.specs.Stages.{Life, is_ready, life_of}
 use Rattle.event_model.proofs.Frames.{never, one_more, outs_more}
-use Rattle.event_model.proofs.Places.{item_at}
+use Rattle.event_model.proofs.Places.{item_at, same_item}
 use Rattle.focus_switch.specs.Documents.{Documents, version_held}
 use Rattle.mux_facts.specs.Allowed.{is_response}
 use Rattle.mux_facts.specs.Ranges.{InRange}
@@ -44,7 +43,6 @@ use Rattle.mux_tables.specs.declared.tables.Start.{Start}
 use Rattle.mux_tables.specs.declared.tables.Tables.{Tables}
 use Rattle.mux_tables.specs.Documents.{DocumentsStand, SharedStands, nothing_owed}
 use Rattle.mux_tables.specs.Stands.{Stands, of_life}
-use Rattle.mux_tables.proofs.DocumentAsked.{worker_stays}
 use Rattle.mux_tables.proofs.DocumentMoves.{documents_at}
 use Rattle.mux_hub.specs.Entries.{emits, entry_of}
 
@@ -54,7 +52,7 @@ module _ (settings : Settings) (t : Tables) (before : List Event) (st : Stands s
   last_of g s is = by (nat_lt g (length t.lasts.items)) refl
     where
       by : (b : Bool) → nat_lt g (length t.lasts.items) ≡ b → (x : Start) × (slice_get t.lasts.items g ≡ Some x) × (x.life.start ≡ s)
-      by true l = let at = item_at t.lasts.items g (ltb-true g (length t.lasts.items) l) in (at.0, at.1, same_Some (sym ((st.lasts.each g at.0 at.1).start) ∙ is))
+      by true l = let at = item_at t.lasts.items g (ltb-true g (length t.lasts.items) l) in (at.0, at.1, same_item (sym ((st.lasts.each g at.0 at.1).start) ∙ is))
       by false l = let h : length t.lasts.items ≤ g = grind (arith, nat_tests) in absurd (let e : start_of g before ≡ None = st.lasts.none g h in cc)
 
   -- the documents of a group whose last start is ready
@@ -62,6 +60,10 @@ module _ (settings : Settings) (t : Tables) (before : List Event) (st : Stands s
   shared_of g s x d at same has ready =
       let stage : x.life.stage ≡ Ready = ready_is x.life.stage (ap (λ (l : Life). is_ready l.stage) (sym (subst (λ n. life_of n before ≡ record { stage = x.life.stage; started = x.started }) same ((st.lasts.each g x at).parts of_life))) ∙ ready) in
       subst (λ n. SharedStands settings before [] g n Ready d) same (subst (λ (q : Stage). SharedStands settings before [] g x.life.start q d) stage (ds.each g x d at has))
+
+  worker_told : (s : ℕ) (bodies : List (List ℕ)) (w : Option ℕ) → fold worker_behind w (map said (to s bodies)) ≡ w
+  worker_told s [] w = refl
+  worker_told s (b ∷ bodies) w = worker_told s bodies w
 
   group_told : (s n : ℕ) (bodies : List (List ℕ)) (w : Option ℕ) → fold (group_behind n) w (map said (to s bodies)) ≡ w
   group_told s n [] w = refl
@@ -76,9 +78,9 @@ module _ (settings : Settings) (t : Tables) (before : List Event) (st : Stands s
       let shared = shared_of k.group s x.0 d.0 x.1 x.2 d.1 k.ready in
       let few : d.0.versions < 2 ^ 32 = subst (λ n. n < 2 ^ 32) (sym (shared.versions ∙ ds.versions)) ds.range in
       let holds : HeldStands s shared.start.code d.0 before = subst (λ es. HeldStands s shared.start.code d.0 es) (append-nil before) shared.start.holds in
-      let worker : w ≡ e = same_Some (sym works ∙ (ap worker_of k.place ∙ (worker_stays (with_cause before (FromEditor e asked)) _ ∙ one_more worker_behind None (worker_of before) before (heard (FromEditor e asked)) refl))) in
+      let worker : w ≡ e = same_item (sym works ∙ (ap worker_of k.place ∙ (outs_more worker_behind None (Some e) (with_cause before (FromEditor e asked)) _ (one_more worker_behind None (worker_of before) before (heard (FromEditor e asked)) refl) ∙ worker_told s _ (Some e)))) in
       let lived : group_of s before ≡ Some k.group = subst (λ n. group_of n before ≡ Some k.group) x.2 (st.lasts.each k.group x.0 x.1).home in
-      let group : g ≡ k.group = same_Some (sym home ∙ (ap (group_of s) k.place ∙ (outs_more (group_behind s) None (Some k.group) (with_cause before (FromEditor e asked)) _ (one_more (group_behind s) None (Some k.group) before (heard (FromEditor e asked)) lived) ∙ group_told s s _ (Some k.group)))) in
+      let group : g ≡ k.group = same_item (sym home ∙ (ap (group_of s) k.place ∙ (outs_more (group_behind s) None (Some k.group) (with_cause before (FromEditor e asked)) _ (one_more (group_behind s) None (Some k.group) before (heard (FromEditor e asked)) lived) ∙ group_told s s _ (Some k.group)))) in
       let own = own_texts settings k.group s e shared.start.code before asked d.0 k.stays k.silent shared.versions few shared.texts holds u o
       (subst (λ es. found e u (texts_of settings k.group es) ≡ Some o) k.place (subst (λ n. found e u (texts_of settings n events) ≡ Some o) group (subst (λ n. found n u (texts_of settings g events) ≡ Some o) worker is))) in
       subst (λ es. HasOwn o (held_at s u es)) (sym k.place) (agrees (held_at s u _) own.0 own.1 own.2)
