@@ -17,7 +17,7 @@ use Rattle.document_model.specs.Texts.{Texts, found}
 use Rattle.document_laws.specs.Follows.{Matches}
 use Rattle.event_model.specs.declared.stage.Stage.{Stage}
 use Rattle.event_model.specs.declared.stage.Stage.TheVariants.{Ready}
-use Rattle.event_model.specs.Event.{Event, events_of, heard, said, with_cause}
+use Rattle.event_model.specs.Event.{Event, behind, events_of, heard, said, with_cause}
 use Rattle.event_model.specs.Settings.{Settings}
 use Rattle.event_model.specs.Spawns.{group_behind, group_of, start_of}
 use Rattle.event_model.specs.Stages.{Life, is_ready, life_of}
@@ -29,6 +29,7 @@ use Rattle.mux_facts.specs.Ranges.{InRange}
 use Rattle.mux_facts.proofs.DocumentRow.{ready_is}
 use Rattle.mux_facts.proofs.Reasons.{Reasons}
 use Rattle.mux_model.specs.Documents.{held_at}
+use Rattle.group_rows.specs.Rows.{sync_bodies}
 use Rattle.group_rows.specs.Texts.{is_synced, texts_of, worker_behind, worker_of}
 use Rattle.group_facts.specs.Built.{built}
 use Rattle.group_facts.specs.Legal.{Legal}
@@ -73,17 +74,18 @@ module _ (settings : Settings) (t : Tables) (before : List Event) (st : Stands s
   behind_sync : (events : List Event) (s e : ℕ) (asked : List ℕ) → IsBehindSync settings before events s e asked → (w g : ℕ) → worker_of events ≡ Some w → group_of s events ≡ Some g
       → (u : List ℕ) (o : Open) → found w u (texts_of settings g events) ≡ Some o → HasOwn o (held_at s u events)
   behind_sync events s e asked k w g works home u o is =
+      let bodies : List (List ℕ) = sync_bodies settings.limits.versions (λ v. held_at s v before) e (texts_of settings k.group before).opens in
       let x = last_of k.group s k.start in
       let d = documents_at settings nothing_owed t before k.group x.0 x.1 ds in
       let shared = shared_of k.group s x.0 d.0 x.1 x.2 d.1 k.ready in
       let few : d.0.versions < 2 ^ 32 = subst (λ n. n < 2 ^ 32) (sym (shared.versions ∙ ds.versions)) ds.range in
       let holds : HeldStands s shared.start.code d.0 before = subst (λ es. HeldStands s shared.start.code d.0 es) (append-nil before) shared.start.holds in
-      let worker : w ≡ e = same_item (sym works ∙ (ap worker_of k.place ∙ (outs_more worker_behind None (Some e) (with_cause before (FromEditor e asked)) _ (one_more worker_behind None (worker_of before) before (heard (FromEditor e asked)) refl) ∙ worker_told s _ (Some e)))) in
+      let worker : w ≡ e = same_item (sym works ∙ (ap worker_of k.place ∙ (outs_more worker_behind None (Some e) (with_cause before (FromEditor e asked)) (to s bodies) (one_more worker_behind None (worker_of before) before (heard (FromEditor e asked)) refl) ∙ worker_told s bodies (Some e)))) in
       let lived : group_of s before ≡ Some k.group = subst (λ n. group_of n before ≡ Some k.group) x.2 (st.lasts.each k.group x.0 x.1).home in
-      let group : g ≡ k.group = same_item (sym home ∙ (ap (group_of s) k.place ∙ (outs_more (group_behind s) None (Some k.group) (with_cause before (FromEditor e asked)) _ (one_more (group_behind s) None (Some k.group) before (heard (FromEditor e asked)) lived) ∙ group_told s s _ (Some k.group)))) in
+      let group : g ≡ k.group = same_item (sym home ∙ (ap (group_of s) k.place ∙ (outs_more (group_behind s) None (Some k.group) (with_cause before (FromEditor e asked)) (to s bodies) (one_more (group_behind s) None (Some k.group) before (heard (FromEditor e asked)) lived) ∙ group_told s s bodies (Some k.group)))) in
       let own = own_texts settings k.group s e shared.start.code before asked d.0 k.stays k.silent shared.versions few shared.texts holds u o
       (subst (λ es. found e u (texts_of settings k.group es) ≡ Some o) k.place (subst (λ n. found e u (texts_of settings n events) ≡ Some o) group (subst (λ n. found n u (texts_of settings g events) ≡ Some o) worker is))) in
-      subst (λ es. HasOwn o (held_at s u es)) (sym k.place) (agrees (held_at s u _) own.0 own.1 own.2)
+      subst (λ es. HasOwn o (held_at s u es)) (sym k.place) (agrees (held_at s u (behind (with_cause before (FromEditor e asked)) (to s bodies))) own.0 own.1 own.2)
     where
       agrees : (k : Option HeldText) (h : HeldText) → k ≡ Some h → Agrees o h → HasOwn o k
       agrees k h is same = subst (HasOwn o) (sym is) same
