@@ -143,7 +143,7 @@ const DOCUMENTS: [(&str, &str); 20] = [
     ),
     (
         "ed 0 {\"jsonrpc\":\"2.0\",\"method\":\"textDocument/didOpen\",\"params\":{\"textDocument\":{\"uri\":\"file:\\/\\/\\/u\",\"languageId\":\"y\",\"version\":10,\"text\":\"e\"}}}\n",
-        ">sv 0 {\"jsonrpc\":\"2.0\",\"method\":\"textDocument/didChange\",\"params\":{\"textDocument\":{\"uri\":\"file:///u\",\"version\":4},\"contentChanges\":[{\"text\":\"e\"}]}}\n",
+        ">sv 0 {\"jsonrpc\":\"2.0\",\"method\":\"textDocument/didClose\",\"params\":{\"textDocument\":{\"uri\":\"file:///u\"}}}\n>sv 0 {\"jsonrpc\":\"2.0\",\"method\":\"textDocument/didOpen\",\"params\":{\"textDocument\":{\"uri\":\"file:///u\",\"languageId\":\"y\",\"version\":1,\"text\":\"e\"}}}\n",
     ),
     (
         "ed 0 {\"jsonrpc\":\"2.0\",\"id\":1,\"method\":\"textDocument/hover\",\"params\":{}}\n",
