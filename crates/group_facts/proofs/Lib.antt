@@ -1,5 +1,6 @@
 pub mod AnswerRows
 pub mod Apart
+pub mod Asides
 pub mod Askers
 pub mod Begun
 pub mod DocumentRow
@@ -36,6 +37,7 @@ pub mod Seated
 pub mod Sent
 pub mod Settling
 pub mod SharedRows
+pub mod Switching
 pub mod SyncRow
 pub mod Table
 pub mod Tellings

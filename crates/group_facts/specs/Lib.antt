@@ -5,4 +5,5 @@ pub mod Legal
 pub mod Lively
 pub mod OwnTexts
 pub mod Settled
+pub mod Switches
 pub mod Why

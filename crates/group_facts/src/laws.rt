@@ -7,6 +7,7 @@ ghost use Rattle.mux_facts.specs.Ranges.{InRange};
 ghost use Rattle.group_facts.specs.Facts.{Known};
 ghost use Rattle.group_facts.specs.Legal.{Legal};
 ghost use Rattle.group_facts.specs.Settled.{Settled};
+ghost use Rattle.group_facts.specs.Switches.{Switches};
 ghost use Rattle.group_facts.specs.Why.{HasReasons};
 
 /// A law: each out of every entry is sent for one of the reasons of `specs/Why.antt`, at its place.
@@ -22,4 +23,10 @@ pub fn every_history()
 /// A law: what `Settled` says holds of all events of a legal history.
 pub fn every_settled()
     ensures { (settings : Settings) → InRange settings → (history : List Entry) → Legal settings history → Settled settings (events_of history) }
+{}
+
+/// A law: a request or notification of an editor that goes on goes behind a switch of just those of the editor's documents on which its server
+/// doesn't agree with it (LSP 3.17, Text Document Synchronization).
+pub fn switches()
+    ensures { (settings : Settings) → InRange settings → (history : List Entry) → Legal settings history → Switches settings history }
 {}

@@ -3,4 +3,4 @@
 
 mod laws;
 
-pub use laws::{every_history, every_out, every_settled};
+pub use laws::{every_history, every_out, every_settled, switches};

@@ -1,4 +1,5 @@
 pub mod Again
+pub mod Client1Law
 pub mod Client2Law
 pub mod Client3Law
 pub mod PartLaws

@@ -5,6 +5,7 @@ use Rattle.event_model.specs.Settings.{Settings}
 use Rattle.mux_facts.specs.Ranges.{InRange}
 use Rattle.session_laws.specs.Sessions.{KeepsSessions}
 use Rattle.group_facts.specs.Legal.{Legal}
+use Rattle.group_sessions.proofs.Client1Law.{client_1_law}
 use Rattle.group_sessions.proofs.Client2Law.{client_2_law}
 use Rattle.group_sessions.proofs.Client3Law.{client_3_law}
 use Rattle.group_sessions.proofs.Server1Law.{server_1_law}
@@ -17,6 +18,7 @@ use Rattle.group_sessions.proofs.Server8Law.{server_8_law}
 -- a legal history of several editors and groups keeps them
 pub sessions_kept : (settings : Settings) → InRange settings → (history : List Entry) → Legal settings history → KeepsSessions history
 sessions_kept settings range history legal = record {
+  client_1 = client_1_law settings range history legal;
   client_2 = client_2_law settings range history legal;
   client_3 = client_3_law settings range history legal;
   server_1 = server_1_law settings range history legal;

@@ -7,8 +7,13 @@ ghost use Rattle.event_model.specs.Settings.{Settings};
 ghost use Rattle.event_model.specs.Spawns.{starts_of};
 ghost use Rattle.mux_facts.specs.Ranges.{InRange};
 ghost use Rattle.group_facts.specs.Legal.{Legal};
-ghost use Rattle.session_laws.specs.ClientRules.{KeepsClient2, KeepsClient3};
+ghost use Rattle.session_laws.specs.ClientRules.{KeepsClient1, KeepsClient2, KeepsClient3};
 ghost use Rattle.session_laws.specs.ServerRules.{KeepsServer1, KeepsServer2, KeepsServer3, KeepsServer4, KeepsServer6, KeepsServer8};
+
+/// A law: nothing goes to an editor whose link ended, or was to be ended (LSP 3.17, Base Protocol).
+pub fn client_1()
+    ensures { (settings : Settings) → InRange settings → (history : List Entry) → Legal settings history → KeepsClient1 history }
+{}
 
 /// A law: each response to an editor has the id of an open request of it, which it closes, or answers a body that was
 /// no message with a null id (JSON-RPC 2.0, section 5; LSP 3.17, Response Message).

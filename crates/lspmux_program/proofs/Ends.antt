@@ -16,6 +16,7 @@ use Rattle.lspmux_program.proofs.Passing.{not_too_many}
 use Rattle.lspmux_program.specs.Lines.{lines_of}
 use Rattle.drive_text.specs.Outs.{outs_text}
 use Rattle.group_facts.specs.OwnTexts.{OwnTexts}
+use Rattle.group_facts.proofs.Switching.{switches_hold}
 use Rattle.group_sessions.proofs.Sessions.{sessions_kept}
 use Rattle.lspmux_program.specs.Program.{status_of, fault_line, status_line, refused_line, Ran, Drove, JournalTells, words_line, IsUnrefused, Undisturbed}
 use Rattle.lspmux_program.specs.Reports.{Wrote, Reported, said, unsaid}
@@ -75,6 +76,7 @@ drove_done told journal input left w v failed r = record {
   history = r.history;
   legal = r.legal;
   sessions = sessions_kept built_in (record { requests = lit< tt; versions = lit< tt }) r.history r.legal;
+  switches = switches_hold built_in (record { requests = lit< tt; versions = lit< tt }) r.history r.legal;
   own = r.own;
   few = r.few;
   told_by = r.told_by;
@@ -112,6 +114,7 @@ silent told journal input left w v u failed s status r m six seven nine l e = re
   history = r.history;
   legal = r.legal;
   sessions = sessions_kept built_in (record { requests = lit< tt; versions = lit< tt }) r.history r.legal;
+  switches = switches_hold built_in (record { requests = lit< tt; versions = lit< tt }) r.history r.legal;
   own = r.own;
   few = r.few;
   told_by = r.told_by;
@@ -147,6 +150,7 @@ spoken told journal input left w v u failed s status r m o f six seven nine = re
   history = r.history;
   legal = r.legal;
   sessions = sessions_kept built_in (record { requests = lit< tt; versions = lit< tt }) r.history r.legal;
+  switches = switches_hold built_in (record { requests = lit< tt; versions = lit< tt }) r.history r.legal;
   own = r.own;
   few = r.few;
   told_by = r.told_by;
@@ -170,6 +174,7 @@ refused_at told journal input left w v u failed k refusal r f = record {
   history = r.history;
   legal = r.legal;
   sessions = sessions_kept built_in (record { requests = lit< tt; versions = lit< tt }) r.history r.legal;
+  switches = switches_hold built_in (record { requests = lit< tt; versions = lit< tt }) r.history r.legal;
   own = r.own;
   few = r.few;
   told_by = r.told_by;
@@ -207,6 +212,7 @@ drove_words told journal input left w v failed t f = record {
   history = [];
   legal = tt;
   sessions = sessions_kept built_in (record { requests = lit< tt; versions = lit< tt }) [] tt;
+  switches = switches_hold built_in (record { requests = lit< tt; versions = lit< tt }) [] tt;
   own = tt;
   few = lit≤ tt;
   told_by = t;

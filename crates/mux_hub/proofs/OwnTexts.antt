@@ -7,12 +7,10 @@ use Rattle.mux_history.specs.declared.cause.Cause.TheVariants.{FromEditor}
 use Rattle.mux_history.specs.declared.entry.Entry.{Entry}
 use Rattle.mux_history.specs.declared.out.Out.{Out}
 use Rattle.mux_history.specs.declared.out.Out.TheVariants.{ToEditor, ToServer, Spawn, CloseEditor, EndServer}
-use Rattle.rpc_message.specs.Message.{Message, request, notification, message_of}
-use Rattle.rpc_message.specs.Message as message
+use Rattle.rpc_message.specs.Message.{message_of}
 use Rattle.document_model.specs.Helds.{HeldText}
 use Rattle.document_model.specs.Opens.{Open, holder}
 use Rattle.document_model.specs.Rows.{Agrees}
-use Rattle.document_model.specs.Sayings.{saying_of, speaks}
 use Rattle.document_model.specs.Texts.{Texts, found}
 use Rattle.document_laws.specs.Follows.{Matches}
 use Rattle.event_model.specs.declared.stage.Stage.{Stage}
@@ -24,7 +22,6 @@ use Rattle.event_model.specs.Stages.{Life, is_ready, life_of}
 use Rattle.event_model.proofs.Frames.{never, one_more, outs_more}
 use Rattle.event_model.proofs.Places.{item_at, same_item}
 use Rattle.focus_switch.specs.Documents.{Documents, version_held}
-use Rattle.mux_facts.specs.Allowed.{is_response}
 use Rattle.mux_facts.specs.Ranges.{InRange}
 use Rattle.mux_facts.proofs.DocumentRow.{ready_is}
 use Rattle.mux_facts.proofs.Reasons.{Reasons}
@@ -35,6 +32,7 @@ use Rattle.group_facts.specs.Built.{built}
 use Rattle.group_facts.specs.Legal.{Legal}
 use Rattle.group_facts.specs.OwnTexts.{AllHaveHolders, AllOnOwnTexts, HasHolders, OnOwnTexts, OwnTexts, OwnTextsFrom, HasOwn}
 use Rattle.group_facts.specs.Why.{IsBehindSync, Why, WhyToServer, begins, cancels, exits, forwarded, greets, notes, responds, shuts, tells}
+use Rattle.group_facts.proofs.Asides.{answer_aside, spoken_aside, unsynced}
 use Rattle.group_facts.proofs.Known.{facts_hold}
 use Rattle.group_facts.proofs.Table.{reasons}
 use Rattle.group_laws.specs.Stands.{HeldStands}
@@ -89,19 +87,6 @@ module _ (settings : Settings) (t : Tables) (before : List Event) (st : Stands s
     where
       agrees : (k : Option HeldText) (h : HeldText) → k ≡ Some h → Agrees o h → HasOwn o k
       agrees k h is same = subst (HasOwn o) (sym is) same
-
-  -- what else goes to a start goes without a sync
-  unsynced : {A : Type 0} (body : List ℕ) (m : Message) → message_of body ≡ m → is_synced m ≡ false → is_synced (message_of body) ≡ true → A
-  unsynced body m says aside goes = never (sym goes ∙ (ap is_synced says ∙ aside))
-
-  spoken_aside : (m : Message) → speaks (saying_of m) ≡ true → is_synced m ≡ false
-  spoken_aside (notification method ps) h = rw h refl
-  spoken_aside other h = never (sym h)
-
-  answer_aside : (m : Message) → is_response m ≡ true → is_synced m ≡ false
-  answer_aside (request id method ps) h = never (sym h)
-  answer_aside (notification method ps) h = never (sym h)
-  answer_aside other h = refl
 
   by_reason : (cause : Cause) (events : List Event) (s : ℕ) (body : List ℕ) → WhyToServer settings before cause events s body → is_synced (message_of body) ≡ true → (w g : ℕ) → worker_of events ≡ Some w → group_of s events ≡ Some g
       → (u : List ℕ) (o : Open) → found w u (texts_of settings g events) ≡ Some o → HasOwn o (held_at s u events)

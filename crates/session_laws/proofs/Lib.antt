@@ -1,3 +1,4 @@
+pub mod Client1Law
 pub mod Client2Law
 pub mod Client3Law
 pub mod PartLaws

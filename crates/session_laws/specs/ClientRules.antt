@@ -1,15 +1,29 @@
 -- What an editor may expect as the one client of a server. Each rule speaks of a body to it, behind the events of its part before that body.
 use Rattle.std.specs.Prelude.{ℕ, ◌+◌, ◌<◌, Bool, true, false, not, ◌&&◌, ◌||◌, List, [], fold, codes, IsTrue, if◌then◌else◌}
 use Rattle.std.specs.Prelude.{Some, None}
-use Rattle.mux_history.specs.declared.cause.Cause.TheVariants.{FromEditor}
+use Rattle.mux_history.specs.declared.cause.Cause.TheVariants.{FromEditor, EditorGone}
 use Rattle.mux_history.specs.declared.entry.Entry.{Entry}
-use Rattle.mux_history.specs.declared.out.Out.TheVariants.{ToEditor}
+use Rattle.mux_history.specs.declared.out.Out.TheVariants.{ToEditor, CloseEditor}
 use Rattle.rpc_message.specs.Message.{Message, request, notification, result, error, not_json, not_message, Id}
 use Rattle.event_model.specs.Event.{Event, took, did, events_of, requests}
 use Rattle.event_model.specs.Phases.{is_malformed}
 use Rattle.event_model.specs.Requests.{open_of, is_open, without, with_request}
 use Rattle.event_model.specs.Always.{Always}
 use Rattle.event_model.specs.Parts.{editor_part}
+
+-- Rule 1 (LSP 3.17, Base Protocol: messages go over a connection): nothing goes to an editor whose link ended, or was to be ended.
+abbrev pub ended_behind : Bool → Event → Bool
+ended_behind over (took (EditorGone e why) m) = true
+ended_behind over (did (CloseEditor e) m) = true
+ended_behind over other = over
+
+-- its link ended, or was to be ended
+abbrev pub is_over : List Event → Bool
+is_over part = fold ended_behind false part
+
+abbrev pub ClientRule1 : List Event → Event → Type 0
+ClientRule1 before (did (ToEditor n body) m) = IsTrue (not (is_over before))
+ClientRule1 before other = Unit {0}
 
 -- Rule 2 (JSON-RPC 2.0, section 5, and LSP 3.17, Response Message): a response has the id of an open request, which it closes;
 -- an error with a null id answers a body that was no message; and every body is a message.
@@ -83,6 +97,9 @@ ClientRule3 before (did (ToEditor n body) m) = IsTrue (may_hear (opening_of befo
 ClientRule3 before other = Unit {0}
 
 -- the parts of all editors keep the rule
+abbrev pub KeepsClient1 : List Entry → Type 0
+KeepsClient1 history = (e : ℕ) → Always ClientRule1 (editor_part e (events_of history))
+
 abbrev pub KeepsClient2 : List Entry → Type 0
 KeepsClient2 history = (e : ℕ) → Always (ClientRule2 e) (editor_part e (events_of history))
 

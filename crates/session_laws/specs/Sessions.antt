@@ -1,10 +1,11 @@
 -- Conforming sessions: the parts of all editors and of all starts keep the rules that are built.
 use Rattle.std.specs.Prelude.{List}
 use Rattle.mux_history.specs.declared.entry.Entry.{Entry}
-use Rattle.session_laws.specs.ClientRules.{KeepsClient2, KeepsClient3}
+use Rattle.session_laws.specs.ClientRules.{KeepsClient1, KeepsClient2, KeepsClient3}
 use Rattle.session_laws.specs.ServerRules.{KeepsServer1, KeepsServer2, KeepsServer3, KeepsServer4, KeepsServer6, KeepsServer8}
 
 pub record KeepsSessions (history : List Entry) : Type 0 where
+  pub client_1 : KeepsClient1 history
   pub client_2 : KeepsClient2 history
   pub client_3 : KeepsClient3 history
   pub server_1 : KeepsServer1 history

@@ -1,0 +1,52 @@
+-- Each message that goes on goes behind the switches of its editor's documents.
+use Rattle.std.proofs.Common.{◌≡◌, ℕ, true, List, [], ◌∷◌, ◌++◌, refl, sym, ◌∙◌, ap}
+use Rattle.mux_history.specs.declared.cause.Cause.{Cause}
+use Rattle.mux_history.specs.declared.entry.Entry.{Entry}
+use Rattle.mux_history.specs.declared.out.Out.{Out}
+use Rattle.mux_history.specs.declared.out.Out.TheVariants.{ToEditor, ToServer, Spawn, CloseEditor, EndServer}
+use Rattle.rpc_message.specs.Message.{message_of}
+use Rattle.event_model.specs.Event.{Event, behind, events_of, said, with_cause}
+use Rattle.event_model.specs.Settings.{Settings}
+use Rattle.event_model.proofs.Frames.{never}
+use Rattle.mux_facts.specs.Ranges.{InRange}
+use Rattle.mux_history.specs.declared.cause.Cause.TheVariants.{FromEditor}
+use Rattle.group_rows.specs.Texts.{is_synced}
+use Rattle.group_facts.specs.Legal.{Legal}
+use Rattle.group_facts.specs.Switches.{AllOnSwitches, IsSwitched, OnSwitches, Switches, SwitchesFrom}
+use Rattle.group_facts.specs.Why.{AllWhy, IsBehindSync, ReasonsFrom, Why, WhyToServer, begins, cancels, exits, forwarded, greets, notes, responds, shuts, tells}
+use Rattle.group_facts.proofs.Asides.{answer_aside, spoken_aside, unsynced}
+use Rattle.group_facts.proofs.Everywhere.{reasons_hold}
+
+module _ (settings : Settings) (before : List Event) (cause : Cause) where
+  switched : (events : List Event) (s e : ℕ) (asked : List ℕ) → cause ≡ FromEditor e asked → IsBehindSync settings before events s e asked → IsSwitched settings before cause events s
+  switched events s e asked from k = record { editor = e; asked = asked; from = from; group = k.group; start = k.start; place = k.place ∙ ap (λ c. behind (with_cause before c) _) (sym from) }
+
+  by_reason : (events : List Event) (s : ℕ) (body : List ℕ) → WhyToServer settings before cause events s body → is_synced (message_of body) ≡ true → IsSwitched settings before cause events s
+  by_reason events s body (begins k) goes = unsynced body _ k.says refl goes
+  by_reason events s body (greets k) goes = unsynced body _ k.says refl goes
+  by_reason events s body (forwarded k) goes = switched events s k.sender.editor k.asked k.from k.synced
+  by_reason events s body (notes k) goes = switched events s k.editor body k.from k.synced
+  by_reason events s body (tells k) goes = never (sym goes ∙ spoken_aside (message_of body) k.spoken)
+  by_reason events s body (shuts k) goes = unsynced body _ k.says refl goes
+  by_reason events s body (cancels k) goes = unsynced body _ k.says refl goes
+  by_reason events s body (responds k) goes = never (sym goes ∙ answer_aside (message_of body) k.response)
+  by_reason events s body (exits k) goes = unsynced body _ k.says refl goes
+
+  by_why : (events : List Event) (out : Out) → Why settings before cause events out → OnSwitches settings before cause events out
+  by_why events (ToServer s body) why = by_reason events s body why
+  by_why events (ToEditor e body) why = tt
+  by_why events (Spawn s g) why = tt
+  by_why events (CloseEditor e) why = tt
+  by_why events (EndServer s) why = tt
+
+  all_switched : (events : List Event) (outs : List Out) → AllWhy settings before cause events outs → AllOnSwitches settings before cause events outs
+  all_switched events [] why = tt
+  all_switched events (out ∷ outs) why = (by_why events out why.0, all_switched (events ++ said out ∷ []) outs why.1)
+
+switches_from : (settings : Settings) (before rest : List Entry) → ReasonsFrom settings before rest → SwitchesFrom settings before rest
+switches_from settings before [] why = tt
+switches_from settings before (entry ∷ rest) why =
+    (all_switched settings (events_of before) entry.cause (with_cause (events_of before) entry.cause) entry.outs why.0, switches_from settings (before ++ entry ∷ []) rest why.1)
+
+pub switches_hold : (settings : Settings) → InRange settings → (history : List Entry) → Legal settings history → Switches settings history
+switches_hold settings range history legal = switches_from settings [] history (reasons_hold settings range history legal)
