@@ -1,5 +1,5 @@
 -- Each message that goes on goes behind the switches of its editor's documents.
-use Rattle.std.proofs.Common.{◌≡◌, ℕ, true, List, [], ◌∷◌, ◌++◌, refl, sym, ◌∙◌, ap}
+use Rattle.std.proofs.Common.{◌≡◌, ℕ, true, List, [], ◌∷◌, ◌++◌, map, refl, sym, ◌∙◌, subst}
 use Rattle.mux_history.specs.declared.cause.Cause.{Cause}
 use Rattle.mux_history.specs.declared.entry.Entry.{Entry}
 use Rattle.mux_history.specs.declared.out.Out.{Out}
@@ -10,7 +10,9 @@ use Rattle.event_model.specs.Settings.{Settings}
 use Rattle.event_model.proofs.Frames.{never}
 use Rattle.mux_facts.specs.Ranges.{InRange}
 use Rattle.mux_history.specs.declared.cause.Cause.TheVariants.{FromEditor}
-use Rattle.group_rows.specs.Texts.{is_synced}
+use Rattle.mux_model.specs.Documents.{held_at}
+use Rattle.group_rows.specs.Rows.{sync_bodies}
+use Rattle.group_rows.specs.Texts.{is_synced, texts_of}
 use Rattle.group_facts.specs.Legal.{Legal}
 use Rattle.group_facts.specs.Switches.{AllOnSwitches, IsSwitched, OnSwitches, Switches, SwitchesFrom}
 use Rattle.group_facts.specs.Why.{AllWhy, IsBehindSync, ReasonsFrom, Why, WhyToServer, begins, cancels, exits, forwarded, greets, notes, responds, shuts, tells}
@@ -19,7 +21,7 @@ use Rattle.group_facts.proofs.Everywhere.{reasons_hold}
 
 module _ (settings : Settings) (before : List Event) (cause : Cause) where
   switched : (events : List Event) (s e : ℕ) (asked : List ℕ) → cause ≡ FromEditor e asked → IsBehindSync settings before events s e asked → IsSwitched settings before cause events s
-  switched events s e asked from k = record { editor = e; asked = asked; from = from; group = k.group; start = k.start; place = k.place ∙ ap (λ c. behind (with_cause before c) _) (sym from) }
+  switched events s e asked from k = record { editor = e; asked = asked; from = from; group = k.group; start = k.start; place = subst (λ c. events ≡ behind (with_cause before c) (map (λ text. ToServer s text) (sync_bodies settings.limits.versions (λ u. held_at s u before) e (texts_of settings k.group before).opens))) (sym from) k.place }
 
   by_reason : (events : List Event) (s : ℕ) (body : List ℕ) → WhyToServer settings before cause events s body → is_synced (message_of body) ≡ true → IsSwitched settings before cause events s
   by_reason events s body (begins k) goes = unsynced body _ k.says refl goes
