@@ -72,20 +72,30 @@ fn berth(alloc: Global, run: Link, fails: Vec<u64>) -> Result<LaneJob<MemBerth>,
     Ok(LaneJob::new(MemBerth::new(alloc, vec![in alloc; run]?, fails)))
 }
 
-// Serves these over an echo, with a clock of one moment and an own link that asks for a stop.
-fn serve<R: Threads + Wait + Sync>(
+// Serves these over an echo, with an own link, and with a clock of one moment.
+fn serve_with<R: Threads + Wait + Sync>(
     rt: &R,
     alloc: Global,
     ports: Vec<LaneJob<MemPort>>,
+    own: Link,
     berths: Vec<LaneJob<MemBerth>>,
 ) -> Result<Left, Fail> {
     let lanes = Lanes {
         ports,
-        own: port(alloc, plain(alloc, STOP)?)?,
+        own: port(alloc, own)?,
         berths,
         clock: LaneJob::new(SetClock::new(vec![in alloc; 3u64]?)),
     };
     Ok(serve_core(rt, alloc, Echo::new(alloc), 1024, &[], lanes))
+}
+
+// The same of ports alone, with an own link that asks for a stop.
+fn serve<R: Threads + Wait + Sync>(
+    rt: &R,
+    alloc: Global,
+    ports: Vec<LaneJob<MemPort>>,
+) -> Result<Left, Fail> {
+    serve_with(rt, alloc, ports, plain(alloc, STOP)?, Vec::new(alloc))
 }
 
 // How many bytes a link of a port was written.
@@ -119,7 +129,7 @@ fn closed_ports_end_the_work(rt: HostRuntime) -> Result<(), Fail> {
     let links = vec![in alloc; plain(alloc, HOVER)?, plain(alloc, b"")?, plain(alloc, HOVER)?]?;
     let three = LaneJob::new(MemPort::new(alloc, links));
     let ports = vec![in alloc; three, port(alloc, plain(alloc, b"")?)?]?;
-    let mut left = serve(&rt, alloc, ports, Vec::new(alloc))?;
+    let mut left = serve(&rt, alloc, ports)?;
     ended(&left, Answer::PortsClosed, 5, &[HOVER.len(), 0])?;
     hold(left.lanes.ports.get(0).and_then(|port| written(port, 2)) == Some(HOVER.len()), "the third link")?;
     hold(written(&left.lanes.own, 0) == Some(STOP.len()), "the own link")?;
@@ -129,9 +139,9 @@ fn closed_ports_end_the_work(rt: HostRuntime) -> Result<(), Fail> {
 #[test]
 fn without_ports_there_is_the_own_link_alone(rt: HostRuntime) -> Result<(), Fail> {
     let alloc = rt.alloc();
-    let left = serve(&rt, alloc, Vec::new(alloc), Vec::new(alloc))?;
+    let left = serve(&rt, alloc, Vec::new(alloc))?;
     ended(&left, Answer::PortsClosed, 1, &[])?;
-    hold(left.lanes.own.end == LaneEnd::Through, "the own lane")
+    hold(written(&left.lanes.own, 0) == Some(STOP.len()), "the own link")
 }
 
 #[test]
@@ -142,7 +152,7 @@ fn each_of_two_waits_for_the_other(rt: HostRuntime) -> Result<(), Fail> {
     let waits = metered(alloc, HOVER, 0, &second, HOVER.len(), &first)?;
     let goes_on = metered(alloc, HOVER, 1, &first, HOVER.len(), &second)?;
     let ports = vec![in alloc; port(alloc, waits)?, port(alloc, goes_on)?]?;
-    let left = serve(&rt, alloc, ports, Vec::new(alloc))?;
+    let left = serve(&rt, alloc, ports)?;
     ended(&left, Answer::PortsClosed, 3, &[HOVER.len(), HOVER.len()])
 }
 
@@ -152,7 +162,7 @@ fn a_failed_write_ends_its_session_alone(rt: HostRuntime) -> Result<(), Fail> {
     let source = MemSource::new(HOVER.to_vec(alloc)?, Vec::new(alloc), None);
     let fails = (source, MemSink::new(alloc, vec![in alloc; 0u64]?, None));
     let ports = vec![in alloc; port(alloc, fails)?, port(alloc, plain(alloc, HOVER)?)?]?;
-    let left = serve(&rt, alloc, ports, Vec::new(alloc))?;
+    let left = serve(&rt, alloc, ports)?;
     ended(&left, Answer::PortsClosed, 3, &[0, HOVER.len()])
 }
 
@@ -163,7 +173,7 @@ fn many_editors_at_once(rt: HostRuntime) -> Result<(), Fail> {
     for _ in 0..32 {
         ports.push(port(alloc, plain(alloc, HOVER)?)?)?;
     }
-    let left = serve(&rt, alloc, ports, Vec::new(alloc))?;
+    let left = serve(&rt, alloc, ports)?;
     ended(&left, Answer::PortsClosed, 33, &[HOVER.len(); 32])
 }
 
@@ -175,7 +185,7 @@ fn a_thousand_links_one_after_the_other(rt: HostRuntime) -> Result<(), Fail> {
         links.push(plain(alloc, HOVER)?)?;
     }
     let ports = vec![in alloc; LaneJob::new(MemPort::new(alloc, links))]?;
-    let left = serve(&rt, alloc, ports, Vec::new(alloc))?;
+    let left = serve(&rt, alloc, ports)?;
     ended(&left, Answer::PortsClosed, 1001, &[HOVER.len()])?;
     for port in &left.lanes.ports {
         for at in 0..1000 {
@@ -186,21 +196,49 @@ fn a_thousand_links_one_after_the_other(rt: HostRuntime) -> Result<(), Fail> {
 }
 
 #[test]
+fn a_stop_ends_the_work(rt: HostRuntime) -> Result<(), Fail> {
+    let alloc = rt.alloc();
+    let ports = vec![in alloc; port(alloc, plain(alloc, STOP)?)?]?;
+    let idle = LaneJob::new(MemBerth::new(alloc, Vec::new(alloc), Vec::new(alloc)));
+    let berths = vec![in alloc; idle]?;
+    let left = serve_with(&rt, alloc, ports, plain(alloc, STOP)?, berths)?;
+    ended(&left, Answer::Stopped, 1, &[STOP.len()])?;
+    hold(written(&left.lanes.own, 0).is_none(), "the own link joined")?;
+    for job in &left.lanes.berths {
+        hold(job.end == LaneEnd::Stopped, "an idle lane ended otherwise")?;
+    }
+    Ok(())
+}
+
+// An editor asks for so many starts, and goes when all programs were written what they said. They go when the own link, which
+// asks for a stop, was answered.
+fn serve_starts<R: Threads + Wait + Sync>(
+    rt: &R,
+    alloc: Global,
+    starts: usize,
+    berths: Vec<LaneJob<MemBerth>>,
+    programs: &Meter,
+    own: &Meter,
+) -> Result<Left, Fail> {
+    let until = berths.len().saturating_mul(HOVER.len());
+    let asks = metered(alloc, &times(alloc, START, starts)?, 1, programs, until, own)?;
+    let ports = vec![in alloc; port(alloc, asks)?]?;
+    let stops = metered(alloc, STOP, 0, programs, until, own)?;
+    serve_with(rt, alloc, ports, stops, berths)
+}
+
+#[test]
 fn sixteen_starts_are_up_until_a_stop(rt: HostRuntime) -> Result<(), Fail> {
     let alloc = rt.alloc();
     let programs = Meter::new(alloc)?;
-    let editor = Meter::new(alloc)?;
+    let own = Meter::new(alloc)?;
     let mut berths = Vec::new(alloc);
     for _ in 0..16 {
-        let run = metered(alloc, HOVER, 1, &editor, STOP.len(), &programs)?;
+        let run = metered(alloc, HOVER, 1, &own, STOP.len(), &programs)?;
         berths.push(berth(alloc, run, Vec::new(alloc))?)?;
     }
-    let asks = plain(alloc, &times(alloc, START, 16)?)?;
-    let stops = metered(alloc, STOP, 0, &programs, 16 * HOVER.len(), &editor)?;
-    let ports = vec![in alloc; port(alloc, asks)?, port(alloc, stops)?]?;
-    let left = serve(&rt, alloc, ports, berths)?;
-    ended(&left, Answer::Stopped, 2, &[0, STOP.len()])?;
-    hold(written(&left.lanes.own, 0).is_none(), "the own link joined")?;
+    let left = serve_starts(&rt, alloc, 16, berths, &programs, &own)?;
+    ended(&left, Answer::PortsClosed, 2, &[0])?;
     started(&left, HOVER.len())
 }
 
@@ -208,13 +246,10 @@ fn sixteen_starts_are_up_until_a_stop(rt: HostRuntime) -> Result<(), Fail> {
 fn a_start_that_fails_makes_room(rt: HostRuntime) -> Result<(), Fail> {
     let alloc = rt.alloc();
     let program = Meter::new(alloc)?;
-    let editor = Meter::new(alloc)?;
-    let run = metered(alloc, HOVER, 1, &editor, STOP.len(), &program)?;
+    let own = Meter::new(alloc)?;
+    let run = metered(alloc, HOVER, 1, &own, STOP.len(), &program)?;
     let berths = vec![in alloc; berth(alloc, run, vec![in alloc; 0u64]?)?]?;
-    let asks = plain(alloc, &times(alloc, START, 2)?)?;
-    let stops = metered(alloc, STOP, 0, &program, HOVER.len(), &editor)?;
-    let ports = vec![in alloc; port(alloc, asks)?, port(alloc, stops)?]?;
-    let left = serve(&rt, alloc, ports, berths)?;
-    ended(&left, Answer::Stopped, 2, &[0, STOP.len()])?;
+    let left = serve_starts(&rt, alloc, 2, berths, &program, &own)?;
+    ended(&left, Answer::PortsClosed, 2, &[0])?;
     started(&left, HOVER.len())
 }
