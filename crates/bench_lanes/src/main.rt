@@ -1,13 +1,15 @@
 //! Sends bodies through the lanes of a small core, which gives each back, for `bench/lanes`. With the words `lanes PORTS COUNT` each of
-//! so many ports has one link that sends so many bodies, beside the link of the own lane, which sends one; with `loop PORTS COUNT` one
-//! thread takes the same steps one after the other. It writes how many bytes were written. Without words it sends three bodies to each of
-//! two ports.
+//! so many ports has one link that sends so many bodies, and the own link asks for a stop behind them; with `loop PORTS COUNT` one thread
+//! takes the same steps one after the other. It writes how many bytes the ports' links were written. Without words it sends three bodies to
+//! each of two ports.
 #![tactic(auto)]
 
 use base_frame::{FrameReader, Next, frame};
-use lane_echo::{Echo, run_side};
+use lane_echo::Echo;
 use message_body::Body;
+use mux_daemon::{Answer, Lanes, serve_core};
 use mux_history::{Cause, Out, Steps};
+use mux_serve::LaneJob;
 use outside_io::{MemBerth, MemPort, MemSink, MemSource, SetClock, write_whole};
 use std::alloc::Global;
 use std::env;
@@ -36,12 +38,18 @@ fn frames(alloc: Global, count: u64) -> Option<Vec<u8>> {
     Some(bytes)
 }
 
-fn port(alloc: Global, count: u64) -> Option<MemPort> {
-    let source = MemSource::new(frames(alloc, count)?, Vec::new(alloc), None);
+// A port of one link that sends these bytes.
+fn port(alloc: Global, bytes: Vec<u8>) -> Option<LaneJob<MemPort>> {
+    let source = MemSource::new(bytes, Vec::new(alloc), None);
     let sink = MemSink::new(alloc, Vec::new(alloc), None);
     let mut links = Vec::new(alloc);
     links.push((source, sink)).ok()?;
-    Some(MemPort::new(alloc, links))
+    Some(LaneJob::new(MemPort::new(alloc, links)))
+}
+
+// A link that asks the core to stop.
+fn own(alloc: Global) -> Option<LaneJob<MemPort>> {
+    port(alloc, b"Content-Length: 0\r\n\r\n".to_vec(alloc).ok()?)
 }
 
 // The bytes that the only link of a port was written.
@@ -60,13 +68,21 @@ fn run_lanes<R: Threads + Wait + Sync>(
 ) -> Option<u64> {
     let mut links = Vec::new(alloc);
     for _ in 0..ports {
-        links.push(port(alloc, count)?).ok()?;
+        links.push(port(alloc, frames(alloc, count)?)?).ok()?;
     }
-    let berths: Vec<MemBerth> = Vec::new(alloc);
-    let clock = SetClock::new(Vec::new(alloc));
-    let ran = run_side(rt, alloc, links, port(alloc, 1)?, berths, clock)?;
-    let mut bytes = written(&ran.own.outside);
-    for lane in &ran.ports {
+    let berths: Vec<LaneJob<MemBerth>> = Vec::new(alloc);
+    let lanes = Lanes {
+        ports: links,
+        own: own(alloc)?,
+        berths,
+        clock: LaneJob::new(SetClock::new(Vec::new(alloc))),
+    };
+    let served = serve_core(rt, alloc, Echo::new(alloc), LIMIT, &[], lanes);
+    if served.answer != Answer::PortsClosed {
+        return None;
+    }
+    let mut bytes: u64 = 0;
+    for lane in &served.lanes.ports {
         bytes = bytes.saturating_add(written(&lane.outside));
     }
     Some(bytes)
@@ -115,7 +131,7 @@ fn run_loop(alloc: Global, ports: u64, count: u64) -> Option<u64> {
     for editor in 0..ports {
         bytes = bytes.saturating_add(run_link(alloc, &mut core, editor, count)?);
     }
-    Some(bytes.saturating_add(run_link(alloc, &mut core, ports, 1)?))
+    Some(bytes)
 }
 
 fn way_of(word: &str) -> Option<Way> {

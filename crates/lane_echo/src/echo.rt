@@ -1,17 +1,19 @@
-// A core that answers each body of an editor with that body, and an empty one with its end.
-ghost use Rattle.std.specs.Prelude.{◌≡◌, ◌+◌, [], ℕ, IfOk, IfSome, false};
+// A core that gives each editor and each start its bodies back, ends all of them when it is asked to stop, and spawns starts.
+ghost use Rattle.std.specs.Prelude.{◌≡◌, ◌+◌, [], ◌∷◌, ◌++◌, ℕ, IfOk, IfSome, false, ◌||◌};
 ghost use Rattle.mux_history.specs.Cores.{joins, spawns_of_outs};
-ghost use Rattle.lane_echo.specs.Stops.{is_stop};
+ghost use Rattle.lane_echo.specs.Stops.{is_stop, spawns_by, starts_of};
 
-use message_body::Memory;
+use message_body::{Body, Memory};
 use mux_history::{Cause, Out, Outs, StepFault, Steps};
 use std::alloc::Global;
 
-/// The core. An empty body asks it to stop. It knows of no servers.
+/// The core. An empty body of an editor asks it to stop: it goes back, and behind it that editor is closed and each start is ended.
+/// A body of one byte has it spawn a start. Each other body goes back to the editor or the start that sent it.
 #[derive(Drop)]
 pub struct Echo {
     alloc: Global,
     joined: u64,
+    spawned: u64,
     stopped: bool,
     spent: bool,
 }
@@ -26,6 +28,7 @@ impl Echo {
         Echo {
             alloc,
             joined: 0,
+            spawned: 0,
             stopped: false,
             spent: false,
         }
@@ -39,29 +42,70 @@ impl Echo {
     }
 }
 
-// What it says to a cause.
-fn answer(alloc: Global, cause: Cause) -> Result<Outs, Memory>
+// The ends of so many starts.
+#[tactic(auto, using(crate::proofs::Histories::spawns_one))]
+fn ends(alloc: Global, count: u64) -> Result<Outs, Memory>
     ensures { (s : ℕ) → IfOk result (λ outs. spawns_of_outs s outs ≡ 0) }
 {
     let mut outs = Outs::new(alloc);
-    if let Cause::FromEditor(editor, body) = cause {
-        let out = if body.bytes().is_empty() {
-            Out::CloseEditor(editor)
-        } else {
-            Out::ToEditor(editor, body)
-        };
-        outs.push(out)?;
+    for start in 0..count {
+        outs.push(Out::EndServer(start))?;
     }
     Ok(outs)
 }
 
-// Whether this cause asks it to stop.
-fn is_stop(cause: &Cause) -> bool
-    ensures { result ≡ is_stop cause.now }
+// One out more.
+fn with(outs: Outs, out: Out) -> Result<Outs, Memory>
+    ensures { IfOk result (λ all. all ≡ outs ++ out ∷ []) }
+{
+    let mut outs = outs;
+    outs.push(out)?;
+    Ok(outs)
+}
+
+// What it says to a body of an editor, where so many starts were spawned.
+#[tactic(auto, using(crate::proofs::Histories::spawns_two, crate::proofs::Histories::spawns_one))]
+fn answer_body(alloc: Global, spawned: u64, editor: u64, body: Body) -> Result<Outs, Memory>
+    ensures { (s : ℕ) → IfOk result (λ outs. spawns_of_outs s outs ≡ spawns_by spawned (Cause.FromEditor editor body) s) }
+{
+    match body.bytes().len() {
+        0 => {
+            let outs = with(ends(alloc, spawned)?, Out::ToEditor(editor, body))?;
+            with(outs, Out::CloseEditor(editor))
+        }
+        1 => with(Outs::new(alloc), Out::Spawn(spawned, 0)),
+        _ => with(Outs::new(alloc), Out::ToEditor(editor, body)),
+    }
+}
+
+// What it says to a cause.
+fn answer(alloc: Global, spawned: u64, cause: Cause) -> Result<Outs, Memory>
+    ensures { (s : ℕ) → IfOk result (λ outs. spawns_of_outs s outs ≡ spawns_by spawned cause s) }
 {
     match cause {
-        Cause::FromEditor(_, body) => body.bytes().len() == 0,
-        _ => false,
+        Cause::FromEditor(editor, body) => answer_body(alloc, spawned, editor, body),
+        Cause::FromServer(start, body) => with(Outs::new(alloc), Out::ToServer(start, body)),
+        _ => Ok(Outs::new(alloc)),
+    }
+}
+
+// Whether it was asked to stop behind this cause.
+fn stopped_behind(stopped: bool, cause: &Cause) -> bool
+    ensures { result ≡ (stopped || is_stop cause.now) }
+{
+    match cause {
+        Cause::FromEditor(_, body) => stopped || body.bytes().is_empty(),
+        _ => stopped,
+    }
+}
+
+// How many starts were spawned behind this cause.
+fn spawned_behind(spawned: u64, cause: &Cause) -> Option<u64>
+    ensures { IfSome result (λ n. n ≡ spawned + starts_of cause.now) }
+{
+    match cause {
+        Cause::FromEditor(_, body) if body.bytes().len() == 1 => spawned.checked_add(1),
+        _ => Some(spawned),
     }
 }
 
@@ -77,10 +121,10 @@ fn joined_behind(joined: u64, cause: &Cause) -> Option<u64>
 
 impl Steps for Echo {
     ghost use Rattle.std.specs.Prelude.{◌≡◌, ℕ, true, false};
-    ghost use Rattle.mux_history.specs.Cores.{joined, spawns};
-    ghost use Rattle.lane_echo.specs.Stops.{has_stop, is_stop};
+    ghost use Rattle.mux_history.specs.Cores.{joined};
+    ghost use Rattle.lane_echo.specs.Stops.{Spawned, has_stop, is_stop};
 
-    ghost stands = { λ e history. (e.joined ≡ joined history) × (e.stopped ≡ has_stop history) × ((s : ℕ) → spawns s history ≡ 0) };
+    ghost stands = { λ e history. (e.joined ≡ joined history) × (e.stopped ≡ has_stop history) × Spawned e.spawned history };
 
     ghost faults = { λ e. 0 };
 
@@ -106,24 +150,27 @@ impl Steps for Echo {
     }
 
     fn server_of(&self, start: u64) -> Option<u32> {
-        let _ = start;
-        None
+        if start < self.spawned { Some(0) } else { None }
     }
 
-    #[tactic(auto, using(crate::proofs::Histories::joined_more, crate::proofs::Histories::spawns_more, crate::proofs::Histories::stop_more, crate::proofs::Histories::stop_asked, crate::proofs::Histories::stop_stays))]
+    #[tactic(auto, using(crate::proofs::Histories::joined_more, crate::proofs::Histories::spawned_more, crate::proofs::Histories::once_only, crate::proofs::Histories::stop_more, crate::proofs::Histories::stop_asked, crate::proofs::Histories::stop_stays))]
     fn step(&mut self, cause: Cause) -> Result<Outs, StepFault> {
         if self.spent {
             return Err(StepFault::Spent);
         }
         self.spent = true;
-        let stopped = self.stopped || is_stop(&cause);
+        let stopped = stopped_behind(self.stopped, &cause);
         let Some(joined) = joined_behind(self.joined, &cause) else {
             return Err(StepFault::Numbers);
         };
-        let Ok(outs) = answer(self.alloc, cause) else {
+        let Some(spawned) = spawned_behind(self.spawned, &cause) else {
+            return Err(StepFault::Numbers);
+        };
+        let Ok(outs) = answer(self.alloc, self.spawned, cause) else {
             return Err(StepFault::Memory);
         };
         self.joined = joined;
+        self.spawned = spawned;
         self.stopped = stopped;
         self.spent = false;
         Ok(outs)

@@ -1,8 +1,6 @@
-//! Tests of the deck, of the lanes, of the queues of a lane and of a session's reading and writing.
+//! Tests of the deck, of the queues of a lane and of a session's reading and writing.
 #![tactic(auto)]
 
-#[cfg(test)]
-mod beside;
 #[cfg(test)]
 mod io;
 #[cfg(test)]

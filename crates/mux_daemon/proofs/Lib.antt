@@ -12,3 +12,4 @@ mod ReadStarts
 mod WriteStarts
 mod Starts
 mod Events
+mod Causes

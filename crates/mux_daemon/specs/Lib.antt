@@ -5,3 +5,4 @@ pub mod Served
 pub mod Sessions
 pub mod Starts
 pub mod Events
+pub mod Causes

@@ -2,6 +2,7 @@
 ghost use Rattle.mux_daemon.specs.Sessions.{PortLaw};
 ghost use Rattle.mux_daemon.specs.Starts.{BerthLaw};
 ghost use Rattle.mux_daemon.specs.Events.{ServedLaw};
+ghost use Rattle.mux_daemon.specs.Causes.{EventsLaw};
 
 use lane_lists::{origins_law, sessions_law, start_sessions_law};
 use mux_history::Steps;
@@ -35,4 +36,16 @@ pub fn served_law<K: Steps, P: Port, B: Berth, C: Clock>()
     port_law::<MemPort>();
     berth_law::<B>();
     origins_law();
+}
+
+/// What each event of the history came of, of what `serve_core` served. Each editor that joined is of a link that a port gave, or of
+/// the own one, but with `Stopped` of a port's. It went by a failed read only where its source's count rose in its session, by a bad
+/// frame only where a fault stands in the bytes that were read, and by the end of its source, in a whole session, only where its source
+/// has no bytes left or it was closed before. Each start of which there is a cause came up in a berth that gave a program for it, or
+/// failed in one whose count rose. A program's whole session is over only since its source stopped, since it was ended before, or
+/// since its writing part was told first that it went. With `Stopped` and `PortsClosed` each session is whole.
+pub fn events_law<K: Steps, P: Port, B: Berth, C: Clock>()
+    ensures { EventsLaw K.stands K.stops P.sessions P.links P.faults B.runs B.left B.faults C.given C.left }
+{
+    served_law::<K, P, B, C>();
 }

@@ -7,6 +7,6 @@ mod open;
 mod serve;
 mod settle;
 
-pub use law::{berth_law, port_law, served_law};
+pub use law::{berth_law, events_law, port_law, served_law};
 pub use open::Lanes;
 pub use serve::{Answer, Served, serve_core};

@@ -1,0 +1,178 @@
+-- What each event of the history came of, by the sessions of the links and the starts of the berths.
+use Rattle.std.proofs.Common.{◌≡◌, ◌≢◌, ℕ, zero, suc, ◌<◌, ◌+◌, ◌==◌, ◌⊎◌, inl, inr, Bool, true, false, List, [], ◌∷◌, ◌++◌, length, map, slice_get, refl, ap, sym, ◌∙◌, subst, arith, append_assoc, append-nil, ⊎_elim}
+use Rattle.std.specs.Prelude.{IfSome, Option, Some, None}
+use Rattle.outside_io.specs.Faults.{Rose}
+use Rattle.outside_io.specs.Sessions.{Session}
+use Rattle.outside_io.specs.Told.{append_to, prepend_to}
+use Rattle.outside_io.specs.contracts.memory.port.MemPortPort.TheImpl as port
+use Rattle.std.proofs.lemmas.Bool.Decides.{eqb_tells}
+use Rattle.mux_history.specs.declared.entry.Entry.{Entry}
+use Rattle.mux_history.specs.declared.cause.Why.{Why}
+use Rattle.mux_history.specs.declared.cause.Why.TheVariants as why
+use Rattle.lane_lists.specs.declared.item.LaneName.TheVariants as lane
+use Rattle.lane_lists.specs.declared.item.Order.{Order}
+use Rattle.lane_lists.specs.declared.item.Order.TheVariants as order
+use Rattle.lane_lists.specs.Deeds.{gather, sessions}
+use Rattle.lane_lists.specs.Sessions.{chain}
+use Rattle.lane_lists.specs.History.{bodies_from, bodies_to, end_to, gone_of}
+use Rattle.lane_lists.specs.StartHistory.{tried_by}
+use Rattle.lane_lists.specs.Origins.{SitsIn, TriedIn}
+use Rattle.lane_lists.specs.StartOrders.{bodies_to_start, end_to_start}
+use Rattle.session_io.specs.declared.part.End.{End}
+use Rattle.session_io.specs.declared.part.End.TheVariants as end
+use Rattle.session_io.specs.declared.read.Stop.{Stop}
+use Rattle.session_io.specs.declared.read.Stop.TheVariants as stop
+use Rattle.session_io.specs.Reads.{StoppedBy}
+use Rattle.mux_lanes.specs.Lanes.{Turn}
+use Rattle.mux_lanes.specs.Runs.{IsRun, IsWholeRun, Run, order_of}
+use Rattle.mux_serve.specs.declared.job.LaneJob.{LaneJob}
+use Rattle.mux_daemon.specs.declared.open.Lanes.{Lanes}
+use Rattle.mux_daemon.specs.declared.serve.Answer.{Answer}
+use Rattle.mux_daemon.specs.declared.serve.Answer.TheVariants as answer
+use Rattle.mux_daemon.specs.Served.{ServedAs, Story, history, is_end}
+use Rattle.mux_daemon.specs.Sessions.{PortSessions, ReadOf, WrittenAs, WrittenOf}
+use Rattle.mux_daemon.specs.Starts.{BerthStarts, StartFailedAs, StartRan}
+use Rattle.mux_daemon.specs.Events.{CameOf}
+use Rattle.mux_daemon.specs.Causes.{CameFrom, EditorCame, EventsOf, FailureCame, JoinedBy, ProgramCame, ReadsFault, SourceOver, StartedBy, came_up, failed, of_own, of_port}
+use Rattle.mux_daemon.proofs.Places.{get_left, same_item}
+
+item_at : {X : Type 0} (xs : List X) (i : ℕ) → i < length xs → (x : X) × (slice_get xs i ≡ Some x)
+item_at [] i h = absurd (omega (arith, h))
+item_at (x ∷ xs) zero h = (x, refl)
+item_at (x ∷ xs) (suc i) h = item_at xs i (omega (arith, h))
+
+within_at : {X : Type 0} (xs : List X) (i : ℕ) (x : X) → slice_get xs i ≡ Some x → i < length xs
+within_at [] i x at = absurd cc
+within_at (y ∷ xs) zero x at = omega arith
+within_at (y ∷ xs) (suc i) x at = let w = within_at xs i x at in omega (arith, w)
+
+-- what stands before and behind a part
+abbrev Around : {Y : Type 0} → List Y → List Y → Type 0
+Around {Y} whole part = (before : List Y) × (behind : List Y) × (whole ≡ before ++ (part ++ behind))
+
+around_map : {X Y : Type 0} (f : X → Y) (xs : List X) (more : List Y) (k : ℕ) (x : X) → slice_get xs k ≡ Some x → Around (map f xs ++ more) (f x ∷ [])
+around_map f [] more k x at = absurd cc
+around_map f (y ∷ xs) more zero x at = ([], map f xs ++ more, ap (λ z. f z ∷ (map f xs ++ more)) (same_item y x at))
+around_map f (y ∷ xs) more (suc k) x at = let r = around_map f xs more k x at in (f y ∷ r.0, r.1, ap (λ l. f y ∷ l) r.2)
+
+around_chain : {X Y : Type 0} (f : X → List Y) (xs : List X) (k : ℕ) (x : X) → slice_get xs k ≡ Some x → Around (chain (map f xs)) (f x)
+around_chain f [] k x at = absurd cc
+around_chain f (y ∷ xs) zero x at = ([], chain (map f xs), ap (λ z. f z ++ chain (map f xs)) (same_item y x at))
+around_chain f (y ∷ xs) (suc k) x at = let r = around_chain f xs k x at in (f y ++ r.0, r.1, ap (λ l. f y ++ l) r.2 ∙ sym (append_assoc (f y) r.0 (f x ++ r.1)))
+
+came_from : {P : Type 0} (back left : P → Option (List Session)) (old new : P) (run : Run) (came gave : List Session) → left old ≡ prepend_to came (left new) → back new ≡ append_to (back old) gave → Around came (run.began ∷ []) → Around gave (run.ended ∷ []) → CameFrom back left old new run
+came_from back left old new run came gave l b c g = record {
+  came_before = c.0;
+  came_behind = c.1;
+  came = l ∙ ap (λ x. prepend_to x (left new)) c.2;
+  back_before = g.0;
+  back_behind = g.1;
+  handed_back = b ∙ ap (λ x. append_to (back old) x) g.2;
+}
+
+-- a whole session that was ordered to be closed was closed by the history
+closed_by : (bodies : List (List ℕ)) (given : List Order) (run : Run) → WrittenAs bodies given run → IsWholeRun run → run.wrote.end ≡ Some order.Close → given ≡ order.Close ∷ []
+closed_by bodies given run w whole close = let e = w.ends whole in e.2 ∙ ap (λ o. o ∷ []) (same_item (order_of e.0) order.Close (sym e.1 ∙ close))
+
+module _ {P : Type 0} (limit : ℕ) (s : Story) (went : Bool) (i : ℕ) (back left : P → Option (List Session)) (old new : P) (f : PortSessions limit s went i back left old new) where
+  editor_came : (k e : ℕ) → slice_get (sessions s.editors s.servers (lane.Editor i) s.deeds) k ≡ Some e → EditorCame limit (history s) went back left old new e
+  editor_came k e at =
+      let r = f.served k e at in
+      let run = r.0 in
+      let read = r.2 in
+      let wrote = r.3 in
+      record {
+        run = run;
+        is_run = f.each k run r.1;
+        whole = λ w. (f.whole w).1 k run r.1;
+        link = came_from back left old new run (map (λ (r : Run). r.began) f.runs ++ f.refused) (map (λ (r : Run). r.ended) f.runs ++ f.refused) f.left_are f.back_are
+            (around_map (λ (r : Run). r.began) f.runs f.refused k run r.1) (around_map (λ (r : Run). r.ended) f.runs f.refused k run r.1);
+        read = read;
+        written = wrote;
+        ended = λ gone whole. ⊎_elim (λ t. inl t.1) (λ t. inr (closed_by (bodies_to e (history s)) (end_to e (history s)) run wrote whole (t.1 whole))) (read.ended why.End gone (λ h. absurd cc));
+        read_fault = λ gone. ⊎_elim (λ t. t.1) (λ t. absurd (let none = t.0 in cc)) (read.ended why.ReadFault gone (λ h. absurd cc));
+        bad_frame = λ gone. ⊎_elim (λ t. record { fed = read.fed; rest = t.0; read = read.read; splits = t.1.0; fault = t.2 }) (λ t. absurd (let none = t.0 in cc)) (read.ended why.BadFrame gone (λ h. absurd cc));
+      }
+
+abbrev ran_as : (A W : Type 0) (limit servers : ℕ) (history : List Entry) (start : ℕ) (turn : Turn) → (W → A) → StartRan A limit servers history start turn → StartRan W limit servers history start turn
+ran_as A W limit servers history start turn f r = record { run = r.run; is = r.is; is_run = r.is_run; whole = λ w. r.whole (f w); read = r.read; written = r.written }
+
+failed_as : (A W : Type 0) (servers : ℕ) (history : List Entry) (start : ℕ) (turn : Turn) → (W → A) → StartFailedAs A servers history start turn → StartFailedAs W servers history start turn
+failed_as A W servers history start turn f r = record { orders = r.orders; is = r.is; says = r.says; ends = λ w. r.ends (f w) }
+
+over_as : (limit : ℕ) (bodies : List (List ℕ)) (given : List Order) (run : Run) (told : Stop) → run.stop ≡ told → IsRun limit run → WrittenAs bodies given run → IsWholeRun run → SourceOver limit run ⊎ (given ≡ order.Close ∷ []) ⊎ (run.stop ≡ stop.Told end.Done)
+over_as limit bodies given run (stop.Ended w) is r wrote whole = inl (record {
+  by = w;
+  told = is;
+  fed = r.read.fed;
+  given = r.read.given;
+  read = r.read.read;
+  stopped = subst (λ x. StoppedBy limit r.read.fed r.read.given run.ended.left run.began.source_faults run.ended.source_faults x) is r.read.stopped;
+})
+over_as limit bodies given run (stop.Told end.Closed) is r wrote whole = inr (inl (closed_by bodies given run wrote whole (whole.ordered ∙ ap (λ x. Some (order_of x)) (sym (whole.agreed end.Closed is)))))
+over_as limit bodies given run (stop.Told end.Done) is r wrote whole = inr (inr is)
+over_as limit bodies given run stop.Cut is r wrote whole = absurd (whole.read is)
+
+module _ {B : Type 0} (limit : ℕ) (s : Story) (went : Bool) (i : ℕ) (runs left : B → Option (List Session)) (misses : B → ℕ) (old new : B) (f : BerthStarts limit s went i runs left misses old new) where
+  -- with a done work each turn is whole
+  not_cut : (k : ℕ) (turn : Turn) → slice_get (f.turns ++ f.last) k ≡ Some turn → went ≡ true → k < length f.turns
+  not_cut k turn at w = within_at f.turns k turn (ap (λ l. slice_get l k) (sym (append-nil f.turns) ∙ ap (λ l. f.turns ++ l) (sym (f.whole w))) ∙ at)
+
+  program_came : (k x : ℕ) (turn : Turn) → slice_get (f.turns ++ f.last) k ≡ Some turn → StartRan (k < length f.turns) limit s.servers (history s) x turn → ProgramCame limit s.servers (history s) went runs left old new x
+  program_came k x turn at did =
+      let run = did.run in
+      let all = f.turns ++ f.last in
+      let c = around_chain (λ (t : Turn). t.came) all k turn at in
+      let b = around_chain (λ (t : Turn). t.back) all k turn at in
+      record {
+        turn = turn;
+        did = ran_as (k < length f.turns) (went ≡ true) limit s.servers (history s) x turn (not_cut k turn at) did;
+        program = came_from runs left old new run (chain (map (λ (t : Turn). t.came) all)) (chain (map (λ (t : Turn). t.back) all)) f.left_are f.back_are
+            (c.0, c.1, c.2 ∙ ap (λ (t : Turn). c.0 ++ (t.came ++ c.1)) did.is) (b.0, b.1, b.2 ∙ ap (λ (t : Turn). b.0 ++ (t.back ++ b.1)) did.is);
+        over = λ whole. over_as limit (bodies_to_start s.servers x (history s)) (end_to_start s.servers x (history s)) run run.stop refl did.is_run did.written whole;
+      }
+
+  failure_came : (k x : ℕ) (turn : Turn) → slice_get (f.turns ++ f.last) k ≡ Some turn → StartFailedAs (k < length f.turns) s.servers (history s) x turn → FailureCame s.servers (history s) went misses old new x
+  failure_came k x turn at did = record {
+    turn = turn;
+    did = failed_as (k < length f.turns) (went ≡ true) s.servers (history s) x turn (not_cut k turn at) did;
+    rose = f.rose k turn at (ap (λ (t : Turn). t.rises) did.is);
+  }
+
+module _ {P B C : Type 0} (links_back links : P → Option (List Session)) (runs left : B → Option (List Session)) (misses : B → ℕ) (given moments : C → Option (List ℕ)) (limit : ℕ) (s : Story) (x : Answer) (old new : Lanes P B C)
+    (servers : s.servers ≡ length old.berths.items) (ports_len : length new.ports.items ≡ length old.ports.items) (berths_len : length new.berths.items ≡ length old.berths.items) (f : CameOf links_back links runs left misses given moments limit s x old new) where
+  joined_by : (e : ℕ) → (sits : SitsIn (length old.ports.items + 1) (length old.berths.items) s.deeds e) → s.editors ≡ length old.ports.items + 1 → JoinedBy links_back links runs left misses limit s x old new e
+  joined_by e sits n =
+      let i = sits.number in
+      let at : slice_get (sessions s.editors s.servers (lane.Editor i) s.deeds) sits.place ≡ Some e =
+      subst (λ (k : ℕ). slice_get (sessions k s.servers (lane.Editor i) s.deeds) sits.place ≡ Some e) (sym n) (subst (λ (k : ℕ). slice_get (sessions (length old.ports.items + 1) k (lane.Editor i) s.deeds) sits.place ≡ Some e) (sym servers) sits.at) in
+      ⊎_elim
+      (λ (t : ((i == length old.ports.items) ≡ true) × (i ≡ length old.ports.items)).
+      let here : slice_get (sessions s.editors s.servers (lane.Editor (length old.ports.items)) s.deeds) sits.place ≡ Some e = subst (λ (k : ℕ). slice_get (sessions s.editors s.servers (lane.Editor k) s.deeds) sits.place ≡ Some e) t.1 at in
+      of_own (λ stopped. let none : slice_get [] sits.place ≡ Some e = subst (λ l. slice_get l sits.place ≡ Some e) (f.stopped stopped) here in absurd cc)
+      (editor_came limit s (is_end x) (length old.ports.items) port.ghosts.sessions port.ghosts.links old.own.outside new.own.outside f.own sits.place e here))
+      (λ (t : ((i == length old.ports.items) ≡ false) × (i ≢ length old.ports.items)).
+      let w = sits.within in
+      let apart = t.1 in
+      let p = item_at old.ports.items i (omega (arith, w, apart)) in
+      let q = item_at new.ports.items i (omega (arith, w, apart, ports_len)) in
+      of_port i p.0 q.0 p.1 q.1 (editor_came limit s (is_end x) i links_back links p.0.outside q.0.outside (f.ports i p.0 q.0 p.1 q.1) sits.place e at))
+      (eqb_tells i (length old.ports.items))
+
+  started_by : (n : ℕ) → (tried : TriedIn (length old.ports.items + 1) (length old.berths.items) s.deeds n) → s.editors ≡ length old.ports.items + 1 → StartedBy links_back links runs left misses limit s x old new n
+  started_by n tried editors =
+      let i = tried.number in
+      let w = tried.within in
+      let at : slice_get (gather s.editors s.servers (tried_by (lane.Server i)) s.deeds) tried.place ≡ Some n =
+      subst (λ (k : ℕ). slice_get (gather k s.servers (tried_by (lane.Server i)) s.deeds) tried.place ≡ Some n) (sym editors) (subst (λ (k : ℕ). slice_get (gather (length old.ports.items + 1) k (tried_by (lane.Server i)) s.deeds) tried.place ≡ Some n) (sym servers) tried.at) in
+      let p = item_at old.berths.items i w in
+      let q = item_at new.berths.items i (omega (arith, w, berths_len)) in
+      let b = f.berths i p.0 q.0 p.1 q.1 in
+      let r = b.served tried.place n at in
+      ⊎_elim
+      (λ did. failed i p.0 q.0 p.1 q.1 (failure_came limit s (is_end x) i runs left misses p.0.outside q.0.outside b tried.place n r.0 r.1 did))
+      (λ did. came_up i p.0 q.0 p.1 q.1 (program_came limit s (is_end x) i runs left misses p.0.outside q.0.outside b tried.place n r.0 r.1 did))
+      r.2
+
+  pub events_of : s.editors ≡ length old.ports.items + 1 → EventsOf links_back links runs left misses limit s x old new
+  events_of n = record { editors = λ e below. joined_by e (f.editors e below) n; starts = λ k some. started_by k (f.starts k some) n }
