@@ -1,4 +1,5 @@
 pub mod Documents
 pub mod Noted
 pub mod Rows
-pub mod Shown
+pub mod Versions
+pub mod Walks
