@@ -1,5 +1,5 @@
 mod Changing
 mod Helds
 mod Noticed
-mod Replays
+mod Walking
 mod Worked

@@ -1,4 +1,5 @@
 pub mod Documents
+pub mod Holders
 pub mod Noted
 pub mod Rows
 pub mod Versions

@@ -1,6 +1,5 @@
 //! The documents that a group of editors shares.
-ghost use Rattle.std.specs.Prelude.{◌≡◌, ◌≤◌, ◌<◌, ◌^◌, ◌+◌, ◌&&◌, ◌||◌, bytes_eq, nat_eq, false, ℕ, List, [], Option, Some, None, IsUtf8, find, IfOk, OnOk, fold, length, map, option_map};
-ghost use Rattle.std.specs.Option.{option_map_or};
+ghost use Rattle.std.specs.Prelude.{◌≡◌, ◌≤◌, ◌<◌, ◌^◌, ◌+◌, ◌&&◌, bytes_eq, ℕ, List, [], Option, Some, None, IsUtf8, find, IfOk, OnOk, fold, length, map, option_map};
 ghost use Rattle.json_text.specs.Json.{Json};
 ghost use Rattle.json_nodes.specs.At.{At};
 ghost use Rattle.document_model.specs.Notices.{DidChange};
@@ -8,8 +7,9 @@ ghost use Rattle.document_model.specs.Opens.{Open, is_open_at, put_open};
 ghost use Rattle.document_table.specs.Rows.{touched_at};
 ghost use Rattle.document_table.specs.Shown.{all_bytes, shown};
 ghost use Rattle.focus_switch.specs.Documents.{held_of, version_held};
+ghost use Rattle.focus_switch.specs.Holders.{change_from, is_alike, is_own, speaks_alike};
 ghost use Rattle.focus_switch.specs.Noted.{FoundChange};
-ghost use Rattle.focus_switch.specs.Rows.{Step, agreement, agreement_of, change_row, change_sends, changed, close_next, close_row, close_sends, differing, differing_own, each, open_row, open_sends, leave_row, nothing, ready_row, replay_all, send, sync_row, sync_sends, synced, text_after, unready_row};
+ghost use Rattle.focus_switch.specs.Rows.{Step, agreement, agreement_of, change_row, change_sends, changed, close_next, close_row, close_sends, differing, differing_own, each, open_row, open_sends, leave_row, nothing, ready_row, replay_all, send, switch, sync_row, sync_sends, synced, text_after, unready_row};
 ghost use Rattle.focus_switch.specs.Versions.{version_of, versions_of};
 ghost use Rattle.focus_switch.specs.Walks.{and_version, replay_at, replay_at_sends, replay_next, sync_at, sync_next};
 
@@ -30,6 +30,9 @@ use std::alloc::Global;
 use std::marker::Model;
 
 /// The documents that are open at the editors of a group, and those that the ready start of its server has. It keeps nothing of a document that is closed everywhere.
+///
+/// A look-up of a document costs the logarithm of how many are open, for each editor that has this one open. `open`, `change`, `close`
+/// and `agrees` make a few; `sync`, `leave` and `versions_of` make a few for each document of the editor, and `ready` for each that is open.
 #[derive(Drop)]
 pub struct Shared<T: Text> {
     alloc: Global,
@@ -261,15 +264,16 @@ impl<T: Text + Drop> Shared<T> {
         ensures { result ≡ agreement_of (shown T.bytes opening.now) (held_of (shown T.bytes opening.now).uri self.now.helds) self.now }
     {
         match self.helds.get(opening.uri.as_bytes()) {
-            Some(held) if holds_own(self.opens.holder(opening.uri.as_bytes()), opening) => Agreement::Agrees {
-                held: held.version,
-                changed: held.sent,
-            },
+            Some(held) if is_own(self.opens.holder(opening.uri.as_bytes()), opening) =>
+                Agreement::Agrees {
+                    held: held.version,
+                    changed: held.sent,
+                },
             _ => Agreement::Differs,
         }
     }
 
-    /// The versions of the documents that an editor has open, in the order of their opening. It costs the look-up of each.
+    /// The versions of the documents that an editor has open, in the order of their opening.
     pub fn versions_of(&self, alloc: Global, e: u64) -> Result<Vec<DocumentVersion>, Memory>
         ensures { IfOk result (λ versions. versions.items ≡ versions_of e self.now) }
     {
@@ -372,36 +376,45 @@ impl<T: Text + Drop> Shared<T> {
         }
     }
 
-    // What the start is told where an editor changes a document.
+    // What the start is told where an editor changes a document, which was the old one.
     fn changing_tells(
         &self,
         tape: &Tape,
         old: &Opening<T>,
         new: &Opening<T>,
     ) -> Result<Option<Telling>, Memory>
-        requires { find (is_open_at (shown T.bytes new.now).editor (shown T.bytes new.now).uri) self.now.opens ≡ Some (shown T.bytes old.now) }
-        ensures { (t : Json) → At tape.now 0 t → IfOk result (λ x. x
-            ≡ change_sends (shown T.bytes new.now) tape.now.bytes t (version_held (shown T.bytes new.now).uri self.now.helds) self.now) }
+        ensures { (t : Json) → At tape.now 0 t → find (is_open_at (shown T.bytes new.now).editor (shown T.bytes new.now).uri) self.now.opens ≡ Some (shown T.bytes old.now)
+            → IfOk result (λ x. x ≡ change_sends (shown T.bytes new.now) tape.now.bytes t (version_held (shown T.bytes new.now).uri self.now.helds) self.now) }
     {
         let Some(version) = self.helds.version(new.uri.as_bytes()) else {
             return Ok(None)
         };
         let holder = self.opens.holder(new.uri.as_bytes());
-        if holds(holder, new) {
+        if is_alike(holder, new) {
             return Ok(None);
         }
-        if version < self.versions && holds_own(holder, old) {
-            let body = with_version(self.alloc, tape, version + 1)?;
-            return Ok(Some(Telling::Changes(version + 1, body)));
-        }
-        let telling = switch(
-            self.alloc,
-            holds_language(holder, new),
-            self.versions,
-            new,
-            version,
-        )?;
+        let telling = self.change_or_switch(tape, holder, old, new, version)?;
         Ok(Some(telling))
+    }
+
+    // The message under the server's next version, where it had the old document, or the whole text of the new one.
+    fn change_or_switch(
+        &self,
+        tape: &Tape,
+        holder: Option<&Opening<T>>,
+        old: &Opening<T>,
+        new: &Opening<T>,
+        version: u32,
+    ) -> Result<Telling, Memory>
+        ensures { (t : Json) → At tape.now 0 t → IfOk result (λ x. x
+            ≡ change_from (shown T.bytes old.now) (shown T.bytes new.now) (option_map (λ o. shown T.bytes o.now) holder.entry) tape.now.bytes t version self.now.versions) }
+    {
+        if version < self.versions && is_own(holder, old) {
+            let body = with_version(self.alloc, tape, version + 1)?;
+            Ok(Telling::Changes(version + 1, body))
+        } else {
+            self.switch(holder, new, version)
+        }
     }
 
     // What the start is told where an editor closes a document.
@@ -438,11 +451,10 @@ impl<T: Text + Drop> Shared<T> {
         ensures { IfOk result (λ x. x ≡ differing (shown T.bytes opening.now) version self.now) }
     {
         let holder = self.opens.holder(opening.uri.as_bytes());
-        if holds(holder, opening) {
+        if is_alike(holder, opening) {
             return Ok(None);
         }
-        let same_language = holds_language(holder, opening);
-        let telling = switch(self.alloc, same_language, self.versions, opening, version)?;
+        let telling = self.switch(holder, opening, version)?;
         Ok(Some(telling))
     }
 
@@ -451,12 +463,25 @@ impl<T: Text + Drop> Shared<T> {
         ensures { IfOk result (λ x. x ≡ differing_own (shown T.bytes opening.now) version self.now) }
     {
         let holder = self.opens.holder(opening.uri.as_bytes());
-        if holds_own(holder, opening) {
+        if is_own(holder, opening) {
             return Ok(None);
         }
-        let same_language = holds_language(holder, opening);
-        let telling = switch(self.alloc, same_language, self.versions, opening, version)?;
+        let telling = self.switch(holder, opening, version)?;
         Ok(Some(telling))
+    }
+
+    // The start, which has a document as its holder has it, is told the whole text of this one.
+    fn switch(
+        &self,
+        holder: Option<&Opening<T>>,
+        opening: &Opening<T>,
+        version: u32,
+    ) -> Result<Telling, Memory>
+        ensures { IfOk result (λ x. x
+            ≡ switch (speaks_alike (shown T.bytes opening.now) (option_map (λ o. shown T.bytes o.now) holder.entry)) self.now.versions (shown T.bytes opening.now) version) }
+    {
+        let same_language = speaks_alike(holder, opening);
+        switch(self.alloc, same_language, self.versions, opening, version)
     }
 
     // Tells the start, where one is ready.
@@ -491,9 +516,8 @@ impl<T: Text + Drop> Shared<T> {
 }
 
 // Whether the server, which has a document as its holder has it, has it in this one's language.
-fn holds_language<T: Text + Drop>(holder: Option<&Opening<T>>, opening: &Opening<T>) -> bool
-    ensures { result
-        ≡ option_map_or (λ (h : Open). bytes_eq h.language (shown T.bytes opening.now).language) (option_map (λ o. shown T.bytes o.now) holder.entry) false }
+fn speaks_alike<T: Text + Drop>(holder: Option<&Opening<T>>, opening: &Opening<T>) -> bool
+    ensures { result ≡ speaks_alike (shown T.bytes opening.now) (option_map (λ o. shown T.bytes o.now) holder.entry) }
 {
     match holder {
         Some(holder) => holder.language.as_bytes() == opening.language.as_bytes(),
@@ -501,11 +525,9 @@ fn holds_language<T: Text + Drop>(holder: Option<&Opening<T>>, opening: &Opening
     }
 }
 
-// Whether the server has it in this one's language and with its text.
-fn holds<T: Text + Drop>(holder: Option<&Opening<T>>, opening: &Opening<T>) -> bool
-    ensures { result
-        ≡ option_map_or (λ (h : Open). bytes_eq h.language (shown T.bytes opening.now).language && bytes_eq h.text (shown T.bytes opening.now).text)
-        (option_map (λ o. shown T.bytes o.now) holder.entry) false }
+// Whether it has it in this one's language and with its text.
+fn is_alike<T: Text + Drop>(holder: Option<&Opening<T>>, opening: &Opening<T>) -> bool
+    ensures { result ≡ is_alike (shown T.bytes opening.now) (option_map (λ o. shown T.bytes o.now) holder.entry) }
 {
     match holder {
         Some(holder) => is_like(holder, opening),
@@ -514,11 +536,8 @@ fn holds<T: Text + Drop>(holder: Option<&Opening<T>>, opening: &Opening<T>) -> b
 }
 
 // The same of a document that is open: where its editor holds it, nothing is compared.
-fn holds_own<T: Text + Drop>(holder: Option<&Opening<T>>, opening: &Opening<T>) -> bool
-    ensures { result
-        ≡ option_map_or (λ (h : Open). nat_eq h.editor opening.now.editor
-        || (bytes_eq h.language (shown T.bytes opening.now).language && bytes_eq h.text (shown T.bytes opening.now).text))
-        (option_map (λ o. shown T.bytes o.now) holder.entry) false }
+fn is_own<T: Text + Drop>(holder: Option<&Opening<T>>, opening: &Opening<T>) -> bool
+    ensures { result ≡ is_own (shown T.bytes opening.now) (option_map (λ o. shown T.bytes o.now) holder.entry) }
 {
     match holder {
         Some(holder) => holder.editor == opening.editor || is_like(holder, opening),
