@@ -1,10 +1,9 @@
 -- What goes over documents one by one, and the same by their URIs.
-use Rattle.std.proofs.Common.{◌≡◌, ℕ, Bool, true, false, cond, List, [], ◌∷◌, ◌++◌, map, refl, sym, ◌∙◌, ap, append-nil, append_assoc}
+use Rattle.std.proofs.Common.{◌≡◌, ℕ, Bool, true, false, List, [], ◌∷◌, ◌++◌, map, refl, sym, ◌∙◌, ap, append-nil, append_assoc}
 use Rattle.std.specs.Prelude.{Option, Some, None, find, flat_map, fold, nat_eq, if◌then◌else◌}
 use Rattle.std.specs.List.{AllByRecursion}
 use Rattle.std.specs.Option.{option_map_or}
 use Rattle.std.proofs.lemmas.Bool.{eqb-true}
-use Rattle.mux_history.specs.declared.out.Out.{Out}
 use Rattle.focus_switch.specs.declared.telling.Telling.{Telling}
 use Rattle.focus_switch.specs.declared.version.DocumentVersion.{DocumentVersion}
 use Rattle.document_model.specs.Opens.{Open, is_open_at}
@@ -12,9 +11,9 @@ use Rattle.document_model.specs.Orderly.{Once}
 use Rattle.document_model.proofs.Orders.{IsFound, all_found}
 use Rattle.document_table.specs.Rows.{uris_of}
 use Rattle.focus_switch.specs.Documents.{Documents, version_held}
-use Rattle.focus_switch.specs.Rows.{Step, nothing, tell, send, or_nothing, and_then, each, replayed, replay_sends, replay_all, synced, sync_sends}
+use Rattle.focus_switch.specs.Rows.{Step, nothing, tell, send, or_nothing, each, replayed, replay_sends, replay_all, synced, sync_sends}
 use Rattle.focus_switch.specs.Versions.{version_of, versions_of}
-use Rattle.focus_switch.specs.Walks.{sync_at, sync_next, replay_at, replay_at_sends, replay_next, and_version}
+use Rattle.focus_switch.specs.Walks.{sync_next, replay_at_sends, replay_next, and_version}
 
 -- a start that is told of each document
 

@@ -2,7 +2,7 @@
 use Rattle.std.specs.Prelude.{ℕ, List, [], ◌∷◌, ◌++◌, find, Option, Some, None}
 use Rattle.std.specs.Option.{option_map_or}
 use Rattle.document_model.specs.Bodies.{open_text}
-use Rattle.document_model.specs.Opens.{Open, is_open_at, holder}
+use Rattle.document_model.specs.Opens.{is_open_at, holder}
 use Rattle.focus_switch.specs.Documents.{Documents, version_held}
 use Rattle.focus_switch.specs.Rows.{Step, and_then, or_nothing, send, sync_sends}
 use Rattle.focus_switch.specs.Versions.{version_of}

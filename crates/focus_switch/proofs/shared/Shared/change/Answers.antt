@@ -1,4 +1,4 @@
-use Rattle.std.proofs.Common.{◌≡◌, Some, None, sym, ◌∙◌, ap, subst, find, option_map}
+use Rattle.std.proofs.Common.{Some, None, sym, ◌∙◌, ap, subst, find, option_map}
 use Rattle.json_nodes.specs.At.{At}
 use Rattle.json_nodes.specs.Doc.{Doc}
 use Rattle.document_model.specs.Notices.{did_change}
