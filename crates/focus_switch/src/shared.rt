@@ -123,7 +123,8 @@ impl<T: Text + Drop> Shared<T> {
     ) -> Result<Option<Opening<T>>, Memory>
         requires { change.changes < length tape.now.nodes }
         ensures { (q : DidChange) → FoundChange tape.now (Some q) (Some change) → IfOk result (λ o. option_map (shown T.bytes) o
-            ≡ option_map (λ text. changed (shown T.bytes opening.now) q text self.now.turn) (text_after self.now.encoding q.changes (shown T.bytes opening.now).text)) }
+            ≡ option_map (λ text. changed (shown T.bytes opening.now) q text self.now.turn)
+            (text_after self.now.encoding q.changes (shown T.bytes opening.now).text)) }
     {
         let Some(text) = self.text_behind(&opening.text, tape, change.changes)? else {
             return Ok(None)
@@ -383,7 +384,8 @@ impl<T: Text + Drop> Shared<T> {
         old: &Opening<T>,
         new: &Opening<T>,
     ) -> Result<Option<Telling>, Memory>
-        ensures { (t : Json) → At tape.now 0 t → find (is_open_at (shown T.bytes new.now).editor (shown T.bytes new.now).uri) self.now.opens ≡ Some (shown T.bytes old.now)
+        ensures { (t : Json) → At tape.now 0 t
+            → find (is_open_at (shown T.bytes new.now).editor (shown T.bytes new.now).uri) self.now.opens ≡ Some (shown T.bytes old.now)
             → IfOk result (λ x. x ≡ change_sends (shown T.bytes new.now) tape.now.bytes t (version_held (shown T.bytes new.now).uri self.now.helds) self.now) }
     {
         let Some(version) = self.helds.version(new.uri.as_bytes()) else {
@@ -407,7 +409,8 @@ impl<T: Text + Drop> Shared<T> {
         version: u32,
     ) -> Result<Telling, Memory>
         ensures { (t : Json) → At tape.now 0 t → IfOk result (λ x. x
-            ≡ change_from (shown T.bytes old.now) (shown T.bytes new.now) (option_map (λ o. shown T.bytes o.now) holder.entry) tape.now.bytes t version self.now.versions) }
+            ≡ change_from (shown T.bytes old.now) (shown T.bytes new.now) (option_map (λ o. shown T.bytes o.now) holder.entry)
+            tape.now.bytes t version self.now.versions) }
     {
         if version < self.versions && is_own(holder, old) {
             let body = with_version(self.alloc, tape, version + 1)?;
@@ -478,7 +481,8 @@ impl<T: Text + Drop> Shared<T> {
         version: u32,
     ) -> Result<Telling, Memory>
         ensures { IfOk result (λ x. x
-            ≡ switch (speaks_alike (shown T.bytes opening.now) (option_map (λ o. shown T.bytes o.now) holder.entry)) self.now.versions (shown T.bytes opening.now) version) }
+            ≡ switch (speaks_alike (shown T.bytes opening.now) (option_map (λ o. shown T.bytes o.now) holder.entry))
+            self.now.versions (shown T.bytes opening.now) version) }
     {
         let same_language = speaks_alike(holder, opening);
         switch(self.alloc, same_language, self.versions, opening, version)
