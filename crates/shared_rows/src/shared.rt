@@ -314,7 +314,9 @@ fn closes_what_an_editor_leaves(rt: HostRuntime) -> Result<(), Memory> {
 
 // Whether a version is that of this document, as the start has it, and its editor's is 5.
 fn is_version(version: &DocumentVersion, uri: &str, held: Option<u32>) -> bool {
-    version.uri.bytes() == uri.as_bytes() && version.held == held && version.version.bytes() == b"5"
+    version.uri.bytes() == uri.as_bytes()
+        && version.held == held
+        && version.version.bytes() == b"5".as_slice()
 }
 
 #[test]
