@@ -1,6 +1,5 @@
 mod Changing
 mod Helds
 mod Noticed
-mod Placing
-mod Replays
+mod Walking
 mod Worked

@@ -1,4 +1,6 @@
 pub mod Documents
+pub mod Holders
 pub mod Noted
 pub mod Rows
-pub mod Shown
+pub mod Versions
+pub mod Walks

@@ -1,5 +1,5 @@
 -- What the server is told when an editor opens, changes or closes a document, and when a start of the server is ready.
-use Rattle.std.specs.Prelude.{ℕ, ◌+◌, Bool, false, ◌&&◌, List, [], ◌∷◌, ◌++◌, map, length, flat_map, fold, find, nat_eq, nat_lt, if◌then◌else◌}
+use Rattle.std.specs.Prelude.{ℕ, ◌+◌, Bool, false, ◌&&◌, List, [], ◌∷◌, ◌++◌, map, length, fold, find, nat_eq, nat_lt, if◌then◌else◌}
 use Rattle.std.specs.Prelude.{Option, Some, None}
 use Rattle.std.specs.Option.{option_and_then, option_map, option_map_or}
 use Rattle.json_text.specs.Json.{Json}
@@ -12,6 +12,7 @@ use Rattle.focus_switch.specs.declared.agreement.Agreement.{Agreement}
 use Rattle.focus_switch.specs.declared.agreement.Agreement.TheVariants.{NotOpen, Differs, Agrees}
 use Rattle.focus_switch.specs.declared.telling.Telling.{Telling}
 use Rattle.focus_switch.specs.declared.telling.Telling.TheVariants.{Opens, Changes, Closes, OpensAnew}
+use Rattle.document_table.specs.Rows.{touched_at, uris_of}
 use Rattle.document_model.specs.Opens.{Open, is_open_at, put_open, drop_open, holder, holder_beside, holds, holds_language, holds_own}
 use Rattle.focus_switch.specs.Documents.{Documents, held_of, version_held, helds_behind}
 use Rattle.document_model.specs.Notices.{DidChange, did_change, with_version}
@@ -150,9 +151,6 @@ sync_sends o (Some v) s = differing_own o v s
 abbrev pub synced : ℕ → Documents → Open → Step
 synced e s o = if nat_eq o.editor e then send o.uri (sync_sends o (version_held o.uri s.helds) s) s else nothing s
 
-abbrev pub touched_at : ℕ → ℕ → Open → Open
-touched_at e turn o = if nat_eq o.editor e then record o { touched = turn } else o
-
 abbrev pub touch_all : ℕ → Step → Step
 touch_all e step = record { outs = step.outs; after = record step.after { opens = map (touched_at e step.after.turn) step.after.opens; turn = step.after.turn + 1 } }
 
@@ -166,10 +164,6 @@ agreement_of o (Some h) s = if holds_own o s.opens then Agrees h.version h.sent 
 
 abbrev pub agreement : ℕ → List ℕ → Documents → Agreement
 agreement e u s = option_map_or (λ o. agreement_of o (held_of o.uri s.helds) s) (find (is_open_at e u) s.opens) NotOpen
-
--- the documents that are open at e, in the order of their opening
-abbrev pub uris_of : ℕ → List Open → List (List ℕ)
-uris_of e os = flat_map (λ o. if nat_eq o.editor e then o.uri ∷ [] else []) os
 
 -- e leaves: it closes each of its documents
 abbrev pub close_next : ℕ → Step → List ℕ → Step

@@ -4,10 +4,11 @@
 mod agreement;
 mod held;
 mod notice;
-mod opens;
 mod shared;
 mod telling;
 mod texts;
+mod version;
 
 pub use agreement::Agreement;
 pub use shared::Shared;
+pub use version::DocumentVersion;

@@ -1,21 +1,26 @@
 //! The documents that a group of editors shares.
-ghost use Rattle.std.specs.Prelude.{◌≡◌, ◌≤◌, ◌<◌, ◌^◌, ◌+◌, ◌&&◌, bytes_eq, ℕ, List, [], Some, None, IsUtf8, IfOk, OnOk, fold, length, map, option_map, slice_get};
+ghost use Rattle.std.specs.Prelude.{◌≡◌, ◌≤◌, ◌<◌, ◌^◌, ◌+◌, ◌&&◌, bytes_eq, ℕ, List, [], Option, Some, None, IsUtf8, find, IfOk, OnOk, fold, length, map, option_map};
 ghost use Rattle.json_text.specs.Json.{Json};
 ghost use Rattle.json_nodes.specs.At.{At};
-ghost use Rattle.focus_switch.specs.Noted.{FoundChange};
 ghost use Rattle.document_model.specs.Notices.{DidChange};
-ghost use Rattle.document_model.specs.Opens.{Open, holds, holds_language, holds_own, put_open};
+ghost use Rattle.document_model.specs.Opens.{Open, is_open_at, put_open};
+ghost use Rattle.document_table.specs.Rows.{touched_at};
+ghost use Rattle.document_table.specs.Shown.{all_bytes, shown};
 ghost use Rattle.focus_switch.specs.Documents.{held_of, version_held};
-ghost use Rattle.focus_switch.specs.Rows.{Step, agreement, agreement_of, change_row, change_sends, change_tells, changed_open, close_next, close_row, close_sends, differing, differing_own, each, open_row, open_sends, had, leave_row, nothing, or_nothing, ready_row, replay_all, replay_sends, replayed, send, switch, sync_row, sync_sends, synced, text_after, touched_at, unready_row};
-ghost use Rattle.focus_switch.specs.Shown.{all_bytes, shown};
+ghost use Rattle.focus_switch.specs.Holders.{change_from, is_alike, is_own, speaks_alike};
+ghost use Rattle.focus_switch.specs.Noted.{FoundChange};
+ghost use Rattle.focus_switch.specs.Rows.{Step, agreement, agreement_of, change_row, change_sends, changed, close_next, close_row, close_sends, differing, differing_own, each, open_row, open_sends, leave_row, nothing, ready_row, replay_all, send, switch, sync_row, sync_sends, synced, text_after, unready_row};
+ghost use Rattle.focus_switch.specs.Versions.{version_of, versions_of};
+ghost use Rattle.focus_switch.specs.Walks.{and_version, replay_at, replay_at_sends, replay_next, sync_at, sync_next};
 
 use crate::agreement::Agreement;
 use crate::held::Helds;
 use crate::notice::{Change, did_change, with_version};
-use crate::opens::{Opening, Opens};
 use crate::telling::{Telling, opens, switch};
 use crate::texts::close_text;
+use crate::version::DocumentVersion;
 use doc_text::{ChangeFault, Text};
+use document_table::{Opening, Opens};
 use json_span::Tape;
 use message_body::{Body, Memory};
 use mux_history::Outs;
@@ -25,6 +30,9 @@ use std::alloc::Global;
 use std::marker::Model;
 
 /// The documents that are open at the editors of a group, and those that the ready start of its server has. It keeps nothing of a document that is closed everywhere.
+///
+/// A look-up of a document costs the logarithm of how many are open, for each editor that has this one open. `open`, `change`, `close`
+/// and `agrees` make a few; `sync`, `leave` and `versions_of` make a few for each document of the editor, and `ready` for each that is open.
 #[derive(Drop)]
 pub struct Shared<T: Text> {
     alloc: Global,
@@ -94,23 +102,30 @@ impl<T: Text + Drop> Shared<T> {
         let Some(change) = did_change(self.alloc, tape)? else {
             return Ok(Outs::new(self.alloc))
         };
-        let Some(changed) = self.changed(e, tape, change)? else {
+        let Some(opening) = self.opens.find(e, change.uri.bytes()) else {
             return Ok(Outs::new(self.alloc))
         };
-        let telling = self.changing_tells(tape, &changed)?;
+        let Some(changed) = self.changed(opening, tape, change)? else {
+            return Ok(Outs::new(self.alloc))
+        };
+        let telling = self.changing_tells(tape, opening, &changed)?;
         let outs = self.tell(changed.uri.as_bytes(), telling)?;
         self.touch(changed)?;
         Ok(outs)
     }
 
-    // The document at the editor behind a change, where it is open there and the list of changes has the right shape.
-    fn changed(&self, e: u64, tape: &Tape, change: Change) -> Result<Option<Opening<T>>, Memory>
+    // A document behind a change, where the list of changes has the right shape.
+    fn changed(
+        &self,
+        opening: &Opening<T>,
+        tape: &Tape,
+        change: Change,
+    ) -> Result<Option<Opening<T>>, Memory>
         requires { change.changes < length tape.now.nodes }
-        ensures { (q : DidChange) → FoundChange tape.now (Some q) (Some change) → IfOk result (λ o. option_map (shown T.bytes) o ≡ changed_open e q self.now) }
+        ensures { (q : DidChange) → FoundChange tape.now (Some q) (Some change) → IfOk result (λ o. option_map (shown T.bytes) o
+            ≡ option_map (λ text. changed (shown T.bytes opening.now) q text self.now.turn)
+            (text_after self.now.encoding q.changes (shown T.bytes opening.now).text)) }
     {
-        let Some(opening) = self.opens.find(e, change.uri.bytes()) else {
-            return Ok(None)
-        };
         let Some(text) = self.text_behind(&opening.text, tape, change.changes)? else {
             return Ok(None)
         };
@@ -180,26 +195,31 @@ impl<T: Text + Drop> Shared<T> {
     fn sync_all(&mut self, e: u64) -> Result<Outs, Memory>
         ensures { IfOk result (λ outs. record { outs = outs; after = self.new } ≡ fold (each (synced e)) (nothing self.old) self.old.opens) }
     {
+        self.opens.once();
+        let uris = self.opens.uris_of(self.alloc, e)?;
+        self.sync_each(e, uris.as_slice())
+    }
+
+    // The same of these documents.
+    fn sync_each(&mut self, e: u64, uris: &[String]) -> Result<Outs, Memory>
+        ensures { IfOk result (λ outs. record { outs = outs; after = self.new } ≡ fold (sync_next e) (nothing self.old) (all_bytes uris.now)) }
+    {
         let mut outs = Outs::new(self.alloc);
-        for i in 0..self.opens.len() {
-            outs.append(self.sync_one(e, i)?)?;
+        for uri in uris {
+            outs.append(self.sync_one(e, uri.as_bytes())?)?;
         }
         Ok(outs)
     }
 
     // Tells the start an editor's text of one document, where it has another, or another language.
-    fn sync_one(&mut self, e: u64, i: usize) -> Result<Outs, Memory>
-        ensures { IfOk result (λ outs. record { outs = outs; after = self.new } ≡ or_nothing (slice_get self.old.opens i) self.old (λ o. synced e self.old o)) }
+    fn sync_one(&mut self, e: u64, uri: &[u8]) -> Result<Outs, Memory>
+        ensures { IfOk result (λ outs. record { outs = outs; after = self.new } ≡ sync_at e uri.now self.old) }
     {
-        let Some(opening) = self.opens.get(i) else {
+        let Some(opening) = self.opens.find(e, uri) else {
             return Ok(Outs::new(self.alloc))
         };
-        if opening.editor != e {
-            return Ok(Outs::new(self.alloc));
-        }
-        let uri = String::from_str(self.alloc, opening.uri.as_str())?;
         let telling = self.sync_tells(opening)?;
-        self.tell(uri.as_bytes(), telling)
+        self.tell(uri, telling)
     }
 
     // What the start is told of a document before a message of an editor.
@@ -245,12 +265,53 @@ impl<T: Text + Drop> Shared<T> {
         ensures { result ≡ agreement_of (shown T.bytes opening.now) (held_of (shown T.bytes opening.now).uri self.now.helds) self.now }
     {
         match self.helds.get(opening.uri.as_bytes()) {
-            Some(held) if self.holds_own(opening) => Agreement::Agrees {
-                held: held.version,
-                changed: held.sent,
-            },
+            Some(held) if is_own(self.opens.holder(opening.uri.as_bytes()), opening) =>
+                Agreement::Agrees {
+                    held: held.version,
+                    changed: held.sent,
+                },
             _ => Agreement::Differs,
         }
+    }
+
+    /// The versions of the documents that an editor has open, in the order of their opening.
+    pub fn versions_of(&self, alloc: Global, e: u64) -> Result<Vec<DocumentVersion>, Memory>
+        ensures { IfOk result (λ versions. versions.items ≡ versions_of e self.now) }
+    {
+        self.opens.once();
+        let uris = self.opens.uris_of(alloc, e)?;
+        self.versions_at(alloc, e, uris.as_slice())
+    }
+
+    // The same of these documents.
+    fn versions_at(
+        &self,
+        alloc: Global,
+        e: u64,
+        uris: &[String],
+    ) -> Result<Vec<DocumentVersion>, Memory>
+        ensures { IfOk result (λ versions. versions.items ≡ fold (and_version e self.now) [] (all_bytes uris.now)) }
+    {
+        let mut versions = Vec::new(alloc);
+        for uri in uris {
+            if let Some(opening) = self.opens.find(e, uri.as_bytes()) {
+                versions.push(self.version_of(alloc, opening)?)?;
+            }
+        }
+        Ok(versions)
+    }
+
+    // A document's versions, at the start and at its editor.
+    fn version_of(&self, alloc: Global, opening: &Opening<T>) -> Result<DocumentVersion, Memory>
+        ensures { IfOk result (λ version. version ≡ version_of (shown T.bytes opening.now) self.now) }
+    {
+        let uri = Vec::from_slice(alloc, opening.uri.as_bytes())?;
+        let version = Vec::from_slice(alloc, opening.version.bytes())?;
+        Ok(DocumentVersion {
+            uri: Body::new(uri),
+            held: self.helds.version(opening.uri.as_bytes()),
+            version: Body::new(version),
+        })
     }
 
     /// A start of the server is ready, and counts positions in this encoding: it is told of each document that is open.
@@ -273,85 +334,89 @@ impl<T: Text + Drop> Shared<T> {
         self.helds.clear();
     }
 
-    // Tells a start that was told nothing of each document that is open.
+    // Tells the start of each document that is open, unless it has it.
     fn replay_all(&mut self) -> Result<Outs, Memory>
-        requires { self.old.helds ≡ [] }
         ensures { IfOk result (λ outs. record { outs = outs; after = self.new } ≡ replay_all self.old) }
     {
+        let uris = self.opens.uris(self.alloc)?;
+        self.replay_each(uris.as_slice())
+    }
+
+    // The same of these documents.
+    fn replay_each(&mut self, uris: &[String]) -> Result<Outs, Memory>
+        ensures { IfOk result (λ outs. record { outs = outs; after = self.new } ≡ fold replay_next (nothing self.old) (all_bytes uris.now)) }
+    {
         let mut outs = Outs::new(self.alloc);
-        for i in 0..self.opens.len() {
-            outs.append(self.replay(i)?)?;
+        for uri in uris {
+            outs.append(self.replay(uri.as_str())?)?;
         }
         Ok(outs)
     }
 
     // Tells the start of one document, unless it has it.
-    fn replay(&mut self, i: usize) -> Result<Outs, Memory>
-        ensures { IfOk result (λ outs. record { outs = outs; after = self.new } ≡ or_nothing (slice_get self.old.opens i) self.old (λ o. replayed self.old o)) }
+    fn replay(&mut self, uri: &str) -> Result<Outs, Memory>
+        ensures { IfOk result (λ outs. record { outs = outs; after = self.new } ≡ replay_at uri.now self.old) }
     {
-        let Some(opening) = self.opens.get(i) else {
-            return Ok(Outs::new(self.alloc))
-        };
-        let uri = String::from_str(self.alloc, opening.uri.as_str())?;
-        let telling = self.replay_tells(uri.as_str())?;
+        let telling = self.replay_tells(uri)?;
         self.tell(uri.as_bytes(), telling)
     }
 
-    // What the start is told of a document that it doesn't have.
+    // What the start is told of a document, unless it has it.
     fn replay_tells(&self, uri: &str) -> Result<Option<Telling>, Memory>
-        ensures { IfOk result (λ x. (o : Open) → o.uri ≡ uri.now → x ≡ replay_sends o (version_held uri.now self.now.helds) self.now) }
+        ensures { IfOk result (λ x. x ≡ replay_at_sends uri.now (version_held uri.now self.now.helds) self.now) }
     {
-        match (
-            self.helds.version(uri.as_bytes()),
-            self.opens.holder(uri.as_bytes()),
-        ) {
-            (None, Some(holder)) => {
+        if self.helds.version(uri.as_bytes()).is_some() {
+            return Ok(None);
+        }
+        match self.opens.holder(uri.as_bytes()) {
+            Some(holder) => {
                 let body = opens(self.alloc, uri, holder)?;
                 Ok(Some(Telling::Opens(body)))
             }
-            _ => Ok(None),
+            None => Ok(None),
         }
     }
 
-    // What the start is told where an editor changes a document.
-    fn changing_tells(&self, tape: &Tape, new: &Opening<T>) -> Result<Option<Telling>, Memory>
-        ensures { (t : Json) → At tape.now 0 t → IfOk result (λ x. x
-            ≡ change_sends (shown T.bytes new.now) tape.now.bytes t (version_held (shown T.bytes new.now).uri self.now.helds) self.now) }
+    // What the start is told where an editor changes a document, which was the old one.
+    fn changing_tells(
+        &self,
+        tape: &Tape,
+        old: &Opening<T>,
+        new: &Opening<T>,
+    ) -> Result<Option<Telling>, Memory>
+        ensures { (t : Json) → At tape.now 0 t
+            → find (is_open_at (shown T.bytes new.now).editor (shown T.bytes new.now).uri) self.now.opens ≡ Some (shown T.bytes old.now)
+            → IfOk result (λ x. x ≡ change_sends (shown T.bytes new.now) tape.now.bytes t (version_held (shown T.bytes new.now).uri self.now.helds) self.now) }
     {
         let Some(version) = self.helds.version(new.uri.as_bytes()) else {
             return Ok(None)
         };
-        if self.holds(new) {
+        let holder = self.opens.holder(new.uri.as_bytes());
+        if is_alike(holder, new) {
             return Ok(None);
         }
-        let telling = self.change_or_switch(tape, new, version)?;
+        let telling = self.change_or_switch(tape, holder, old, new, version)?;
         Ok(Some(telling))
     }
 
-    // The message under the server's next version, or the whole text.
+    // The message under the server's next version, where it had the old document, or the whole text of the new one.
     fn change_or_switch(
         &self,
         tape: &Tape,
+        holder: Option<&Opening<T>>,
+        old: &Opening<T>,
         new: &Opening<T>,
         version: u32,
     ) -> Result<Telling, Memory>
-        ensures { (t : Json) → At tape.now 0 t → IfOk result (λ x. x ≡ change_tells (shown T.bytes new.now) tape.now.bytes t version self.now) }
+        ensures { (t : Json) → At tape.now 0 t → IfOk result (λ x. x
+            ≡ change_from (shown T.bytes old.now) (shown T.bytes new.now) (option_map (λ o. shown T.bytes o.now) holder.entry)
+            tape.now.bytes t version self.now.versions) }
     {
-        if version < self.versions && self.had(new.editor, new.uri.as_bytes()) {
+        if version < self.versions && is_own(holder, old) {
             let body = with_version(self.alloc, tape, version + 1)?;
             Ok(Telling::Changes(version + 1, body))
         } else {
-            self.switch(new, version)
-        }
-    }
-
-    // Whether the server has the language and the text that an editor has of a document.
-    fn had(&self, e: u64, uri: &[u8]) -> bool
-        ensures { result ≡ had e uri.now self.now }
-    {
-        match self.opens.find(e, uri) {
-            Some(opening) => self.holds_own(opening),
-            None => false,
+            self.switch(holder, new, version)
         }
     }
 
@@ -368,36 +433,6 @@ impl<T: Text + Drop> Shared<T> {
                 let body = close_text(self.alloc, uri)?;
                 Ok(Some(Telling::Closes(body)))
             }
-        }
-    }
-
-    // Whether the server has a document in this one's language.
-    fn holds_language(&self, opening: &Opening<T>) -> bool
-        ensures { result ≡ holds_language (shown T.bytes opening.now) self.now.opens }
-    {
-        match self.opens.holder(opening.uri.as_bytes()) {
-            Some(holder) => holder.language.as_bytes() == opening.language.as_bytes(),
-            None => false,
-        }
-    }
-
-    // Whether the server has a document in this one's language and with its text.
-    fn holds(&self, opening: &Opening<T>) -> bool
-        ensures { result ≡ holds (shown T.bytes opening.now) self.now.opens }
-    {
-        match self.opens.holder(opening.uri.as_bytes()) {
-            Some(holder) => is_like(holder, opening),
-            None => false,
-        }
-    }
-
-    // The same of a document that is open: where its editor holds it, nothing is compared.
-    fn holds_own(&self, opening: &Opening<T>) -> bool
-        ensures { result ≡ holds_own (shown T.bytes opening.now) self.now.opens }
-    {
-        match self.opens.holder(opening.uri.as_bytes()) {
-            Some(holder) => holder.editor == opening.editor || is_like(holder, opening),
-            None => false,
         }
     }
 
@@ -418,10 +453,11 @@ impl<T: Text + Drop> Shared<T> {
     fn switch_tells(&self, opening: &Opening<T>, version: u32) -> Result<Option<Telling>, Memory>
         ensures { IfOk result (λ x. x ≡ differing (shown T.bytes opening.now) version self.now) }
     {
-        if self.holds(opening) {
+        let holder = self.opens.holder(opening.uri.as_bytes());
+        if is_alike(holder, opening) {
             return Ok(None);
         }
-        let telling = self.switch(opening, version)?;
+        let telling = self.switch(holder, opening, version)?;
         Ok(Some(telling))
     }
 
@@ -429,18 +465,26 @@ impl<T: Text + Drop> Shared<T> {
     fn own_tells(&self, opening: &Opening<T>, version: u32) -> Result<Option<Telling>, Memory>
         ensures { IfOk result (λ x. x ≡ differing_own (shown T.bytes opening.now) version self.now) }
     {
-        if self.holds_own(opening) {
+        let holder = self.opens.holder(opening.uri.as_bytes());
+        if is_own(holder, opening) {
             return Ok(None);
         }
-        let telling = self.switch(opening, version)?;
+        let telling = self.switch(holder, opening, version)?;
         Ok(Some(telling))
     }
 
-    // The start is told the whole text of a document.
-    fn switch(&self, opening: &Opening<T>, version: u32) -> Result<Telling, Memory>
-        ensures { IfOk result (λ x. x ≡ switch (holds_language (shown T.bytes opening.now) self.now.opens) self.now.versions (shown T.bytes opening.now) version) }
+    // The start, which has a document as its holder has it, is told the whole text of this one.
+    fn switch(
+        &self,
+        holder: Option<&Opening<T>>,
+        opening: &Opening<T>,
+        version: u32,
+    ) -> Result<Telling, Memory>
+        ensures { IfOk result (λ x. x
+            ≡ switch (speaks_alike (shown T.bytes opening.now) (option_map (λ o. shown T.bytes o.now) holder.entry))
+            self.now.versions (shown T.bytes opening.now) version) }
     {
-        let same_language = self.holds_language(opening);
+        let same_language = speaks_alike(holder, opening);
         switch(self.alloc, same_language, self.versions, opening, version)
     }
 
@@ -472,6 +516,36 @@ impl<T: Text + Drop> Shared<T> {
         self.opens.put(opening)?;
         self.turn = turn;
         Ok(())
+    }
+}
+
+// Whether the server, which has a document as its holder has it, has it in this one's language.
+fn speaks_alike<T: Text + Drop>(holder: Option<&Opening<T>>, opening: &Opening<T>) -> bool
+    ensures { result ≡ speaks_alike (shown T.bytes opening.now) (option_map (λ o. shown T.bytes o.now) holder.entry) }
+{
+    match holder {
+        Some(holder) => holder.language.as_bytes() == opening.language.as_bytes(),
+        None => false,
+    }
+}
+
+// Whether it has it in this one's language and with its text.
+fn is_alike<T: Text + Drop>(holder: Option<&Opening<T>>, opening: &Opening<T>) -> bool
+    ensures { result ≡ is_alike (shown T.bytes opening.now) (option_map (λ o. shown T.bytes o.now) holder.entry) }
+{
+    match holder {
+        Some(holder) => is_like(holder, opening),
+        None => false,
+    }
+}
+
+// The same of a document that is open: where its editor holds it, nothing is compared.
+fn is_own<T: Text + Drop>(holder: Option<&Opening<T>>, opening: &Opening<T>) -> bool
+    ensures { result ≡ is_own (shown T.bytes opening.now) (option_map (λ o. shown T.bytes o.now) holder.entry) }
+{
+    match holder {
+        Some(holder) => holder.editor == opening.editor || is_like(holder, opening),
+        None => false,
     }
 }
 

@@ -25,7 +25,8 @@ use Rattle.event_model.proofs.Places.{item_at}
 use Rattle.event_model.proofs.Turns.{behind_more}
 use Rattle.editor_session.specs.Sessions.{absent, session_of}
 use Rattle.focus_switch.specs.Documents.{Documents}
-use Rattle.focus_switch.specs.Rows.{Step, close_next, leave_row, uris_of}
+use Rattle.document_table.specs.Rows.{uris_of}
+use Rattle.focus_switch.specs.Rows.{Step, close_next, leave_row}
 use Rattle.mux_model.specs.Documents.{held_at, sent_of, without_editor}
 use Rattle.group_words.specs.Houses.{home_of, is_home}
 use Rattle.group_rows.specs.Leaves as departures

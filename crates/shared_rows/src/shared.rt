@@ -1,7 +1,7 @@
 ghost use Rattle.std.specs.Prelude.{IfOk, IsUtf8};
 
 use doc_text::DocText;
-use focus_switch::{Agreement, Shared};
+use focus_switch::{Agreement, DocumentVersion, Shared};
 use message_body::{Body, Memory};
 use mux_history::{Out, Outs};
 use position_codec::Encoding;
@@ -309,5 +309,29 @@ fn closes_what_an_editor_leaves(rt: HostRuntime) -> Result<(), Memory> {
         ),
     ];
     assert!(rt; tells(rt.alloc(), 100, &acts)?);
+    Ok(())
+}
+
+// Whether a version is that of this document, as the start has it, and its editor's is 5.
+fn is_version(version: &DocumentVersion, uri: &str, held: Option<u32>) -> bool {
+    version.uri.bytes() == uri.as_bytes()
+        && version.held == held
+        && version.version.bytes() == b"5".as_slice()
+}
+
+#[test]
+fn tells_the_versions_of_an_editors_documents(rt: HostRuntime) -> Result<(), Memory> {
+    let mut shared = Shared::new(rt.alloc(), 100);
+    let _first = open(rt.alloc(), &mut shared, 0, "x", U, "a")?;
+    let before = shared.versions_of(rt.alloc(), 0)?;
+    assert_eq!(rt; before.len(), 1);
+    assert!(rt; is_version(&before[0], U, None));
+    let _ready = shared.ready(0, Encoding::Utf16)?;
+    let _second = open(rt.alloc(), &mut shared, 1, "x", V, "b")?;
+    let _beside = open(rt.alloc(), &mut shared, 1, "x", U, "c")?;
+    let versions = shared.versions_of(rt.alloc(), 1)?;
+    assert_eq!(rt; versions.len(), 2);
+    assert!(rt; is_version(&versions[0], V, Some(1)));
+    assert!(rt; is_version(&versions[1], U, Some(2)));
     Ok(())
 }

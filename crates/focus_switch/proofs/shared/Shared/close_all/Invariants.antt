@@ -1,7 +1,7 @@
 use Rattle.std.proofs.Common.{◌≡◌, take}
 use Rattle.std.specs.Prelude.{fold}
 use Rattle.focus_switch.specs.Rows.{Step, nothing, close_next}
-use Rattle.focus_switch.specs.Shown.{all_bytes}
+use Rattle.document_table.specs.Shown.{all_bytes}
 use Rattle.focus_switch.proofs.shared.Shared.close_all.Given as goal
 
 abbrev pub invariant-loop-uri : goal.invariant-loop-uri

@@ -1,11 +1,16 @@
-use Rattle.std.proofs.Common.{arith, ap, length}
+use Rattle.std.proofs.Common.{◌≡◌, ◌∙◌, ap, subst}
+use Rattle.std.specs.Prelude.{IfOk}
+use Rattle.document_model.specs.Orderly.{Once}
+use Rattle.document_table.specs.Rows.{uris_of}
+use Rattle.document_table.specs.Shown.{all_bytes}
 use Rattle.focus_switch.specs.Documents.{Documents}
-use Rattle.focus_switch.specs.Rows.{synced}
-use Rattle.focus_switch.proofs.Replays.{Next, next, sync_keeps}
+use Rattle.focus_switch.specs.Rows.{Step}
+use Rattle.focus_switch.proofs.Walking.{synced_all}
 use Rattle.focus_switch.proofs.shared.Shared.sync_all.Goals as goal
 
-pub loop-i-preserved : goal.loop-i-preserved
-loop-i-preserved g c =
-    let n : Next (synced c.args.e) c.args.self.now c.args.self.now.opens c.loop-i.i _ c.sync_one.new.self = next (synced c.args.e) (sync_keeps c.args.e) c.args.self.now c.loop-i.self c.sync_one.new.self c.args.self.now.opens c.loop-i.i c.loop-i.outs c.in_ok-sync_one.field-0
-    c.loop-i.invariant.done c.loop-i.invariant.opens (omega (arith, ap (λ (s : Documents). length s.opens) c.self.view_is)) c.in_ok-sync_one.ensures in
-    record { done = rw c.in_ok-append.ensures.ok n.done; opens = n.opens }
+pub returns : goal.returns
+returns g c =
+    let opens = ap (λ (s : Documents). s.opens) c.self.view_is in
+    let uris = ap all_bytes c.as_slice.ensures.value ∙ c.in_ok-uris.ensures ∙ ap (uris_of c.args.e) opens in
+    subst (λ z. IfOk c.sync_each.result (λ outs. ◌≡◌ {A = Step} (record { outs = outs; after = c.sync_each.new.self }) z))
+    (synced_all c.args.e (all_bytes c.as_slice.result.now) c.args.self.now (subst Once opens c.once.ensures) uris) c.sync_each.ensures
