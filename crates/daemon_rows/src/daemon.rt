@@ -50,7 +50,10 @@ fn metered(
         turns: TURNS,
     };
     let source = MemSource::new(bytes.to_vec(alloc)?, Vec::new(alloc), Some(gate));
-    Ok((source, MemSink::new(alloc, Vec::new(alloc), Some(raises.share()?))))
+    Ok((
+        source,
+        MemSink::new(alloc, Vec::new(alloc), Some(raises.share()?)),
+    ))
 }
 
 // These bytes so many times.
@@ -108,7 +111,10 @@ fn ended(left: &Left, answer: Answer, joined: u64, bytes: &[usize]) -> Result<()
     hold(left.answer == answer, "another answer")?;
     hold(left.core.joined() == joined, "another number of editors")?;
     for (job, bytes) in left.lanes.ports.iter().zip(bytes) {
-        hold(written(job, 0) == Some(*bytes), "a port was written something else")?;
+        hold(
+            written(job, 0) == Some(*bytes),
+            "a port was written something else",
+        )?;
     }
     Ok(())
 }
@@ -118,7 +124,10 @@ fn started(left: &Left, bytes: usize) -> Result<(), Fail> {
     for job in &left.lanes.berths {
         let run = job.outside.run(0).map(|run| run.1.bytes().len());
         hold(run == Some(bytes), "a start was written something else")?;
-        hold(job.end == LaneEnd::Stopped, "a lane of a start ended otherwise")?;
+        hold(
+            job.end == LaneEnd::Stopped,
+            "a lane of a start ended otherwise",
+        )?;
     }
     Ok(())
 }
@@ -126,14 +135,27 @@ fn started(left: &Left, bytes: usize) -> Result<(), Fail> {
 #[test]
 fn closed_ports_end_the_work(rt: HostRuntime) -> Result<(), Fail> {
     let alloc = rt.alloc();
-    let links = vec![in alloc; plain(alloc, HOVER)?, plain(alloc, b"")?, plain(alloc, HOVER)?]?;
+    let links = vec![in alloc;
+        plain(alloc, HOVER)?,
+        plain(alloc, b"")?,
+        plain(alloc, HOVER)?,
+    ]?;
     let three = LaneJob::new(MemPort::new(alloc, links));
     let ports = vec![in alloc; three, port(alloc, plain(alloc, b"")?)?]?;
     let mut left = serve(&rt, alloc, ports)?;
     ended(&left, Answer::PortsClosed, 5, &[HOVER.len(), 0])?;
-    hold(left.lanes.ports.get(0).and_then(|port| written(port, 2)) == Some(HOVER.len()), "the third link")?;
-    hold(written(&left.lanes.own, 0) == Some(STOP.len()), "the own link")?;
-    hold(left.lanes.clock.outside.next().is_none(), "the clock goes on")
+    hold(
+        left.lanes.ports.get(0).and_then(|port| written(port, 2)) == Some(HOVER.len()),
+        "the third link",
+    )?;
+    hold(
+        written(&left.lanes.own, 0) == Some(STOP.len()),
+        "the own link",
+    )?;
+    hold(
+        left.lanes.clock.outside.next().is_none(),
+        "the clock goes on",
+    )
 }
 
 #[test]
@@ -141,7 +163,10 @@ fn without_ports_there_is_the_own_link_alone(rt: HostRuntime) -> Result<(), Fail
     let alloc = rt.alloc();
     let left = serve(&rt, alloc, Vec::new(alloc))?;
     ended(&left, Answer::PortsClosed, 1, &[])?;
-    hold(written(&left.lanes.own, 0) == Some(STOP.len()), "the own link")
+    hold(
+        written(&left.lanes.own, 0) == Some(STOP.len()),
+        "the own link",
+    )
 }
 
 #[test]
@@ -189,7 +214,10 @@ fn a_thousand_links_one_after_the_other(rt: HostRuntime) -> Result<(), Fail> {
     ended(&left, Answer::PortsClosed, 1001, &[HOVER.len()])?;
     for port in &left.lanes.ports {
         for at in 0..1000 {
-            hold(written(port, at) == Some(HOVER.len()), "one of the thousand")?;
+            hold(
+                written(port, at) == Some(HOVER.len()),
+                "one of the thousand",
+            )?;
         }
     }
     Ok(())
@@ -221,7 +249,14 @@ fn serve_starts<R: Threads + Wait + Sync>(
     own: &Meter,
 ) -> Result<Left, Fail> {
     let until = berths.len().saturating_mul(HOVER.len());
-    let asks = metered(alloc, &times(alloc, START, starts)?, 1, programs, until, own)?;
+    let asks = metered(
+        alloc,
+        &times(alloc, START, starts)?,
+        1,
+        programs,
+        until,
+        own,
+    )?;
     let ports = vec![in alloc; port(alloc, asks)?]?;
     let stops = metered(alloc, STOP, 0, programs, until, own)?;
     serve_with(rt, alloc, ports, stops, berths)

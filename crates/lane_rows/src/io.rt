@@ -51,7 +51,9 @@ fn frames_and_the_end_are_posted(rt: HostRuntime) -> Result<(), Fail> {
     let bytes = b"Content-Length: 2\r\n\r\n{}Cont";
     let (stop, mut hub) = read(&rt, alloc, bytes, Vec::new(alloc), None)?;
     assert_eq!(rt; stop, Stop::Ended(Why::End));
-    assert!(rt; matches!(hub.next(&rt), Some(Posted::Body(body)) if body.bytes() == b"{}".as_slice()));
+    assert!(rt;
+        matches!(hub.next(&rt), Some(Posted::Body(body)) if body.bytes() == b"{}".as_slice())
+    );
     assert!(rt; is_end(&rt, &mut hub, Why::End));
     Ok(())
 }
@@ -62,8 +64,20 @@ fn a_fault_a_failed_read_and_an_order_end_it(rt: HostRuntime) -> Result<(), Fail
     let long: &[u8] = b"Content-Length: 17\r\n\r\n";
     let cases = [
         (long, None, None, Stop::Ended(Why::BadFrame), Why::BadFrame),
-        (b"x", Some(0), None, Stop::Ended(Why::ReadFault), Why::ReadFault),
-        (b"x", None, Some(End::Closed), Stop::Told(End::Closed), Why::End),
+        (
+            b"x",
+            Some(0),
+            None,
+            Stop::Ended(Why::ReadFault),
+            Why::ReadFault,
+        ),
+        (
+            b"x",
+            None,
+            Some(End::Closed),
+            Stop::Told(End::Closed),
+            Why::End,
+        ),
     ];
     for (bytes, fails, end, wanted, why) in cases {
         let mut numbers: Vec<u64> = Vec::new(alloc);

@@ -1,40 +1,35 @@
 -- What each event of the history came of, by the sessions of the links and the starts of the berths.
 use Rattle.std.proofs.Common.{◌≡◌, ◌≢◌, ℕ, zero, suc, ◌<◌, ◌+◌, ◌==◌, ◌⊎◌, inl, inr, Bool, true, false, List, [], ◌∷◌, ◌++◌, length, map, slice_get, refl, ap, sym, ◌∙◌, subst, arith, append_assoc, append-nil, ⊎_elim}
-use Rattle.std.specs.Prelude.{IfSome, Option, Some, None}
-use Rattle.outside_io.specs.Faults.{Rose}
+use Rattle.std.specs.Prelude.{Option, Some}
 use Rattle.outside_io.specs.Sessions.{Session}
 use Rattle.outside_io.specs.Told.{append_to, prepend_to}
 use Rattle.outside_io.specs.contracts.memory.port.MemPortPort.TheImpl as port
 use Rattle.std.proofs.lemmas.Bool.Decides.{eqb_tells}
 use Rattle.mux_history.specs.declared.entry.Entry.{Entry}
-use Rattle.mux_history.specs.declared.cause.Why.{Why}
 use Rattle.mux_history.specs.declared.cause.Why.TheVariants as why
 use Rattle.lane_lists.specs.declared.item.LaneName.TheVariants as lane
 use Rattle.lane_lists.specs.declared.item.Order.{Order}
 use Rattle.lane_lists.specs.declared.item.Order.TheVariants as order
 use Rattle.lane_lists.specs.Deeds.{gather, sessions}
 use Rattle.lane_lists.specs.Sessions.{chain}
-use Rattle.lane_lists.specs.History.{bodies_from, bodies_to, end_to, gone_of}
+use Rattle.lane_lists.specs.History.{bodies_to, end_to}
 use Rattle.lane_lists.specs.StartHistory.{tried_by}
 use Rattle.lane_lists.specs.Origins.{SitsIn, TriedIn}
 use Rattle.lane_lists.specs.StartOrders.{bodies_to_start, end_to_start}
-use Rattle.session_io.specs.declared.part.End.{End}
 use Rattle.session_io.specs.declared.part.End.TheVariants as end
 use Rattle.session_io.specs.declared.read.Stop.{Stop}
 use Rattle.session_io.specs.declared.read.Stop.TheVariants as stop
 use Rattle.session_io.specs.Reads.{StoppedBy}
 use Rattle.mux_lanes.specs.Lanes.{Turn}
 use Rattle.mux_lanes.specs.Runs.{IsRun, IsWholeRun, Run, order_of}
-use Rattle.mux_serve.specs.declared.job.LaneJob.{LaneJob}
 use Rattle.mux_daemon.specs.declared.open.Lanes.{Lanes}
 use Rattle.mux_daemon.specs.declared.serve.Answer.{Answer}
-use Rattle.mux_daemon.specs.declared.serve.Answer.TheVariants as answer
-use Rattle.mux_daemon.specs.Served.{ServedAs, Story, history, is_end}
-use Rattle.mux_daemon.specs.Sessions.{PortSessions, ReadOf, WrittenAs, WrittenOf}
+use Rattle.mux_daemon.specs.Served.{Story, history, is_end}
+use Rattle.mux_daemon.specs.Sessions.{PortSessions, WrittenAs}
 use Rattle.mux_daemon.specs.Starts.{BerthStarts, StartFailedAs, StartRan}
 use Rattle.mux_daemon.specs.Events.{CameOf}
-use Rattle.mux_daemon.specs.Causes.{CameFrom, EditorCame, EventsOf, FailureCame, JoinedBy, ProgramCame, ReadsFault, SourceOver, StartedBy, came_up, failed, of_own, of_port}
-use Rattle.mux_daemon.proofs.Places.{get_left, same_item}
+use Rattle.mux_daemon.specs.Causes.{CameFrom, EditorCame, EventsOf, FailureCame, JoinedBy, ProgramCame, SourceOver, StartedBy, came_up, failed, of_own, of_port}
+use Rattle.mux_daemon.proofs.Places.{same_item}
 
 item_at : {X : Type 0} (xs : List X) (i : ℕ) → i < length xs → (x : X) × (slice_get xs i ≡ Some x)
 item_at [] i h = absurd (omega (arith, h))

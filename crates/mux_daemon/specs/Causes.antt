@@ -1,5 +1,5 @@
 -- What each event of the history came of: of which link or program, and how that stood then.
-use Rattle.std.specs.Prelude.{◌≡◌, ◌≢◌, ◌⊎◌, ℕ, ◌<◌, Bool, true, List, [], ◌∷◌, ◌++◌, IfSome, Option, Some, length, slice_get}
+use Rattle.std.specs.Prelude.{◌≡◌, ◌≢◌, ◌⊎◌, ℕ, ◌<◌, Bool, true, List, [], ◌∷◌, ◌++◌, IfSome, Option, Some, slice_get}
 use Rattle.std.specs.Io.KnownBytes.{append_known}
 use Rattle.base_frame.specs.Frames.{Splits}
 use Rattle.base_frame.specs.Reader.{IsFaulty}
@@ -11,7 +11,6 @@ use Rattle.mux_history.specs.declared.entry.Entry.{Entry}
 use Rattle.mux_history.specs.declared.cause.Why.{Why}
 use Rattle.mux_history.specs.declared.cause.Why.TheVariants as why
 use Rattle.mux_history.specs.Cores.{joined}
-use Rattle.lane_lists.specs.declared.item.Order.{Order}
 use Rattle.lane_lists.specs.declared.item.Order.TheVariants as order
 use Rattle.lane_lists.specs.History.{bodies_from, end_to, gone_of}
 use Rattle.lane_lists.specs.StartHistory.{causes_from}
