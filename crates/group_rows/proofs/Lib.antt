@@ -2,6 +2,8 @@ pub mod Cancels
 pub mod Exits
 pub mod Frames
 pub mod Going
+pub mod Integers
 pub mod Worked
+pub mod WorkedAnswers
 pub mod Statuses
 pub mod Stops
