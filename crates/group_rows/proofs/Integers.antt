@@ -1,7 +1,7 @@
 -- The numbers in a body are those of RFC 8259, section 6: so a version that an editor gives is the text of a number.
-use Rattle.std.proofs.Common.{◌≡◌, ℕ, Bool, true, false, ◌&&◌, List, length, Option, Some, None, codes, bytes_eq, if◌then◌else◌, refl, subst, ap}
+use Rattle.std.proofs.Common.{◌≡◌, ℕ, Bool, true, false, ◌&&◌, List, Option, Some, None, codes, bytes_eq, refl}
 use Rattle.std.specs.Option.{option_and_then}
-use Rattle.json_text.specs.Bare.{bare, bare_items, bare_members, nowhere}
+use Rattle.json_text.specs.Bare.{bare, bare_items, bare_members}
 use Rattle.json_text.specs.Json.{Json, word, number, string, array, object, Items, no_items, item, Members, no_members, member, value, items, more_items, members, more_members, IsText}
 use Rattle.json_text.specs.Number.{IsNumber}
 use Rattle.json_text.specs.Named.{named, named_in, or_else, if_named}
@@ -9,7 +9,7 @@ use Rattle.json_text.specs.Tree.{tree_of}
 use Rattle.json_text.proofs.Laws.{tree_sound}
 use Rattle.rpc_message.specs.Message.{Id, Message, request, result, error, not_json, not_message, notification, message_in, message_of, by_method, called, request_if, notification_if, given, is_null, is_integer, are_params, id_of, no_name_twice, is_two, answered, response_with, response_id, error_if}
 use Rattle.document_model.specs.Notices.{integer_text}
-use Rattle.document_model.specs.Sayings.{Saying, opens, changes, closes, misshapen, nothing, member_of, string_at, integer_at, opening, changing, closing, opening_by, changing_by, closing_by, saying_by, saying_of}
+use Rattle.document_model.specs.Sayings.{Saying, opens, changes, closes, misshapen, nothing, member_of, string_at, integer_at, opening, changing, closing, saying_by, saying_of}
 use Rattle.document_model.proofs.ScalarTrees.{either_way, MayHold}
 
 abbrev mutual

@@ -7,3 +7,4 @@ pub mod Worked
 pub mod WorkedAnswers
 pub mod Statuses
 pub mod Stops
+pub mod Versions
