@@ -3,6 +3,7 @@ pub mod Exits
 pub mod Frames
 pub mod Going
 pub mod Integers
+pub mod Moments
 pub mod Worked
 pub mod WorkedAnswers
 pub mod Statuses

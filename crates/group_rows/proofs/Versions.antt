@@ -34,24 +34,24 @@ use Rattle.group_rows.specs.Texts.{encoding_of, is_synced, texts_heard, texts_ne
 use Rattle.group_rows.proofs.Integers.{IsSaidNumber, said_number}
 
 -- the events are of causes and outs: the message of a body is what the body says
-abbrev pub IsTold : Event → Type 0
-IsTold (took (FromEditor e body) m) = m ≡ message_of body
-IsTold other = Unit {0}
+abbrev pub IsMeant : Event → Type 0
+IsMeant (took (FromEditor e body) m) = m ≡ message_of body
+IsMeant other = Unit {0}
 
-abbrev pub AllTold : List Event → Type 0
-AllTold events = AllByRecursion IsTold events
+abbrev pub AllMeant : List Event → Type 0
+AllMeant events = AllByRecursion IsMeant events
 
-pub told_heard : (cause : Cause) → IsTold (heard cause)
-told_heard (FromEditor e body) = refl
-told_heard other = tt
+pub meant_heard : (cause : Cause) → IsMeant (heard cause)
+meant_heard (FromEditor e body) = refl
+meant_heard other = tt
 
-pub told_said : (out : Out) → IsTold (said out)
-told_said (ToServer s body) = tt
-told_said other = tt
+pub meant_said : (out : Out) → IsMeant (said out)
+meant_said (ToServer s body) = tt
+meant_said other = tt
 
-pub told_more : (events : List Event) (ev : Event) → AllTold events → IsTold ev → AllTold (events ++ ev ∷ [])
-told_more [] ev h k = (k, tt)
-told_more (w ∷ events) ev h k = (h.0, told_more events ev h.1 k)
+pub meant_more : (events : List Event) (ev : Event) → AllMeant events → IsMeant ev → AllMeant (events ++ ev ∷ [])
+meant_more [] ev h k = (k, tt)
+meant_more (w ∷ events) ev h k = (h.0, meant_more events ev h.1 k)
 
 -- the versions of what is open
 
@@ -102,7 +102,7 @@ touched_numbered (Some e) x h = go x.opens h
     go (o ∷ os) k = (either_way IsNumbered (nat_eq o.editor e) (record o { touched = x.turn }) o k.0 k.0, go os k.1)
 
 module _ (settings : Settings) where
-  next_numbered : (g : ℕ) (before : List Event) (x : Texts) (ev : Event) → IsTold ev → AreNumbered x → AreNumbered (texts_next settings g before x ev)
+  next_numbered : (g : ℕ) (before : List Event) (x : Texts) (ev : Event) → IsMeant ev → AreNumbered x → AreNumbered (texts_next settings g before x ev)
   next_numbered g before x (took (FromEditor e body) m) is h = either_way AreNumbered (is_home g (home_of settings e before) && is_served (desk_of e before).phase) (texts_heard g before e m x) x
       (either_way AreNumbered (requests (codes "shutdown") m) (without_editor e x) (texts_behind (encoding_of g before) e (saying_of m) x) (without_numbered e x h)
       (behind_numbered (encoding_of g before) e (saying_of m) x (subst (λ z. IsSaidNumber (saying_of z)) (sym is) (said_number body)) h)) h
@@ -111,18 +111,18 @@ module _ (settings : Settings) where
   next_numbered g before x (did (ToServer s body) m) is h = either_way AreNumbered (is_home g (group_of s before) && is_synced m) (touch_all (worker_of before) x) x (touched_numbered (worker_of before) x h) h
   next_numbered g before x other is h = h
 
-  past_numbered : (g : ℕ) (before : List Event) (x : Texts) (events : List Event) → AllTold events → AreNumbered x → AreNumbered (past (texts_next settings g) before x events)
+  past_numbered : (g : ℕ) (before : List Event) (x : Texts) (events : List Event) → AllMeant events → AreNumbered x → AreNumbered (past (texts_next settings g) before x events)
   past_numbered g before x [] told h = h
   past_numbered g before x (ev ∷ events) told h = past_numbered g (before ++ ev ∷ []) (texts_next settings g before x ev) events told.1 (next_numbered g before x ev told.0 h)
 
-  shared_numbered : (s : ℕ) (events : List Event) → AllTold events → AreNumbered (shared_texts settings s events)
+  shared_numbered : (s : ℕ) (events : List Event) → AllMeant events → AreNumbered (shared_texts settings s events)
   shared_numbered s events told = go (group_of s events)
     where
       go : (g : Option ℕ) → AreNumbered (option_map_or (λ g. texts_of settings g events) g no_texts)
       go (Some g) = past_numbered g [] no_texts events told tt
       go None = tt
 
-  stamp_numbered : (version : Open → Option HeldText → Option ℕ) (s e : ℕ) (events : List Event) (u : List ℕ) (x : Stamp) → AllTold events → stamp_at version settings s e events u ≡ Some x → IsNumber x.version
+  stamp_numbered : (version : Open → Option HeldText → Option ℕ) (s e : ℕ) (events : List Event) (u : List ℕ) (x : Stamp) → AllMeant events → stamp_at version settings s e events u ≡ Some x → IsNumber x.version
   stamp_numbered version s e events u x told is = go (found e u (shared_texts settings s events)) refl is
     where
       go : (p : Option Open) → found e u (shared_texts settings s events) ≡ p → option_map (λ o. stamped (version o (held_at s u events)) o) p ≡ Some x → IsNumber x.version
@@ -132,18 +132,18 @@ module _ (settings : Settings) where
       go None there h = absurd (cc)
 
 -- a moment of a history is a front of it
-past_told : (s n : ℕ) (before : List Event) (o : Option (List Event)) (events : List Event) (m : List Event) → AllTold before → AllTold events → ((k : List Event) → o ≡ Some k → AllTold k)
-    → past (moment_next s n) before o events ≡ Some m → AllTold m
-past_told s n before o [] m h told known is = known m is
-past_told s n before o (ev ∷ events) m h told known is =
-    past_told s n (before ++ ev ∷ []) (moment_next s n before o ev) events m (told_more before ev h told.0) told.1 (next (sends_on s n before ev)) is
+past_meant : (s n : ℕ) (before : List Event) (o : Option (List Event)) (events : List Event) (m : List Event) → AllMeant before → AllMeant events → ((k : List Event) → o ≡ Some k → AllMeant k)
+    → past (moment_next s n) before o events ≡ Some m → AllMeant m
+past_meant s n before o [] m h told known is = known m is
+past_meant s n before o (ev ∷ events) m h told known is =
+    past_meant s n (before ++ ev ∷ []) (moment_next s n before o ev) events m (meant_more before ev h told.0) told.1 (next (sends_on s n before ev)) is
   where
-    next : (b : Bool) (k : List Event) → (if b then Some before else o) ≡ Some k → AllTold k
-    next true k e = let same : before ≡ k = cc in subst AllTold same h
+    next : (b : Bool) (k : List Event) → (if b then Some before else o) ≡ Some k → AllMeant k
+    next true k e = let same : before ≡ k = cc in subst AllMeant same h
     next false k e = known k e
 
-moment_told : (s n : ℕ) (events m : List Event) → AllTold events → moment_of s n events ≡ Some m → AllTold m
-moment_told s n events m told is = past_told s n [] None events m tt told (λ k e. absurd (cc)) is
+moment_meant : (s n : ℕ) (events m : List Event) → AllMeant events → moment_of s n events ≡ Some m → AllMeant m
+moment_meant s n events m told is = past_meant s n [] None events m tt told (λ k e. absurd (cc)) is
 
 -- the bytes of a number, and null, are those of values that hold no others
 
@@ -169,12 +169,12 @@ now_flat digits text (Some x) then_ f g e = go (is_held digits x.held) e
     go true h = let same : x.version ≡ text = cc in subst IsFlatText same (number_flat x.version (f x refl))
     go false h = number_flat text (then_number digits text then_ g h)
 
-noted_numbered : (settings : Settings) (s n e : ℕ) (before : List Event) (u : List ℕ) → AllTold before → (o : Option (List Event)) → moment_of s n before ≡ o → (x : Stamp)
+noted_numbered : (settings : Settings) (s n e : ℕ) (before : List Event) (u : List ℕ) → AllMeant before → (o : Option (List Event)) → moment_of s n before ≡ o → (x : Stamp)
     → option_and_then (λ m. stamp_at held_version settings s e m u) o ≡ Some x → IsNumber x.version
-noted_numbered settings s n e before u told (Some m) is x h = stamp_numbered settings held_version s e m u x (moment_told s n before m told is) h
+noted_numbered settings s n e before u told (Some m) is x h = stamp_numbered settings held_version s e m u x (moment_meant s n before m told is) h
 noted_numbered settings s n e before u told None is x h = absurd (cc)
 
-pub own_flat : (settings : Settings) (before : List Event) (s : ℕ) (f : Forwarded) → AllTold before → GivesFlat (own_version settings before s f)
+pub own_flat : (settings : Settings) (before : List Event) (s : ℕ) (f : Forwarded) → AllMeant before → GivesFlat (own_version settings before s f)
 own_flat settings before s f told u digits text is =
     now_flat digits text (stamp_at agreed_version settings s f.editor before u) (option_and_then (λ m. stamp_at held_version settings s f.editor m u) (moment_of s f.number before))
     (λ x e. stamp_numbered settings agreed_version s f.editor before u x told e) (λ x e. noted_numbered settings s f.number f.editor before u told (moment_of s f.number before) refl x e) is

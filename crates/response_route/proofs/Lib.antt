@@ -1,7 +1,7 @@
 mod Answering
 mod Making
 mod ReadLaw
-mod Responding
+pub mod Responding
 mod Rising
 mod Sides
 mod Stamps
