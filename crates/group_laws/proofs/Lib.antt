@@ -11,3 +11,4 @@ pub mod Syncing
 pub mod SyncHeld
 pub mod Touching
 pub mod OwnTexts
+pub mod Versions

@@ -2,6 +2,10 @@ pub mod Cancels
 pub mod Exits
 pub mod Frames
 pub mod Going
+pub mod Integers
+pub mod Moments
 pub mod Worked
+pub mod WorkedAnswers
 pub mod Statuses
 pub mod Stops
+pub mod Versions

@@ -1,5 +1,5 @@
 -- What `lspmux/status` is answered with is a value (RFC 8259, section 2), whatever the settings and the events are.
-use Rattle.std.proofs.Common.{◌≡◌, ℕ, ◌^◌, ◌<◌, ◌≤◌, Bool, true, false, List, [], ◌∷◌, ◌++◌, map, codes, decimal, nat_lt, IsUtf8, bytes_eq, encode_utf8_all, if◌then◌else◌, refl, sym, ap, subst, arith, append_assoc}
+use Rattle.std.proofs.Common.{◌≡◌, ℕ, ◌^◌, ◌<◌, ◌≤◌, Bool, true, false, List, [], ◌∷◌, ◌++◌, map, codes, decimal, nat_lt, IsUtf8, bytes_eq, encode_utf8_all, if◌then◌else◌, refl, sym, subst, arith, append_assoc}
 use Rattle.std.proofs.lemmas.Bool.{and_parts, ltb-true}
 use Rattle.std.proofs.lemmas.Slice.Eq.{bytes_eq-Decides}
 use Rattle.std.specs.Str.{all_scalars, chars}

@@ -1,3 +1,5 @@
+pub mod Answers
+pub mod AnswersExample
 pub mod Ends
 pub mod Example
 pub mod Forwarded

@@ -1,6 +1,6 @@
 -- E5: what `lspmux/status` tells of the live groups.
 use Rattle.std.specs.Prelude.{ℕ, ◌^◌, Bool, ◌&&◌, List, [], ◌∷◌, ◌++◌, map, filter, flat_map, length, codes, decimal, nat_lt, bytes_eq, encode_utf8_all, if◌then◌else◌}
-use Rattle.std.specs.Prelude.{Option, slice_get}
+use Rattle.std.specs.Prelude.{slice_get}
 use Rattle.std.specs.Option.{option_map_or}
 use Rattle.std.specs.Str.{all_scalars, chars}
 use Rattle.json.specs.Print.{quoted}

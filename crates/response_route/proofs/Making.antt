@@ -1,6 +1,6 @@
 -- The changes of documents, one behind the other.
 use Rattle.std.proofs.Common.{◌≡◌, ℕ, zero, suc, ◌+◌, ◌<◌, ◌≤◌, List, [], ◌∷◌, ◌++◌, Vec, Global, length, drop, bytes_eq, codes, if◌then◌else◌, Option, Some, None, option_map, get_or, refl, sym, ◌∙◌, ap, subst, subst₂, add-one, append_assoc, append-nil, arith}
-use Rattle.std.specs.Prelude.{Result, Ok, Err}
+use Rattle.std.specs.Prelude.{Result, Err}
 use Rattle.std.specs.Option.{option_and_then}
 use Rattle.std.specs.Str.{chars}
 use Rattle.json_text.specs.Changes.{edits_of}

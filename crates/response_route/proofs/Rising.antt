@@ -1,15 +1,15 @@
 -- The documents of a result stand one behind the other, and so do the edits in them.
-use Rattle.std.proofs.Common.{◌≡◌, ◌⊎◌, ℕ, ◌+◌, ◌-◌, ◌≤◌, Bool, true, false, List, [], ◌∷◌, ◌++◌, length, length-append, take, drop, flat_map, bytes_eq, Option, Some, None, codes, if◌then◌else◌, inl, inr, refl, sym, ◌∙◌, ap, subst, append-nil, arith}
+use Rattle.std.proofs.Common.{◌≡◌, ◌⊎◌, ℕ, ◌+◌, ◌-◌, ◌≤◌, Bool, true, false, List, [], ◌∷◌, ◌++◌, length, length-append, take, drop, flat_map, bytes_eq, Option, Some, None, codes, if◌then◌else◌, inl, inr, refl, sym, ◌∙◌, ap, subst, arith}
 use Rattle.std.specs.Prelude.{nat_le}
 use Rattle.std.specs.Option.{option_and_then, option_map}
-use Rattle.std.proofs.lemmas.Bool.{le-leb, lt-leb}
+use Rattle.std.proofs.lemmas.Bool.{le-leb}
 use Rattle.json_text.specs.declared.span.Span.{Span}
-use Rattle.json_text.specs.Json.{Json, word, number, string, array, object, Items, no_items, item, Members, value, items, more_items, span_of, IsText}
+use Rattle.json_text.specs.Json.{Json, word, number, string, array, object, Items, no_items, item, Members, value, items, more_items, span_of}
 use Rattle.json_text.specs.Named.{items_list, named, named_in}
 use Rattle.json_text.specs.Paths.{key, value_at}
 use Rattle.json_text.specs.Replace.{Edit, RiseFrom, Rise}
 use Rattle.json_text.specs.Tree.{tree_of}
-use Rattle.json_text.proofs.Edits.{between, edits_rise}
+use Rattle.json_text.proofs.Edits.{edits_rise}
 use Rattle.json_text.proofs.Inside.{Inside, InSpan, path_inside, member_in_span}
 use Rattle.json_text.proofs.Laws.{tree_sound}
 use Rattle.json_text.proofs.Swaps.{in_object, swap_makes, swapped, span_is}
@@ -18,7 +18,7 @@ use Rattle.json_nodes.proofs.Swapped.{put_rise, rise_in, zero_text, zero_value, 
 use Rattle.json_nodes.proofs.TwoSwaps.{both, Either, two_swaps}
 use Rattle.doc_text.specs.Changes.{string_text}
 use Rattle.document_model.specs.Notices.{integer_text, new_version}
-use Rattle.event_model.specs.Members.{has_version, listed, named_of}
+use Rattle.event_model.specs.Members.{has_version, listed}
 use Rattle.rpc_message.specs.Changed.{id_edits}
 use Rattle.rpc_message.specs.Message.{Message, message_of, request, notification, result, error, not_json, not_message}
 use Rattle.rpc_message.specs.Parsed.{result_in}

@@ -1,22 +1,22 @@
 -- A walk over the documents of a result.
-use Rattle.std.proofs.Common.{◌≡◌, ℕ, zero, suc, ◌<◌, ◌&&◌, Bool, true, false, List, [], ◌∷◌, ◌++◌, length, drop, flat_map, Option, Some, None, codes, if◌then◌else◌, refl, sym, ◌∙◌, ap, ap₂, subst, subst₂, add-one, append_assoc, append-nil}
-use Rattle.std.specs.Prelude.{MatchOption, nat_le, OnOk}
+use Rattle.std.proofs.Common.{◌≡◌, ℕ, zero, suc, ◌<◌, ◌&&◌, Bool, true, false, List, [], ◌∷◌, ◌++◌, length, drop, flat_map, Option, Some, None, if◌then◌else◌, refl, sym, ◌∙◌, ap, ap₂, subst, subst₂, add-one, append_assoc, append-nil}
+use Rattle.std.specs.Prelude.{MatchOption, nat_le}
 use Rattle.std.specs.List.{slice_get}
 use Rattle.json_text.specs.declared.span.Span.{Span}
 use Rattle.json_text.specs.declared.kind.Kind.{Kind}
 use Rattle.json_text.specs.declared.kind.Kind.TheVariants as kind
 use Rattle.json_text.specs.declared.kind.Word.TheVariants.{Null, False, True}
 use Rattle.json_text.specs.Json.{Json, word, number, string, array, object, Items, span_of}
-use Rattle.json_text.specs.Named.{children, named_in}
+use Rattle.json_text.specs.Named.{children}
 use Rattle.json_nodes.specs.At.{At, Found, ChildAt, FoundChild}
 use Rattle.json_nodes.specs.Doc.{Doc}
 use Rattle.json_nodes.specs.Nodes.{kind_of}
 use Rattle.json_nodes.proofs.Members.{Inside, Follows, found_child_is, no_child, inside_more}
 use Rattle.json_nodes.proofs.Numbers.{child_at}
-use Rattle.json_nodes.proofs.Sames.{array_of, number_of}
+use Rattle.json_nodes.proofs.Sames.{array_of}
 use Rattle.doc_text.specs.Found.{Rest}
-use Rattle.event_model.specs.Members.{has_version, listed, named_of}
-use Rattle.response_route.specs.Edits.{versioned, change_documents, workspace_documents, action_documents, in_front, object_documents, documents_of}
+use Rattle.event_model.specs.Members.{has_version, listed}
+use Rattle.response_route.specs.Edits.{versioned, action_documents, in_front, object_documents, documents_of}
 use Rattle.response_route.specs.Reading.{Stand}
 
 -- numbers of values

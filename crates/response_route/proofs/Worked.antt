@@ -1,5 +1,5 @@
 -- Versions in results, worked out by the checker.
-use Rattle.std.proofs.Common.{◌≡◌, ℕ, List, [], codes, bytes_eq, if◌then◌else◌, refl}
+use Rattle.std.proofs.Common.{◌≡◌, ℕ, List, codes, bytes_eq, if◌then◌else◌, refl}
 use Rattle.std.specs.Prelude.{Option, Some, None}
 use Rattle.std.specs.Fmt.{digits}
 use Rattle.std.specs.Option.{option_and_then, option_map}

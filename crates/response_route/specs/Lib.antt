@@ -1,3 +1,4 @@
+pub mod Answers
 pub mod Edits
 pub mod Reading
 pub mod Results

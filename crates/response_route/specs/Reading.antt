@@ -8,7 +8,6 @@ use Rattle.json_text.specs.declared.change.Change.{Change}
 use Rattle.json_text.specs.Json.{Json}
 use Rattle.json_nodes.specs.At.{At}
 use Rattle.json_nodes.specs.Doc.{Doc}
-use Rattle.rpc_message.specs.declared.sort.Sort.TheVariants as sort
 use Rattle.response_route.specs.declared.fault.EditFault.{EditFault}
 use Rattle.response_route.specs.declared.fault.EditFault.TheVariants.{Modified, Memory}
 

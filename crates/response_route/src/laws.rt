@@ -1,9 +1,13 @@
 //! Laws of the versions in results.
-ghost use Rattle.std.specs.Prelude.{◌≡◌, ℕ, List, Some};
+ghost use Rattle.std.specs.Prelude.{◌≡◌, ℕ, List, Option, Some, false};
 ghost use Rattle.json_text.specs.Json.{Json};
 ghost use Rattle.json_text.specs.Replace.{Edit, Rise};
 ghost use Rattle.event_model.specs.Members.{reads_versions};
 ghost use Rattle.rpc_message.specs.Changed.{id_edits};
+ghost use Rattle.rpc_message.specs.Message.{Id, error, message_of, result as outcome};
+ghost use Rattle.rpc_message.specs.Texts.{with_id_text};
+ghost use Rattle.rpc_message.specs.ValueTexts.{IsResponseIdText};
+ghost use Rattle.response_route.specs.Answers.{GivesFlat, Responds, answer_text};
 ghost use Rattle.response_route.specs.Edits.{Renaming, all_edits, are_some, documents_of};
 ghost use Rattle.response_route.specs.Results.{documents_in};
 
@@ -12,4 +16,14 @@ ghost use Rattle.response_route.specs.Results.{documents_in};
 pub fn edits_law()
     ensures rise { (r : Renaming) (body w : List ℕ) (es : List Edit) → all_edits r (documents_in body) ≡ Some es → Rise body (id_edits body w es) }
     ensures read { (j : Json) → reads_versions j ≡ are_some (documents_of j) }
+{}
+
+/// What an editor gets of a response is one, under its id, where what comes in place of versions has no other values in it: V1 gives
+/// integers and null. Where no document has a version it is the body as it came, under that id.
+pub fn answers_law()
+    ensures outcome { (r : Renaming) (body w : List ℕ) (i k : Option Id) (v : Json) → GivesFlat r → message_of body ≡ outcome i v → IsResponseIdText k w
+        → Responds k (message_of (answer_text r body w)) }
+    ensures failure { (r : Renaming) (body w : List ℕ) (i k : Option Id) (x : Json) → message_of body ≡ error i x → IsResponseIdText k w
+        → Responds k (message_of (answer_text r body w)) }
+    ensures plain { (r : Renaming) (body w : List ℕ) → are_some (documents_in body) ≡ false → answer_text r body w ≡ with_id_text body w }
 {}

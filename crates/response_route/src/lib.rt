@@ -1,6 +1,7 @@
 //! The versions of documents in what a start of a server answers: where they are read, and the editor's own in their place (V1 and V2).
 #![tactic(auto)]
 
+mod answers;
 mod documents;
 mod edits;
 mod fault;
@@ -8,9 +9,10 @@ mod laws;
 mod mapping;
 mod versions;
 
+pub use answers::answer;
 pub use documents::documents_of;
 pub use edits::changes_of;
 pub use fault::EditFault;
-pub use laws::edits_law;
+pub use laws::{answers_law, edits_law};
 pub use mapping::Mapping;
 pub use versions::{Stamp, Versions};

@@ -1,4 +1,4 @@
-use Rattle.std.proofs.Common.{◌++◌, flat_map}
+use Rattle.std.proofs.Common.{◌++◌}
 use Rattle.std.specs.Prelude.{OnOk}
 use Rattle.response_route.specs.Edits.{action_documents}
 use Rattle.response_route.specs.Reading.{Stand}

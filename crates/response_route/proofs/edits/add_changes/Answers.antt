@@ -1,4 +1,4 @@
-use Rattle.std.proofs.Common.{◌≡◌, ℕ, Some, None, Option, sym, subst, ◌∙◌}
+use Rattle.std.proofs.Common.{Some, subst}
 use Rattle.std.proofs.lemmas.Result.{err_from_is_err_and}
 use Rattle.json_nodes.specs.At.{At}
 use Rattle.json_text.specs.Changes.{edits_of}

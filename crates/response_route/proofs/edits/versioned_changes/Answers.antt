@@ -1,4 +1,4 @@
-use Rattle.std.proofs.Common.{Some, codes, option_map, refl, ◌∙◌}
+use Rattle.std.proofs.Common.{Some, codes, refl, ◌∙◌}
 use Rattle.std.specs.Option.{option_and_then}
 use Rattle.std.specs.Str.{chars}
 use Rattle.json_text.specs.Named.{named_in}
