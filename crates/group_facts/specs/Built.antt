@@ -1,9 +1,9 @@
 -- Which causes meet only rows of the table over several editors and groups that are built, until all are.
 -- Not built of an editor: `lspmux/stop` (E6), and while it is served requests that go on with tokens (E10), and the notifications that cancel (E11).
--- Not built of a start: its requests and notifications while it is ready, and results that read versions (S5). Nor the end of a program whose group lives.
+-- Not built of a start: its requests and notifications while it is ready. Nor the end of a program whose group lives.
 -- Of S2, what is read back must be what was meant: editors are shown all of the result.
-use Rattle.std.specs.Prelude.{ℕ, Bool, true, false, not, ◌&&◌, ◌||◌, List, find, bytes_eq}
-use Rattle.std.specs.Prelude.{Option, Some, None}
+use Rattle.std.specs.Prelude.{ℕ, Bool, true, false, not, ◌&&◌, ◌||◌, List, bytes_eq}
+use Rattle.std.specs.Prelude.{Option}
 use Rattle.std.specs.Option.{option_map_or}
 use Rattle.mux_history.specs.declared.cause.Cause.{Cause}
 use Rattle.mux_history.specs.declared.cause.Cause.TheVariants.{Joined, FromEditor, EditorGone, Started, StartFailed, FromServer, ServerGone, Drained, Tick}
@@ -18,7 +18,7 @@ use Rattle.event_model.specs.declared.phase.Phase.{Phase}
 use Rattle.event_model.specs.declared.stage.Stage.{Stage}
 use Rattle.event_model.specs.declared.stage.Stage.TheVariants.{Initializing, Ready, Stopping, Ending}
 use Rattle.event_model.specs.Event.{Event, events_of}
-use Rattle.event_model.specs.Members.{has_token, reads_versions}
+use Rattle.event_model.specs.Members.{has_token}
 use Rattle.event_model.specs.Phases.{desk_of, is_begun, is_malformed, is_served}
 use Rattle.event_model.specs.Requests.{is_open, open_of}
 use Rattle.event_model.specs.Settings.{Settings}
@@ -28,7 +28,6 @@ use Rattle.mux_model.specs.Built.{is_other}
 use Rattle.mux_model.specs.Methods.{is_cancelling}
 use Rattle.group_words.specs.Houses.{groups_of}
 use Rattle.group_words.specs.Rows.{shown_of}
-use Rattle.group_rows.specs.Forwarded.{Forwarded, answered_by, forwarding_of}
 use Rattle.group_rows.specs.Rows.{names_lspmux}
 use Rattle.group_facts.specs.Lively.{lives_at}
 
@@ -75,24 +74,19 @@ abbrev pub built_early : List ℕ → Message → Bool
 built_early body (result id r) = not (is_first_result (result id r)) || is_shown_whole body
 built_early body other = true
 
--- S5 without versions
-abbrev pub is_passed_plainly : Option Forwarded → Json → Bool
-is_passed_plainly None r = true
-is_passed_plainly (Some f) r = not (reads_versions r)
-
-abbrev pub built_response : List Forwarded → Message → Bool
-built_response fs (request id method params) = false
-built_response fs (notification method params) = false
-built_response fs (result id r) = is_passed_plainly (find (answered_by id) fs) r
-built_response fs other = true
+-- S5, while it is ready; its requests and notifications are to come
+abbrev pub built_response : Message → Bool
+built_response (request id method params) = false
+built_response (notification method params) = false
+built_response other = true
 
 -- S4 of a start that is to end; S1 in every stage, and those
-abbrev pub built_from_server : Stage → List Forwarded → List ℕ → Message → Bool
-built_from_server Initializing fs body m = built_early body m
-built_from_server Ready fs body m = built_response fs m
-built_from_server Stopping fs body m = true
-built_from_server Ending fs body m = true
-built_from_server other fs body m = is_malformed m
+abbrev pub built_from_server : Stage → List ℕ → Message → Bool
+built_from_server Initializing body m = built_early body m
+built_from_server Ready body m = built_response m
+built_from_server Stopping body m = true
+built_from_server Ending body m = true
+built_from_server other body m = is_malformed m
 
 -- X1 to X3 of a start whose group lives no more
 abbrev pub is_left : Settings → List Event → ℕ → Bool
@@ -103,7 +97,7 @@ built_behind settings before (Joined e) = true
 built_behind settings before (Started s) = true
 built_behind settings before (FromEditor e body) = built_from_editor (desk_of e before).phase (open_of e before) (message_of body)
 built_behind settings before (EditorGone e why) = true
-built_behind settings before (FromServer s body) = built_from_server (life_of s before).stage (forwarding_of s before).open_requests body (message_of body)
+built_behind settings before (FromServer s body) = built_from_server (life_of s before).stage body (message_of body)
 built_behind settings before (Drained e k) = true
 built_behind settings before (StartFailed s) = is_left settings before s
 built_behind settings before (ServerGone s) = is_left settings before s

@@ -1,5 +1,4 @@
 -- S5 with V1 and V2: what an editor gets of a start's answer to its request, with its own versions of documents (LSP 3.17, WorkspaceEdit and OptionalVersionedTextDocumentIdentifier).
--- The row stands beside the table until it is built: `response_row` of Rows.antt is it for answers without versions.
 use Rattle.std.specs.Prelude.{ℕ, Bool, false, not, ◌&&◌, List, [], find, nat_eq, if◌then◌else◌}
 use Rattle.std.specs.Prelude.{Option, Some, None}
 use Rattle.std.specs.Option.{option_and_then, option_map, option_map_or}

@@ -1,5 +1,5 @@
--- The routing table over several editors and groups, in part: J1, J2, E2 to E5, E7 to E10, E12 to E17, E19, S1, S2 with X4, S3, S4, S5 without versions, X1 to X3 of groups that live no more, and X5 to X7.
-use Rattle.std.specs.Prelude.{ℕ, Bool, true, false, ◌&&◌, ◌||◌, List, [], ◌∷◌, ◌++◌, filter, find, flat_map, codes, nat_eq, nat_lt, decimal, bytes_eq, if◌then◌else◌}
+-- The routing table over several editors and groups, in part: J1, J2, E2 to E5, E7 to E10, E12 to E17, E19, S1, S2 with X4, S3, S4, S5, X1 to X3 of groups that live no more, and X5 to X7.
+use Rattle.std.specs.Prelude.{ℕ, Bool, true, false, ◌&&◌, ◌||◌, List, [], ◌∷◌, ◌++◌, filter, flat_map, codes, nat_eq, nat_lt, decimal, bytes_eq, if◌then◌else◌}
 use Rattle.std.specs.Prelude.{Option, Some, None, slice_get}
 use Rattle.std.specs.List.{list_any}
 use Rattle.std.specs.Option.{option_map_or}
@@ -26,7 +26,6 @@ use Rattle.event_model.specs.declared.stage.Stage.{Stage}
 use Rattle.event_model.specs.declared.stage.Stage.TheVariants.{Spawning, Initializing, Ready, Stopping}
 use Rattle.event_model.specs.Event.{Event, behind, with_cause, requests}
 use Rattle.event_model.specs.Phases.{desk_of, is_begun, is_there, is_malformed, is_served, is_waiting}
-use Rattle.event_model.specs.Requests.{answered_id}
 use Rattle.event_model.specs.Row.{Row, nothing, send, choose, look, outs, each, on, ◌⨾◌}
 use Rattle.event_model.specs.Settings.{Settings}
 use Rattle.event_model.specs.Spawns.{group_of, start_of}
@@ -36,8 +35,9 @@ use Rattle.mux_model.specs.Methods.{goes_on, is_dollar, is_wrong}
 use Rattle.mux_model.specs.Rows.{malformed_row, to_start}
 use Rattle.group_words.specs.Houses.{editors_in, groups_of, home_of, is_doubled, is_first_error, is_first_open, server_asked}
 use Rattle.group_words.specs.Rows.{initialize_of, initialize_row, shown_of}
+use Rattle.group_rows.specs.Answers.{answer_row}
 use Rattle.group_rows.specs.Ends.{answers_shutdown, exit_server}
-use Rattle.group_rows.specs.Forwarded.{Forwarded, forwarding_of, answered_by}
+use Rattle.group_rows.specs.Forwarded.{forwarding_of}
 use Rattle.group_rows.specs.Leaves.{leave_row}
 use Rattle.group_rows.specs.Status.{items_of, status_text}
 use Rattle.group_rows.specs.Texts.{encoding_of, texts_of}
@@ -230,13 +230,6 @@ refused_in settings s body g = look (λ events. each (refusal body) (waiting_in 
 abbrev pub refused_row : Settings → List Event → ℕ → List ℕ → Row
 refused_row settings before s body = on (group_of s before) nothing (refused_in settings s body)
 
--- S5: an answer goes to the editor that asked, under its own id
-abbrev pub pass_on : List Event → List ℕ → Forwarded → Row
-pass_on before body f = choose (is_there (desk_of f.editor before).phase) (send (ToEditor f.editor (with_id_text body f.id))) nothing
-
-abbrev pub response_row : ℕ → List Event → List ℕ → Message → Row
-response_row s before body m = on (find (answered_by (answered_id m)) (forwarding_of s before).open_requests) nothing (pass_on before body)
-
 -- S4: what a start asks before its first result is answered at once, under any id (LSP 3.17, Initialize Request)
 abbrev pub hasty_answer : List ℕ → List ℕ → List ℕ
 hasty_answer method body = if bytes_eq (codes "window/showMessageRequest") method then ok_text (id_bytes body) (codes "null") else error_text (id_bytes body) invalid_request
@@ -251,7 +244,7 @@ stopping_row s before m = choose (answers_shutdown s before m) (exit_server s) n
 
 abbrev pub from_server : Settings → ℕ → List Event → List ℕ → Message → Stage → Row
 from_server settings s before body m Initializing = choose (is_first_result m) (first_result settings before s body) (choose (is_first_error m) (refused_row settings before s body) (hasty_row s body m))
-from_server settings s before body m Ready = response_row s before body m
+from_server settings s before body m Ready = answer_row settings s before body m
 from_server settings s before body m Stopping = stopping_row s before m
 from_server settings s before body m other = nothing
 
