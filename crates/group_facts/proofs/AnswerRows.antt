@@ -13,7 +13,7 @@ use Rattle.mux_history.specs.declared.cause.Cause.TheVariants.{FromServer, Start
 use Rattle.mux_history.specs.declared.out.Out.{Out}
 use Rattle.mux_history.specs.declared.out.Out.TheVariants.{ToEditor, ToServer}
 use Rattle.rpc_message.specs.Message.{Message, request, notification, result, error, not_json, not_message, Id, integer, message_of, id_bytes, result_bytes}
-use Rattle.rpc_message.specs.Texts.{ok_text, initialized_text, with_id_text, error_text, invalid_request}
+use Rattle.rpc_message.specs.Texts.{ok_text, initialized_text, error_text, invalid_request}
 use Rattle.rpc_message.proofs.Fixed.{initialized_law, id_as_response, ok_law}
 use Rattle.event_model.specs.declared.stage.Stage.{Stage}
 use Rattle.event_model.specs.declared.stage.Stage.TheVariants.{Unspawned, Spawning, Initializing, Ready, Stopping, Ending, Ended}
@@ -28,9 +28,10 @@ use Rattle.event_model.specs.Stages.{Life, life_of, is_first_result, stage_hears
 use Rattle.mux_model.specs.Documents.{Sent, held_at, sent_of}
 use Rattle.mux_model.specs.Rows.{below, to_start}
 use Rattle.mux_model.proofs.DocumentFolds.{outs_to_start}
+use Rattle.response_route.specs.Answers.{answer_text}
 use Rattle.mux_facts.specs.Allowed.{is_response}
 use Rattle.mux_facts.specs.Ranges.{InRange}
-use Rattle.mux_facts.proofs.Bodies.{IsResponseTo, is_result, is_error, passed_says, welcome_says, refusal_says}
+use Rattle.mux_facts.proofs.Bodies.{IsResponseTo, is_result, is_error, welcome_says, refusal_says}
 use Rattle.mux_facts.proofs.Folds.{desk_more, life_more, opens_more}
 use Rattle.mux_facts.proofs.Lists.{found_is}
 use Rattle.mux_facts.proofs.Reasons.{Because, by_nothing, by_send, by_then, by_choose, by_look, by_on}
@@ -42,12 +43,15 @@ use Rattle.mux_facts.proofs.Why.{is_early}
 use Rattle.mux_facts.proofs.Words.{same_number}
 use Rattle.group_words.specs.Houses.{groups_of, home_of, is_home}
 use Rattle.group_words.specs.Rows.{shown_of}
+use Rattle.group_rows.specs.Answers.{answer_row, own_version}
 use Rattle.group_rows.specs.Ends.{answers_shutdown, exit_server, exit_text}
 use Rattle.group_rows.specs.Forwarded.{Forwarded, answered_by, forwarding_of}
-use Rattle.group_rows.specs.Rows.{first_result, from_server, replay_bodies, response_row, result_in, started, waiting_in, welcome, hasty_answer, hasty_row}
+use Rattle.group_rows.specs.Rows.{first_result, from_server, replay_bodies, result_in, started, waiting_in, welcome, hasty_answer, hasty_row}
 use Rattle.group_rows.specs.Texts.{texts_of}
 use Rattle.group_facts.specs.Facts.{AllForwarded, Apart, IsAsker, IsForwarded, IsWaiting, IsWritten, Opened, Untold, Written}
 use Rattle.group_facts.proofs.Apart.{alone_answered}
+use Rattle.group_rows.proofs.Versions.{AllMeant, own_flat}
+use Rattle.group_facts.proofs.Answered.{answer_says}
 use Rattle.group_facts.proofs.Forwards.{Still, still_notified, still_now}
 use Rattle.group_rows.proofs.Stops.{range_below}
 use Rattle.group_facts.proofs.RefusedRow.{refused_why}
@@ -103,14 +107,17 @@ module _ (settings : Settings) (range : InRange settings) (before : List Event) 
           ∙ ap (λ z. stage_told z (message_of exit_text)) stopping
 
   -- S5
-  response_why : AllForwarded before → Apart before → Because R now (response_row s before body (message_of body))
-  response_why all apart = by_on (λ none. by_nothing) (λ f found. by_choose (λ there. by_send (passes (passing f found there))) (λ gone. by_nothing))
+  abbrev text_for : Forwarded → List ℕ
+  text_for f = answer_text (own_version settings before s f) body f.id
+
+  response_why : AllForwarded before → Apart before → AllMeant before → Because R now (answer_row settings s before body (message_of body))
+  response_why all apart meant = by_on (λ none. by_nothing) (λ f found. by_choose (λ there. by_send (passes (passing f found there))) (λ gone. by_nothing))
     where
-      passing : (f : Forwarded) → find (answered_by (answered_id (message_of body))) (forwarding_of s before).open_requests ≡ Some f → is_there (desk_of f.editor before).phase ≡ true → IsPassing before (FromServer s body) now f.editor (with_id_text body f.id)
+      passing : (f : Forwarded) → find (answered_by (answered_id (message_of body))) (forwarding_of s before).open_requests ≡ Some f → is_there (desk_of f.editor before).phase ≡ true → IsPassing settings before (FromServer s body) now f.editor (text_for f)
       passing f found there =
           let k : IsAsker before f.editor f.id = found_is (IsForwarded before) (answered_by (answered_id (message_of body))) f (forwarding_of s before).open_requests (all s) found in
-          let p : (is_response (message_of (with_id_text body f.id)) ≡ true) × (answered_id (message_of (with_id_text body f.id)) ≡ Some k.id)
-          = response_is k.id (message_of (with_id_text body f.id)) (passed_says body f.id k.id (answers_only (message_of body) f (forwarding_of s before).open_requests found) k.text) in
+          let p : (is_response (message_of (text_for f)) ≡ true) × (answered_id (message_of (text_for f)) ≡ Some k.id)
+          = response_is k.id (message_of (text_for f)) (answer_says (own_version settings before s f) (own_flat settings before s f meant) body f.id k.id (answers_only (message_of body) f (forwarding_of s before).open_requests found) k.text) in
           record {
             start = s;
             answer = body;
@@ -242,13 +249,13 @@ module _ (settings : Settings) (range : InRange settings) (before : List Event) 
   hasty_why at other not_json says = by_nothing
   hasty_why at other not_message says = by_nothing
 
-  module _ (opened : Opened settings before) (untold : Untold before) (waiting : AllWaiting before) (all : AllForwarded before) (apart : Apart before) where
+  module _ (opened : Opened settings before) (untold : Untold before) (waiting : AllWaiting before) (all : AllForwarded before) (apart : Apart before) (meant : AllMeant before) where
     result_why : FirstResult (message_of body) → (life_of s before).stage ≡ Initializing → is_first_result (message_of body) ≡ true → shown_of (result_bytes body) ≡ result_bytes body → Because R now (first_result settings before s body)
     result_why first at is whole = by_on (λ none. by_nothing) (λ g home. greet_why first.r first.is whole at is opened untold waiting g)
 
     pub server_why : ((life_of s before).stage ≡ Initializing → is_first_result (message_of body) ≡ true → shown_of (result_bytes body) ≡ result_bytes body) → (stage : Stage) → (life_of s before).stage ≡ stage → Because R now (from_server settings s before body (message_of body) stage)
     server_why whole Initializing at = by_choose (λ yes. result_why (first_result_is (message_of body) yes) at yes (whole at yes)) (λ no. by_choose (λ refuses. refused_why settings before s body at refuses waiting) (λ other. hasty_why at no (message_of body) refl))
-    server_why whole Ready at = response_why all apart
+    server_why whole Ready at = response_why all apart meant
     server_why whole Unspawned at = by_nothing
     server_why whole Spawning at = by_nothing
     server_why whole Stopping at = by_choose (λ yes. exits_why at yes) (λ no. by_nothing)

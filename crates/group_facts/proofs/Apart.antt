@@ -85,8 +85,11 @@ fewer_took settings events (ServerGone n) built = fewer_by events (heard (Server
 pub asks_fewer : (events : List Event) (e : ℕ) (body : List ℕ) → Fewer events (with_cause events (FromEditor e body))
 asks_fewer events e body = fewer_by events (heard (FromEditor e body)) (λ t Q h. h)
 
+pub fewer_said : (events : List Event) (out : Out) → ((s : ℕ) → (forwarding_behind s (forwarding_of s events) (said out)).open_requests ≡ (forwarding_of s events).open_requests) → Fewer events (events ++ said out ∷ [])
+fewer_said events out same = fewer_by events (said out) (λ t Q k. subst (All3 Q) (sym (same t)) k)
+
 pub apart_said : (events : List Event) (out : Out) → ((s : ℕ) → (forwarding_behind s (forwarding_of s events) (said out)).open_requests ≡ (forwarding_of s events).open_requests) → Apart events → Apart (events ++ said out ∷ [])
-apart_said events out same h = apart_fewer events (events ++ said out ∷ []) (fewer_by events (said out) (λ t Q k. subst (All3 Q) (sym (same t)) k)) h
+apart_said events out same h = apart_fewer events (events ++ said out ∷ []) (fewer_said events out same) h
 
 -- A body to a start
 
@@ -94,19 +97,19 @@ module _ (settings : Settings) (before : List Event) (cause : Cause) (events : L
   abbrev sent : List Event
   sent = events ++ said (ToServer n body) ∷ []
 
-  own_fewer : (id : Id) (method : List ℕ) (params : Option Json) → message_of body ≡ request id method params → is_own method ≡ true → Fewer events sent
+  pub own_fewer : (id : Id) (method : List ℕ) (params : Option Json) → message_of body ≡ request id method params → is_own method ≡ true → Fewer events sent
   own_fewer id method params says own t Q h = each_start (λ z. All3 Q (forwarding_of z events).open_requests → All3 Q (forwarding_of z sent).open_requests) n
       (λ k. subst (λ (x : Forwarding). All3 Q x.open_requests) (sym (forwarding_sent events n body (request id method params) says ∙ ap (λ c. if c then forwarding_of n events else more_requests (forwarding_of n events)) own)) k)
       (λ z other k. subst (λ (x : Forwarding). All3 Q x.open_requests) (sym (forwarding_other events n body z other)) k) t h
 
-  response_fewer : is_response (message_of body) ≡ true → Fewer events sent
+  pub response_fewer : is_response (message_of body) ≡ true → Fewer events sent
   response_fewer answer t Q h = each_start (λ z. All3 Q (forwarding_of z events).open_requests → All3 Q (forwarding_of z sent).open_requests) n
       (λ k. subst (λ (x : Forwarding). All3 Q x.open_requests) (sym (forwarding_sent events n body (message_of body) refl ∙ response_forwards (forwarding_of n events) (message_of body) answer)) k)
       (λ z other k. subst (λ (x : Forwarding). All3 Q x.open_requests) (sym (forwarding_other events n body z other)) k) t h
 
   -- an editor's request: it alone is new
   module _ (k : IsForward settings before cause events n body) where
-    new : Forwarded
+    pub new : Forwarded
     new = record { number = (forwarding_of n events).next; editor = (k.sender).editor; id = (k.sender).id; cancelled = false }
 
     list_now : (forwarding_of n sent).open_requests ≡ (forwarding_of n events).open_requests ++ new ∷ []
@@ -115,7 +118,7 @@ module _ (settings : Settings) (before : List Event) (cause : Cause) (events : L
         ∙ ap (λ c. if c then forwarding_of n events else more_requests (forwarding_of n events)) k.other)
         ∙ ap (λ o. (forwarding_of n events).open_requests ++ numbered o (forwarding_of n events).next) k.at_work
 
-    grow : (t : ℕ) (P : Forwarded → Type 0) → AllByRecursion P (forwarding_of t events).open_requests → (n ≡ t → P new) → AllByRecursion P (forwarding_of t sent).open_requests
+    pub grow : (t : ℕ) (P : Forwarded → Type 0) → AllByRecursion P (forwarding_of t events).open_requests → (n ≡ t → P new) → AllByRecursion P (forwarding_of t sent).open_requests
     grow t P h f = each_start (λ z. AllByRecursion P (forwarding_of z events).open_requests → (n ≡ z → P new) → AllByRecursion P (forwarding_of z sent).open_requests) n
         (λ a g. subst (AllByRecursion P) (sym list_now) (all_join P (forwarding_of n events).open_requests (new ∷ []) a (g refl, tt)))
         (λ z other a g. subst (λ (x : Forwarding). AllByRecursion P x.open_requests) (sym (forwarding_other events n body z other)) a) t h f

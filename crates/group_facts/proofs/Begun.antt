@@ -37,7 +37,8 @@ use Rattle.group_words.specs.Rows.{end_group, end_start, initialize_row, placed_
 use Rattle.group_words.proofs.Frames.{changed_length, groups_more, groups_stay, touches_groups}
 use Rattle.group_rows.specs.Forwarded.{Forwarded, forwarding_of}
 use Rattle.group_rows.specs.Leaves.{cancel, cancel_text, cancels, closings, leave_bodies, leave_row, uncancelled_of}
-use Rattle.group_rows.specs.Rows.{answer_error, begin_in, closing_row, document_at, document_bodies, document_row, down_row, early_row, exit_row, first_result, from_server, gone_row, lspmux_row, message_row, named_row, notice_at, notice_row, open_row, outs_of, pass_on, replay_bodies, request_at, request_row, response_row, result_in, row_of, served_request, served_row, started, sync_bodies, taken_row, waiting_in, welcome, hasty_row, close_all, refusal, refused_row}
+use Rattle.group_rows.specs.Answers.{answer_row, hand_on}
+use Rattle.group_rows.specs.Rows.{answer_error, begin_in, closing_row, document_at, document_bodies, document_row, down_row, early_row, exit_row, first_result, from_server, gone_row, lspmux_row, message_row, named_row, notice_at, notice_row, open_row, outs_of, replay_bodies, request_at, request_row, result_in, row_of, served_request, served_row, started, sync_bodies, taken_row, waiting_in, welcome, hasty_row, close_all, refusal, refused_row}
 use Rattle.group_rows.specs.Texts.{encoding_of, texts_of}
 use Rattle.group_rows.specs.Ticks.{due_of, overdue_of, tick_row}
 use Rattle.group_facts.specs.Built.{built_behind}
@@ -234,11 +235,11 @@ module _ (settings : Settings) (before : List Event) where
   quiet_refused : (s : ℕ) (body : List ℕ) (events : List Event) → Quiet events (refused_row settings before s body)
   quiet_refused s body events = by_on (λ none. by_nothing) (λ g home. by_then (by_look (quiet_refusals body (waiting_in settings g events) events)) (by_then (by_look (quiet_closes _ _)) (by_send tt)))
 
-  quiet_passed : (body : List ℕ) (f : Forwarded) (events : List Event) → Quiet events (pass_on before body f)
-  quiet_passed body f events = by_choose (λ there. by_send tt) (λ gone. by_nothing)
+  quiet_passed : (s : ℕ) (body : List ℕ) (f : Forwarded) (events : List Event) → Quiet events (hand_on settings before s body f)
+  quiet_passed s body f events = by_choose (λ there. by_send tt) (λ gone. by_nothing)
 
-  quiet_response : (s : ℕ) (body : List ℕ) (m : Message) (events : List Event) → Quiet events (response_row s before body m)
-  quiet_response s body m events = by_on (λ none. by_nothing) (λ f found. quiet_passed body f events)
+  quiet_response : (s : ℕ) (body : List ℕ) (m : Message) (events : List Event) → Quiet events (answer_row settings s before body m)
+  quiet_response s body m events = by_on (λ none. by_nothing) (λ f found. quiet_passed s body f events)
 
   quiet_hasty : (s : ℕ) (body : List ℕ) (m : Message) (events : List Event) → Quiet events (hasty_row s body m)
   quiet_hasty s body (request id method params) events = by_send tt

@@ -6,7 +6,6 @@ use Rattle.mux_history.specs.declared.cause.Cause.TheVariants.{Joined, FromEdito
 use Rattle.mux_history.specs.declared.cause.Why as link
 use Rattle.mux_history.specs.declared.out.Out.TheVariants.{ToEditor}
 use Rattle.rpc_message.specs.Message.{Message, request, notification, result, error, not_json, not_message, Id, message_of}
-use Rattle.rpc_message.specs.Texts.{with_id_text}
 use Rattle.event_model.specs.declared.phase.Phase.{Phase}
 use Rattle.event_model.specs.declared.phase.Phase.TheVariants.{Absent, New, Waiting, Answered, Running, Down, Closed, Gone}
 use Rattle.event_model.specs.declared.stage.Stage.{Stage}
@@ -19,20 +18,23 @@ use Rattle.event_model.specs.Settings.{Settings}
 use Rattle.event_model.specs.Spawns.{group_of}
 use Rattle.event_model.specs.Stages.{is_first_result, life_of}
 use Rattle.event_model.proofs.Frames.{never}
+use Rattle.response_route.specs.Answers.{answer_text}
 use Rattle.mux_model.specs.Fits.{fits_behind}
 use Rattle.mux_facts.specs.Ranges.{InRange}
-use Rattle.mux_facts.proofs.Bodies.{passed_says}
 use Rattle.mux_facts.proofs.Folds.{desk_more, opens_more}
 use Rattle.mux_facts.proofs.Table.{FirstResult, first_result_is}
 use Rattle.mux_facts.proofs.Words.{number_same, same_number}
 use Rattle.group_words.specs.Houses.{groups_of, placed_for, places}
 use Rattle.group_rows.specs.Forwarded.{Forwarded, answered_by, forwarding_of}
-use Rattle.group_rows.specs.Rows.{from_server, outs_of, pass_on, response_row}
+use Rattle.group_rows.specs.Answers.{answer_row, hand_on, own_version}
+use Rattle.group_rows.specs.Rows.{from_server, outs_of}
+use Rattle.group_rows.proofs.Versions.{own_flat}
 use Rattle.group_facts.specs.Built.{built_behind, built_early, built_from_server, is_left, is_shown_whole}
 use Rattle.group_facts.specs.Facts.{is_too_many, is_up, turned_away}
 use Rattle.group_facts.specs.Lively.{Lively, is_unplaced}
 use Rattle.group_facts.specs.Settled.{is_answered}
 use Rattle.group_facts.proofs.AnswerRows.{answers_only, response_is}
+use Rattle.group_facts.proofs.Answered.{answer_says}
 use Rattle.group_facts.proofs.Begun.{Begun}
 use Rattle.group_facts.proofs.Facts.{Facts, TiedAt}
 use Rattle.group_facts.proofs.Exits.{left_over}
@@ -199,13 +201,13 @@ module _ (settings : Settings) (range : InRange settings) (before : List Event) 
       -- of a start that is ready
       module _ (id : Id) (f : Forwarded) (found : find (answered_by (answered_id (message_of body))) fs ≡ Some f) (of : IsOf e id f) where
         abbrev text : List ℕ
-        text = with_id_text body f.id
+        text = answer_text (own_version settings before s f) body f.id
 
-        response_outs : (there : Bool) → is_there (desk_of f.editor before).phase ≡ there → outs (response_row s before body (message_of body)) now ≡ outs (choose there (send (ToEditor f.editor text)) nothing) now
-        response_outs there is = ap (λ o. outs (on o nothing (pass_on before body)) now) found ∙ ap (λ b. outs (choose b (send (ToEditor f.editor text)) nothing) now) is
+        response_outs : (there : Bool) → is_there (desk_of f.editor before).phase ≡ there → outs (answer_row settings s before body (message_of body)) now ≡ outs (choose there (send (ToEditor f.editor text)) nothing) now
+        response_outs there is = ap (λ o. outs (on o nothing (hand_on settings before s body)) now) found ∙ ap (λ b. outs (choose b (send (ToEditor f.editor text)) nothing) now) is
 
         answers : answered_id (message_of text) ≡ Some id
-        answers = (response_is id (message_of text) (passed_says body f.id id (answers_only (message_of body) f fs found) of.1)).1
+        answers = (response_is id (message_of text) (answer_says (own_version settings before s f) (own_flat settings before s f (facts.base).meant) body f.id id (answers_only (message_of body) f fs found) of.1)).1
 
         closed : is_open id (open_of e (now ++ said (ToEditor f.editor text) ∷ [])) ≡ false
         closed = ap (is_open id) (opens_more e now (said (ToEditor f.editor text)) ∙ ap₂ (λ b o. if b then without o (open_of e now) else open_of e now) (ap (λ k. nat_eq k e) of.0 ∙ same_number e) answers) ∙ answered_closed id (open_of e now)
@@ -220,8 +222,8 @@ module _ (settings : Settings) (range : InRange settings) (before : List Event) 
         gone_not Closed gone served = never (sym served)
         gone_not Gone gone served = never (sym served)
 
-        answered_not : (there : Bool) → is_there (desk_of f.editor before).phase ≡ there → is_answered (desk_of e (behind now (outs (response_row s before body (message_of body)) now))).phase ≡ true
-            → is_open id (open_of e (behind now (outs (response_row s before body (message_of body)) now))) ≡ true → ⊥
+        answered_not : (there : Bool) → is_there (desk_of f.editor before).phase ≡ there → is_answered (desk_of e (behind now (outs (answer_row settings s before body (message_of body)) now))).phase ≡ true
+            → is_open id (open_of e (behind now (outs (answer_row settings s before body (message_of body)) now))) ≡ true → ⊥
         answered_not true is served still = never (sym (subst (λ z. is_open id (open_of e (behind now z)) ≡ true) (response_outs true is) still) ∙ closed)
         answered_not false is served still = gone_not (desk_of e before).phase (ap (λ k. is_there (desk_of k before).phase) (sym of.0) ∙ is)
             (sym (ap (λ z. is_answered (desk_of e z).phase) (ap (behind now) (response_outs false is) ∙ append-nil now) ∙ ap (λ (d : Desk). is_answered d.phase) (desk_more e before (heard (FromServer s body)))) ∙ served)
@@ -248,7 +250,7 @@ module _ (settings : Settings) (range : InRange settings) (before : List Event) 
       early_not at id k = none_sent (λ (f : Forwarded). IsOf e id f × (answered_by (answered_id (message_of body)) f ≡ true)) fs
           (subst (λ n. Rising 2 n fs) (subst (λ z. TiedAt z (next_number s before) (forwarding_of s before).next) at (facts.tied s)).1 (rising_of s before)) k
 
-      fine_not : (stage : Stage) → (life_of s before).stage ≡ stage → is_up stage ≡ true → built_from_server stage fs body (message_of body) ≡ true → (id : Id) → Passed settings e id before s body → Stays stage id
+      fine_not : (stage : Stage) → (life_of s before).stage ≡ stage → is_up stage ≡ true → built_from_server stage body (message_of body) ≡ true → (id : Id) → Passed settings e id before s body → Stays stage id
       fine_not Initializing at up fine id k served still = early_not at id k
       fine_not Ready at up fine id k served still = ready_not at id k served still
       fine_not Stopping at up fine id k served still = never (sym up)

@@ -13,12 +13,14 @@ use Rattle.mux_facts.proofs.Editors.{Editors}
 use Rattle.mux_facts.proofs.Starts.{Starts}
 use Rattle.mux_facts.proofs.Waits.{AllWaiting, Waits, WaitsAt, waits_at}
 use Rattle.group_rows.specs.Forwarded.{forwarding_of}
+use Rattle.group_rows.proofs.Versions.{AllMeant}
 use Rattle.group_facts.specs.Facts.{AllForwarded, Apart, Bounded, Housed, Known, Numbered, Opened, Plain, Stopped, Unbegun, Untold, Written, turned_away}
 
 pub record Base (settings : Settings) (events : List Event) : Type 0 where
   pub opened : Opened settings events
   pub plain : Plain events
   pub written : Written settings events
+  pub meant : AllMeant events
 
 pub record Steady (settings : Settings) (events : List Event) : Type 0 where
   pub starts : Starts events

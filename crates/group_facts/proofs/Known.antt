@@ -29,6 +29,7 @@ use Rattle.mux_facts.proofs.Words.{number_same}
 use Rattle.group_words.specs.Houses.{groups_of}
 use Rattle.group_rows.specs.Forwarded.{Forwarding, forwarding_of}
 use Rattle.group_rows.specs.Rows.{outs_of}
+use Rattle.group_rows.proofs.Versions.{meant_heard, meant_more, meant_said}
 use Rattle.group_facts.specs.Built.{built_behind}
 use Rattle.group_facts.specs.Legal.{Legal, LegalFrom}
 use Rattle.group_facts.proofs.Apart.{apart_fewer, apart_said, apart_sent, fewer_took}
@@ -51,7 +52,7 @@ module _ (settings : Settings) where
   -- What the events before tell
 
   base_took : (events : List Event) (cause : Cause) → built_behind settings events cause ≡ true → Base settings events → Base settings (with_cause events cause)
-  base_took events cause built h = record { opened = opened_took settings events cause h.opened; plain = plain_took settings events cause built h.plain; written = written_took settings events cause built h.written }
+  base_took events cause built h = record { opened = opened_took settings events cause h.opened; plain = plain_took settings events cause built h.plain; written = written_took settings events cause built h.written; meant = meant_more events (heard cause) h.meant (meant_heard cause) }
 
   -- a program that is to be ended was spawned
   begun_end : (events : List Event) (n : ℕ) → WhyEnd settings events n → (life_of n events).stage ≡ Unspawned → ⊥
@@ -68,7 +69,7 @@ module _ (settings : Settings) where
   fresh_out before cause events (EndServer n) why none s = tt
 
   base_did : (events : List Event) (out : Out) → ((s : ℕ) → Fresh is_up up_falls s (life_of s events) (said out)) → Base settings events → Base settings (events ++ said out ∷ [])
-  base_did events out fresh h = record { opened = opened_did settings events out h.opened; plain = plain_did events out fresh h.plain; written = written_did settings events out h.written }
+  base_did events out fresh h = record { opened = opened_did settings events out h.opened; plain = plain_did events out fresh h.plain; written = written_did settings events out h.written; meant = meant_more events (said out) h.meant (meant_said out) }
 
   -- At a cause
 
@@ -243,7 +244,7 @@ module _ (settings : Settings) where
 
     pub no_facts : Facts settings []
     no_facts = record {
-      base = record { opened = opened_none settings; plain = plain_none; written = tt };
+      base = record { opened = opened_none settings; plain = plain_none; written = tt; meant = tt };
       steady = record { starts = λ s le. refl; unbegun = λ s un. (refl, refl); untold = λ s un u. refl; bounded = λ s up. (omega arith, omega arith); editors = λ e le. refl; asked = λ s. tt; apart = λ s. tt; housed = λ s below. absurd (omega (arith, below)) };
       tied = λ s. tt;
       waiting = λ e. tt;

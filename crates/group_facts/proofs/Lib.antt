@@ -1,4 +1,5 @@
 pub mod AnswerRows
+pub mod Answered
 pub mod Apart
 pub mod Asides
 pub mod Askers
@@ -25,6 +26,7 @@ pub mod Numbers
 pub mod OpenByOut
 pub mod OpenByPhase
 pub mod Opened
+pub mod OwnVersions
 pub mod OwnEntry
 pub mod PartingRows
 pub mod PlacingRow
@@ -35,6 +37,7 @@ pub mod RequestRow
 pub mod RestLaws
 pub mod Seated
 pub mod Sent
+pub mod SentOn
 pub mod Settling
 pub mod SharedRows
 pub mod Switching
@@ -42,6 +45,7 @@ pub mod SyncRow
 pub mod Table
 pub mod Tellings
 pub mod TickRow
+pub mod VersionsIn
 pub mod Waiting
 mod Worked
 pub mod Written

@@ -26,7 +26,6 @@ use Rattle.mux_facts.proofs.Reasons.{Because, by_nothing, by_send, by_choose}
 use Rattle.mux_facts.proofs.Why.{is_early}
 use Rattle.group_words.specs.Houses.{is_doubled}
 use Rattle.group_words.specs.Rows.{shown_of}
-use Rattle.group_rows.specs.Forwarded.{forwarding_of}
 use Rattle.group_rows.specs.Rows.{asks_lspmux, closing_row, down_row, early_code, early_row, exit_row, from_editor, lspmux_row, message_row, row_of, served_notice, served_request, served_row, taken_row, wrong_code}
 use Rattle.group_facts.specs.Built.{built_behind, built_early, built_from_server, is_shown_whole}
 use Rattle.group_facts.specs.Facts.{IsAlone, is_parting}
@@ -195,16 +194,16 @@ shown_whole (notification method params) body h first = absurd (cc)
 shown_whole not_json body h first = absurd (cc)
 shown_whole not_message body h first = absurd (cc)
 
-pub first_shown : (before : List Event) (s : ℕ) (body : List ℕ) → built_from_server (life_of s before).stage (forwarding_of s before).open_requests body (message_of body) ≡ true
+pub first_shown : (before : List Event) (s : ℕ) (body : List ℕ) → built_from_server (life_of s before).stage body (message_of body) ≡ true
     → (life_of s before).stage ≡ Initializing → is_first_result (message_of body) ≡ true → shown_of (result_bytes body) ≡ result_bytes body
-first_shown before s body built at first = shown_whole (message_of body) body (ap (λ stage. built_from_server stage (forwarding_of s before).open_requests body (message_of body)) (sym at) ∙ built) first
+first_shown before s body built at first = shown_whole (message_of body) body (ap (λ stage. built_from_server stage body (message_of body)) (sym at) ∙ built) first
 
 module _ (settings : Settings) (range : InRange settings) (before : List Event) (facts : Facts settings before) where
   -- every out of every entry has its reason
   pub reasons : (cause : Cause) → built_behind settings before cause ≡ true → Because (Why settings before cause) (with_cause before cause) (row_of settings before cause)
   reasons (FromEditor e body) built = editor_why settings range before facts e body
   reasons (EditorGone e why) built = gone_why settings range before (facts.base).opened (facts.steady).bounded e why (desk_of e before).phase
-  reasons (FromServer s body) built = server_why settings range before s body (facts.base).opened (facts.steady).untold facts.waiting (facts.steady).asked (facts.steady).apart (first_shown before s body built) (life_of s before).stage refl
+  reasons (FromServer s body) built = server_why settings range before s body (facts.base).opened (facts.steady).untold facts.waiting (facts.steady).asked (facts.steady).apart (facts.base).meant (first_shown before s body built) (life_of s before).stage refl
   reasons (Started s) built = start_why settings before s (facts.base).written (life_of s before).stage refl
   reasons (Tick t) built = tick_why settings range.requests before (facts.steady).bounded t
   reasons cause built = by_nothing

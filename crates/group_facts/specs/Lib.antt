@@ -4,6 +4,7 @@ pub mod Facts
 pub mod Legal
 pub mod Lively
 pub mod OwnTexts
+pub mod OwnVersions
 pub mod Settled
 pub mod Switches
 pub mod Why

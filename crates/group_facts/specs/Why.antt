@@ -26,11 +26,13 @@ use Rattle.event_model.specs.Requests.{next_number, answered_id, open_of, is_ope
 use Rattle.event_model.specs.Settings.{Settings}
 use Rattle.event_model.specs.Spawns.{start_of, starts_of}
 use Rattle.event_model.specs.Stages.{is_first_result, is_initializing, is_ready, is_spawning, life_of}
+use Rattle.response_route.specs.Answers.{answer_text}
 use Rattle.mux_facts.specs.Allowed.{AllowsSaying, is_response}
 use Rattle.mux_model.specs.Documents.{held_at}
 use Rattle.mux_model.specs.Methods.{goes_on}
 use Rattle.document_model.specs.Helds.{HeldText}
 use Rattle.group_words.specs.Houses.{groups_of}
+use Rattle.group_rows.specs.Answers.{own_version}
 use Rattle.group_rows.specs.Ends.{answers_shutdown}
 use Rattle.group_rows.specs.Forwarded.{Forwarded, Sender, answered_by, forwarding_of}
 use Rattle.group_rows.specs.Leaves.{cancel_text}
@@ -236,8 +238,8 @@ pub record IsWelcome (events : List Event) (e : ℕ) (body : List ℕ) : Type 0 
   pub waiting : IsWaiting events e id
   pub says : message_of body ≡ result (Some id) r
 
--- the response to a request that was open at a start until this entry, and is open at the editor that asked, which got its result
-pub record IsPassing (before : List Event) (cause : Cause) (events : List Event) (e : ℕ) (body : List ℕ) : Type 0 where
+-- the response to a request that was open at a start until this entry, and is open at the editor that asked, which got its result; it has the editor's own versions, or is an error
+pub record IsPassing (settings : Settings) (before : List Event) (cause : Cause) (events : List Event) (e : ℕ) (body : List ℕ) : Type 0 where
   pub start : ℕ
   pub answer : List ℕ
   pub request : Forwarded
@@ -250,7 +252,7 @@ pub record IsPassing (before : List Event) (cause : Cause) (events : List Event)
   pub text : IsIdText id request.id
   pub waits : is_open id (open_of e events) ≡ true
   pub alone : IsAlone events e id
-  pub bytes : body ≡ with_id_text answer request.id
+  pub bytes : body ≡ answer_text (own_version settings before start request) answer request.id
   pub response : is_response (message_of body) ≡ true
   pub answers : answered_id (message_of body) ≡ Some id
 
@@ -260,7 +262,7 @@ pub data WhyToEditor (settings : Settings) (before : List Event) (cause : Cause)
   answers : IsAnswer events e body → WhyToEditor settings before cause events e body
   turns_away : IsTurning settings before cause events e body → WhyToEditor settings before cause events e body
   welcomes : IsWelcome events e body → WhyToEditor settings before cause events e body
-  passes : IsPassing before cause events e body → WhyToEditor settings before cause events e body
+  passes : IsPassing settings before cause events e body → WhyToEditor settings before cause events e body
 
 -- its program is to begin, or gave no result yet
 abbrev pub is_starting : Stage → Bool

@@ -36,6 +36,7 @@ use Rattle.group_rows.proofs.Integers.{IsSaidNumber, said_number}
 -- the events are of causes and outs: the message of a body is what the body says
 abbrev pub IsMeant : Event → Type 0
 IsMeant (took (FromEditor e body) m) = m ≡ message_of body
+IsMeant (did (ToServer s body) m) = m ≡ message_of body
 IsMeant other = Unit {0}
 
 abbrev pub AllMeant : List Event → Type 0
@@ -46,7 +47,7 @@ meant_heard (FromEditor e body) = refl
 meant_heard other = tt
 
 pub meant_said : (out : Out) → IsMeant (said out)
-meant_said (ToServer s body) = tt
+meant_said (ToServer s body) = refl
 meant_said other = tt
 
 pub meant_more : (events : List Event) (ev : Event) → AllMeant events → IsMeant ev → AllMeant (events ++ ev ∷ [])

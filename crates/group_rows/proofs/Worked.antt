@@ -9,6 +9,7 @@ use Rattle.json_text.specs.Computes.{computes}
 use Rattle.json_text.specs.Named.{named}
 use Rattle.lsp_method.specs.Class.{own_request, own_notification, goes_nowhere, editor_request, editor_notification}
 use Rattle.position_codec.specs.declared.Encoding.TheVariants.{Utf8, Utf16}
+use Rattle.rpc_message.specs.Changed.{id_edits}
 use Rattle.rpc_message.specs.Message.{message_of, no_name_twice, is_integer, member_bytes}
 use Rattle.rpc_message.specs.Texts.{with_id_text}
 use Rattle.group_words.specs.Example.{with_groups}
@@ -40,7 +41,7 @@ unfolding computes url_on_literals message_of named no_name_twice is_integer mem
 two_editors_share_a_start = refl
 
 both_are_answered : all_outs both_ask ≡ both_ask_outs
-unfolding computes url_on_literals message_of named no_name_twice is_integer member_bytes with_id_text escape_byte digits own_request own_notification goes_nowhere editor_request editor_notification
+unfolding computes url_on_literals message_of named no_name_twice is_integer member_bytes with_id_text id_edits escape_byte digits own_request own_notification goes_nowhere editor_request editor_notification
 both_are_answered = refl
 
 the_start_is_switched : all_outs switching ≡ switching_outs

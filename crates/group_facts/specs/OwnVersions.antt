@@ -1,0 +1,121 @@
+-- The answer that an editor gets from a start has the editor's own versions of documents, or is an error (V1 and V2; LSP 3.17, WorkspaceEdit, OptionalVersionedTextDocumentIdentifier and ContentModified).
+use Rattle.std.specs.Prelude.{◌≡◌, ◌⊎◌, ℕ, true, false, List, [], ◌∷◌, ◌++◌, codes, decimal, find, is_some}
+use Rattle.std.specs.Prelude.{Option, Some, None}
+use Rattle.std.specs.List.{AllByRecursion}
+use Rattle.std.specs.Option.{option_and_then}
+use Rattle.json_text.specs.Json.{Json}
+use Rattle.json_text.specs.Named.{named_in}
+use Rattle.json_text.specs.Replace.{Edit}
+use Rattle.json_nodes.specs.Puts.{put_edits}
+use Rattle.mux_history.specs.declared.cause.Cause.{Cause}
+use Rattle.mux_history.specs.declared.cause.Cause.TheVariants.{FromServer}
+use Rattle.mux_history.specs.declared.entry.Entry.{Entry}
+use Rattle.mux_history.specs.declared.out.Out.{Out}
+use Rattle.mux_history.specs.declared.out.Out.TheVariants.{ToEditor, ToServer}
+use Rattle.rpc_message.specs.Changed.{changed_text}
+use Rattle.rpc_message.specs.Message.{Id, integer, message_of, request}
+use Rattle.rpc_message.specs.Texts.{content_modified, error_text}
+use Rattle.rpc_message.specs.ValueTexts.{IsIdText}
+use Rattle.doc_text.specs.Changes.{string_text}
+use Rattle.document_model.specs.Helds.{HeldText}
+use Rattle.document_model.specs.Notices.{integer_text, new_version}
+use Rattle.document_model.specs.Opens.{Open}
+use Rattle.document_model.specs.Rows.{Agrees}
+use Rattle.document_model.specs.Texts.{found}
+use Rattle.event_model.specs.declared.stage.Stage.TheVariants.{Ready}
+use Rattle.event_model.specs.Event.{Event, events_of, said}
+use Rattle.event_model.specs.Requests.{answered_id, is_open, is_own, open_of}
+use Rattle.event_model.specs.Settings.{Settings}
+use Rattle.event_model.specs.Stages.{life_of}
+use Rattle.response_route.specs.Results.{documents_in}
+use Rattle.mux_model.specs.Documents.{held_at}
+use Rattle.group_rows.specs.Answers.{shared_texts}
+use Rattle.group_rows.specs.Forwarded.{Forwarded, answered_by, forwarding_of}
+use Rattle.group_rows.specs.Texts.{worker_of}
+
+-- at this moment, while a message of e was at work, start s was sent a request as its number n
+pub record IsSentOn (s : ℕ) (events : List Event) (n e : ℕ) : Type 0 where
+  pub moment : List Event
+  pub body : List ℕ
+  pub method : List ℕ
+  pub params : Option Json
+  pub later : List Event
+  pub place : events ≡ moment ++ said (ToServer s body) ∷ later
+  pub worker : worker_of moment ≡ Some e
+  pub says : message_of body ≡ request (integer (decimal n)) method params
+  pub other : is_own method ≡ false
+
+-- Behind these events document u is open at e, and s has it under this version.
+pub record IsUnder (settings : Settings) (s e : ℕ) (events : List Event) (u digits : List ℕ) : Type 0 where
+  pub own : Open
+  pub held : HeldText
+  pub opened : found e u (shared_texts settings s events) ≡ Some own
+  pub has : held_at s u events ≡ Some held
+  pub version : digits ≡ decimal held.version
+
+-- and s has it in e's language and with e's text
+pub record IsAgreed (settings : Settings) (s e : ℕ) (events : List Event) (u digits : List ℕ) : Type 0 where
+  pub under : IsUnder settings s e events u digits
+  pub agrees : Agrees under.own under.held
+
+-- V1: what e gets in place of a version of u that s gave, behind these events, in its answer to a request of that moment: null where u isn't open at e; e's version now; e's version then; or nothing
+pub data OwnVersion (settings : Settings) (s e : ℕ) (moment events : List Event) (u digits : List ℕ) (text : Option (List ℕ)) : Type 0 where
+  unopened : found e u (shared_texts settings s events) ≡ None → text ≡ Some (codes "null") → OwnVersion settings s e moment events u digits text
+  current : (k : IsAgreed settings s e events u digits) → text ≡ Some ((k.under).own).version → OwnVersion settings s e moment events u digits text
+  former : is_some (found e u (shared_texts settings s events)) ≡ true → (IsAgreed settings s e events u digits → ⊥) → (k : IsUnder settings s e moment u digits) → text ≡ Some (k.own).version → OwnVersion settings s e moment events u digits text
+  neither : is_some (found e u (shared_texts settings s events)) ≡ true → (IsAgreed settings s e events u digits → ⊥) → (IsUnder settings s e moment u digits → ⊥) → text ≡ None → OwnVersion settings s e moment events u digits text
+
+-- a document with a version in s's answer, and what e gets in its place
+pub record IsOwn (settings : Settings) (s e : ℕ) (moment events : List Event) (document : Json) (text : Option (List ℕ)) : Type 0 where
+  pub uri : List ℕ
+  pub digits : List ℕ
+  pub named : option_and_then string_text (named_in (codes "uri") document) ≡ Some uri
+  pub given : option_and_then integer_text (named_in (codes "version") document) ≡ Some digits
+  pub own : OwnVersion settings s e moment events uri digits text
+
+-- of each of these documents e gets these bytes in place of its version
+abbrev pub AreOwn : Settings → ℕ → ℕ → List Event → List Event → List Json → List (List ℕ) → Type 0
+AreOwn settings s e moment events [] [] = Unit {0}
+AreOwn settings s e moment events (j ∷ js) (text ∷ texts) = IsOwn settings s e moment events j (Some text) × AreOwn settings s e moment events js texts
+AreOwn settings s e moment events [] (text ∷ texts) = ⊥
+AreOwn settings s e moment events (j ∷ js) [] = ⊥
+
+-- one of them stands for no text that e has, or had as it asked
+abbrev pub HasOther : Settings → ℕ → ℕ → List Event → List Event → List Json → Type 0
+HasOther settings s e moment events [] = ⊥
+HasOther settings s e moment events (j ∷ js) = IsOwn settings s e moment events j None ⊎ HasOther settings s e moment events js
+
+-- these bytes in place of each `version` of these documents
+abbrev pub version_edits : List Json → List (List ℕ) → List Edit
+version_edits (j ∷ js) (text ∷ texts) = put_edits (new_version text) j ++ version_edits js texts
+version_edits js texts = []
+
+-- the body that e gets of s's answer: all as s gave it, but for the id and the versions, which are its own; or, V2, an error
+pub data IsOwnAnswer (settings : Settings) (s e : ℕ) (moment events : List Event) (answer id body : List ℕ) : Type 0 where
+  passed : (texts : List (List ℕ)) → AreOwn settings s e moment events (documents_in answer) texts → body ≡ changed_text answer id (version_edits (documents_in answer) texts) → IsOwnAnswer settings s e moment events answer id body
+  modified : HasOther settings s e moment events (documents_in answer) → body ≡ error_text id content_modified → IsOwnAnswer settings s e moment events answer id body
+
+-- A body that e gets in the entry of an answer of s: it answers an open request of e, by e's own id, which was sent on to s.
+pub record IsHandedOn (settings : Settings) (before : List Event) (s : ℕ) (answer : List ℕ) (e : ℕ) (body : List ℕ) : Type 0 where
+  pub request : Forwarded
+  pub listed : find (answered_by (answered_id (message_of answer))) (forwarding_of s before).open_requests ≡ Some request
+  pub editor : request.editor ≡ e
+  pub sent : IsSentOn s before request.number e
+  pub id : Id
+  pub text : IsIdText id request.id
+  pub waits : is_open id (open_of e before) ≡ true
+  pub answered : answered_id (message_of body) ≡ Some id
+  pub own : IsOwnAnswer settings s e sent.moment before answer request.id body
+
+-- at an out of the entry of a message of a start that is ready
+abbrev pub OnOwnVersions : Settings → List Event → Cause → Out → Type 0
+OnOwnVersions settings before (FromServer s answer) (ToEditor e body) = (life_of s before).stage ≡ Ready → IsHandedOn settings before s answer e body
+OnOwnVersions settings before cause out = Unit {0}
+
+-- at each out of these entries, behind those before them
+abbrev pub OwnVersionsFrom : Settings → List Entry → List Entry → Type 0
+OwnVersionsFrom settings before [] = Unit {0}
+OwnVersionsFrom settings before (entry ∷ rest) = AllByRecursion (OnOwnVersions settings (events_of before) entry.cause) entry.outs × OwnVersionsFrom settings (before ++ entry ∷ []) rest
+
+abbrev pub OwnVersions : Settings → List Entry → Type 0
+OwnVersions settings history = OwnVersionsFrom settings [] history
