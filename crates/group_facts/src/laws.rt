@@ -6,6 +6,7 @@ ghost use Rattle.event_model.specs.Settings.{Settings};
 ghost use Rattle.mux_facts.specs.Ranges.{InRange};
 ghost use Rattle.group_facts.specs.Facts.{Known};
 ghost use Rattle.group_facts.specs.Legal.{Legal};
+ghost use Rattle.group_facts.specs.OwnVersions.{OwnVersions};
 ghost use Rattle.group_facts.specs.Settled.{Settled};
 ghost use Rattle.group_facts.specs.Switches.{Switches};
 ghost use Rattle.group_facts.specs.Why.{HasReasons};
@@ -29,4 +30,12 @@ pub fn every_settled()
 /// doesn't agree with it (LSP 3.17, Text Document Synchronization).
 pub fn switches()
     ensures { (settings : Settings) → InRange settings → (history : List Entry) → Legal settings history → Switches settings history }
+{}
+
+/// A law: an answer of a ready start that goes to an editor is that to an open request of it which was sent on to the start, under the
+/// editor's own id, and each version of a document in it is the editor's own, or null where the document isn't open there; where one stands
+/// for no text that the editor has, or had as it asked, the editor gets the error ContentModified instead (LSP 3.17,
+/// OptionalVersionedTextDocumentIdentifier).
+pub fn own_versions()
+    ensures { (settings : Settings) → InRange settings → (history : List Entry) → Legal settings history → OwnVersions settings history }
 {}
