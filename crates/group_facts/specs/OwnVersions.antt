@@ -32,6 +32,7 @@ use Rattle.mux_model.specs.Documents.{held_at}
 use Rattle.group_rows.specs.Answers.{shared_texts}
 use Rattle.group_rows.specs.Forwarded.{Forwarded, answered_by, forwarding_of}
 use Rattle.group_rows.specs.Texts.{worker_of}
+use Rattle.group_facts.specs.OwnTexts.{HasOwn}
 
 -- at this moment, while a message of e was at work, start s was sent a request as its number n
 pub record IsSentOn (s : ℕ) (events : List Event) (n e : ℕ) : Type 0 where
@@ -119,3 +120,7 @@ OwnVersionsFrom settings before (entry ∷ rest) = AllByRecursion (OnOwnVersions
 
 abbrev pub OwnVersions : Settings → List Entry → Type 0
 OwnVersions settings history = OwnVersionsFrom settings [] history
+
+-- Behind these events s has, of each document that is open at e, e's own text in its language.
+abbrev pub HasOwnTexts : Settings → ℕ → ℕ → List Event → Type 0
+HasOwnTexts settings s e events = (u : List ℕ) (o : Open) → found e u (shared_texts settings s events) ≡ Some o → HasOwn o (held_at s u events)
