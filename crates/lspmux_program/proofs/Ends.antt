@@ -16,6 +16,7 @@ use Rattle.lspmux_program.proofs.Passing.{not_too_many}
 use Rattle.lspmux_program.specs.Lines.{lines_of}
 use Rattle.drive_text.specs.Outs.{outs_text}
 use Rattle.group_facts.specs.OwnTexts.{OwnTexts}
+use Rattle.group_facts.proofs.OwnVersions.{own_versions_hold}
 use Rattle.group_facts.proofs.Switching.{switches_hold}
 use Rattle.group_sessions.proofs.Sessions.{sessions_kept}
 use Rattle.lspmux_program.specs.Program.{status_of, fault_line, status_line, refused_line, Ran, Drove, JournalTells, words_line, IsUnrefused, Undisturbed}
@@ -77,6 +78,7 @@ drove_done told journal input left w v failed r = record {
   legal = r.legal;
   sessions = sessions_kept built_in (record { requests = lit< tt; versions = lit< tt }) r.history r.legal;
   switches = switches_hold built_in (record { requests = lit< tt; versions = lit< tt }) r.history r.legal;
+  versions = own_versions_hold built_in (record { requests = lit< tt; versions = lit< tt }) r.history r.legal;
   own = r.own;
   few = r.few;
   told_by = r.told_by;
@@ -115,6 +117,7 @@ silent told journal input left w v u failed s status r m six seven nine l e = re
   legal = r.legal;
   sessions = sessions_kept built_in (record { requests = lit< tt; versions = lit< tt }) r.history r.legal;
   switches = switches_hold built_in (record { requests = lit< tt; versions = lit< tt }) r.history r.legal;
+  versions = own_versions_hold built_in (record { requests = lit< tt; versions = lit< tt }) r.history r.legal;
   own = r.own;
   few = r.few;
   told_by = r.told_by;
@@ -151,6 +154,7 @@ spoken told journal input left w v u failed s status r m o f six seven nine = re
   legal = r.legal;
   sessions = sessions_kept built_in (record { requests = lit< tt; versions = lit< tt }) r.history r.legal;
   switches = switches_hold built_in (record { requests = lit< tt; versions = lit< tt }) r.history r.legal;
+  versions = own_versions_hold built_in (record { requests = lit< tt; versions = lit< tt }) r.history r.legal;
   own = r.own;
   few = r.few;
   told_by = r.told_by;
@@ -175,6 +179,7 @@ refused_at told journal input left w v u failed k refusal r f = record {
   legal = r.legal;
   sessions = sessions_kept built_in (record { requests = lit< tt; versions = lit< tt }) r.history r.legal;
   switches = switches_hold built_in (record { requests = lit< tt; versions = lit< tt }) r.history r.legal;
+  versions = own_versions_hold built_in (record { requests = lit< tt; versions = lit< tt }) r.history r.legal;
   own = r.own;
   few = r.few;
   told_by = r.told_by;
@@ -213,6 +218,7 @@ drove_words told journal input left w v failed t f = record {
   legal = tt;
   sessions = sessions_kept built_in (record { requests = lit< tt; versions = lit< tt }) [] tt;
   switches = switches_hold built_in (record { requests = lit< tt; versions = lit< tt }) [] tt;
+  versions = own_versions_hold built_in (record { requests = lit< tt; versions = lit< tt }) [] tt;
   own = tt;
   few = lit≤ tt;
   told_by = t;

@@ -9,6 +9,7 @@ use Rattle.event_model.specs.Event.{events_of}
 use Rattle.session_laws.specs.Sessions.{KeepsSessions}
 use Rattle.group_facts.specs.Legal.{Legal}
 use Rattle.group_facts.specs.OwnTexts.{OwnTexts}
+use Rattle.group_facts.specs.OwnVersions.{OwnVersions}
 use Rattle.group_facts.specs.Switches.{Switches}
 use Rattle.outside_io.specs.Faults.{Rose}
 use Rattle.lspmux_program.specs.declared.refusal.Refusal.{Refusal}
@@ -118,12 +119,14 @@ pub record CutOff (input left before now : Option (List ℕ)) (failed : Type 0) 
   pub too_many : status ≡ 9 → IfSome rest (PassesFirst built_in history)
 
 -- a run of the program: there is a legal history of conforming sessions, in which each message that went on behind a sync stood on its
--- editor's own texts, and just those documents were switched before it on which the server didn't agree, of at most 2^63 - 1 causes and outs, which the journal tells where it tells
+-- editor's own texts, just those documents were switched before it on which the server didn't agree, and each answer had its editor's own
+-- versions or was an error, of at most 2^63 - 1 causes and outs, which the journal tells where it tells
 pub record Drove {J : Type 0} (told : J → Option (List Entry)) (journal : Option J) (input left before now : Option (List ℕ)) (failed : Type 0) (status : ℕ) : Type 0 where
   pub history : List Entry
   pub legal : Legal built_in history
   pub sessions : KeepsSessions history
   pub switches : Switches built_in history
+  pub versions : OwnVersions built_in history
   pub own : OwnTexts built_in history
   pub few : length (events_of history) ≤ most_events
   pub told_by : JournalTells told journal history
