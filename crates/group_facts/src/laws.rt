@@ -44,6 +44,6 @@ pub fn own_versions()
 /// A law: in a history that keeps `OwnTexts`, where a request was sent on to a start, the start had of each document that was open at the
 /// editor that asked the editor's own text in its language. So the version that the editor had then stands for the start's text.
 pub fn own_moments()
-    ensures { (settings : Settings) (history : List Entry) → OwnTexts settings history → (s n e : ℕ) (events later : List Event)
-        → events_of history ≡ events ++ later → (k : IsSentOn s events n e) → HasOwnTexts settings s e k.moment }
+    ensures { (settings : Settings) (history : List Entry) → OwnTexts settings history → (s n e : ℕ) (id : List ℕ) (events later : List Event)
+        → events_of history ≡ events ++ later → (k : IsSentOn s events n e id) → HasOwnTexts settings s e k.moment }
 {}
