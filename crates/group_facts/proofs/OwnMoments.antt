@@ -8,6 +8,7 @@ use Rattle.mux_history.specs.declared.entry.Entry.{Entry}
 use Rattle.mux_history.specs.declared.out.Out.{Out}
 use Rattle.mux_history.specs.declared.out.Out.TheVariants.{ToEditor, ToServer, Spawn, CloseEditor, EndServer}
 use Rattle.document_model.specs.Opens.{Open}
+use Rattle.document_model.specs.Rows.{Agrees}
 use Rattle.document_model.specs.Texts.{found, no_texts}
 use Rattle.event_model.specs.Event.{Event, did, events_of, heard, said, took, with_cause}
 use Rattle.event_model.specs.Settings.{Settings}
@@ -16,7 +17,7 @@ use Rattle.mux_facts.proofs.Keeps.{events_more}
 use Rattle.mux_model.specs.Documents.{held_at}
 use Rattle.group_rows.specs.Texts.{is_synced, texts_of, worker_of}
 use Rattle.group_facts.specs.OwnTexts.{AllOnOwnTexts, HasOwn, OnOwnTexts, OwnTexts, OwnTextsFrom}
-use Rattle.group_facts.specs.OwnVersions.{HasOwnTexts, IsSentOn}
+use Rattle.group_facts.specs.OwnVersions.{HasOwnTexts, IsSentOn, IsUnder}
 use Rattle.group_facts.proofs.SentOn.{worker_still}
 
 -- the events of these entries, behind others
@@ -103,3 +104,7 @@ moment_own settings history own s n e id events later whole k = by_group (group_
     by_group : (g : Option ℕ) → group_of s k.moment ≡ g → (u : List ℕ) (o : Open) → found e u (option_map_or (λ g. texts_of settings g k.moment) g no_texts) ≡ Some o → HasOwn o (held_at s u k.moment)
     by_group (Some g) home u o opened = here (ap is_synced k.says ∙ ap not k.other) e g (ap worker_of k.entry ∙ worker_still k.before e k.asked k.outs) home u o opened
     by_group None home u o opened = absurd (cc)
+
+-- what an editor has open there, and its start has, is one text
+pub own_agrees : (settings : Settings) (s e : ℕ) (events : List Event) (u digits : List ℕ) → HasOwnTexts settings s e events → (k : IsUnder settings s e events u digits) → Agrees k.own k.held
+own_agrees settings s e events u digits own k = subst (HasOwn k.own) k.has (own u k.own k.opened)
