@@ -8,15 +8,17 @@ use Rattle.mux_history.specs.declared.entry.Entry.{Entry}
 use Rattle.mux_history.specs.declared.out.Out.{Out}
 use Rattle.mux_history.specs.declared.out.Out.TheVariants.{ToEditor, ToServer, Spawn, CloseEditor, EndServer}
 use Rattle.document_model.specs.Opens.{Open}
+use Rattle.document_model.specs.Rows.{Agrees}
 use Rattle.document_model.specs.Texts.{found, no_texts}
 use Rattle.event_model.specs.Event.{Event, did, events_of, heard, said, took, with_cause}
 use Rattle.event_model.specs.Settings.{Settings}
 use Rattle.event_model.specs.Spawns.{group_of}
 use Rattle.mux_facts.proofs.Keeps.{events_more}
 use Rattle.mux_model.specs.Documents.{held_at}
-use Rattle.group_rows.specs.Texts.{is_synced, texts_of}
+use Rattle.group_rows.specs.Texts.{is_synced, texts_of, worker_of}
 use Rattle.group_facts.specs.OwnTexts.{AllOnOwnTexts, HasOwn, OnOwnTexts, OwnTexts, OwnTextsFrom}
-use Rattle.group_facts.specs.OwnVersions.{HasOwnTexts, IsSentOn}
+use Rattle.group_facts.specs.OwnVersions.{HasOwnTexts, IsSentOn, IsUnder}
+use Rattle.group_facts.proofs.SentOn.{worker_still}
 
 -- the events of these entries, behind others
 events_in : List Entry → List Event
@@ -93,12 +95,16 @@ module _ (settings : Settings) (s : ℕ) (body : List ℕ) where
   own_at : (history : List Entry) → OwnTexts settings history → (moment later : List Event) → events_of history ≡ moment ++ said (ToServer s body) ∷ later → OnOwnTexts settings moment (ToServer s body)
   own_at history own moment later e = own_in [] history own moment later (sym (events_both [] history) ∙ e)
 
-pub moment_own : (settings : Settings) (history : List Entry) → OwnTexts settings history → (s n e : ℕ) (events later : List Event) → events_of history ≡ events ++ later → (k : IsSentOn s events n e) → HasOwnTexts settings s e k.moment
-moment_own settings history own s n e events later whole k = by_group (group_of s k.moment) refl
+pub moment_own : (settings : Settings) (history : List Entry) → OwnTexts settings history → (s n e : ℕ) (id : List ℕ) (events later : List Event) → events_of history ≡ events ++ later → (k : IsSentOn s events n e id) → HasOwnTexts settings s e k.moment
+moment_own settings history own s n e id events later whole k = by_group (group_of s k.moment) refl
   where
     here : OnOwnTexts settings k.moment (ToServer s k.body)
     here = own_at settings s k.body history own k.moment (k.later ++ later) (whole ∙ ap (λ z. z ++ later) k.place ∙ append_assoc k.moment (said (ToServer s k.body) ∷ k.later) later)
 
     by_group : (g : Option ℕ) → group_of s k.moment ≡ g → (u : List ℕ) (o : Open) → found e u (option_map_or (λ g. texts_of settings g k.moment) g no_texts) ≡ Some o → HasOwn o (held_at s u k.moment)
-    by_group (Some g) home u o opened = here (ap is_synced k.says ∙ ap not k.other) e g k.worker home u o opened
+    by_group (Some g) home u o opened = here (ap is_synced k.says ∙ ap not k.other) e g (ap worker_of k.entry ∙ worker_still k.before e k.asked k.outs) home u o opened
     by_group None home u o opened = absurd (cc)
+
+-- what an editor has open there, and its start has, is one text
+pub own_agrees : (settings : Settings) (s e : ℕ) (events : List Event) (u digits : List ℕ) → HasOwnTexts settings s e events → (k : IsUnder settings s e events u digits) → Agrees k.own k.held
+own_agrees settings s e events u digits own k = subst (HasOwn k.own) k.has (own u k.own k.opened)

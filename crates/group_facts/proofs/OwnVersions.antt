@@ -69,7 +69,7 @@ module _ (settings : Settings) (before : List Event) (facts : Facts settings bef
       on : (f : Forwarded) → find (answered_by (answered_id (message_of answer))) (forwarding_of s before).open_requests ≡ Some f → IsHandedOn settings before s answer f.editor (text_for f)
       on f found =
           let k : IsAsker before f.editor f.id = found_is (IsForwarded before) (answered_by (answered_id (message_of answer))) f (forwarding_of s before).open_requests ((facts.steady).asked s) found in
-          let w : WasSentOn s before f.number f.editor = found_is (λ (g : Forwarded). WasSentOn s before g.number g.editor) (answered_by (answered_id (message_of answer))) f (forwarding_of s before).open_requests (asked s) found in
+          let w : WasSentOn s before f.number f.editor f.id = found_is (λ (g : Forwarded). WasSentOn s before g.number g.editor g.id) (answered_by (answered_id (message_of answer))) f (forwarding_of s before).open_requests (asked s) found in
           record {
             request = f;
             listed = found;
