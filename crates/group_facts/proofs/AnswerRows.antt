@@ -1,6 +1,6 @@
 -- S2 to S5 and the start of a program: what an entry of a start sends.
-use Rattle.std.proofs.Common.{◌≡◌, ℕ, zero, suc, ◌+◌, true, false, cond, ◌&&◌, List, [], ◌∷◌, ◌++◌, filter, find, nat_eq, codes, if◌then◌else◌, Some, None, refl, sym, ◌∙◌, ap, ap₂, subst, append_assoc, arith, Bool, bytes_eq, Option}
-use Rattle.std.specs.List.{AllByRecursion, range_with_len}
+use Rattle.std.proofs.Common.{◌≡◌, ℕ, zero, suc, true, false, cond, ◌&&◌, List, [], ◌∷◌, ◌++◌, filter, find, nat_eq, codes, if◌then◌else◌, Some, None, refl, sym, ◌∙◌, ap, ap₂, subst, append_assoc, Bool, bytes_eq, Option}
+use Rattle.std.specs.List.{AllByRecursion}
 use Rattle.std.specs.Prelude.{slice_get}
 use Rattle.std.proofs.lemmas.Bool.{and_parts}
 use Rattle.std.proofs.lemmas.List.Elements.{filter-append}
@@ -14,7 +14,7 @@ use Rattle.mux_history.specs.declared.out.Out.{Out}
 use Rattle.mux_history.specs.declared.out.Out.TheVariants.{ToEditor, ToServer}
 use Rattle.rpc_message.specs.Message.{Message, request, notification, result, error, not_json, not_message, Id, integer, message_of, id_bytes, result_bytes}
 use Rattle.rpc_message.specs.Texts.{ok_text, initialized_text, error_text, invalid_request}
-use Rattle.rpc_message.proofs.Fixed.{initialized_law, id_as_response, ok_law}
+use Rattle.rpc_message.proofs.Fixed.{initialized_law}
 use Rattle.event_model.specs.declared.stage.Stage.{Stage}
 use Rattle.event_model.specs.declared.stage.Stage.TheVariants.{Unspawned, Spawning, Initializing, Ready, Stopping, Ending, Ended}
 use Rattle.event_model.specs.declared.phase.Phase.TheVariants.{Waiting}
@@ -26,7 +26,7 @@ use Rattle.event_model.specs.Row.{each, outs}
 use Rattle.event_model.specs.Settings.{Settings}
 use Rattle.event_model.specs.Stages.{Life, life_of, is_first_result, stage_hears, is_initializing, stage_told}
 use Rattle.mux_model.specs.Documents.{Sent, held_at, sent_of}
-use Rattle.mux_model.specs.Rows.{below, to_start}
+use Rattle.mux_model.specs.Rows.{to_start}
 use Rattle.mux_model.proofs.DocumentFolds.{outs_to_start}
 use Rattle.response_route.specs.Answers.{answer_text}
 use Rattle.mux_facts.specs.Allowed.{is_response}
@@ -58,7 +58,6 @@ use Rattle.group_facts.proofs.RefusedRow.{refused_why}
 use Rattle.group_facts.proofs.SharedRows.{AllTold, replay_told}
 use Rattle.group_facts.proofs.Tellings.{Calm, tells_row}
 use Rattle.group_facts.specs.Why.{IsPassing, Why, begins, greeted, greets, passes, welcomes, responds, exits, stopped}
-use Rattle.rpc_message.proofs.Ids.{request_id_bytes}
 use Rattle.json_text.specs.declared.kind.Word.TheVariants.{Null}
 use Rattle.group_facts.proofs.Nulls.{null_said}
 use Rattle.group_rows.proofs.Exits.{exit_says}

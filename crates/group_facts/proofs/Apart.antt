@@ -109,7 +109,7 @@ module _ (settings : Settings) (before : List Event) (cause : Cause) (events : L
 
   -- an editor's request: it alone is new
   module _ (k : IsForward settings before cause events n body) where
-    pub new : Forwarded
+    unfoldable pub new : Forwarded
     new = record { number = (forwarding_of n events).next; editor = (k.sender).editor; id = (k.sender).id; cancelled = false }
 
     list_now : (forwarding_of n sent).open_requests ≡ (forwarding_of n events).open_requests ++ new ∷ []

@@ -1,6 +1,5 @@
 -- What is open at every editor, behind each sort of entry.
 use Rattle.std.proofs.Common.{◌≡◌, ℕ, ◌+◌, ◌<◌, ◌≤◌, ◌^◌, Bool, true, false, ◌&&◌, List, [], ◌∷◌, ◌++◌, find, nat_eq, if◌then◌else◌, Some, None, ◌⊎◌, inl, inr, refl, sym, ◌∙◌, ap, ap₂, subst, arith, append-nil}
-use Rattle.std.proofs.lemmas.Bool.{and_parts}
 use Rattle.mux_history.specs.declared.cause.Cause.{Cause}
 use Rattle.mux_history.specs.declared.cause.Cause.TheVariants.{Joined, FromEditor, EditorGone, Started, StartFailed, FromServer, ServerGone, Drained, Tick}
 use Rattle.mux_history.specs.declared.cause.Why as link
@@ -16,20 +15,19 @@ use Rattle.event_model.specs.Requests.{answered_id, with_request, is_open, open_
 use Rattle.event_model.specs.Row.{choose, nothing, on, outs, send}
 use Rattle.event_model.specs.Settings.{Settings}
 use Rattle.event_model.specs.Spawns.{group_of}
-use Rattle.event_model.specs.Stages.{is_first_result, life_of}
+use Rattle.event_model.specs.Stages.{life_of}
 use Rattle.event_model.proofs.Frames.{never}
 use Rattle.response_route.specs.Answers.{answer_text}
 use Rattle.mux_model.specs.Fits.{fits_behind}
 use Rattle.mux_facts.specs.Ranges.{InRange}
 use Rattle.mux_facts.proofs.Folds.{desk_more, opens_more}
-use Rattle.mux_facts.proofs.Table.{FirstResult, first_result_is}
 use Rattle.mux_facts.proofs.Words.{number_same, same_number}
 use Rattle.group_words.specs.Houses.{groups_of, placed_for, places}
 use Rattle.group_rows.specs.Forwarded.{Forwarded, answered_by, forwarding_of}
 use Rattle.group_rows.specs.Answers.{answer_row, hand_on, own_version}
 use Rattle.group_rows.specs.Rows.{from_server, outs_of}
 use Rattle.group_rows.proofs.Versions.{own_flat}
-use Rattle.group_facts.specs.Built.{built_behind, built_early, built_from_server, is_left, is_shown_whole}
+use Rattle.group_facts.specs.Built.{built_behind, built_from_server, is_left}
 use Rattle.group_facts.specs.Facts.{is_too_many, is_up, turned_away}
 use Rattle.group_facts.specs.Lively.{Lively, is_unplaced}
 use Rattle.group_facts.specs.Settled.{is_answered}

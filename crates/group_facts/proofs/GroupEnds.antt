@@ -1,8 +1,7 @@
 -- end(g): what the last start of a group that lives no more is sent, in an entry in which nothing came from it and nothing went to it yet.
 use Rattle.std.specs.Str.{chars}
-use Rattle.std.proofs.Common.{decimal, ◌≡◌, ℕ, ◌+◌, ◌≤◌, ◌<◌, ◌^◌, true, false, List, codes, None, refl, ap, arith}
+use Rattle.std.proofs.Common.{decimal, ◌≡◌, ℕ, ◌+◌, ◌≤◌, ◌<◌, ◌^◌, false, List, codes, None, refl, ap, arith}
 use Rattle.mux_history.specs.declared.cause.Cause.{Cause}
-use Rattle.mux_history.specs.declared.out.Out.{Out}
 use Rattle.rpc_message.specs.Message.{request, integer, message_of}
 use Rattle.rpc_message.specs.Texts.{request_text}
 use Rattle.rpc_message.proofs.Replies.{request_law}

@@ -26,6 +26,7 @@ pub mod Numbers
 pub mod OpenByOut
 pub mod OpenByPhase
 pub mod Opened
+pub mod OwnMoments
 pub mod OwnVersions
 pub mod OwnEntry
 pub mod PartingRows

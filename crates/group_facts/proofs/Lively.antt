@@ -36,7 +36,6 @@ use Rattle.group_words.specs.declared.placed.Placed.{Placed}
 use Rattle.group_words.specs.Houses.{at_group, declared_for, groups_lose, groups_next, groups_of, has_editor, home_next, home_of, house_of, is_doubled, is_first_error, is_home, key_for, placed_for, places, stops, time_of}
 use Rattle.group_words.specs.Placing.{end_where, ended, home_by, is_due, is_live, with_editor}
 use Rattle.group_words.proofs.Frames.{groups_more, home_more}
-use Rattle.group_rows.specs.Forwarded.{forwarding_of}
 use Rattle.group_rows.specs.Rows.{names_lspmux, outs_of}
 use Rattle.group_facts.specs.Built.{built_behind, built_from_editor, doubles, is_left, is_marked, is_standard}
 use Rattle.group_facts.specs.Facts.{is_put_out, is_refusing, is_up}

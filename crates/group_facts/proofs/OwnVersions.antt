@@ -1,5 +1,5 @@
 -- Each answer that an editor gets has its own versions of documents, or is an error.
-use Rattle.std.proofs.Common.{◌≡◌, ℕ, true, List, [], ◌∷◌, ◌++◌, find, Option, Some, IsTrue, refl, sym, ◌∙◌, ap, subst, append_assoc}
+use Rattle.std.proofs.Common.{◌≡◌, ℕ, List, [], ◌∷◌, ◌++◌, find, Some, refl, sym, ◌∙◌, subst, append_assoc, append-nil}
 use Rattle.std.specs.List.{AllByRecursion}
 use Rattle.std.specs.Option.{option_and_then}
 use Rattle.mux_history.specs.declared.cause.Cause.{Cause}
@@ -11,13 +11,12 @@ use Rattle.rpc_message.specs.Message.{message_of}
 use Rattle.event_model.specs.declared.stage.Stage.{Stage}
 use Rattle.event_model.specs.declared.stage.Stage.TheVariants.{Unspawned, Spawning, Initializing, Ready, Stopping, Ending, Ended}
 use Rattle.event_model.specs.Event.{Event, events_of, said, with_cause}
-use Rattle.event_model.specs.Phases.{desk_of, is_there}
 use Rattle.event_model.specs.Requests.{answered_id}
 use Rattle.event_model.specs.Row.{outs}
 use Rattle.event_model.specs.Settings.{Settings}
 use Rattle.event_model.specs.Stages.{life_of}
+use Rattle.response_route.specs.Answers.{answer_text}
 use Rattle.response_route.specs.Versions.{version_now}
-use Rattle.mux_model.specs.Fits.{fits}
 use Rattle.mux_facts.specs.Ranges.{InRange}
 use Rattle.mux_facts.proofs.Lists.{found_is}
 use Rattle.mux_facts.proofs.Reasons.{Because, Reasons, by_choose, by_nothing, by_on, by_send}
@@ -25,16 +24,29 @@ use Rattle.group_rows.specs.Answers.{agreed_version, answer_row, held_version, m
 use Rattle.group_rows.specs.Forwarded.{Forwarded, answered_by, forwarding_of}
 use Rattle.group_rows.specs.Rows.{from_server, outs_of}
 use Rattle.group_rows.proofs.Versions.{own_flat}
-use Rattle.group_facts.specs.Built.{built}
 use Rattle.group_facts.specs.Facts.{IsAsker, IsForwarded}
 use Rattle.group_facts.specs.Legal.{Legal, LegalFrom}
-use Rattle.group_facts.specs.OwnVersions.{IsHandedOn, IsOwnAnswer, OnOwnVersions, OwnVersion, OwnVersions, OwnVersionsFrom}
+use Rattle.group_facts.specs.OwnVersions.{IsHandedOn, OnOwnVersions, OwnVersion, OwnVersions, OwnVersionsFrom}
 use Rattle.group_facts.proofs.Answered.{answer_says}
 use Rattle.group_facts.proofs.AnswerRows.{answers_only, response_is}
 use Rattle.group_facts.proofs.Facts.{Facts}
 use Rattle.group_facts.proofs.Known.{facts_hold}
 use Rattle.group_facts.proofs.SentOn.{AllSentOn, WasSentOn, sent_holds}
 use Rattle.group_facts.proofs.VersionsIn.{own_answer, own_now}
+
+-- a start that isn't ready gives an editor no answer to a request of its own
+unready : (settings : Settings) (before : List Event) (s : ℕ) (answer : List ℕ) → ((life_of s before).stage ≡ Ready → ⊥) → (xs : List Out) → AllByRecursion (OnOwnVersions settings before (FromServer s answer)) xs
+unready settings before s answer other [] = tt
+unready settings before s answer other (ToEditor e body ∷ xs) = (λ ready. absurd (other ready), unready settings before s answer other xs)
+unready settings before s answer other (ToServer n body ∷ xs) = (tt, unready settings before s answer other xs)
+unready settings before s answer other (Spawn n g ∷ xs) = (tt, unready settings before s answer other xs)
+unready settings before s answer other (CloseEditor e ∷ xs) = (tt, unready settings before s answer other xs)
+unready settings before s answer other (EndServer n ∷ xs) = (tt, unready settings before s answer other xs)
+
+-- nor is anything said of other causes
+unsaid : (settings : Settings) (before : List Event) (cause : Cause) → ((out : Out) → OnOwnVersions settings before cause out) → (xs : List Out) → AllByRecursion (OnOwnVersions settings before cause) xs
+unsaid settings before cause h [] = tt
+unsaid settings before cause h (out ∷ xs) = (h out, unsaid settings before cause h xs)
 
 module _ (settings : Settings) (before : List Event) (facts : Facts settings before) (asked : AllSentOn before) (s : ℕ) (answer : List ℕ) where
   abbrev R : List Event → Out → Type 0
@@ -48,16 +60,16 @@ module _ (settings : Settings) (before : List Event) (facts : Facts settings bef
   own_means f moment at u digits = subst (λ o. OwnVersion settings s f.editor moment before u digits (version_now digits (stamp_at agreed_version settings s f.editor before u) (option_and_then (λ m. stamp_at held_version settings s f.editor m u) o))) (sym at)
       (own_now settings s f.editor u digits moment before)
 
-  handed : (f : Forwarded) → find (answered_by (answered_id (message_of answer))) (forwarding_of s before).open_requests ≡ Some f → Because R now (answer_row settings s before answer (message_of answer)) → Unit {0}
-  handed f found h = tt
+  abbrev text_for : Forwarded → List ℕ
+  text_for f = answer_text (own_version settings before s f) answer f.id
 
   answer_on : Because R now (answer_row settings s before answer (message_of answer))
   answer_on = by_on (λ none. by_nothing) (λ f found. by_choose (λ there. by_send (λ ready. on f found)) (λ gone. by_nothing))
     where
-      on : (f : Forwarded) → find (answered_by (answered_id (message_of answer))) (forwarding_of s before).open_requests ≡ Some f → IsHandedOn settings before s answer f.editor _
+      on : (f : Forwarded) → find (answered_by (answered_id (message_of answer))) (forwarding_of s before).open_requests ≡ Some f → IsHandedOn settings before s answer f.editor (text_for f)
       on f found =
           let k : IsAsker before f.editor f.id = found_is (IsForwarded before) (answered_by (answered_id (message_of answer))) f (forwarding_of s before).open_requests ((facts.steady).asked s) found in
-          let w : WasSentOn s before f.number f.editor = found_is (λ (g : Forwarded). WasSentOn s before g.number g.editor) (answered_by (answered_id (message_of answer))) f (forwarding_of s before).open_requests (asked s) found in
+          let w : WasSentOn s before f.number f.editor f.id = found_is (λ (g : Forwarded). WasSentOn s before g.number g.editor g.id) (answered_by (answered_id (message_of answer))) f (forwarding_of s before).open_requests (asked s) found in
           record {
             request = f;
             listed = found;
@@ -66,6 +78,47 @@ module _ (settings : Settings) (before : List Event) (facts : Facts settings bef
             id = k.id;
             text = k.text;
             waits = k.waits;
-            answered = (response_is k.id _ (answer_says (own_version settings before s f) (own_flat settings before s f (facts.base).meant) answer f.id k.id (answers_only (message_of answer) f (forwarding_of s before).open_requests found) k.text)).1;
+            answered = (response_is k.id (message_of (text_for f)) (answer_says (own_version settings before s f) (own_flat settings before s f (facts.base).meant) answer f.id k.id (answers_only (message_of answer) f (forwarding_of s before).open_requests found) k.text)).1;
             own = own_answer settings s f.editor (w.sent).moment before (own_version settings before s f) (own_means f (w.sent).moment w.at) answer f.id;
           }
+
+  -- of a start that isn't ready nothing is said
+  from_ready : (stage : Stage) → (life_of s before).stage ≡ stage → AllByRecursion (OnOwnVersions settings before (FromServer s answer)) (outs (from_server settings s before answer (message_of answer) stage) now)
+  from_ready Ready at = flat now (outs (answer_row settings s before answer (message_of answer)) now) (answer_on).why
+    where
+      flat : (events : List Event) (xs : List Out) → Reasons R events xs → AllByRecursion (OnOwnVersions settings before (FromServer s answer)) xs
+      flat events [] h = tt
+      flat events (out ∷ xs) h = (h.0, flat (events ++ said out ∷ []) xs h.1)
+  from_ready Unspawned at = tt
+  from_ready Spawning at = tt
+  from_ready Initializing at = unready settings before s answer (λ ready. let clash : Initializing ≡ Ready = sym at ∙ ready in cc) (outs (from_server settings s before answer (message_of answer) Initializing) now)
+  from_ready Stopping at = unready settings before s answer (λ ready. let clash : Stopping ≡ Ready = sym at ∙ ready in cc) (outs (from_server settings s before answer (message_of answer) Stopping) now)
+  from_ready Ending at = tt
+  from_ready Ended at = tt
+
+module _ (settings : Settings) (range : InRange settings) where
+  on_entry : (before : List Event) → Facts settings before → AllSentOn before → (cause : Cause) → AllByRecursion (OnOwnVersions settings before cause) (outs_of settings before cause)
+  on_entry before facts asked (FromServer s answer) = from_ready settings before facts asked s answer (life_of s before).stage refl
+  on_entry before facts asked (Joined e) = unsaid settings before (Joined e) (λ out. tt) (outs_of settings before (Joined e))
+  on_entry before facts asked (FromEditor e body) = unsaid settings before (FromEditor e body) (λ out. tt) (outs_of settings before (FromEditor e body))
+  on_entry before facts asked (EditorGone e why) = unsaid settings before (EditorGone e why) (λ out. tt) (outs_of settings before (EditorGone e why))
+  on_entry before facts asked (Started s) = unsaid settings before (Started s) (λ out. tt) (outs_of settings before (Started s))
+  on_entry before facts asked (StartFailed s) = unsaid settings before (StartFailed s) (λ out. tt) (outs_of settings before (StartFailed s))
+  on_entry before facts asked (ServerGone s) = unsaid settings before (ServerGone s) (λ out. tt) (outs_of settings before (ServerGone s))
+  on_entry before facts asked (Drained e k) = unsaid settings before (Drained e k) (λ out. tt) (outs_of settings before (Drained e k))
+  on_entry before facts asked (Tick t) = unsaid settings before (Tick t) (λ out. tt) (outs_of settings before (Tick t))
+
+  -- one entry more
+  legal_more : (before xs : List Entry) (entry : Entry) → LegalFrom settings before xs → LegalFrom settings (before ++ xs) (entry ∷ []) → LegalFrom settings before (xs ++ entry ∷ [])
+  legal_more before [] entry legal one = subst (λ z. LegalFrom settings z (entry ∷ [])) (append-nil before) one
+  legal_more before (x ∷ xs) entry legal one = (legal.0, legal.1, legal.2, legal_more (before ++ x ∷ []) xs entry legal.3 (subst (λ z. LegalFrom settings z (entry ∷ [])) (sym (append_assoc before (x ∷ []) xs)) one))
+
+  own_from : (before rest : List Entry) → Legal settings before → LegalFrom settings before rest → OwnVersionsFrom settings before rest
+  own_from before [] so_far legal = tt
+  own_from before (entry ∷ rest) so_far legal = (
+    subst (AllByRecursion (OnOwnVersions settings (events_of before) entry.cause)) (sym legal.2) (on_entry (events_of before) (facts_hold settings range before so_far) (sent_holds settings range before so_far) entry.cause),
+    own_from (before ++ entry ∷ []) rest (legal_more [] before entry so_far (legal.0, legal.1, legal.2, tt)) legal.3,
+  )
+
+  pub own_versions_hold : (history : List Entry) → Legal settings history → OwnVersions settings history
+  own_versions_hold history legal = own_from [] history tt legal

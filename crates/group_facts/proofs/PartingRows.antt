@@ -1,5 +1,5 @@
 -- E3, E9 and X5: an editor whose link ends or is to be ended, or that sends `shutdown`, leaves.
-use Rattle.std.proofs.Common.{◌≡◌, ℕ, Bool, true, false, ◌&&◌, ◌||◌, List, [], ◌∷◌, ◌++◌, nat_eq, codes, refl, ◌∙◌, ap, ap₂, Option, Some, arith}
+use Rattle.std.proofs.Common.{◌≡◌, ℕ, Bool, true, false, ◌&&◌, ◌||◌, List, [], ◌∷◌, ◌++◌, nat_eq, codes, refl, ◌∙◌, ap, ap₂, Option}
 use Rattle.json_text.specs.declared.kind.Word.TheVariants.{Null}
 use Rattle.json_text.specs.Json.{Json, word}
 use Rattle.mux_history.specs.declared.cause.Cause.TheVariants.{EditorGone, FromEditor}

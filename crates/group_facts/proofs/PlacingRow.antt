@@ -1,17 +1,15 @@
 -- E7: an editor joins a group, or one is founded for it, perhaps in place of an idle one, or it is turned away.
-use Rattle.std.specs.Str.{chars}
 use Rattle.std.proofs.lemmas.List.{length-append}
 use Rattle.std.proofs.lemmas.List.Elements.{filter-append}
-use Rattle.std.proofs.Common.{decimal, ◌≡◌, ℕ, ◌+◌, true, List, [], ◌∷◌, ◌++◌, ◌≤◌, ◌<◌, ◌^◌, codes, Option, Some, None, refl, sym, ◌∙◌, ap, ap₂, arith, length, nat_lt, Bool, false, subst, if◌then◌else◌, ◌&&◌, ◌||◌, nat_eq, append-nil}
+use Rattle.std.proofs.Common.{◌≡◌, ℕ, true, List, [], ◌∷◌, ◌++◌, ◌<◌, codes, Option, Some, None, refl, sym, ◌∙◌, ap, ap₂, arith, length, nat_lt, Bool, false, subst, if◌then◌else◌, ◌&&◌, ◌||◌, nat_eq, append-nil}
 use Rattle.json_text.specs.Json.{Json}
 use Rattle.mux_history.specs.declared.cause.Cause.TheVariants.{FromEditor}
 use Rattle.mux_history.specs.declared.out.Out.TheVariants.{ToEditor, ToServer, EndServer}
-use Rattle.rpc_message.specs.Message.{request, Id, integer, message_of, id_bytes}
+use Rattle.rpc_message.specs.Message.{request, Id, message_of, id_bytes}
 use Rattle.rpc_message.specs.Texts.{ok_text, error_text, request_text, request_failed, error_tree}
-use Rattle.rpc_message.proofs.Replies.{request_law}
 use Rattle.event_model.specs.declared.phase.Phase.TheVariants.{New, Waiting}
 use Rattle.event_model.specs.declared.stage.Stage.{Stage}
-use Rattle.event_model.specs.declared.stage.Stage.TheVariants.{Unspawned, Spawning, Initializing, Ready, Stopping, Ending, Ended}
+use Rattle.event_model.specs.declared.stage.Stage.TheVariants.{Spawning, Initializing, Ready}
 use Rattle.event_model.specs.Event.{Event, behind, heard, said}
 use Rattle.event_model.specs.Phases.{Desk, desk_of, desk_hears, phase_told, is_there}
 use Rattle.event_model.specs.Parts.{server_part, is_of_server}
@@ -38,9 +36,8 @@ use Rattle.group_words.specs.Placing.{changed, ended, evicting, first_from, foun
 use Rattle.group_words.proofs.Frames.{changed_length, groups_more, groups_stay}
 use Rattle.mux_facts.proofs.Keeps.{behind_nothing}
 use Rattle.group_words.specs.Rows.{answer_with, end_group, end_start, initialize_row, placed_row}
-use Rattle.group_rows.specs.Forwarded.{forwarding_of}
 use Rattle.group_facts.specs.Lively.{IsDying, lives_at}
-use Rattle.group_facts.proofs.GroupEnds.{Untouched, start_ends}
+use Rattle.group_facts.proofs.GroupEnds.{start_ends}
 use Rattle.group_facts.proofs.LiveGroups.{IsFair, over_at, placed_fair}
 use Rattle.group_facts.specs.Facts.{Bounded, IsPlain, IsWaiting, Plain, is_parting, is_up, turned_away}
 use Rattle.group_facts.proofs.RequestRow.{R, asked, desk_taken, either_desk}

@@ -7,19 +7,18 @@ use Rattle.mux_history.specs.declared.cause.Cause.{Cause}
 use Rattle.mux_history.specs.declared.cause.Cause.TheVariants.{FromServer}
 use Rattle.mux_history.specs.declared.out.Out.{Out}
 use Rattle.mux_history.specs.declared.out.Out.TheVariants.{ToEditor, ToServer, Spawn, CloseEditor, EndServer}
-use Rattle.rpc_message.specs.Message.{Message, request, notification, result, error, not_json, not_message, Id, message_of}
+use Rattle.rpc_message.specs.Message.{Message, request, notification, result, error, not_json, not_message, message_of}
 use Rattle.event_model.specs.declared.phase.Phase.{Phase}
 use Rattle.event_model.specs.declared.phase.Phase.TheVariants.{Absent, New, Waiting, Answered, Running, Down, Closed, Gone}
 use Rattle.event_model.specs.declared.stage.Stage.{Stage}
 use Rattle.event_model.specs.declared.stage.Stage.TheVariants.{Initializing}
 use Rattle.event_model.specs.Event.{Event, behind, heard, said, with_cause}
-use Rattle.event_model.specs.Phases.{Desk, desk_of, editors_behind, editors_of, is_begun, is_waiting, phase_closed, phase_told}
+use Rattle.event_model.specs.Phases.{Desk, desk_of, editors_of, is_begun, is_waiting, phase_closed, phase_told}
 use Rattle.event_model.specs.Row.{each, outs}
 use Rattle.event_model.specs.Settings.{Settings}
 use Rattle.event_model.specs.Spawns.{group_of}
 use Rattle.event_model.specs.Stages.{is_first_result, is_initializing, life_of}
 use Rattle.event_model.proofs.Frames.{never}
-use Rattle.mux_model.specs.Rows.{below}
 use Rattle.mux_facts.proofs.Editors.{Editors}
 use Rattle.mux_facts.proofs.Folds.{desk_more, editors_more}
 use Rattle.mux_facts.proofs.Keeps.{behind_both}

@@ -1,5 +1,5 @@
 -- S3: what is sent where a start refuses its `initialize`.
-use Rattle.std.proofs.Common.{◌≡◌, ℕ, zero, suc, Bool, true, false, cond, not, ◌&&◌, List, [], ◌∷◌, ◌++◌, filter, nat_eq, codes, if◌then◌else◌, Option, Some, None, refl, sym, ◌∙◌, ap, ap₂, subst, append_assoc}
+use Rattle.std.proofs.Common.{◌≡◌, ℕ, zero, suc, Bool, true, false, cond, not, ◌&&◌, List, [], ◌∷◌, ◌++◌, filter, nat_eq, codes, if◌then◌else◌, Option, Some, refl, sym, ◌∙◌, ap, ap₂, subst, append_assoc}
 use Rattle.std.specs.Option.{option_map_or}
 use Rattle.std.proofs.lemmas.Bool.{and_parts}
 use Rattle.json_text.specs.Json.{Json}
@@ -18,10 +18,9 @@ use Rattle.event_model.specs.Phases.{Desk, desk_of, editors_of, is_begun, is_the
 use Rattle.event_model.specs.Requests.{answered_id, is_open, open_of, without}
 use Rattle.event_model.specs.Row.{each, outs, send}
 use Rattle.event_model.specs.Settings.{Settings}
-use Rattle.event_model.specs.Spawns.{group_behind, group_of}
-use Rattle.event_model.specs.Stages.{Life, is_first_result, is_initializing, life_of, stage_hears}
+use Rattle.event_model.specs.Spawns.{group_of}
+use Rattle.event_model.specs.Stages.{Life, is_initializing, life_of, stage_hears}
 use Rattle.event_model.proofs.Frames.{never}
-use Rattle.mux_model.specs.Rows.{below}
 use Rattle.mux_facts.proofs.Folds.{desk_more, life_more, opens_more}
 use Rattle.mux_facts.proofs.Reasons.{Because, by_nothing, by_send, by_then, by_look, by_on, reasons_keep}
 use Rattle.mux_facts.proofs.Rising.{by_rising}

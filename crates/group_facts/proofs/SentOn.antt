@@ -1,66 +1,73 @@
 -- Each open request of a start was sent on to it, at a moment that the events before tell.
-use Rattle.std.proofs.Common.{◌≡◌, ℕ, ◌+◌, ◌<◌, ◌≤◌, Bool, true, false, not, List, [], ◌∷◌, ◌++◌, map, fold, nat_eq, codes, decimal, refl, sym, ◌∙◌, ap, subst, arith, append_assoc}
+use Rattle.std.proofs.Common.{◌≡◌, ℕ, ◌+◌, ◌<◌, ◌≤◌, Bool, true, false, not, List, [], ◌∷◌, ◌++◌, map, fold, nat_eq, codes, decimal, if◌then◌else◌, refl, sym, ◌∙◌, ap, subst, arith, append_assoc}
 use Rattle.std.specs.Prelude.{Option, Some, None}
 use Rattle.std.specs.List.{AllByRecursion}
 use Rattle.std.proofs.lemmas.List.Sums.{fold-append}
 use Rattle.json_text.specs.Json.{Json}
 use Rattle.mux_history.specs.declared.cause.Cause.{Cause}
-use Rattle.mux_history.specs.declared.cause.Cause.TheVariants.{Joined, FromEditor, EditorGone, Started, StartFailed, FromServer, ServerGone, Drained, Tick}
+use Rattle.mux_history.specs.declared.cause.Cause.TheVariants.{FromEditor, FromServer}
 use Rattle.mux_history.specs.declared.entry.Entry.{Entry}
 use Rattle.mux_history.specs.declared.out.Out.{Out}
 use Rattle.mux_history.specs.declared.out.Out.TheVariants.{ToEditor, ToServer, Spawn, CloseEditor, EndServer}
-use Rattle.rpc_message.specs.Message.{Message, request, notification, result, error, not_json, not_message, Id, integer, message_of}
+use Rattle.rpc_message.specs.Message.{Message, request, notification, result, error, not_json, not_message, Id, id_bytes, integer, message_of}
 use Rattle.document_model.proofs.Written.{Spoken, spoken}
 use Rattle.event_model.specs.Event.{Event, behind, did, events_of, heard, said, with_cause}
 use Rattle.event_model.specs.Requests.{is_own, next_number}
 use Rattle.event_model.specs.Settings.{Settings}
 use Rattle.event_model.specs.Spawns.{starts_of}
+use Rattle.mux_model.specs.Documents.{held_at}
 use Rattle.mux_facts.specs.Allowed.{is_response}
 use Rattle.mux_facts.specs.Ranges.{InRange}
 use Rattle.mux_facts.proofs.Lists.{all_of}
 use Rattle.mux_facts.proofs.Words.{number_same, same_number}
 use Rattle.group_rows.specs.Answers.{moment_of}
-use Rattle.group_rows.specs.Forwarded.{Forwarded, forwarding_of}
-use Rattle.group_rows.specs.Texts.{worker_behind, worker_of}
+use Rattle.group_rows.specs.Forwarded.{Forwarded, Forwarding, Sender, forwarding_behind, forwarding_of, forwards, no_forwarding, numbered, sender_of}
+use Rattle.group_rows.specs.Rows.{sync_bodies}
+use Rattle.group_rows.specs.Texts.{texts_of, worker_behind, worker_of}
 use Rattle.group_rows.proofs.Moments.{asks, moment_other, moment_apart, moment_quiet, moment_sent}
 use Rattle.group_facts.specs.Legal.{Legal}
 use Rattle.group_facts.specs.OwnVersions.{IsSentOn}
 use Rattle.group_facts.specs.Why.{IsForward, WhyToServer, begins, cancels, exits, forwarded, greets, notes, responds, shuts, tells}
 use Rattle.group_facts.proofs.Apart.{fewer_said, fewer_took, new, grow, own_fewer, response_fewer}
-use Rattle.group_facts.proofs.Forwards.{Fewer, fewer_notified, zip_all}
+use Rattle.group_facts.proofs.Forwards.{Fewer, fewer_notified, forwarding_more, notified_sender, zip_all}
 use Rattle.group_facts.proofs.RestLaws.{Law, law_holds}
 use Rattle.group_facts.proofs.Sent.{Rising, rising_of}
 
 -- it is the moment of that number
-pub record WasSentOn (s : ℕ) (events : List Event) (n e : ℕ) : Type 0 where
-  pub sent : IsSentOn s events n e
+pub record WasSentOn (s : ℕ) (events : List Event) (n e : ℕ) (id : List ℕ) : Type 0 where
+  pub sent : IsSentOn s events n e id
   pub at : moment_of s n events ≡ Some sent.moment
 
 abbrev pub AllSentOn : List Event → Type 0
-AllSentOn events = (s : ℕ) → AllByRecursion (λ (f : Forwarded). WasSentOn s events f.number f.editor) (forwarding_of s events).open_requests
+AllSentOn events = (s : ℕ) → AllByRecursion (λ (f : Forwarded). WasSentOn s events f.number f.editor f.id) (forwarding_of s events).open_requests
 
 -- one event more
-one_more : (s : ℕ) (events : List Event) (n e : ℕ) (ev : Event) → moment_of s n (events ++ ev ∷ []) ≡ moment_of s n events → WasSentOn s events n e → WasSentOn s (events ++ ev ∷ []) n e
-one_more s events n e ev stays h = record {
+one_more : (s : ℕ) (events : List Event) (n e : ℕ) (id : List ℕ) (ev : Event) → moment_of s n (events ++ ev ∷ []) ≡ moment_of s n events → WasSentOn s events n e id → WasSentOn s (events ++ ev ∷ []) n e id
+one_more s events n e id ev stays h = record {
   sent = record {
+    asked = (h.sent).asked;
+    own_id = (h.sent).own_id;
+    before = (h.sent).before;
+    outs = (h.sent).outs;
     moment = (h.sent).moment;
+    entry = (h.sent).entry;
     body = (h.sent).body;
+    bytes = (h.sent).bytes;
     method = (h.sent).method;
     params = (h.sent).params;
-    later = (h.sent).later ++ ev ∷ [];
-    place = ap (λ z. z ++ ev ∷ []) (h.sent).place ∙ append_assoc (h.sent).moment (said (ToServer s (h.sent).body) ∷ (h.sent).later) (ev ∷ []);
-    worker = (h.sent).worker;
     says = (h.sent).says;
     other = (h.sent).other;
+    later = (h.sent).later ++ ev ∷ [];
+    place = ap (λ z. z ++ ev ∷ []) (h.sent).place ∙ append_assoc (h.sent).moment (said (ToServer s (h.sent).body) ∷ (h.sent).later) (ev ∷ []);
   };
   at = stays ∙ h.at;
 }
 
 -- behind an event that sends no request on
 quiet : (events : List Event) (ev : Event) → asks ev ≡ false → Fewer events (events ++ ev ∷ []) → AllSentOn events → AllSentOn (events ++ ev ∷ [])
-quiet events ev none fewer h s = fewer s (λ n e i. WasSentOn s (events ++ ev ∷ []) n e)
-    (all_of (λ (f : Forwarded). WasSentOn s events f.number f.editor) (λ (f : Forwarded). WasSentOn s (events ++ ev ∷ []) f.number f.editor)
-    (λ f k. one_more s events f.number f.editor ev (moment_quiet s f.number events ev none) k) (forwarding_of s events).open_requests (h s))
+quiet events ev none fewer h s = fewer s (λ n e i. WasSentOn s (events ++ ev ∷ []) n e i)
+    (all_of (λ (f : Forwarded). WasSentOn s events f.number f.editor f.id) (λ (f : Forwarded). WasSentOn s (events ++ ev ∷ []) f.number f.editor f.id)
+    (λ f k. one_more s events f.number f.editor f.id ev (moment_quiet s f.number events ev none) k) (forwarding_of s events).open_requests (h s))
 
 silent_cause : (cause : Cause) → asks (heard cause) ≡ false
 silent_cause (FromEditor e body) = refl
@@ -79,8 +86,48 @@ outs_leave worker (Spawn s g ∷ xs) = outs_leave worker xs
 outs_leave worker (CloseEditor e ∷ xs) = outs_leave worker xs
 outs_leave worker (EndServer s ∷ xs) = outs_leave worker xs
 
-worker_still : (events : List Event) (e : ℕ) (asked : List ℕ) (xs : List Out) → worker_of (behind (with_cause events (FromEditor e asked)) xs) ≡ Some e
+pub worker_still : (events : List Event) (e : ℕ) (asked : List ℕ) (xs : List Out) → worker_of (behind (with_cause events (FromEditor e asked)) xs) ≡ Some e
 worker_still events e asked xs = fold-append worker_behind None (with_cause events (FromEditor e asked)) (map said xs) ∙ outs_leave (worker_of (with_cause events (FromEditor e asked))) xs ∙ worker_more events (heard (FromEditor e asked))
+
+-- and so does whose request is at work
+forwards_leave : (x : Forwarding) (m : Message) → (forwards x m).sender ≡ x.sender
+forwards_leave x (request id method params) = go (is_own method)
+  where
+    go : (b : Bool) → (if b then x else record { sender = x.sender; next = x.next + 1; open_requests = x.open_requests ++ numbered x.sender x.next }).sender ≡ x.sender
+    go true = refl
+    go false = refl
+forwards_leave x (notification method params) = notified_sender x method params
+forwards_leave x (result id r) = refl
+forwards_leave x (error id x') = refl
+forwards_leave x not_json = refl
+forwards_leave x not_message = refl
+
+outs_leave_sender : (s : ℕ) (x : Forwarding) (xs : List Out) → (fold (forwarding_behind s) x (map said xs)).sender ≡ x.sender
+outs_leave_sender s x [] = refl
+outs_leave_sender s x (ToServer n body ∷ xs) = outs_leave_sender s (if nat_eq n s then forwards x (message_of body) else x) xs ∙ go (nat_eq n s)
+  where
+    go : (b : Bool) → (if b then forwards x (message_of body) else x).sender ≡ x.sender
+    go true = forwards_leave x (message_of body)
+    go false = refl
+outs_leave_sender s x (ToEditor e body ∷ xs) = outs_leave_sender s x xs
+outs_leave_sender s x (Spawn n g ∷ xs) = outs_leave_sender s x xs
+outs_leave_sender s x (CloseEditor e ∷ xs) = outs_leave_sender s x xs
+outs_leave_sender s x (EndServer n ∷ xs) = outs_leave_sender s x xs
+
+sender_still : (s : ℕ) (events : List Event) (e : ℕ) (asked : List ℕ) (xs : List Out) → (forwarding_of s (behind (with_cause events (FromEditor e asked)) xs)).sender ≡ sender_of e asked (message_of asked)
+sender_still s events e asked xs = ap (λ (x : Forwarding). x.sender) (fold-append (forwarding_behind s) no_forwarding (with_cause events (FromEditor e asked)) (map said xs))
+    ∙ outs_leave_sender s (forwarding_of s (with_cause events (FromEditor e asked))) xs ∙ ap (λ (x : Forwarding). x.sender) (forwarding_more s events (heard (FromEditor e asked)))
+
+id_at_work : (e : ℕ) (asked : List ℕ) (m : Message) (a : Sender) → sender_of e asked m ≡ Some a → id_bytes asked ≡ a.id
+id_at_work e asked (request id method params) a h = ap (λ (z : Sender). z.id) (same h)
+  where
+    same : ◌≡◌ {A = Option Sender} (Some (record { editor = e; id = id_bytes asked })) (Some a) → record { editor = e; id = id_bytes asked } ≡ a
+    same h = cc
+id_at_work e asked (notification method params) a h = absurd (cc)
+id_at_work e asked (result id r) a h = absurd (cc)
+id_at_work e asked (error id x) a h = absurd (cc)
+id_at_work e asked not_json a h = absurd (cc)
+id_at_work e asked not_message a h = absurd (cc)
 
 -- an open request has a number below the next
 number_below : (low next : ℕ) (fs : List Forwarded) → Rising low next fs → AllByRecursion (λ (f : Forwarded). f.number < next) fs
@@ -130,6 +177,9 @@ module _ (settings : Settings) (before : List Event) (cause : Cause) (events : L
     abbrev ev : Event
     ev = did (ToServer n body) (request (integer (decimal next)) k.method k.params)
 
+    abbrev bodies : List Out
+    bodies = map (λ text. ToServer n text) (sync_bodies settings.limits.versions (λ u. held_at n u before) (k.sender).editor (texts_of settings (k.synced).group before).opens)
+
     is_ev : said (ToServer n body) ≡ ev
     is_ev = ap (λ m. did (ToServer n body) m) k.says
 
@@ -137,24 +187,29 @@ module _ (settings : Settings) (before : List Event) (cause : Cause) (events : L
     moved s number stays = ap (λ z. moment_of s number (events ++ z ∷ [])) is_ev ∙ stays
 
     -- the others of this start keep their moments, and those of other starts
-    stays_here : (f : Forwarded) → f.number < next → WasSentOn n events f.number f.editor → WasSentOn n sent f.number f.editor
-    stays_here f less h = one_more n events f.number f.editor (said (ToServer n body)) (moved n f.number (moment_other n f.number n events body (integer (decimal next)) k.method k.params (less_apart f.number next less))) h
+    stays_here : (f : Forwarded) → f.number < next → WasSentOn n events f.number f.editor f.id → WasSentOn n sent f.number f.editor f.id
+    stays_here f less h = one_more n events f.number f.editor f.id (said (ToServer n body)) (moved n f.number (moment_other n f.number n events body (integer (decimal next)) k.method k.params (less_apart f.number next less))) h
 
-    stays_there : (s : ℕ) → nat_eq n s ≡ false → (f : Forwarded) → WasSentOn s events f.number f.editor → WasSentOn s sent f.number f.editor
-    stays_there s other f h = one_more s events f.number f.editor (said (ToServer n body)) (moved s f.number (moment_apart s f.number n events body (integer (decimal next)) k.method k.params other)) h
+    stays_there : (s : ℕ) → nat_eq n s ≡ false → (f : Forwarded) → WasSentOn s events f.number f.editor f.id → WasSentOn s sent f.number f.editor f.id
+    stays_there s other f h = one_more s events f.number f.editor f.id (said (ToServer n body)) (moved s f.number (moment_apart s f.number n events body (integer (decimal next)) k.method k.params other)) h
 
-    sent_now : WasSentOn n sent next (k.sender).editor
+    sent_now : WasSentOn n sent next (k.sender).editor (k.sender).id
     sent_now = record {
       sent = record {
+        asked = k.asked;
+        own_id = id_at_work (k.sender).editor k.asked (message_of k.asked) k.sender (sym (sender_still n before (k.sender).editor k.asked bodies) ∙ ap (λ z. (forwarding_of n z).sender) (sym (k.synced).place) ∙ k.at_work);
+        before = before;
+        outs = bodies;
         moment = events;
+        entry = (k.synced).place;
         body = body;
+        bytes = k.bytes;
         method = k.method;
         params = k.params;
-        later = [];
-        place = refl;
-        worker = ap worker_of (k.synced).place ∙ worker_still before (k.sender).editor k.asked _;
         says = k.says;
         other = k.other;
+        later = [];
+        place = refl;
       };
       at = ap (λ z. moment_of n next (events ++ z ∷ [])) is_ev ∙ moment_sent n next n events body (integer (decimal next)) k.method k.params (same_number n) k.other (same_number next);
     }
@@ -164,16 +219,16 @@ module _ (settings : Settings) (before : List Event) (cause : Cause) (events : L
     asked_now h s = go (nat_eq n s) refl
       where
         Q : Forwarded → Type 0
-        Q f = WasSentOn s sent f.number f.editor
+        Q f = WasSentOn s sent f.number f.editor f.id
 
         old : (b : Bool) → nat_eq n s ≡ b → AllByRecursion Q (forwarding_of s events).open_requests
-        old true same = subst (λ z. AllByRecursion (λ (f : Forwarded). WasSentOn z sent f.number f.editor) (forwarding_of z events).open_requests) (number_same n s same)
-            (zip_all (λ (f : Forwarded). f.number < next) (λ (f : Forwarded). WasSentOn n events f.number f.editor) (λ (f : Forwarded). WasSentOn n sent f.number f.editor) stays_here (forwarding_of n events).open_requests
+        old true same = subst (λ z. AllByRecursion (λ (f : Forwarded). WasSentOn z sent f.number f.editor f.id) (forwarding_of z events).open_requests) (number_same n s same)
+            (zip_all (λ (f : Forwarded). f.number < next) (λ (f : Forwarded). WasSentOn n events f.number f.editor f.id) (λ (f : Forwarded). WasSentOn n sent f.number f.editor f.id) stays_here (forwarding_of n events).open_requests
             (number_below 2 next (forwarding_of n events).open_requests (rising_of n events)) (h n))
-        old false other = all_of (λ (f : Forwarded). WasSentOn s events f.number f.editor) Q (stays_there s other) (forwarding_of s events).open_requests (h s)
+        old false other = all_of (λ (f : Forwarded). WasSentOn s events f.number f.editor f.id) Q (stays_there s other) (forwarding_of s events).open_requests (h s)
 
         go : (b : Bool) → nat_eq n s ≡ b → AllByRecursion Q (forwarding_of s sent).open_requests
-        go b is = grow settings before cause events n body k s Q (old b is) (λ same. subst (λ z. WasSentOn z sent next (k.sender).editor) same sent_now)
+        go b is = grow settings before cause events n body k s Q (old b is) (λ same. subst (λ z. WasSentOn z sent next (k.sender).editor (k.sender).id) same sent_now)
 
   one_sent : WhyToServer settings before cause events n body → AllSentOn events → AllSentOn sent
   one_sent (begins k) h = own (integer (codes "1")) (codes "initialize") k.params k.says refl h

@@ -9,11 +9,11 @@ use Rattle.mux_history.specs.declared.out.Out.TheVariants.{ToServer, EndServer}
 use Rattle.rpc_message.specs.Message.{Message, message_of}
 use Rattle.rpc_message.specs.Texts.{request_text}
 use Rattle.event_model.specs.declared.stage.Stage.{Stage}
-use Rattle.event_model.specs.declared.stage.Stage.TheVariants.{Unspawned, Spawning, Initializing, Ready, Stopping, Ending, Ended}
+use Rattle.event_model.specs.declared.stage.Stage.TheVariants.{Spawning, Initializing, Ready, Stopping, Ended}
 use Rattle.event_model.specs.Event.{Event, behind, heard, requests, said, with_cause}
 use Rattle.event_model.specs.Parts.{server_part, is_of_server}
 use Rattle.event_model.specs.Requests.{next_number}
-use Rattle.event_model.specs.Row.{Row, each, nothing, on, outs, send}
+use Rattle.event_model.specs.Row.{each, nothing, on, outs, send}
 use Rattle.event_model.specs.Settings.{Settings}
 use Rattle.event_model.specs.Spawns.{start_of, starts_of}
 use Rattle.event_model.specs.Stages.{Life, is_ready, life_of, stage_ending, stage_told}

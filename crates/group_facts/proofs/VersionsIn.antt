@@ -7,10 +7,11 @@ use Rattle.std.proofs.lemmas.Slice.Eq.{bytes_eq-Decides}
 use Rattle.json_text.specs.Json.{Json, word, number, string, array, object}
 use Rattle.json_text.specs.Named.{items_list, named_in}
 use Rattle.json_text.specs.Replace.{Edit}
+use Rattle.json_text.specs.Tree.{tree_of}
 use Rattle.json_text.proofs.Put.{same_name}
 use Rattle.json_nodes.specs.Puts.{put_edits}
-use Rattle.rpc_message.specs.Message.{is_integer, is_integer_value, is_string_value}
-use Rattle.rpc_message.specs.Texts.{content_modified, error_text}
+use Rattle.rpc_message.specs.Message.{is_integer_value, is_string_value, message_of}
+use Rattle.rpc_message.specs.Parsed.{result_in}
 use Rattle.doc_text.specs.Changes.{string_text}
 use Rattle.document_model.specs.Helds.{HeldText}
 use Rattle.document_model.specs.Notices.{integer_text, new_version}
@@ -47,11 +48,13 @@ module _ (settings : Settings) (s e : ℕ) (u digits : List ℕ) where
       where
         go : (b : Bool) → agrees o h ≡ b → is_held digits (if b then Some h.version else None) ≡ true → (k : IsAgreed settings s e events u digits) × ((k.under).own ≡ o)
         go true same is =
-            let both = and_parts (bytes_eq h.language o.language) (bytes_eq h.text o.text) same in
-            (record {
-              under = record { own = o; held = h; opened = opened; has = has; version = (bytes_eq-Decides digits (decimal h.version)).0 is };
-              agrees = ((bytes_eq-Decides h.language o.language).0 both.0, (bytes_eq-Decides h.text o.text).0 both.1);
-            }, refl)
+            let both = and_parts (bytes_eq h.language o.language) (bytes_eq h.text o.text) same in (
+              record {
+                under = record { own = o; held = h; opened = opened; has = has; version = (bytes_eq-Decides digits (decimal h.version)).0 is };
+                agrees = ((bytes_eq-Decides h.language o.language).0 both.0, (bytes_eq-Decides h.text o.text).0 both.1);
+              },
+              refl,
+            )
         go false other is = absurd (cc)
     agreed_by o opened None has is = absurd (cc)
 
@@ -181,7 +184,7 @@ module _ (settings : Settings) (s e : ℕ) (moment events : List Event) (r : Ren
   all_own (j ∷ js) has = both_own j js (document_edits r j) (all_edits r js) (one_own j has.0) (all_own js has.1)
 
   pub own_answer : (answer id : List ℕ) → IsOwnAnswer settings s e moment events answer id (answer_text r answer id)
-  own_answer answer id = go (all_own (documents_in answer) (value_all _))
+  own_answer answer id = go (all_own (documents_in answer) (value_all (option_and_then (result_in (message_of answer)) (tree_of answer))))
     where
       go : AllOwn (documents_in answer) (all_edits r (documents_in answer)) → IsOwnAnswer settings s e moment events answer id (answer_text r answer id)
       go (all_put texts owns are) = passed texts owns (ap (λ o. answer_with o answer id) are)

@@ -1,5 +1,5 @@
 -- Each editor that waits has its `initialize` open, but for one that is turned away in the entry at hand.
-use Rattle.std.proofs.Common.{◌≡◌, ℕ, Bool, true, false, ◌&&◌, List, [], ◌∷◌, ◌++◌, nat_eq, codes, bytes_eq, if◌then◌else◌, None, Some, refl, sym, ◌∙◌, ap, subst, subst₂, append_assoc}
+use Rattle.std.proofs.Common.{◌≡◌, ℕ, Bool, true, false, ◌&&◌, List, [], ◌∷◌, ◌++◌, nat_eq, codes, if◌then◌else◌, None, Some, refl, sym, ◌∙◌, ap, subst, subst₂, append_assoc}
 use Rattle.std.proofs.lemmas.Bool.{and_parts}
 use Rattle.std.proofs.lemmas.Slice.Eq.{bytes_eq-Decides}
 use Rattle.json_text.specs.Json.{Json}

@@ -8,13 +8,13 @@ use Rattle.json_text.specs.Named.{named_in}
 use Rattle.json_text.specs.Replace.{Edit}
 use Rattle.json_nodes.specs.Puts.{put_edits}
 use Rattle.mux_history.specs.declared.cause.Cause.{Cause}
-use Rattle.mux_history.specs.declared.cause.Cause.TheVariants.{FromServer}
+use Rattle.mux_history.specs.declared.cause.Cause.TheVariants.{FromEditor, FromServer}
 use Rattle.mux_history.specs.declared.entry.Entry.{Entry}
 use Rattle.mux_history.specs.declared.out.Out.{Out}
 use Rattle.mux_history.specs.declared.out.Out.TheVariants.{ToEditor, ToServer}
 use Rattle.rpc_message.specs.Changed.{changed_text}
-use Rattle.rpc_message.specs.Message.{Id, integer, message_of, request}
-use Rattle.rpc_message.specs.Texts.{content_modified, error_text}
+use Rattle.rpc_message.specs.Message.{Id, id_bytes, integer, message_of, request}
+use Rattle.rpc_message.specs.Texts.{content_modified, error_text, with_id_text}
 use Rattle.rpc_message.specs.ValueTexts.{IsIdText}
 use Rattle.doc_text.specs.Changes.{string_text}
 use Rattle.document_model.specs.Helds.{HeldText}
@@ -23,7 +23,7 @@ use Rattle.document_model.specs.Opens.{Open}
 use Rattle.document_model.specs.Rows.{Agrees}
 use Rattle.document_model.specs.Texts.{found}
 use Rattle.event_model.specs.declared.stage.Stage.TheVariants.{Ready}
-use Rattle.event_model.specs.Event.{Event, events_of, said}
+use Rattle.event_model.specs.Event.{Event, behind, events_of, said, with_cause}
 use Rattle.event_model.specs.Requests.{answered_id, is_open, is_own, open_of}
 use Rattle.event_model.specs.Settings.{Settings}
 use Rattle.event_model.specs.Stages.{life_of}
@@ -31,19 +31,24 @@ use Rattle.response_route.specs.Results.{documents_in}
 use Rattle.mux_model.specs.Documents.{held_at}
 use Rattle.group_rows.specs.Answers.{shared_texts}
 use Rattle.group_rows.specs.Forwarded.{Forwarded, answered_by, forwarding_of}
-use Rattle.group_rows.specs.Texts.{worker_of}
+use Rattle.group_facts.specs.OwnTexts.{HasOwn}
 
--- at this moment, while a message of e was at work, start s was sent a request as its number n
-pub record IsSentOn (s : ℕ) (events : List Event) (n e : ℕ) : Type 0 where
+-- At this moment, in the entry of a message of e with these bytes as its id, start s was sent that message as its request n, and all else in it as e gave it.
+pub record IsSentOn (s : ℕ) (events : List Event) (n e : ℕ) (id : List ℕ) : Type 0 where
+  pub asked : List ℕ
+  pub own_id : id_bytes asked ≡ id
+  pub before : List Event
+  pub outs : List Out
   pub moment : List Event
+  pub entry : moment ≡ behind (with_cause before (FromEditor e asked)) outs
   pub body : List ℕ
+  pub bytes : body ≡ with_id_text asked (decimal n)
   pub method : List ℕ
   pub params : Option Json
-  pub later : List Event
-  pub place : events ≡ moment ++ said (ToServer s body) ∷ later
-  pub worker : worker_of moment ≡ Some e
   pub says : message_of body ≡ request (integer (decimal n)) method params
   pub other : is_own method ≡ false
+  pub later : List Event
+  pub place : events ≡ moment ++ said (ToServer s body) ∷ later
 
 -- Behind these events document u is open at e, and s has it under this version.
 pub record IsUnder (settings : Settings) (s e : ℕ) (events : List Event) (u digits : List ℕ) : Type 0 where
@@ -100,7 +105,7 @@ pub record IsHandedOn (settings : Settings) (before : List Event) (s : ℕ) (ans
   pub request : Forwarded
   pub listed : find (answered_by (answered_id (message_of answer))) (forwarding_of s before).open_requests ≡ Some request
   pub editor : request.editor ≡ e
-  pub sent : IsSentOn s before request.number e
+  pub sent : IsSentOn s before request.number e request.id
   pub id : Id
   pub text : IsIdText id request.id
   pub waits : is_open id (open_of e before) ≡ true
@@ -119,3 +124,7 @@ OwnVersionsFrom settings before (entry ∷ rest) = AllByRecursion (OnOwnVersions
 
 abbrev pub OwnVersions : Settings → List Entry → Type 0
 OwnVersions settings history = OwnVersionsFrom settings [] history
+
+-- Behind these events s has, of each document that is open at e, e's own text in its language.
+abbrev pub HasOwnTexts : Settings → ℕ → ℕ → List Event → Type 0
+HasOwnTexts settings s e events = (u : List ℕ) (o : Open) → found e u (shared_texts settings s events) ≡ Some o → HasOwn o (held_at s u events)

@@ -1,6 +1,6 @@
 -- What a server is told before a message of an editor goes on to it: of just the documents that are open at the editor and on which the server doesn't agree with it, in the order of their opening, the editor's language and text (LSP 3.17, Text Document Synchronization).
 use Rattle.std.specs.Prelude.{◌≡◌, ℕ, true, List, [], ◌∷◌, ◌++◌, map}
-use Rattle.std.specs.Prelude.{Option, Some}
+use Rattle.std.specs.Prelude.{Some}
 use Rattle.mux_history.specs.declared.cause.Cause.{Cause}
 use Rattle.mux_history.specs.declared.cause.Cause.TheVariants.{FromEditor}
 use Rattle.mux_history.specs.declared.entry.Entry.{Entry}

@@ -3,4 +3,4 @@
 
 mod laws;
 
-pub use laws::{every_history, every_out, every_settled, switches};
+pub use laws::{every_history, every_out, every_settled, own_moments, own_versions, switches};

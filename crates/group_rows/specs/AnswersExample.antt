@@ -2,16 +2,14 @@
 use Rattle.std.specs.Prelude.{ℕ, List, [], ◌∷◌, ◌++◌, codes}
 use Rattle.mux_history.specs.declared.cause.Cause.TheVariants.{FromEditor, FromServer}
 use Rattle.mux_history.specs.declared.out.Out.{Out}
-use Rattle.rpc_message.specs.Message.{message_of}
-use Rattle.event_model.specs.Event.{Event, with_cause}
-use Rattle.event_model.specs.Row.{outs}
+use Rattle.event_model.specs.Event.{Event}
 use Rattle.group_words.specs.Example.{with_groups}
-use Rattle.group_rows.specs.Answers.{answer_row}
 use Rattle.group_rows.specs.Example.{events_behind, two_editors}
+use Rattle.group_rows.specs.Rows.{outs_of}
 
 -- what the first start's answer gives behind these causes
 abbrev pub answered : List Event → List ℕ → List Out
-answered before body = outs (answer_row (with_groups 8) 0 before body (message_of body)) (with_cause before (FromServer 0 body))
+answered before body = outs_of (with_groups 8) before (FromServer 0 body)
 
 -- an editor opens a document as version 5, asks, and changes it to version 6; the start's versions of it are 1 and 2
 abbrev pub changed_behind : List Event
