@@ -43,6 +43,7 @@ fn ask(alloc: Global, table: &mut IdTable, count: u64) -> Option<()> {
             work: None,
             partial: None,
             cancelled: false,
+            noted: None,
         };
         table.next().ok()?;
         table.reserve().ok()?;

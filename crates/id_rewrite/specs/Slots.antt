@@ -38,7 +38,7 @@ any_of test s = passes s.pending
     passes (Some p) = test (record { number = s.number; pending = p })
 
 abbrev pub marked : Pending → Pending
-marked p = record { editor = p.editor; id = p.id; work = p.work; partial = p.partial; cancelled = true }
+marked p = record { editor = p.editor; id = p.id; work = p.work; partial = p.partial; cancelled = true; noted = p.noted }
 
 -- each open request is found by its fingerprint
 abbrev pub AreKnown : List (ℕ × ℕ) → List Numbered → Type 0

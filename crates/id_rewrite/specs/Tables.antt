@@ -39,7 +39,7 @@ abbrev pub without : ℕ → List Numbered → List Numbered
 without n requests = filter (λ r. not (has_number n r)) requests
 
 abbrev pub cancelled : Numbered → Numbered
-cancelled r = record { number = r.number; pending = record { editor = r.pending.editor; id = r.pending.id; work = r.pending.work; partial = r.pending.partial; cancelled = true } }
+cancelled r = record { number = r.number; pending = record { editor = r.pending.editor; id = r.pending.id; work = r.pending.work; partial = r.pending.partial; cancelled = true; noted = r.pending.noted } }
 
 -- the request of a number is marked as cancelled
 abbrev pub with_cancelled : ℕ → List Numbered → List Numbered

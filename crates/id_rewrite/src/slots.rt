@@ -9,7 +9,7 @@ use std::alloc::Global;
 use std::marker::Model;
 
 /// A number that was given, and its request as long as that is open.
-#[derive(Debug, Drop)]
+#[derive(Drop)]
 pub struct Slot {
     pub number: u32,
     pub pending: Option<Pending>,

@@ -1,6 +1,6 @@
 -- E10, E16 and E17: what an editor says goes to a ready start behind a sync.
-use Rattle.std.proofs.Common.{◌≡◌, ℕ, ◌≤◌, ◌<◌, ◌^◌, ◌+◌, Bool, true, false, not, ◌||◌, List, [], ◌∷◌, ◌++◌, length, map, fold, get_or, nat_eq, codes, refl, sym, ap, ap₂, subst, ◌∙◌, append-nil, append_assoc, arith, if◌then◌else◌}
-use Rattle.std.specs.Prelude.{Option, Some, None, bytes_eq, slice_get, slice_set}
+use Rattle.std.proofs.Common.{◌≡◌, ℕ, ◌≤◌, ◌<◌, ◌^◌, ◌+◌, Bool, true, false, not, ◌||◌, List, [], ◌∷◌, ◌++◌, length, map, find, fold, get_or, nat_eq, codes, refl, sym, ap, ap₂, subst, ◌∙◌, append-nil, append_assoc, arith, if◌then◌else◌}
+use Rattle.std.specs.Prelude.{Option, Some, None, option_map, bytes_eq, slice_get, slice_set}
 use Rattle.std.specs.List.{AllByRecursion}
 use Rattle.std.proofs.lemmas.Bool.{ne_eqb}
 use Rattle.std.proofs.lemmas.Option.{slice_get_within}
@@ -8,11 +8,11 @@ use Rattle.json_text.specs.Json.{Json}
 use Rattle.mux_history.specs.declared.out.Out.{Out}
 use Rattle.mux_history.specs.declared.out.Out.TheVariants.{ToEditor, ToServer, Spawn, CloseEditor, EndServer}
 use Rattle.rpc_message.specs.Message.{Id, Message, message_of, notification, request}
-use Rattle.document_model.specs.Opens.{Open}
+use Rattle.document_model.specs.Opens.{Open, is_open_at}
 use Rattle.document_model.specs.Orderly.{AllSpelt, Orderly}
 use Rattle.document_model.specs.Sayings.{Saying, nothing, saying_by, saying_of, speaks}
 use Rattle.document_model.specs.Texts.{Texts}
-use Rattle.document_laws.specs.Follows.{texts_in, told_outs}
+use Rattle.document_laws.specs.Follows.{Held, texts_in, told_outs}
 use Rattle.event_model.specs.declared.stage.Stage.{Stage}
 use Rattle.event_model.specs.declared.stage.Stage.TheVariants.{Ready}
 use Rattle.event_model.specs.Does.{Does}
@@ -25,12 +25,16 @@ use Rattle.event_model.specs.Settings.{Settings}
 use Rattle.event_model.specs.Spawns.{group_of, starts_behind, starts_of}
 use Rattle.event_model.proofs.Frames.{never, one_more, outs_more, outs_still}
 use Rattle.event_model.proofs.Turns.{behind_more, does_entry}
-use Rattle.focus_switch.specs.Documents.{Documents}
+use Rattle.event_model.proofs.Places.{get_set_same}
+use Rattle.focus_switch.specs.Documents.{Documents, version_held}
 use Rattle.focus_switch.specs.Rows.{sync_row}
+use Rattle.focus_switch.specs.Versions.{versions_of}
 use Rattle.mux_model.specs.Documents.{Sent, held_at, sent_of}
 use Rattle.mux_model.specs.Rows.{to_start}
 use Rattle.mux_model.proofs.DocumentFolds.{outs_to_start, sent_encoding}
 use Rattle.group_words.specs.Houses.{home_of, is_home}
+use Rattle.response_route.specs.declared.versions.Stamp.{Stamp}
+use Rattle.group_rows.specs.Answers.{held_version, stamp_at, stamped}
 use Rattle.group_rows.specs.Forwarded.{Forwarding, cancelled_by, forwarding_behind, forwarding_of, forwards, moves_ids}
 use Rattle.group_rows.specs.Rows as rows
 use Rattle.group_rows.specs.Texts.{is_aside, is_synced, texts_of, touch_all, touched_at, worker_behind, worker_of}
@@ -39,13 +43,15 @@ use Rattle.group_laws.specs.Stands.{HeldStands}
 use Rattle.group_laws.proofs.Asking.{spelt_touched, sync_speaks, touch_orderly}
 use Rattle.group_laws.proofs.Entries.{all_told, encoding_told, first_behind, held_same, known_sent, texts_told}
 use Rattle.group_laws.proofs.SyncHeld.{sync_held}
+use Rattle.group_laws.proofs.Versions.{noted_from}
 use Rattle.group_laws.proofs.Syncing.{sync_outs, sync_stays, sync_texts}
 use Rattle.id_rewrite.specs.declared.pending.Pending.{Pending}
 use Rattle.id_rewrite.specs.Tables.{Table, IsInOrder}
 use Rattle.mux_tables.specs.declared.tables.Start.{Start}
 use Rattle.mux_tables.specs.declared.tables.Tables.{Tables}
 use Rattle.mux_tables.specs.Documents.{AllStand, AllTell, DocumentsStand, IsOwned, SharedStands, StepAt, Told, nothing_owed, syncing, to}
-use Rattle.mux_tables.specs.Stands.{Sends, Stands, forwarded_of, number_in}
+use Rattle.mux_tables.specs.Notes.{IsNoted, NotesStand, StampsAt, stamp_in}
+use Rattle.mux_tables.specs.Stands.{Sends, Stands, forwarded_of, number_in, of_ids}
 use Rattle.mux_tables.proofs.DocumentEvents.{shared_beside}
 use Rattle.mux_tables.proofs.DocumentFrames.{all_owned, owner_stays, sent_apart, sent_silent, shared_stays, start_stays}
 use Rattle.mux_tables.proofs.DocumentMoves.{Rest, documents_at, documents_set, set_same, starts_kept}
@@ -54,7 +60,9 @@ use Rattle.mux_tables.proofs.DocumentSaid.{cancel_silent}
 use Rattle.mux_tables.proofs.Frames.{itself}
 use Rattle.mux_tables.proofs.IdMoves.{sent_as}
 use Rattle.mux_tables.proofs.Lasts.{apart, known}
+use Rattle.mux_tables.proofs.Noting.{below_next, left_stays, left_told, moment_apart, moment_here, moment_told, notes_more}
 use Rattle.mux_tables.proofs.Sent.{forward_does, unmoved_does}
+use Rattle.mux_tables.proofs.Stamping.{noted_stamps, touched_stamps}
 use Rattle.mux_tables.proofs.Starts.{read_here, start_at_place}
 
 -- bodies to a start leave whose message is at work, and what other groups have
@@ -216,12 +224,35 @@ module _ (settings : Settings) (t : Tables) (now : List Event) (g e : ℕ) (z : 
         encoding = λ j l. encoding_stays j mid (said (ToServer s text)) refl ∙ encoding_told j s now bodies;
         starts = λ n l. subst (λ m. m ≤ n) (outs_more starts_behind 0 (starts_of now) now (to s bodies) refl ∙ starts_told s bodies (starts_of now)) (starts_kept mid (said (ToServer s text)) refl n l);
         sent = λ n l u. sent_silent n s u text (message_of text) mid silent ∙ sent_beside n s u bodies now (ne_eqb s n (λ q. absurd (omega (arith, q, l, old))));
+        moments = λ j x n p there asked.
+            let i = (mid_stands.lasts.each j x there).parts of_ids in
+            let low : n < x.ids.next = below_next n 2 x.ids.next x.ids.requests p i.order.rising asked in
+            moment_apart x.life.start n s mid text (message_of text) (ap (λ k. nat_eq k n) i.next ∙ ne_eqb x.ids.next n (λ q. absurd (omega (arith, q, low)))) ∙ moment_told x.life.start n s bodies now tell;
+        left = λ n h. left_stays mid (said (ToServer s text)) refl n (left_told s bodies now n h);
       }
 
+  mid_held : Held (sync_row e d).after (λ u. held_at s u mid)
+  mid_held = held_same (sync_row e d).after (λ u. told_outs d.encoding u (held_at s u now) (sync_row e d).outs) (λ u. held_at s u mid)
+      (λ u. ap₂ (λ c xs. told_outs c u (held_at s u now) xs) holds.known bodies_are ∙ sym (ap (λ (x : Sent). x.held) (mid_sent u)))
+      (sync_held s e d (λ u. held_at s u now) holds.start holds.held was.start.code holds.known few was.texts.orderly.once was.texts.orderly.turns was.texts.spelt)
+
+  -- behind the sync, what is open and what the start has of it
+  pub mid_noted : (u : List ℕ) → stamp_in u (versions_of e (sync_row e d).after) ≡ stamp_at held_version settings s e mid u
+  mid_noted u = noted_stamps e u (sync_row e d).after
+      ∙ (ap (λ (x : Texts). option_map (λ o. stamped (version_held u (sync_row e d).after.helds) o) (find (is_open_at e u) x.opens)) (sync_texts e d)
+      ∙ (touched_stamps e e d.turn u (version_held u (sync_row e d).after.helds) d.opens
+      ∙ sym (noted_from settings g s e (texts_in d) (sync_row e d).after mid here (texts_told settings g s now bodies tell ∙ was.texts.texts) mid_held u)))
+
+  -- what was noted of the request itself
+  pub asked_noted : (name : Id) (method : List ℕ) (ps : Option Json) (noted : List (List ℕ × Stamp)) → message_of text ≡ request name method ps → is_own method ≡ false → StampsAt noted (versions_of e) (Some (sync_row e d).after)
+      → IsNoted settings s z.ids.next e last (Some noted)
+  asked_noted name method ps noted says own stamps = (mid, moment_here s z.ids.next mid text (message_of text) name method ps says own ((mid_stands.lasts.each g z at).parts of_ids).next, λ u. stamps u ∙ mid_noted u)
+
   -- all tables, where those of editors and starts stand behind the body itself
-  module _ (u : Tables) (ids : Table) (put : u.lasts.items ≡ slice_set t.lasts.items g (record z { ids = ids })) (vs : u.versions ≡ t.versions) (set : u.documents.items ≡ slice_set t.documents.items g (sync_row e d).after) (stands : Stands settings t mid → Stands settings u last) where
+  module _ (u : Tables) (ids : Table) (put : u.lasts.items ≡ slice_set t.lasts.items g (record z { ids = ids })) (vs : u.versions ≡ t.versions) (set : u.documents.items ≡ slice_set t.documents.items g (sync_row e d).after) (stands : Stands settings t mid → Stands settings u last)
+      (notes : NotesStand settings s z.ids.requests last → NotesStand settings s ids.requests last) where
     docs_last : DocumentsStand settings nothing_owed u last
-    docs_last = documents_set settings nothing_owed nothing_owed t u now last last_rest vs g z (record z { ids = ids }) d (sync_row e d).after at has put set
+    docs_last = documents_set settings nothing_owed nothing_owed t u now last last_rest vs g z (record z { ids = ids }) d (sync_row e d).after at has put set notes
         (λ _. subst (λ (q : Stage). SharedStands settings last [] g s q (sync_row e d).after) (sym ready) now_shared)
         (λ j w c off there h. other_last j w.life.start w.life.stage c (ne_eqb g j (λ q. off (sym q))) (apart t.requests now g j z w off (st.lasts.each g z at) (st.lasts.each j w there)) h) ds
 
@@ -253,14 +284,17 @@ synced_does settings t u xs ys told base g s start e z text here number ran does
 }
 
 -- a request
-pub asked_does : (settings : Settings) (t u : Tables) (xs ys told : List Out) (base : List Event) (g s start e : ℕ) (z : Start) (ids : Table) (pending : Pending) (text id method : List ℕ) (name : Id) (ps : Option Json) → slice_get (map number_in t.lasts.items) g ≡ Some s → g < length t.lasts.items → z ≡ get_or t.lasts.items g z
+pub asked_does : (settings : Settings) (t u : Tables) (xs ys told : List Out) (base : List Event) (g s start e : ℕ) (z : Start) (ids : Table) (pending : Pending) (noted : List (List ℕ × Stamp)) (text id method : List ℕ) (name : Id) (ps : Option Json) → slice_get (map number_in t.lasts.items) g ≡ Some s → g < length t.lasts.items → z ≡ get_or t.lasts.items g z
     → z.life.stage ≡ Ready → message_of text ≡ request name method ps → is_own method ≡ false → Sends s e id (behind base xs) → worker_of (behind base xs) ≡ Some e → forwarded_of (record { number = z.ids.next; pending = pending }) ≡ sent_as (record { editor = e; id = id }) z.ids.next
     → ids.requests ≡ z.ids.requests ++ record { number = z.ids.next; pending = pending } ∷ [] → ids.next ≡ z.ids.next + 1 → ids.limit ≡ z.ids.limit → IsInOrder ids
     → u.lasts.items ≡ slice_set t.lasts.items g (record z { ids = ids }) → u.editors ≡ t.editors → u.groups ≡ t.groups → u.time ≡ t.time → u.origins ≡ t.origins → u.requests ≡ t.requests → u.versions ≡ t.versions
-    → StepAt (sync_row e) g (slice_get t.documents.items g) t.documents.items told u.documents.items → start ≡ z.life.start → ys ≡ (xs ++ told) ++ ToServer start text ∷ []
+    → StepAt (sync_row e) g (slice_get t.documents.items g) t.documents.items told u.documents.items → pending.editor ≡ e → pending.noted ≡ Some noted → StampsAt noted (versions_of e) (slice_get u.documents.items g)
+    → start ≡ z.life.start → ys ≡ (xs ++ told) ++ ToServer start text ∷ []
     → Does (λ k events. AllStand settings k events) (look (λ now. to_start s (syncing settings now g s e) ⨾ send (ToServer s text))) base (t, nothing_owed) xs (u, nothing_owed) ys
-asked_does settings t u xs ys told base g s start e z ids pending text id method name ps at within read ready says own sends works kept put next limit order set es gs time os r vs does is said_so =
-    synced_does settings t u xs ys told base g s start e z text here number (λ d has docs st ds. all_last settings t now g e z d text here has ready silent synced works st ds u ids set vs docs (stands d has st ds) s number) does is said_so
+asked_does settings t u xs ys told base g s start e z ids pending noted text id method name ps at within read ready says own sends works kept put next limit order set es gs time os r vs does asker notes stamps is said_so =
+    synced_does settings t u xs ys told base g s start e z text here number (λ d has docs st ds. all_last settings t now g e z d text here has ready silent synced works st ds u ids set vs docs (stands d has st ds)
+    (notes_more settings z.life.start z.ids.next pending ids.requests z.ids.requests
+    (behind now (to z.life.start (rows.sync_bodies d.versions (λ w. held_at z.life.start w now) e d.opens)) ++ said (ToServer z.life.start text) ∷ []) put (noted_now d has docs st ds)) s number) does is said_so
   where
     now : List Event
     now = behind base xs
@@ -276,6 +310,14 @@ asked_does settings t u xs ys told base g s start e z ids pending text id method
 
     synced : is_synced (message_of text) ≡ true
     synced = ap is_synced says ∙ ap not own
+
+    noted_now : (d : Documents) (has : slice_get t.documents.items g ≡ Some d) → u.documents.items ≡ slice_set t.documents.items g (sync_row e d).after → (st : Stands settings t now) → (ds : DocumentsStand settings nothing_owed t now)
+        → IsNoted settings z.life.start z.ids.next pending.editor (behind now (to z.life.start (rows.sync_bodies d.versions (λ u. held_at z.life.start u now) e d.opens)) ++ said (ToServer z.life.start text) ∷ []) pending.noted
+    noted_now d has docs st ds =
+        let last = behind now (to z.life.start (rows.sync_bodies d.versions (λ u. held_at z.life.start u now) e d.opens)) ++ said (ToServer z.life.start text) ∷ [] in
+        let there : slice_get u.documents.items g ≡ Some (sync_row e d).after = ap (λ xs. slice_get xs g) docs ∙ get_set_same t.documents.items g (sync_row e d).after (slice_get_within t.documents.items g d has) in
+        subst (λ n. IsNoted settings z.life.start z.ids.next n last pending.noted) (sym asker) (subst (λ x. IsNoted settings z.life.start z.ids.next e last x) (sym notes)
+        (asked_noted settings t now g e z d text here has ready silent synced works st ds name method ps noted says own (subst (λ o. StampsAt noted (versions_of e) o) there stamps)))
 
     stands : (d : Documents) → slice_get t.documents.items g ≡ Some d → Stands settings t now → DocumentsStand settings nothing_owed t now
         → Stands settings t (behind now (to z.life.start (rows.sync_bodies d.versions (λ u. held_at z.life.start u now) e d.opens)))
@@ -294,7 +336,7 @@ pub passed_does : (settings : Settings) (t u : Tables) (xs ys told : List Out) (
     → StepAt (sync_row e) g (slice_get t.documents.items g) t.documents.items told u.documents.items → start ≡ z.life.start → ys ≡ (xs ++ told) ++ ToServer start text ∷ []
     → Does (λ k events. AllStand settings k events) (look (λ now. to_start s (syncing settings now g s e) ⨾ send (ToServer s text))) base (t, nothing_owed) xs (u, nothing_owed) ys
 passed_does settings t u xs ys told base g s start e z text method ps at within read ready says synced works ls es gs time os r vs does is said_so =
-    synced_does settings t u xs ys told base g s start e z text here number (λ d has docs st ds. all_last settings t now g e z d text here has ready silent synced works st ds u z.ids put vs docs (stands d) s number) does is said_so
+    synced_does settings t u xs ys told base g s start e z text here number (λ d has docs st ds. all_last settings t now g e z d text here has ready silent synced works st ds u z.ids put vs docs (stands d) (λ k. k) s number) does is said_so
   where
     now : List Event
     now = behind base xs

@@ -1,6 +1,6 @@
 -- The documents of all groups, where a cause comes that changes none.
 use Rattle.std.proofs.Common.{◌≡◌, ℕ, ◌<◌, Bool, true, false, ◌&&◌, ◌||◌, List, [], ◌∷◌, ◌++◌, length, map, get_or, codes, refl, sym, ap, subst, ◌∙◌, arith}
-use Rattle.std.specs.Prelude.{Option, Some, None, bytes_eq, slice_get, slice_set}
+use Rattle.std.specs.Prelude.{Option, Some, None, MatchOption, bytes_eq, slice_get, slice_set}
 use Rattle.std.proofs.lemmas.Bool.{ne_eqb}
 use Rattle.std.proofs.lemmas.Slice.Eq.{bytes_eq-Decides}
 use Rattle.mux_history.specs.declared.cause.Cause.TheVariants.{Joined, FromEditor, FromServer, Started, Drained}
@@ -20,14 +20,17 @@ use Rattle.focus_switch.specs.Documents.{Documents}
 use Rattle.group_words.specs.Houses.{is_first_error, stops}
 use Rattle.group_rows.proofs.Frames.{encoding_stays, texts_stay}
 use Rattle.restart_replay.specs.Standings.{Standing}
+use Rattle.id_rewrite.specs.Tables.{without}
 use Rattle.mux_tables.specs.declared.tables.Start.{Start}
 use Rattle.mux_tables.specs.declared.tables.Tables.{Tables}
 use Rattle.mux_tables.specs.Documents.{DocumentsStand, Owed, SharedStands, StartTold, changes_documents}
+use Rattle.mux_tables.specs.Notes.{NotesStand, has_left}
 use Rattle.mux_tables.specs.Stands.{LastStands, Stands, begun_at, number_in, of_life, phase_in}
 use Rattle.mux_tables.proofs.DocumentEvents.{heard_encoding, heard_texts, shared_heard, shared_other, shared_own, shared_quiet}
 use Rattle.mux_tables.proofs.DocumentFrames.{sent_stays, sent_unheard}
 use Rattle.mux_tables.proofs.DocumentMoves.{Rest, documents_all, documents_last, quiet_documents, rest_quiet, starts_kept}
 use Rattle.mux_tables.proofs.Lasts.{apart, known}
+use Rattle.mux_tables.proofs.Noting.{joined_left, left_stays, moment_stays, notes_answered}
 use Rattle.mux_tables.proofs.Starts.{read_here, read_same, start_at_place}
 
 past_none : {X : Type 0} (xs : List X) → slice_get xs (length xs) ≡ None
@@ -38,13 +41,14 @@ past_none (x ∷ xs) = past_none xs
 pub joined_documents : (settings : Settings) (owed : Owed) (t u : Tables) (events : List Event) (e : ℕ) → e ≡ length t.editors → u.lasts ≡ t.lasts → u.documents ≡ t.documents → u.versions ≡ t.versions → Stands settings t events
     → DocumentsStand settings owed t events → DocumentsStand settings owed u (events ++ took (Joined e) not_message ∷ [])
 joined_documents settings owed t u events e next ls ds vs st = quiet_documents settings owed t u events (took (Joined e) not_message) refl refl (ap (λ v. v.items) ls) (ap (λ v. v.items) ds) vs (λ g o k. ne_eqb e o.editor (λ q. never (sym k.1 ∙ absent o.editor (sym q ∙ next))))
+    (joined_left events e not_message (ap has_left (st.house.editors.phase e) ∙ ap (λ (o : Option Session). has_left (phase_in o)) (ap (slice_get t.editors) next ∙ past_none t.editors)))
   where
     absent : (n : ℕ) → n ≡ length t.editors → is_served (desk_of n events).phase ≡ false
     absent n is = ap is_served (st.house.editors.phase n) ∙ ap (λ (o : Option Session). is_served (phase_in o)) (ap (slice_get t.editors) is ∙ past_none t.editors)
 
 -- X6
 pub drained_documents : (settings : Settings) (owed : Owed) (t : Tables) (events : List Event) (e k : ℕ) → DocumentsStand settings owed t events → DocumentsStand settings owed t (events ++ took (Drained e k) not_message ∷ [])
-drained_documents settings owed t events e k ds = quiet_documents settings owed t t events (took (Drained e k) not_message) refl refl refl refl refl (λ g o at. refl) ds
+drained_documents settings owed t events e k ds = quiet_documents settings owed t t events (took (Drained e k) not_message) refl refl refl refl refl (λ g o at. refl) (left_stays events (took (Drained e k) not_message) refl) ds
 
 -- a message of an editor
 pub rest_heard : (settings : Settings) (t : Tables) (events : List Event) (e : ℕ) (body : List ℕ) (m : Message) → changes_documents events e m ≡ false → Rest settings t events (events ++ took (FromEditor e body) m ∷ [])
@@ -53,6 +57,8 @@ rest_heard settings t events e body m q = record {
   encoding = λ g l. encoding_stays g events (took (FromEditor e body) m) refl;
   starts = starts_kept events (took (FromEditor e body) m) refl;
   sent = λ s l u. sent_stays s u events (took (FromEditor e body) m) refl;
+  moments = λ g x n p at there. moment_stays x.life.start n events (took (FromEditor e body) m) refl;
+  left = left_stays events (took (FromEditor e body) m) refl;
 }
 
 pub heard_documents : (settings : Settings) (owed : Owed) (t u : Tables) (events : List Event) (e : ℕ) (body : List ℕ) (m : Message) → changes_documents events e m ≡ false → u.lasts ≡ t.lasts → u.documents ≡ t.documents → u.versions ≡ t.versions
@@ -107,7 +113,8 @@ module _ (settings : Settings) (owed : Owed) (events : List Event) (s : ℕ) whe
       → u.lasts.items ≡ slice_set t.lasts.items g (record z { life = life; started = true }) → u.documents ≡ t.documents → u.versions ≡ t.versions
       → DocumentsStand settings owed t events → DocumentsStand settings owed u later
   started_documents t u g z life within read is set ds vs =
-      documents_last settings owed owed t u events later (rest_quiet settings t events (took (Started s) not_message) refl refl) vs g z (record z { life = life; started = true }) (read_here t.lasts.items g z within read) set (ap (λ v. v.items) ds)
+      documents_last settings owed owed t u events later (rest_quiet settings t events (took (Started s) not_message) refl refl (left_stays events (took (Started s) not_message) refl)) vs g z (record z { life = life; started = true }) (read_here t.lasts.items g z within read) set (ap (λ v. v.items) ds)
+      (λ k. subst (λ n. NotesStand settings n z.ids.requests later) (sym (ap (λ (l : Standing). l.start) is ∙ begun_number z.life.stage z.life)) k)
       (λ d h. begun g z life d is (started_quiet g z d h)) (λ j y c away at h. started_quiet j y c h)
 
 -- a message of a start that gives no encoding
@@ -117,14 +124,17 @@ rest_from settings t events n body m later old = record {
   encoding = λ g l. heard_encoding g n body m events later;
   starts = starts_kept events (took (FromServer n body) m) refl;
   sent = λ s l u. sent_unheard s n u body m events (ne_eqb n s (λ q. absurd (omega (arith, q, l, old))));
+  moments = λ g x k p at there. moment_stays x.life.start k events (took (FromServer n body) m) refl;
+  left = left_stays events (took (FromServer n body) m) refl;
 }
 
-pub answer_documents : (settings : Settings) (owed : Owed) (t u : Tables) (events : List Event) (g s : ℕ) (z y : Start) (body : List ℕ) (m : Message) → slice_get (map number_in t.lasts.items) g ≡ Some s → g < length t.lasts.items → z ≡ get_or t.lasts.items g z
-    → (is_first_result m && is_initializing z.life.stage) ≡ false → (z.life.stage ≡ Spawning → ⊥) → y.life ≡ z.life → u.lasts.items ≡ slice_set t.lasts.items g y → u.documents ≡ t.documents → u.versions ≡ t.versions → Stands settings t events
+pub answer_documents : (settings : Settings) (owed : Owed) (t u : Tables) (events : List Event) (g s : ℕ) (z y : Start) (body : List ℕ) (m : Message) (k : Option ℕ) → slice_get (map number_in t.lasts.items) g ≡ Some s → g < length t.lasts.items → z ≡ get_or t.lasts.items g z
+    → (is_first_result m && is_initializing z.life.stage) ≡ false → (z.life.stage ≡ Spawning → ⊥) → y.life ≡ z.life → MatchOption k (y.ids.requests ≡ z.ids.requests) (λ n. y.ids.requests ≡ without n z.ids.requests) → u.lasts.items ≡ slice_set t.lasts.items g y → u.documents ≡ t.documents → u.versions ≡ t.versions → Stands settings t events
     → DocumentsStand settings owed t events → DocumentsStand settings owed u (events ++ took (FromServer s body) m ∷ [])
-answer_documents settings owed t u events g s z y body m at within read later runs life set ds vs st =
+answer_documents settings owed t u events g s z y body m k at within read later runs life taken set ds vs st =
     subst (λ n. DocumentsStand settings owed t events → DocumentsStand settings owed u (events ++ took (FromServer n body) m ∷ [])) (start_at_place t.lasts.items g s z here at)
     (documents_last settings owed owed t u events (events ++ took (FromServer z.life.start body) m ∷ []) (rest_from settings t events z.life.start body m told (known t.requests t.origins.groups.items events g z st.origins last)) vs g z y here set (ap (λ v. v.items) ds)
+    (λ h. subst (λ (l : Standing). NotesStand settings l.start y.ids.requests (events ++ took (FromServer z.life.start body) m ∷ [])) (sym life) (notes_answered settings z.life.start k y.ids.requests z.ids.requests (events ++ took (FromServer z.life.start body) m ∷ []) taken h))
     (λ d h. subst (λ (l : Standing). SharedStands settings (events ++ took (FromServer z.life.start body) m ∷ []) (owed g) g l.start l.stage d) (sym life) (shared_own settings events (owed g) g z.life.start z.life.stage d body m told stage runs h))
     (λ j w c away there h. shared_other settings events (owed j) j w.life.start w.life.stage c z.life.start body m told (apart t.requests events g j z w away last (st.lasts.each j w there)) h))
   where
@@ -154,9 +164,9 @@ initializing_runs g e h = absurd (clash (sym e ∙ h))
     clash : Initializing ≡ Spawning → ⊥
     clash q = cc
 
-pub answer_documents_by : (settings : Settings) (owed : Owed) (t u : Tables) (events : List Event) (g s : ℕ) (x z y : Start) (body : List ℕ) (m : Message) → slice_get t.lasts.items g ≡ Some x → slice_get (map number_in t.lasts.items) g ≡ Some s → g < length t.lasts.items → z ≡ get_or t.lasts.items g z
-    → (is_first_result m && is_initializing x.life.stage) ≡ false → (x.life.stage ≡ Spawning → ⊥) → y.life ≡ z.life → u.lasts.items ≡ slice_set t.lasts.items g y → u.documents ≡ t.documents → u.versions ≡ t.versions → Stands settings t events
+pub answer_documents_by : (settings : Settings) (owed : Owed) (t u : Tables) (events : List Event) (g s : ℕ) (x z y : Start) (body : List ℕ) (m : Message) (k : Option ℕ) → slice_get t.lasts.items g ≡ Some x → slice_get (map number_in t.lasts.items) g ≡ Some s → g < length t.lasts.items → z ≡ get_or t.lasts.items g z
+    → (is_first_result m && is_initializing x.life.stage) ≡ false → (x.life.stage ≡ Spawning → ⊥) → y.life ≡ z.life → MatchOption k (y.ids.requests ≡ z.ids.requests) (λ n. y.ids.requests ≡ without n z.ids.requests) → u.lasts.items ≡ slice_set t.lasts.items g y → u.documents ≡ t.documents → u.versions ≡ t.versions → Stands settings t events
     → DocumentsStand settings owed t events → DocumentsStand settings owed u (events ++ took (FromServer s body) m ∷ [])
-answer_documents_by settings owed t u events g s x z y body m is at within read later runs life set ds vs st =
+answer_documents_by settings owed t u events g s x z y body m k is at within read later runs life taken set ds vs st =
     let same : z ≡ x = read_same t.lasts.items g z x within read is in
-    answer_documents settings owed t u events g s z y body m at within read (ap (λ (w : Start). is_first_result m && is_initializing w.life.stage) same ∙ later) (λ e. runs (ap (λ (w : Start). w.life.stage) (sym same) ∙ e)) life set ds vs st
+    answer_documents settings owed t u events g s z y body m k at within read (ap (λ (w : Start). is_first_result m && is_initializing w.life.stage) same ∙ later) (λ e. runs (ap (λ (w : Start). w.life.stage) (sym same) ∙ e)) life taken set ds vs st

@@ -9,13 +9,13 @@ use Rattle.std.proofs.lemmas.Option.{slice_get-get_or, slice_get_within}
 use Rattle.mux_history.specs.declared.cause.Cause.TheVariants.{EditorGone, FromEditor}
 use Rattle.mux_history.specs.declared.cause.Why.{Why}
 use Rattle.mux_history.specs.declared.out.Out.{Out}
-use Rattle.mux_history.specs.declared.out.Out.TheVariants.{CloseEditor}
+use Rattle.mux_history.specs.declared.out.Out.TheVariants.{CloseEditor, ToServer}
 use Rattle.rpc_message.specs.Message.{Message}
 use Rattle.document_model.specs.Opens.{Open}
 use Rattle.document_model.specs.Texts.{Texts, no_texts}
 use Rattle.event_model.specs.declared.stage.Stage.{Stage}
 use Rattle.event_model.specs.declared.stage.Stage.TheVariants.{Unspawned, Spawning, Initializing, Ready, Stopping, Ending, Ended}
-use Rattle.event_model.specs.Event.{Event, behind, heard, requests, said, took}
+use Rattle.event_model.specs.Event.{Event, behind, did, heard, requests, said, took}
 use Rattle.event_model.specs.Phases.{desk_of, is_served}
 use Rattle.event_model.specs.Settings.{Settings}
 use Rattle.event_model.specs.Spawns.{start_of}
@@ -41,6 +41,7 @@ use Rattle.mux_tables.specs.declared.tables.Tables.{Tables}
 use Rattle.mux_tables.specs.Documents.{AllTell, DocumentsStand, IsOwned, Leaves, Owed, SharedStands, StartTold, StepAt, StepFrom, leaving, nothing_owed, owes, to}
 use Rattle.mux_tables.specs.Stands.{Stands, group_in, of_life, start_for}
 use Rattle.mux_tables.proofs.DocumentFrames.{all_owned, owner_stays, parts, sent_stays, shared_stays, start_stays, touches_sent, untold_stays}
+use Rattle.mux_tables.proofs.Noting.{asks_on, joins, left_stays, moment_stays}
 use Rattle.mux_tables.proofs.DocumentMoves.{Rest, documents_all, documents_at, documents_set, set_same, starts_kept}
 use Rattle.mux_tables.proofs.DocumentOwed.{owes_here, owes_there}
 use Rattle.mux_tables.proofs.Frames.{itself, spawns}
@@ -146,7 +147,7 @@ module _ (settings : Settings) (t u : Tables) (events later : List Event) (e : �
       let go = left_shared settings events later e g x.life.start d.0 (removed g own) (kept g) (same x.life.start) (owners g) few x.life.stage stage was in
       subst (λ o. Leaves settings events e (Some g) o outs u later) (sym (st.lasts.each g x at).start) (
         moved.0 ∙ go.1,
-        documents_set settings nothing_owed (owes g b) t u events later rest vs g x x d.0 (leave_row e d.0).after at d.1 (ls ∙ sym (set_same t.lasts.items g x at)) moved.1
+        documents_set settings nothing_owed (owes g b) t u events later rest vs g x x d.0 (leave_row e d.0).after at d.1 (ls ∙ sym (set_same t.lasts.items g x at)) moved.1 (λ k. k)
             (λ _. subst (λ w. SharedStands settings later w g x.life.start x.life.stage (leave_row e d.0).after) (sym (owes_here g b)) go.0)
             (λ j z c off there h. subst (λ w. SharedStands settings later w j z.life.start z.life.stage c) (sym (owes_there g j b off)) (away j z.life.start z.life.stage c (ap (is_home j) own ∙ ne_eqb g j (λ q. off (sym q))) h)) s,
       )
@@ -180,8 +181,12 @@ home_seen settings t events e home l is st = st.house.editors.home e ∙ (ap gro
 other_way : (a b : ℕ) → nat_eq a b ≡ false → nat_eq b a ≡ false
 other_way a b h = grind (arith, nat_tests)
 
+asks_unsent : (ev : Event) → touches_sent ev ≡ false → asks_on ev ≡ false
+asks_unsent (did (ToServer s body) m) h = never h
+asks_unsent other h = refl
+
 -- its link is gone, or is to be ended
-module _ (settings : Settings) (t u : Tables) (events : List Event) (ev : Event) (e : ℕ) (home : Option ℕ) (outs : List Out) (leaves : (g : ℕ) → texts_of settings g (events ++ ev ∷ []) ≡ without_editor e (texts_of settings g events)) (encodes : touches_encoding ev ≡ false) (sends : touches_sent ev ≡ false) (spawn : spawns ev ≡ false)
+module _ (settings : Settings) (t u : Tables) (events : List Event) (ev : Event) (e : ℕ) (home : Option ℕ) (outs : List Out) (leaves : (g : ℕ) → texts_of settings g (events ++ ev ∷ []) ≡ without_editor e (texts_of settings g events)) (encodes : touches_encoding ev ≡ false) (sends : touches_sent ev ≡ false) (spawn : spawns ev ≡ false) (quits : joins ev ≡ false)
     (names : (n : ℕ) → nat_eq e n ≡ false → parts n ev ≡ false) (is : home_of settings e events ≡ home) (ls : u.lasts.items ≡ t.lasts.items) (vs : u.versions ≡ t.versions) (st : Stands settings t events) where
   abbrev later : List Event
   later = events ++ ev ∷ []
@@ -207,6 +212,8 @@ module _ (settings : Settings) (t u : Tables) (events : List Event) (ev : Event)
     encoding = λ g l. encoding_stays g events ev encodes;
     starts = starts_kept events ev spawn;
     sent = λ s l w. sent_stays s w events ev sends;
+    moments = λ g x n p at there. moment_stays x.life.start n events ev (asks_unsent ev sends);
+    left = left_stays events ev quits;
   }
 
   leave_documents : StepFrom (leave_row e) home t.documents.items outs u.documents.items → DocumentsStand settings nothing_owed t events → Leaves settings events e (home_of settings e events) (start_for settings e events) outs u later
@@ -253,24 +260,24 @@ module _ (settings : Settings) (t u : Tables) (events : List Event) (ev : Event)
 
 pub gone_documents : (settings : Settings) (t u : Tables) (events : List Event) (e : ℕ) (why : Why) (home : Option ℕ) (outs : List Out) → e < length t.editors → home ≡ (session_of t.editors e).group → u.lasts ≡ t.lasts → u.versions ≡ t.versions → StepFrom (leave_row e) home t.documents.items outs u.documents.items
     → Stands settings t events → DocumentsStand settings nothing_owed t events → Leaves settings events e (home_of settings e events) (start_for settings e events) outs u (events ++ heard (EditorGone e why) ∷ [])
-gone_documents settings t u events e why home outs l is ls vs left st s = leave_documents settings t u events (heard (EditorGone e why)) e home outs (λ g. texts_more settings g events (heard (EditorGone e why))) refl refl refl (λ n h. h) (home_seen settings t events e home l is st) (ap (λ v. v.items) ls) vs st left s
+gone_documents settings t u events e why home outs l is ls vs left st s = leave_documents settings t u events (heard (EditorGone e why)) e home outs (λ g. texts_more settings g events (heard (EditorGone e why))) refl refl refl refl (λ n h. h) (home_seen settings t events e home l is st) (ap (λ v. v.items) ls) vs st left s
 
 pub closed_documents : (settings : Settings) (t u : Tables) (base : List Event) (xs ys : List Out) (e : ℕ) (home : Option ℕ) (owed : List Out) → e < length t.editors → home ≡ (session_of t.editors e).group → u.lasts ≡ t.lasts → u.versions ≡ t.versions → StepFrom (leave_row e) home t.documents.items owed u.documents.items → ys ≡ xs ++ CloseEditor e ∷ []
     → Stands settings t (behind base xs) → DocumentsStand settings nothing_owed t (behind base xs) → Leaves settings (behind base xs) e (home_of settings e (behind base xs)) (start_for settings e (behind base xs)) owed u (behind base ys)
 closed_documents settings t u base xs ys e home owed l is ls vs left said_so st s =
     subst (λ es. Leaves settings (behind base xs) e (home_of settings e (behind base xs)) (start_for settings e (behind base xs)) owed u es) (sym (ap (behind base) said_so ∙ behind_more base xs (CloseEditor e ∷ [])))
-    (leave_documents settings t u (behind base xs) (said (CloseEditor e)) e home owed (λ g. texts_more settings g (behind base xs) (said (CloseEditor e))) refl refl refl (λ n h. h) (home_seen settings t (behind base xs) e home l is st) (ap (λ v. v.items) ls) vs st left s)
+    (leave_documents settings t u (behind base xs) (said (CloseEditor e)) e home owed (λ g. texts_more settings g (behind base xs) (said (CloseEditor e))) refl refl refl refl (λ n h. h) (home_seen settings t (behind base xs) e home l is st) (ap (λ v. v.items) ls) vs st left s)
 
 pub gone_unserved : (settings : Settings) (t u : Tables) (events : List Event) (e : ℕ) (why : Why) (home : Option ℕ) (outs : List Out) → e < length t.editors → home ≡ (session_of t.editors e).group → u.lasts ≡ t.lasts → u.versions ≡ t.versions → StepFrom (leave_row e) home t.documents.items outs u.documents.items
     → Stands settings t events → is_served (desk_of e events).phase ≡ false → DocumentsStand settings nothing_owed t events → (outs ≡ []) × DocumentsStand settings nothing_owed u (events ++ heard (EditorGone e why) ∷ [])
-gone_unserved settings t u events e why home outs l is ls vs left st unserved s = unserved_documents settings t u events (heard (EditorGone e why)) e home outs (λ g. texts_more settings g events (heard (EditorGone e why))) refl refl refl (λ n h. h)
+gone_unserved settings t u events e why home outs l is ls vs left st unserved s = unserved_documents settings t u events (heard (EditorGone e why)) e home outs (λ g. texts_more settings g events (heard (EditorGone e why))) refl refl refl refl (λ n h. h)
     (home_seen settings t events e home l is st) (ap (λ v. v.items) ls) vs st nothing_owed unserved left s
 
 pub closed_unserved : (settings : Settings) (owed : Owed) (t u : Tables) (base : List Event) (xs ys : List Out) (e : ℕ) (home : Option ℕ) (outs : List Out) → e < length t.editors → home ≡ (session_of t.editors e).group → u.lasts ≡ t.lasts → u.versions ≡ t.versions → StepFrom (leave_row e) home t.documents.items outs u.documents.items → ys ≡ xs ++ CloseEditor e ∷ []
     → Stands settings t (behind base xs) → is_served (desk_of e (behind base xs)).phase ≡ false → DocumentsStand settings owed t (behind base xs) → (outs ≡ []) × DocumentsStand settings owed u (behind base ys)
 closed_unserved settings owed t u base xs ys e home outs l is ls vs left said_so st unserved s =
     subst (λ es. (outs ≡ []) × DocumentsStand settings owed u es) (sym (ap (behind base) said_so ∙ behind_more base xs (CloseEditor e ∷ [])))
-    (unserved_documents settings t u (behind base xs) (said (CloseEditor e)) e home outs (λ g. texts_more settings g (behind base xs) (said (CloseEditor e))) refl refl refl (λ n h. h)
+    (unserved_documents settings t u (behind base xs) (said (CloseEditor e)) e home outs (λ g. texts_more settings g (behind base xs) (said (CloseEditor e))) refl refl refl refl (λ n h. h)
     (home_seen settings t (behind base xs) e home l is st) (ap (λ v. v.items) ls) vs st owed unserved left s)
 
 -- E9: it asks to shut down
@@ -297,6 +304,8 @@ module _ (settings : Settings) (t u : Tables) (events : List Event) (e : ℕ) (b
     encoding = λ g l. encoding_stays g events (took (FromEditor e body) m) refl;
     starts = starts_kept events (took (FromEditor e body) m) refl;
     sent = λ s l w. sent_stays s w events (took (FromEditor e body) m) refl;
+    moments = λ g x n p at there. moment_stays x.life.start n events (took (FromEditor e body) m) refl;
+    left = left_stays events (took (FromEditor e body) m) refl;
   }
     where
       either : (g : ℕ) (b : Bool) (x : Texts) → x ≡ no_texts → (if b then texts_heard g events e m x else x) ≡ no_texts

@@ -45,6 +45,7 @@ use Rattle.mux_tables.specs.Documents.{AllTell, DocumentsStand, IsOwned, SharedS
 use Rattle.mux_tables.specs.Stands.{Stands, of_life}
 use Rattle.mux_tables.proofs.DocumentFrames.{all_owned, owner_stays, sent_stays, shared_stays, start_stays, untold_stays}
 use Rattle.mux_tables.proofs.DocumentLeft.{get_past}
+use Rattle.mux_tables.proofs.Noting.{left_stays, moment_stays}
 use Rattle.mux_tables.proofs.DocumentMoves.{Rest, documents_at, documents_set, set_same, starts_kept}
 use Rattle.mux_tables.proofs.DocumentOwed.{owes_here, owes_there}
 use Rattle.mux_tables.proofs.Frames.{itself}
@@ -200,6 +201,8 @@ module _ (settings : Settings) (events : List Event) (g s e : ℕ) (body method 
     encoding = λ j l. encoding_stays j events (heard (FromEditor e body)) refl;
     starts = starts_kept events (heard (FromEditor e body)) refl;
     sent = λ n l u. sent_stays n u events (heard (FromEditor e body)) refl;
+    moments = λ j x n p at there. moment_stays x.life.start n events (heard (FromEditor e body)) refl;
+    left = left_stays events (heard (FromEditor e body)) refl;
   }
 
   founded : (t : Tables) → start_of g events ≡ Some s → Stands settings t events → (o : Option Start) → slice_get t.lasts.items g ≡ o → g < length t.lasts.items
@@ -223,7 +226,7 @@ module _ (settings : Settings) (events : List Event) (g s e : ℕ) (body method 
       let few : d.0.versions < 2 ^ 32 = subst (λ n. n < 2 ^ 32) (sym (was.versions ∙ ds.versions)) ds.range in
       let go = noticed_shared d.0 few x.0.life.stage stage was in (
         made.0 ∙ go.1,
-        documents_set settings nothing_owed (owes g bodies) t u events later (noticed_rest t within) vs g x.0 x.0 d.0 (document_step e body said d.0).after x.1 d.1 (ap (λ v. v.items) ls ∙ sym (set_same t.lasts.items g x.0 x.1)) made.1
+        documents_set settings nothing_owed (owes g bodies) t u events later (noticed_rest t within) vs g x.0 x.0 d.0 (document_step e body said d.0).after x.1 d.1 (ap (λ v. v.items) ls ∙ sym (set_same t.lasts.items g x.0 x.1)) made.1 (λ k. k)
             (λ _. subst (λ w. SharedStands settings later w g x.0.life.start x.0.life.stage (document_step e body said d.0).after) (sym (owes_here g bodies)) (subst (λ n. SharedStands settings later bodies g n x.0.life.stage (document_step e body said d.0).after) (sym is) go.0))
             (λ j w c off there h. subst (λ q. SharedStands settings later q j w.life.start w.life.stage c) (sym (owes_there g j bodies off)) (noticed_other j w.life.start w.life.stage c (ne_eqb g j (λ q. off (sym q))) h)) ds,
       )

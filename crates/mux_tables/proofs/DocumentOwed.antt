@@ -29,6 +29,7 @@ use Rattle.mux_tables.specs.Documents.{AllStand, AllTell, DocumentsStand, Owed, 
 use Rattle.mux_tables.specs.Stands.{Stands, number_in}
 use Rattle.mux_tables.proofs.DocumentEvents.{shared_beside, shared_next}
 use Rattle.mux_tables.proofs.DocumentFrames.{sent_apart}
+use Rattle.mux_tables.proofs.Noting.{asks_told, left_stays, moment_stays}
 use Rattle.mux_tables.proofs.DocumentMoves.{Rest, documents_all, documents_at, documents_last, set_same, starts_kept}
 use Rattle.mux_tables.proofs.Frames.{itself}
 use Rattle.mux_tables.proofs.Lasts.{apart, known}
@@ -51,7 +52,7 @@ owes_none g j = go (nat_eq g j)
 -- a group that owes nothing
 pub owes_nothing : (settings : Settings) (t : Tables) (g : ℕ) (events : List Event) → DocumentsStand settings (owes g []) t events → DocumentsStand settings nothing_owed t events
 owes_nothing settings t g events ds =
-    documents_all settings (owes g []) nothing_owed t t events events (record { texts = λ j l k. k; encoding = λ j l. refl; starts = λ n l. l; sent = λ n l u. refl }) refl refl refl (λ j z d there k. subst (λ w. SharedStands settings events w j z.life.start z.life.stage d) (owes_none g j) k) ds
+    documents_all settings (owes g []) nothing_owed t t events events (record { texts = λ j l k. k; encoding = λ j l. refl; starts = λ n l. l; sent = λ n l u. refl; moments = λ j x n p at there. refl; left = λ e h. h }) refl refl refl (λ j z d there k. subst (λ w. SharedStands settings events w j z.life.start z.life.stage d) (owes_none g j) k) ds
 
 -- what an out does to each of the two relations, it does to both
 pub all_does : {row : Row} (settings : Settings) (t u : Tables) (owed after : Owed) (base : List Event) (xs ys : List Out) → Does (λ t events. Stands settings t events) row base t xs u ys
@@ -100,10 +101,12 @@ module _ (settings : Settings) (t : Tables) (g : ℕ) (x : Start) (at : slice_ge
     encoding = λ j l. encoding_stays j events (said (ToServer s body)) refl;
     starts = starts_kept events (said (ToServer s body)) refl;
     sent = λ n l u. sent_apart n s u body (message_of body) events (ne_eqb s n (λ q. let old = known t.requests t.origins.groups.items events g x st.origins (st.lasts.each g x at) in absurd (omega (arith, q, l, old))));
+    moments = λ j z n p there asked. moment_stays z.life.start n events (said (ToServer s body)) (asks_told s body (message_of body) h);
+    left = left_stays events (said (ToServer s body)) refl;
   }
 
   next_documents : (body : List ℕ) (bodies : List (List ℕ)) (events : List Event) → Stands settings t events → DocumentsStand settings (owes g (body ∷ bodies)) t events → speaks (saying_of (message_of body)) ≡ true → DocumentsStand settings (owes g bodies) t (events ++ said (ToServer s body) ∷ [])
-  next_documents body bodies events st ds h = documents_last settings (owes g (body ∷ bodies)) (owes g bodies) t t events later (next_rest body events h st) refl g x x at (sym (set_same t.lasts.items g x at)) refl own others ds
+  next_documents body bodies events st ds h = documents_last settings (owes g (body ∷ bodies)) (owes g bodies) t t events later (next_rest body events h st) refl g x x at (sym (set_same t.lasts.items g x at)) refl (λ k. k) own others ds
     where
       later : List Event
       later = events ++ said (ToServer s body) ∷ []

@@ -1,6 +1,6 @@
 -- S2: a start gave its first result: what it is owed of the documents that are open.
 use Rattle.std.proofs.Common.{◌≡◌, ℕ, ◌<◌, ◌≤◌, false, List, [], ◌∷◌, ◌++◌, length, map, get_or, nat_eq, refl, sym, ap, subst, ◌∙◌, arith}
-use Rattle.std.specs.Prelude.{Some, None, slice_get, slice_set}
+use Rattle.std.specs.Prelude.{Option, Some, None, MatchOption, slice_get, slice_set}
 use Rattle.std.specs.List.{AllByRecursion}
 use Rattle.std.proofs.lemmas.Bool.{ne_eqb}
 use Rattle.mux_history.specs.declared.cause.Cause.TheVariants.{FromServer}
@@ -29,11 +29,14 @@ use Rattle.group_laws.proofs.Entries.{all_told, held_same}
 use Rattle.group_laws.proofs.ReplayHeld.{ready_held}
 use Rattle.group_laws.proofs.Replaying.{ready_outs, ready_stays, ready_texts}
 use Rattle.restart_replay.specs.Standings.{Standing, moved}
+use Rattle.id_rewrite.specs.Tables.{without}
 use Rattle.mux_tables.specs.declared.tables.Start.{Start}
 use Rattle.mux_tables.specs.declared.tables.Tables.{Tables}
 use Rattle.mux_tables.specs.Documents.{DocumentsStand, IsOwned, SharedStands, StepAt, Told, nothing_owed, owes, replaying, to}
+use Rattle.mux_tables.specs.Notes.{NotesStand}
 use Rattle.mux_tables.specs.Stands.{LastStands, Stands, number_in, of_life}
 use Rattle.mux_tables.proofs.DocumentFrames.{all_owned, owner_stays, sent_unheard, shared_stays, start_stays}
+use Rattle.mux_tables.proofs.Noting.{left_stays, moment_stays, notes_answered}
 use Rattle.mux_tables.proofs.DocumentMoves.{Rest, documents_at, documents_set, starts_kept}
 use Rattle.mux_tables.proofs.DocumentOwed.{owes_here, owes_there}
 use Rattle.mux_tables.proofs.Frames.{itself}
@@ -107,14 +110,16 @@ module _ (settings : Settings) (events : List Event) (g s : ℕ) (code : Encodin
     encoding = λ j l. other_encoding j (ne_eqb g j (λ q. absurd (omega (arith, q, l, within))));
     starts = starts_kept events (took (FromServer s body) m) refl;
     sent = λ n l u. sent_unheard n s u body m events (fresh n l);
+    moments = λ j x n p at there. moment_stays x.life.start n events (took (FromServer s body) m) refl;
+    left = left_stays events (took (FromServer s body) m) refl;
   }
 
-pub ready_documents : (settings : Settings) (t u : Tables) (events : List Event) (g s start : ℕ) (code : Encoding) (z y : Start) (body : List ℕ) (m : Message) (outs : List Out) → slice_get (map number_in t.lasts.items) g ≡ Some s → g < length t.lasts.items → z ≡ get_or t.lasts.items g z → z.life.stage ≡ Initializing
-    → encoding_by m ≡ Some code → y.life ≡ moved Ready z.life → start ≡ y.life.start → u.lasts.items ≡ slice_set t.lasts.items g y → u.versions ≡ t.versions
+pub ready_documents : (settings : Settings) (t u : Tables) (events : List Event) (g s start : ℕ) (code : Encoding) (z y : Start) (body : List ℕ) (m : Message) (k : Option ℕ) (outs : List Out) → slice_get (map number_in t.lasts.items) g ≡ Some s → g < length t.lasts.items → z ≡ get_or t.lasts.items g z → z.life.stage ≡ Initializing
+    → encoding_by m ≡ Some code → y.life ≡ moved Ready z.life → MatchOption k (y.ids.requests ≡ z.ids.requests) (λ n. y.ids.requests ≡ without n z.ids.requests) → start ≡ y.life.start → u.lasts.items ≡ slice_set t.lasts.items g y → u.versions ≡ t.versions
     → StepAt (ready_row start code) g (slice_get t.documents.items g) t.documents.items outs u.documents.items
     → Stands settings t events → DocumentsStand settings nothing_owed t events
     → (outs ≡ to s (replaying settings events g)) × DocumentsStand settings (owes g (replaying settings events g)) u (events ++ took (FromServer s body) m ∷ [])
-ready_documents settings t u events g s start code z y body m outs at within read stage gives life number set vs does st ds =
+ready_documents settings t u events g s start code z y body m k outs at within read stage gives life taken number set vs does st ds =
     let here : slice_get t.lasts.items g ≡ Some z = read_here t.lasts.items g z within read in
     let is : z.life.start ≡ s = start_at_place t.lasts.items g s z here at in
     let own : start ≡ z.life.start = number ∙ ap (λ (l : Standing). l.start) life in
@@ -131,6 +136,7 @@ ready_documents settings t u events g s start code z y body m outs at within rea
       made.0 ∙ (ap (λ n. (ready_row n code d.0).outs) own ∙ ready_said settings events g z.life.start code body m last.home begins gives d.0 was),
       documents_set settings nothing_owed (owes g b) t u events (events ++ took (FromServer z.life.start body) m ∷ []) (ready_rest settings events g z.life.start code body m last.home begins gives t within (λ n l. ne_eqb z.life.start n (λ q. absurd (omega (arith, q, l, old))))) vs
           g z y d.0 (ready_row z.life.start code d.0).after here d.1 set (made.1 ∙ ap (λ n. slice_set t.documents.items g (ready_row n code d.0).after) own)
+          (λ h. subst (λ n. NotesStand settings n y.ids.requests (events ++ took (FromServer z.life.start body) m ∷ [])) (sym (ap (λ (l : Standing). l.start) life)) (notes_answered settings z.life.start k y.ids.requests z.ids.requests (events ++ took (FromServer z.life.start body) m ∷ []) taken h))
           (λ _. subst (λ (l : Standing). SharedStands settings (events ++ took (FromServer z.life.start body) m ∷ []) (owes g b g) g l.start l.stage (ready_row z.life.start code d.0).after) (sym life) now)
           (λ j w c off there h. subst (λ q. SharedStands settings (events ++ took (FromServer z.life.start body) m ∷ []) q j w.life.start w.life.stage c) (sym (owes_there g j b off))
           (ready_other settings events g z.life.start code body m last.home begins gives [] j w.life.start w.life.stage c (ne_eqb g j (λ q. off (sym q))) (apart t.requests events g j z w off last (st.lasts.each j w there)) h)) ds,

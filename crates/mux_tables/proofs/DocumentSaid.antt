@@ -18,13 +18,16 @@ use Rattle.focus_switch.specs.Rows.{unready_row}
 use Rattle.group_rows.specs.Texts.{is_synced}
 use Rattle.group_rows.proofs.Frames.{encoding_stays, texts_stay}
 use Rattle.restart_replay.specs.Standings.{Standing, moved, stopped}
+use Rattle.id_rewrite.specs.Tables.{with_cancelled}
 use Rattle.mux_tables.specs.declared.tables.Start.{Start}
 use Rattle.mux_tables.specs.declared.tables.Tables.{Tables}
 use Rattle.mux_tables.specs.Documents.{DocumentsStand, Owed, SharedStands, StartTold}
+use Rattle.mux_tables.specs.Notes.{NotesStand}
 use Rattle.mux_tables.specs.Stands.{Exits}
 use Rattle.mux_tables.proofs.DocumentEvents.{shared_notified, shared_quiet}
 use Rattle.mux_tables.proofs.DocumentFrames.{sent_silent}
 use Rattle.mux_tables.proofs.DocumentMoves.{Rest, documents_all, documents_at, documents_last, documents_set, quiet_documents, rest_quiet, starts_kept}
+use Rattle.mux_tables.proofs.Noting.{asks_aside, left_stays, moment_stays, notes_cancelled, notes_gone}
 use Rattle.mux_tables.proofs.Starts.{read_here}
 
 -- one out behind those before it
@@ -36,7 +39,7 @@ documents_said settings owed after t u out base xs ys is go s = subst (λ es. Do
 pub told_documents : (settings : Settings) (owed : Owed) (t u : Tables) (base : List Event) (xs ys : List Out) (e : ℕ) (body : List ℕ) → u.lasts ≡ t.lasts → u.documents ≡ t.documents → u.versions ≡ t.versions → ys ≡ xs ++ ToEditor e body ∷ []
     → DocumentsStand settings owed t (behind base xs) → DocumentsStand settings owed u (behind base ys)
 told_documents settings owed t u base xs ys e body ls ds vs is = documents_said settings owed owed t u (ToEditor e body) base xs ys is
-    (quiet_documents settings owed t u (behind base xs) (said (ToEditor e body)) refl refl (ap (λ v. v.items) ls) (ap (λ v. v.items) ds) vs (λ g o k. refl))
+    (quiet_documents settings owed t u (behind base xs) (said (ToEditor e body)) refl refl (ap (λ v. v.items) ls) (ap (λ v. v.items) ds) vs (λ g o k. refl) (left_stays (behind base xs) (said (ToEditor e body)) refl))
 
 -- a body to a start that tells of no document, and goes on without a sync
 pub rest_notified : (settings : Settings) (t : Tables) (events : List Event) (n : ℕ) (body : List ℕ) (m : Message) → saying_of m ≡ nothing → is_synced m ≡ false → Rest settings t events (events ++ did (ToServer n body) m ∷ [])
@@ -45,6 +48,8 @@ rest_notified settings t events n body m silent aside = record {
   encoding = λ g l. encoding_stays g events (did (ToServer n body) m) refl;
   starts = starts_kept events (did (ToServer n body) m) refl;
   sent = λ s l u. sent_silent s n u body m events silent;
+  moments = λ g x k p at there. moment_stays x.life.start k events (did (ToServer n body) m) (asks_aside n body m aside);
+  left = left_stays events (did (ToServer n body) m) refl;
 }
 
 pub notified_documents : (settings : Settings) (owed : Owed) (t u : Tables) (base : List Event) (xs ys : List Out) (n : ℕ) (text : List ℕ) → saying_of (message_of text) ≡ nothing → is_synced (message_of text) ≡ false → u.lasts ≡ t.lasts → u.documents ≡ t.documents → u.versions ≡ t.versions
@@ -57,15 +62,16 @@ notified_documents settings owed t u base xs ys n text silent aside ls ds vs is 
 pub cancel_silent : (method : List ℕ) (ps : Option Json) → bytes_eq method (codes "$/cancelRequest") ≡ true → (saying_by method ps ≡ nothing) × (is_synced (notification method ps) ≡ false)
 cancel_silent method ps h = subst (λ w. (saying_by w ps ≡ nothing) × (is_synced (notification w ps) ≡ false)) (sym ((bytes_eq-Decides method (codes "$/cancelRequest")).0 h)) (refl, refl)
 
-pub cancel_documents : (settings : Settings) (owed : Owed) (t u : Tables) (base : List Event) (xs ys : List Out) (g start : ℕ) (z y : Start) (text method : List ℕ) (ps : Option Json) → g < length t.lasts.items → z ≡ get_or t.lasts.items g z → message_of text ≡ notification method ps → bytes_eq method (codes "$/cancelRequest") ≡ true
-    → y.life ≡ z.life → u.lasts.items ≡ slice_set t.lasts.items g y → u.documents ≡ t.documents → u.versions ≡ t.versions → ys ≡ xs ++ ToServer start text ∷ []
+pub cancel_documents : (settings : Settings) (owed : Owed) (t u : Tables) (base : List Event) (xs ys : List Out) (g start n : ℕ) (z y : Start) (text method : List ℕ) (ps : Option Json) → g < length t.lasts.items → z ≡ get_or t.lasts.items g z → message_of text ≡ notification method ps → bytes_eq method (codes "$/cancelRequest") ≡ true
+    → y.life ≡ z.life → y.ids.requests ≡ with_cancelled n z.ids.requests → u.lasts.items ≡ slice_set t.lasts.items g y → u.documents ≡ t.documents → u.versions ≡ t.versions → ys ≡ xs ++ ToServer start text ∷ []
     → DocumentsStand settings owed t (behind base xs) → DocumentsStand settings owed u (behind base ys)
-cancel_documents settings owed t u base xs ys g start z y text method ps within read says cancels life set ds vs is =
+cancel_documents settings owed t u base xs ys g start n z y text method ps within read says cancels life marks set ds vs is =
     let k = cancel_silent method ps cancels in
     let silent : saying_of (message_of text) ≡ nothing = ap saying_of says ∙ k.0 in
     let aside : is_synced (message_of text) ≡ false = ap is_synced says ∙ k.1 in
     documents_said settings owed owed t u (ToServer start text) base xs ys is
     (documents_last settings owed owed t u (behind base xs) (behind base xs ++ said (ToServer start text) ∷ []) (rest_notified settings t (behind base xs) start text (message_of text) silent aside) vs g z y (read_here t.lasts.items g z within read) set (ap (λ v. v.items) ds)
+    (λ k. subst (λ (l : Standing). NotesStand settings l.start y.ids.requests (behind base xs ++ said (ToServer start text) ∷ [])) (sym life) (notes_cancelled settings z.life.start n y.ids.requests z.ids.requests (behind base xs ++ said (ToServer start text) ∷ []) marks k))
     (λ d h. subst (λ (l : Standing). SharedStands settings (behind base xs ++ said (ToServer start text) ∷ []) (owed g) g l.start l.stage d) (sym life) (shared_notified settings (behind base xs) (owed g) g z.life.start z.life.stage d start text (message_of text) silent aside h))
     (λ j w c away there h. shared_notified settings (behind base xs) (owed j) j w.life.start w.life.stage c start text (message_of text) silent aside h))
 
@@ -79,12 +85,13 @@ unready_shared settings events owed g s stage after d start h = record {
 }
 
 module _ (settings : Settings) (owed : Owed) (t u : Tables) (events later : List Event) (g : ℕ) (z y : Start) (rest : Rest settings t events later) (vs : u.versions ≡ t.versions) (at : slice_get t.lasts.items g ≡ Some z) (set : u.lasts.items ≡ slice_set t.lasts.items g y) (own : y.life.start ≡ z.life.start)
+    (notes : NotesStand settings z.life.start z.ids.requests later → NotesStand settings y.life.start y.ids.requests later)
     (dropped : (d : Documents) → slice_get t.documents.items g ≡ Some d → u.documents.items ≡ slice_set t.documents.items g (unready_row d))
     (stays : (j : ℕ) (w : Start) (c : Documents) → SharedStands settings events (owed j) j w.life.start w.life.stage c → SharedStands settings later (owed j) j w.life.start w.life.stage c) where
   unready_documents : ((s : ℕ) (d : Documents) → StartTold y.life.stage s (owed g) (unready_row d) later) → DocumentsStand settings owed t events → DocumentsStand settings owed u later
   unready_documents idle s =
       let d = documents_at settings owed t events g z at s in
-      documents_set settings owed owed t u events later rest vs g z y d.0 (unready_row d.0) at d.1 set (dropped d.0 d.1)
+      documents_set settings owed owed t u events later rest vs g z y d.0 (unready_row d.0) at d.1 set (dropped d.0 d.1) notes
       (λ h. subst (λ n. SharedStands settings later (owed g) g n y.life.stage (unready_row d.0)) (sym own) (unready_shared settings later (owed g) g z.life.start z.life.stage y.life.stage d.0 (idle z.life.start d.0) (stays g z d.0 h)))
       (λ j w c away there h. stays j w c h) s
 
@@ -98,7 +105,7 @@ pub shut_documents : (settings : Settings) (owed : Owed) (t u : Tables) (base : 
 shut_documents settings owed t u base xs ys g start n now z life text name ps within read says stops set dropped vs is =
     documents_said settings owed owed t u (ToServer start text) base xs ys is
     (unready_documents settings owed t u (behind base xs) (behind base xs ++ said (ToServer start text) ∷ []) g z (record z { life = life; shown = None }) (rest_notified settings t (behind base xs) start text (message_of text) (ap saying_of says) (ap is_synced says)) vs
-    (read_here t.lasts.items g z within read) set (ap (λ (l : Standing). l.start) stops) dropped (λ j w c h. shared_notified settings (behind base xs) (owed j) j w.life.start w.life.stage c start text (message_of text) (ap saying_of says) (ap is_synced says) h)
+    (read_here t.lasts.items g z within read) set (ap (λ (l : Standing). l.start) stops) (λ k. subst (λ s. NotesStand settings s z.ids.requests (behind base xs ++ said (ToServer start text) ∷ [])) (sym (ap (λ (l : Standing). l.start) stops)) k) dropped (λ j w c h. shared_notified settings (behind base xs) (owed j) j w.life.start w.life.stage c start text (message_of text) (ap saying_of says) (ap is_synced says) h)
     (λ s d. idle_at Stopping life.stage s (owed g) (unready_row d) _ (ap (λ (l : Standing). l.stage) stops) refl))
 
 -- its program is to be ended
@@ -107,8 +114,8 @@ pub end_documents : (settings : Settings) (owed : Owed) (t u : Tables) (base : L
     → DocumentsStand settings owed t (behind base xs) → DocumentsStand settings owed u (behind base ys)
 end_documents settings owed t u base xs ys g start z life within read ends set dropped vs is =
     documents_said settings owed owed t u (EndServer start) base xs ys is
-    (unready_documents settings owed t u (behind base xs) (behind base xs ++ said (EndServer start) ∷ []) g z (record z { life = life; shown = None }) (rest_quiet settings t (behind base xs) (said (EndServer start)) refl refl) vs
-    (read_here t.lasts.items g z within read) set (ap (λ (l : Standing). l.start) ends) dropped (λ j w c h. shared_quiet settings (behind base xs) (owed j) j w.life.start w.life.stage c (said (EndServer start)) refl (λ o k. refl) h)
+    (unready_documents settings owed t u (behind base xs) (behind base xs ++ said (EndServer start) ∷ []) g z (record z { life = life; shown = None }) (rest_quiet settings t (behind base xs) (said (EndServer start)) refl refl (left_stays (behind base xs) (said (EndServer start)) refl)) vs
+    (read_here t.lasts.items g z within read) set (ap (λ (l : Standing). l.start) ends) (λ k. subst (λ s. NotesStand settings s z.ids.requests (behind base xs ++ said (EndServer start) ∷ [])) (sym (ap (λ (l : Standing). l.start) ends)) k) dropped (λ j w c h. shared_quiet settings (behind base xs) (owed j) j w.life.start w.life.stage c (said (EndServer start)) refl (λ o k. refl) h)
     (λ s d. idle_at Ending life.stage s (owed g) (unready_row d) _ (ap (λ (l : Standing). l.stage) ends) refl))
 
 -- its program ended, or couldn't be run
@@ -118,9 +125,11 @@ module _ (settings : Settings) (owed : Owed) (restarts : ℕ) (t u : Tables) (ev
   idle_behind later s d = idle_at Ended x.start.life.stage s (owed g) (unready_row d) later (ap (λ (l : Standing). l.stage) x.life) refl
 
   pub exit_documents : DocumentsStand settings owed t events → DocumentsStand settings owed u (events ++ took (ServerGone s) not_message ∷ [])
-  exit_documents = unready_documents settings owed t u events (events ++ took (ServerGone s) not_message ∷ []) g z x.start (rest_quiet settings t events (took (ServerGone s) not_message) refl refl) vs at x.lasts (ap (λ (l : Standing). l.start) x.life) dropped
+  exit_documents = unready_documents settings owed t u events (events ++ took (ServerGone s) not_message ∷ []) g z x.start (rest_quiet settings t events (took (ServerGone s) not_message) refl refl (left_stays events (took (ServerGone s) not_message) refl)) vs at x.lasts (ap (λ (l : Standing). l.start) x.life)
+      (λ _. notes_gone settings x.start.life.start x.start.ids.requests (events ++ took (ServerGone s) not_message ∷ []) x.requests_gone) dropped
       (λ j w c h. shared_quiet settings events (owed j) j w.life.start w.life.stage c (took (ServerGone s) not_message) refl (λ o k. refl) h) (idle_behind (events ++ took (ServerGone s) not_message ∷ []))
 
   pub failure_documents : DocumentsStand settings owed t events → DocumentsStand settings owed u (events ++ took (StartFailed s) not_message ∷ [])
-  failure_documents = unready_documents settings owed t u events (events ++ took (StartFailed s) not_message ∷ []) g z x.start (rest_quiet settings t events (took (StartFailed s) not_message) refl refl) vs at x.lasts (ap (λ (l : Standing). l.start) x.life) dropped
+  failure_documents = unready_documents settings owed t u events (events ++ took (StartFailed s) not_message ∷ []) g z x.start (rest_quiet settings t events (took (StartFailed s) not_message) refl refl (left_stays events (took (StartFailed s) not_message) refl)) vs at x.lasts (ap (λ (l : Standing). l.start) x.life)
+      (λ _. notes_gone settings x.start.life.start x.start.ids.requests (events ++ took (StartFailed s) not_message ∷ []) x.requests_gone) dropped
       (λ j w c h. shared_quiet settings events (owed j) j w.life.start w.life.stage c (took (StartFailed s) not_message) refl (λ o k. refl) h) (idle_behind (events ++ took (StartFailed s) not_message ∷ []))

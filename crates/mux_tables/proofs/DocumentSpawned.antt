@@ -20,7 +20,9 @@ use Rattle.mux_tables.specs.Documents.{DocumentsStand, Owed, SharedStands, Start
 use Rattle.mux_tables.specs.Stands.{Stands}
 use Rattle.mux_tables.proofs.DocumentEvents.{shared_quiet}
 use Rattle.mux_tables.proofs.DocumentFrames.{sent_stays, untold_stays}
-use Rattle.mux_tables.proofs.DocumentMoves.{Rest, documents_last, stand_by}
+use Rattle.mux_tables.proofs.DocumentMoves.{Rest, documents_last, notes_stay, stand_by}
+use Rattle.mux_tables.proofs.Noting.{left_stays, moment_stays, notes_gone}
+use Rattle.mux_tables.specs.Notes.{NotesStand}
 use Rattle.mux_tables.proofs.DocumentSaid.{documents_said}
 
 abbrev pub no_documents : ℕ → Documents
@@ -39,6 +41,8 @@ module _ (settings : Settings) (owed : Owed) (t u : Tables) (events : List Event
     encoding = λ j l. encoding_stays j events ev refl;
     starts = λ s l. let long : starts_of later ≡ starts_of events + 1 = one_more starts_behind _ _ events ev refl in omega (arith, l, long);
     sent = λ s l u. sent_stays s u events ev refl;
+    moments = λ j x n p at there. moment_stays x.life.start n events ev refl;
+    left = left_stays events ev refl;
   }
 
   quiet : (j : ℕ) (z : Start) (c : Documents) → SharedStands settings events (owed j) j z.life.start z.life.stage c → SharedStands settings later (owed j) j z.life.start z.life.stage c
@@ -48,13 +52,20 @@ module _ (settings : Settings) (owed : Owed) (t u : Tables) (events : List Event
   new_untold s = untold_stays n [] (no_documents 0) events later (λ u. sent_stays n u events ev refl) (s.fresh n (let count = st.origins.count in omega (arith, next, count)))
 
   -- for a new group
-  pub found_documents : (d : Documents) → g ≡ length t.lasts.items → d ≡ no_documents t.versions → u.lasts.items ≡ t.lasts.items ++ y ∷ [] → u.documents.items ≡ t.documents.items ++ d ∷ [] → DocumentsStand settings owed t events → DocumentsStand settings owed u later
-  found_documents d place is ls ds s = stand_by settings owed owed t u events later rest vs (let long = ap length ls ∙ length-append t.lasts.items (y ∷ []) in omega (arith, long))
+  pub found_documents : (d : Documents) → g ≡ length t.lasts.items → d ≡ no_documents t.versions → u.lasts.items ≡ t.lasts.items ++ y ∷ [] → y.ids.requests ≡ [] → u.documents.items ≡ t.documents.items ++ d ∷ [] → DocumentsStand settings owed t events → DocumentsStand settings owed u later
+  found_documents d place is ls none ds s = stand_by settings owed owed t u events later rest vs (let long = ap length ls ∙ length-append t.lasts.items (y ∷ []) in omega (arith, long))
       (λ c. ap length ds ∙ (length-append t.documents.items (d ∷ []) ∙ (ap (λ k. k + 1) c ∙ sym (ap length ls ∙ length-append t.lasts.items (y ∷ [])))))
-      (λ j x c at has. go j x c (compare (length t.lasts.items) j) (ap (λ xs. slice_get xs j) (sym ls) ∙ at) (ap (λ xs. slice_get xs j) (sym ds) ∙ has)) s
+      (λ j x c at has. go j x c (compare (length t.lasts.items) j) (ap (λ xs. slice_get xs j) (sym ls) ∙ at) (ap (λ xs. slice_get xs j) (sym ds) ∙ has))
+      (λ j x at. noted j x (compare (length t.lasts.items) j) (ap (λ xs. slice_get xs j) (sym ls) ∙ at)) s
     where
       here : length t.documents.items ≡ length t.lasts.items
       here = s.count
+
+      noted : (j : ℕ) (x : Start) → Same (length t.lasts.items) j → slice_get (t.lasts.items ++ y ∷ []) j ≡ Some x → NotesStand settings x.life.start x.ids.requests later
+      noted _ x same at =
+          let one : y ≡ x = same_item (sym (get_push_same t.lasts.items y) ∙ at) in
+          subst (λ (z : Start). NotesStand settings z.life.start z.ids.requests later) one (notes_gone settings y.life.start y.ids.requests later none)
+      noted j x (other h) at = notes_stay settings owed t events later rest s j x (sym (get_push_other t.lasts.items y j h) ∙ at)
 
       new : SharedStands settings later (owed g) g n Spawning (no_documents t.versions)
       new =
@@ -76,17 +87,17 @@ module _ (settings : Settings) (owed : Owed) (t u : Tables) (events : List Event
           quiet j x c (s.each j x c (sym (get_push_other t.lasts.items y j h) ∙ at) (sym (get_push_other t.documents.items d j (λ e. h (e ∙ here))) ∙ has))
 
   -- for a group whose last start ended
-  pub respawn_documents : (x : Start) → slice_get t.lasts.items g ≡ Some x → x.life.stage ≡ Ended → u.lasts.items ≡ slice_set t.lasts.items g y → u.documents ≡ t.documents → DocumentsStand settings owed t events → DocumentsStand settings owed u later
-  respawn_documents x at ended ls ds s = documents_last settings owed owed t u events later rest vs g x y at ls (ap (λ v. v.items) ds) (λ d h. go d (quiet g x d h)) (λ j z c away there h. quiet j z c h) s
+  pub respawn_documents : (x : Start) → slice_get t.lasts.items g ≡ Some x → x.life.stage ≡ Ended → u.lasts.items ≡ slice_set t.lasts.items g y → y.ids.requests ≡ [] → u.documents ≡ t.documents → DocumentsStand settings owed t events → DocumentsStand settings owed u later
+  respawn_documents x at ended ls none ds s = documents_last settings owed owed t u events later rest vs g x y at ls (ap (λ v. v.items) ds) (λ _. notes_gone settings y.life.start y.ids.requests later none) (λ d h. go d (quiet g x d h)) (λ j z c away there h. quiet j z c h) s
     where
       go : (d : Documents) → SharedStands settings later (owed g) g x.life.start x.life.stage d → SharedStands settings later (owed g) g y.life.start y.life.stage d
       go d h = subst (λ (l : Standing). SharedStands settings later (owed g) g l.start l.stage d) (sym life)
           (record { texts = h.texts; versions = h.versions; owned = h.owned; start = (subst (λ k. StartTold k x.life.start (owed g) d later) ended h.start, new_untold s) })
 
-pub found_gives_documents : (settings : Settings) (owed : Owed) (t u : Tables) (base : List Event) (xs ys : List Out) (n g : ℕ) (y : Start) (d : Documents) → n ≡ length t.origins.groups.items → y.life ≡ spawned n g → u.versions ≡ t.versions → g ≡ length t.lasts.items → d ≡ no_documents t.versions → u.lasts.items ≡ t.lasts.items ++ y ∷ []
+pub found_gives_documents : (settings : Settings) (owed : Owed) (t u : Tables) (base : List Event) (xs ys : List Out) (n g : ℕ) (y : Start) (d : Documents) → n ≡ length t.origins.groups.items → y.life ≡ spawned n g → u.versions ≡ t.versions → g ≡ length t.lasts.items → d ≡ no_documents t.versions → u.lasts.items ≡ t.lasts.items ++ y ∷ [] → y.ids.requests ≡ []
     → u.documents.items ≡ t.documents.items ++ d ∷ [] → ys ≡ xs ++ Spawn n g ∷ [] → Stands settings t (behind base xs) → DocumentsStand settings owed t (behind base xs) → DocumentsStand settings owed u (behind base ys)
-found_gives_documents settings owed t u base xs ys n g y d next life vs place new ls ds is st = documents_said settings owed owed t u (Spawn n g) base xs ys is (found_documents settings owed t u (behind base xs) n g y next life vs st d place new ls ds)
+found_gives_documents settings owed t u base xs ys n g y d next life vs place new ls none ds is st = documents_said settings owed owed t u (Spawn n g) base xs ys is (found_documents settings owed t u (behind base xs) n g y next life vs st d place new ls none ds)
 
-pub respawn_gives_documents : (settings : Settings) (owed : Owed) (t u : Tables) (base : List Event) (xs ys : List Out) (n g : ℕ) (x y : Start) → n ≡ length t.origins.groups.items → y.life ≡ spawned n g → u.versions ≡ t.versions → slice_get t.lasts.items g ≡ Some x → x.life.stage ≡ Ended → u.lasts.items ≡ slice_set t.lasts.items g y
+pub respawn_gives_documents : (settings : Settings) (owed : Owed) (t u : Tables) (base : List Event) (xs ys : List Out) (n g : ℕ) (x y : Start) → n ≡ length t.origins.groups.items → y.life ≡ spawned n g → u.versions ≡ t.versions → slice_get t.lasts.items g ≡ Some x → x.life.stage ≡ Ended → u.lasts.items ≡ slice_set t.lasts.items g y → y.ids.requests ≡ []
     → u.documents ≡ t.documents → ys ≡ xs ++ Spawn n g ∷ [] → Stands settings t (behind base xs) → DocumentsStand settings owed t (behind base xs) → DocumentsStand settings owed u (behind base ys)
-respawn_gives_documents settings owed t u base xs ys n g x y next life vs at ended ls ds is st = documents_said settings owed owed t u (Spawn n g) base xs ys is (respawn_documents settings owed t u (behind base xs) n g y next life vs st x at ended ls ds)
+respawn_gives_documents settings owed t u base xs ys n g x y next life vs at ended ls none ds is st = documents_said settings owed owed t u (Spawn n g) base xs ys is (respawn_documents settings owed t u (behind base xs) n g y next life vs st x at ended ls none ds)

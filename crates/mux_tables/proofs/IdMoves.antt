@@ -30,7 +30,7 @@ module _ {A B : Type 0} (f : A → B) (p : B → Bool) where
       go false e = e
 
 -- in a table the numbers are below the next one
-rise_from : (from to : ℕ) (rs : List Numbered) → RiseWithin from to rs → from ≤ to
+pub rise_from : (from to : ℕ) (rs : List Numbered) → RiseWithin from to rs → from ≤ to
 rise_from from to [] h = h
 rise_from from to (r ∷ rs) h = let k = rise_from (r.number + 1) to rs h.1 in let l = h.0 in omega arith
 

@@ -24,6 +24,8 @@ pub mod Heard
 pub mod DocumentBegins
 pub mod DocumentFrames
 pub mod DocumentEvents
+pub mod Noting
+pub mod Stamping
 pub mod DocumentMoves
 pub mod DocumentHeard
 pub mod DocumentSaid
@@ -35,6 +37,7 @@ pub mod Downs
 pub mod DocumentGroups
 pub mod DocumentNoticed
 pub mod DocumentAsked
+pub mod Answering
 pub mod DocumentNotes
 pub mod Homes
 pub mod Waits

@@ -26,6 +26,7 @@ use Rattle.group_rows.specs.Texts.{encoding_of, texts_of}
 use Rattle.group_laws.specs.Stands.{HeldStands, TextsStand}
 use Rattle.mux_tables.specs.declared.tables.Start.{Start}
 use Rattle.mux_tables.specs.declared.tables.Tables.{Tables}
+use Rattle.mux_tables.specs.Notes.{NotesStand}
 use Rattle.mux_tables.specs.Stands.{Stands}
 
 -- What the start of each group is still to be told, by the group's number: an entry changes what is open first, and sends the
@@ -78,6 +79,7 @@ pub record DocumentsStand (settings : Settings) (owed : Owed) (t : Tables) (even
   pub each : (g : ℕ) (x : Start) (d : Documents) → slice_get t.lasts.items g ≡ Some x → slice_get t.documents.items g ≡ Some d → SharedStands settings events (owed g) g x.life.start x.life.stage d
   pub none : (g : ℕ) → length t.lasts.items ≤ g → (texts_of settings g events ≡ no_texts) × (encoding_of g events ≡ None)
   pub fresh : (s : ℕ) → starts_of events ≤ s → Untold s events
+  pub notes : (g : ℕ) (x : Start) → slice_get t.lasts.items g ≡ Some x → NotesStand settings x.life.start x.ids.requests events
   pub versions : settings.limits.versions ≡ t.versions
   pub range : t.versions < 2 ^ 32
 

@@ -1,9 +1,11 @@
 //! The tables of editors, groups and starts, and what each event does to them.
 #![tactic(auto)]
 
+mod answers;
 mod documents;
 mod hears;
 mod looks;
+mod notes;
 mod places;
 mod requests;
 mod says;

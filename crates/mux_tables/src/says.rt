@@ -24,6 +24,7 @@ ghost use Rattle.mux_tables.specs.Names.{id_in};
 ghost use Rattle.mux_tables.specs.Stands.{Keeps, Sends, Stands, Welcomes, number_in, stage_in, start_for};
 
 use crate::documents::{leave, sync, unready};
+use crate::notes::noted;
 use crate::requests::{keep, mark};
 use crate::stops::{begin_stop, end_stop};
 use crate::tables::{Start, Tables};
@@ -158,6 +159,7 @@ impl Tables {
             work: None,
             partial: None,
             cancelled: false,
+            noted: None,
         };
         keep(&mut last.ids, pending)?;
         outs.push(Out::ToServer(last.life.start(), text))?;
@@ -166,7 +168,7 @@ impl Tables {
 
     /// E10: an editor's request goes to the group's last start, which is ready, under the next number: `text` is its body under that
     /// number, and `id` what the editor called it. Before it the start is sent the editor's text of each of its documents, where it has
-    /// another. Where the answer is an error the tables stand for nothing any more.
+    /// another; behind that the versions of these documents are noted. Where the answer is an error the tables stand for nothing any more.
     pub fn ask(
         &mut self,
         alloc: Global,
@@ -191,6 +193,7 @@ impl Tables {
     {
         let told = sync(alloc, &mut self.documents, g, e)?;
         outs.append(told)?;
+        let noted = noted(alloc, self.documents.as_slice(), g, e)?;
         let last = &mut self.lasts[g];
         let asked = Pending {
             editor: e,
@@ -198,6 +201,7 @@ impl Tables {
             work: None,
             partial: None,
             cancelled: false,
+            noted: Some(noted),
         };
         keep(&mut last.ids, asked)?;
         outs.push(Out::ToServer(last.life.start(), text))?;

@@ -10,6 +10,7 @@ fn request(alloc: Global, editor: u64, id: &[u8]) -> Result<Pending, Fail> {
         work: None,
         partial: None,
         cancelled: false,
+        noted: None,
     })
 }
 

@@ -1,6 +1,9 @@
 -- An editor's request goes on behind a sync.
-use Rattle.std.proofs.Common.{[], ◌∷◌, ◌++◌, refl, ap, ◌∙◌}
+use Rattle.std.proofs.Common.{[], ◌∷◌, ◌++◌, refl, ap, subst, ◌∙◌}
+use Rattle.std.specs.Prelude.{slice_get}
+use Rattle.focus_switch.specs.Versions.{versions_of}
 use Rattle.mux_history.specs.declared.out.Out.TheVariants.{ToServer}
+use Rattle.mux_tables.specs.Notes.{StampsAt}
 use Rattle.mux_tables.proofs.DocumentAsked.{asked_does}
 use Rattle.mux_tables.proofs.Starts.{read_here, starts_stay}
 use Rattle.mux_tables.proofs.tables.Tables.ask.Goals as goal
@@ -14,7 +17,8 @@ returns-clause-starts c = starts_stay c.args.self.now.lasts.items c.args.g c.ind
 pub returns-clause-does : goal.returns-clause-does
 returns-clause-does c = λ settings base s name method ps at says own sends works.
     let z = c.index_mut-last.result.now in
-    asked_does settings c.args.self.now _ c.args.outs.now c.push.new.self c.in_ok-told.told base c.args.g s c.start.result c.args.e z c.keep.new.ids _ c.args.text c.args.id method name ps at c.requires.group c.index_mut-last.ensures.value
+    let stamps = subst (λ xs. StampsAt c.in_ok-noted.noted (versions_of c.args.e) (slice_get xs c.args.g)) c.as_slice.ensures.value c.in_ok-noted.ensures in
+    asked_does settings c.args.self.now _ c.args.outs.now c.push.new.self c.in_ok-told.told base c.args.g s c.start.result c.args.e z c.keep.new.ids _ c.in_ok-noted.noted c.args.text c.args.id method name ps at c.requires.group c.index_mut-last.ensures.value
     (c.requires.ready z (read_here c.args.self.now.lasts.items c.args.g z c.requires.group c.index_mut-last.ensures.value)) says own sends works refl
-    c.in_ok-keep.ensures.requests c.in_ok-keep.ensures.next c.in_ok-keep.ensures.limit c.in_ok-keep.ensures.order refl refl refl refl refl refl refl c.in_ok-told.ensures c.start.ensures
+    c.in_ok-keep.ensures.requests c.in_ok-keep.ensures.next c.in_ok-keep.ensures.limit c.in_ok-keep.ensures.order refl refl refl refl refl refl refl c.in_ok-told.ensures refl refl stamps c.start.ensures
     (c.in_ok-push.ensures.ok ∙ ap (λ ws. ws ++ ToServer c.start.result c.args.text ∷ []) c.in_ok-append.ensures.ok)

@@ -18,5 +18,5 @@ returns-clause-does c = λ settings base s method ps at says cancels written.
 
 pub returns-clause-documents : goal.returns-clause-documents
 returns-clause-documents c = λ settings owed base method ps says cancels ds.
-    cancel_documents settings owed c.args.self.now _ base c.args.outs.now c.push.new.self c.args.g c.start.result c.index_mut-last.result.now (record c.index_mut-last.result.now { ids = c.mark.new.ids }) c.args.text method ps c.requires c.index_mut-last.ensures.value says cancels
-    refl refl refl refl c.in_ok-push.ensures.ok ds
+    cancel_documents settings owed c.args.self.now _ base c.args.outs.now c.push.new.self c.args.g c.start.result c.args.n c.index_mut-last.result.now (record c.index_mut-last.result.now { ids = c.mark.new.ids }) c.args.text method ps c.requires c.index_mut-last.ensures.value says cancels
+    refl c.mark.ensures.requests refl refl refl c.in_ok-push.ensures.ok ds

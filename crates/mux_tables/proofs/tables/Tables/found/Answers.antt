@@ -13,4 +13,4 @@ returns-clause-does c = λ settings base.
 pub returns-clause-documents : goal.returns-clause-documents
 returns-clause-documents c = λ settings owed base st ds.
     found_gives_documents settings owed c.args.self.now _ base c.args.outs.now c.push-4.new.self c.len-s.result c.len-g.result (record { life = c.new-life.result; started = false; ids = c.new-ids.result; shown = None }) c.new-documents.result (search rules) c.new-life.ensures refl (search rules) c.new-documents.ensures
-    c.in_ok-push-3.ensures.items c.in_ok-push-2.ensures.items c.in_ok-push-4.ensures.ok st ds
+    c.in_ok-push-3.ensures.items c.new-ids.ensures.requests c.in_ok-push-2.ensures.items c.in_ok-push-4.ensures.ok st ds

@@ -21,4 +21,4 @@ returns-clause-found c = λ settings events s k at is st. answer_found settings 
 
 pub returns-clause-documents : goal.returns-clause-documents
 returns-clause-documents c = λ settings owed events s body x is at later runs st ds.
-    answer_documents_by settings owed c.args.self.now _ events c.args.g s x c.index_mut-last.result.now (record c.index_mut-last.result.now { ids = c.answer.new.ids }) body (message_of body) is at c.requires c.index_mut-last.ensures.value later runs refl refl refl refl st ds
+    answer_documents_by settings owed c.args.self.now _ events c.args.g s x c.index_mut-last.result.now (record c.index_mut-last.result.now { ids = c.answer.new.ids }) body (message_of body) c.args.n is at c.requires c.index_mut-last.ensures.value later runs refl c.answer.ensures.requests refl refl refl st ds

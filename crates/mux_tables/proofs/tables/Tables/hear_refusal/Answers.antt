@@ -22,4 +22,4 @@ pub returns-clause-documents : goal.returns-clause-documents
 returns-clause-documents c = λ settings owed events s body at first st ds.
     let z = c.index_mut-last.result.now in
     let stage = c.requires.stage z (read_here c.args.self.now.lasts.items c.args.g z c.requires.group c.index_mut-last.ensures.value) in
-    answer_documents settings owed c.args.self.now _ events c.args.g s z (record z { ids = c.forget.new.ids }) body (message_of body) at c.requires.group c.index_mut-last.ensures.value (error_only (message_of body) first (is_initializing z.life.stage)) (initializing_runs z.life.stage stage) refl refl refl refl st ds
+    answer_documents settings owed c.args.self.now _ events c.args.g s z (record z { ids = c.forget.new.ids }) body (message_of body) c.args.n at c.requires.group c.index_mut-last.ensures.value (error_only (message_of body) first (is_initializing z.life.stage)) (initializing_runs z.life.stage stage) refl c.forget.ensures.requests refl refl refl st ds

@@ -15,4 +15,4 @@ returns-clause-does c = λ settings base.
 pub returns-clause-documents : goal.returns-clause-documents
 returns-clause-documents c = λ settings owed base st ds.
     let x = item_at c.args.self.now.lasts.items c.args.g c.requires.group in
-    respawn_gives_documents settings owed c.args.self.now _ base c.args.outs.now c.push-2.new.self c.len-s.result c.args.g x.0 (record { life = c.new-life.result; started = false; ids = c.new-ids.result; shown = None }) (search rules) c.new-life.ensures refl x.1 (c.requires.ended x.0 x.1) refl refl c.in_ok-push-2.ensures.ok st ds
+    respawn_gives_documents settings owed c.args.self.now _ base c.args.outs.now c.push-2.new.self c.len-s.result c.args.g x.0 (record { life = c.new-life.result; started = false; ids = c.new-ids.result; shown = None }) (search rules) c.new-life.ensures refl x.1 (c.requires.ended x.0 x.1) refl c.new-ids.ensures.requests refl c.in_ok-push-2.ensures.ok st ds
