@@ -1,0 +1,3 @@
+mod Numbering
+mod Keeping
+mod Taking
