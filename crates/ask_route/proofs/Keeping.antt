@@ -6,7 +6,7 @@ use Rattle.std.specs.Ordering.{nat_cmp, match_ordering}
 use Rattle.std.specs.declared.cmp.Ordering.TheVariants.{Greater}
 use Rattle.std.specs.Cmp.{nat_cmp_is}
 use Rattle.std.specs.BTreeMap.{is_at, insert_entry}
-use Rattle.std.specs.Map.{lookup, remove_entry}
+use Rattle.std.specs.Map.{remove_entry}
 use Rattle.std.proofs.lemmas.Slice.Eq.{bytes_eq-Decides}
 use Rattle.number_index.specs.Numbers.{numbers_under, with_number, without_number, Changes, Same}
 use Rattle.std.specs.List.{list_any}
@@ -171,9 +171,9 @@ module _ (rows : List (ℕ × Ask)) (next : ℕ) (is ns es : List (List ℕ × L
   pub kept_undone : (a : Ask) (is' ns' es' is'' ns'' es'' : List (List ℕ × List ℕ)) → Changes (id_key a) (with_number next) is is' → Changes (number_key a) (with_number next) ns ns' → Changes (editor_key a) (with_number next) es es'
       → Changes (id_key a) (without_number next) is' is'' → Changes (number_key a) (without_number next) ns' ns'' → Changes (editor_key a) (without_number next) es' es'' → IsKept rows next is'' ns'' es''
   kept_undone a is' ns' es' is'' ns'' es'' i n e i' n' e' = kept_same is'' ns'' es''
-    (undone (id_key a) next is is' is'' (below id_key 0 next rows is (id_key a) kept.rise kept.ids) i i')
-    (undone (number_key a) next ns ns' ns'' (below number_key 0 next rows ns (number_key a) kept.rise kept.numbers) n n')
-    (undone (editor_key a) next es es' es'' (below editor_key 0 next rows es (editor_key a) kept.rise kept.editors) e e')
+      (undone (id_key a) next is is' is'' (below id_key 0 next rows is (id_key a) kept.rise kept.ids) i i')
+      (undone (number_key a) next ns ns' ns'' (below number_key 0 next rows ns (number_key a) kept.rise kept.numbers) n n')
+      (undone (editor_key a) next es es' es'' (below editor_key 0 next rows es (editor_key a) kept.rise kept.editors) e e')
 
   pub kept_last : (a : Ask) (is' ns' es' : List (List ℕ × List ℕ)) → Changes (id_key a) (with_number next) is is' → Changes (number_key a) (with_number next) ns ns' → Changes (editor_key a) (with_number next) es es'
       → IsKept (insert_entry nat_cmp rows next a) (next + 1) is' ns' es'

@@ -1,9 +1,8 @@
 -- A small history of the table, worked out by the checker.
-use Rattle.std.proofs.Common.{◌≡◌, Bool, true, false, not, List, [], ◌∷◌, codes, filter, find, refl}
+use Rattle.std.proofs.Common.{◌≡◌, true, false, not, List, [], ◌∷◌, codes, filter, find, refl}
 use Rattle.std.specs.Prelude.{Some, None}
 use Rattle.std.specs.List.{list_any}
 use Rattle.ask_route.specs.declared.ask.Ask.{Ask}
-use Rattle.ask_route.specs.declared.ask.Seat.{Seat}
 use Rattle.ask_route.specs.Tables.{asked, is_seated, is_under, is_with, less, numbers_of, parked, seat_in}
 
 -- the server asks under 1, "a" and 3: editor 0 under its 1, editor 1 under its 1, editor 0 under its 2; the request 4 is parked

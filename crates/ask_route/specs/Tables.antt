@@ -1,5 +1,5 @@
 -- The asks of one start of a server: its requests that wait for an editor's answer, in the order in which they were put (LSP 3.17, Base Protocol, Request Message).
-use Rattle.std.specs.Prelude.{ℕ, Bool, true, false, ◌&&◌, List, [], ◌∷◌, map, filter, find, flat_map, nat_eq, if◌then◌else◌}
+use Rattle.std.specs.Prelude.{ℕ, Bool, true, false, ◌&&◌, List, [], ◌∷◌, filter, flat_map, nat_eq, if◌then◌else◌}
 use Rattle.std.specs.Prelude.{Option, Some, None}
 use Rattle.std.specs.List.{AllByRecursion, list_any}
 use Rattle.rpc_message.specs.Message.{Id, same_id}

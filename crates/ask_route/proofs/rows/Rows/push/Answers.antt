@@ -1,5 +1,4 @@
 use Rattle.std.proofs.Common.{◌≡◌, ◌+◌, ℕ, List, ◌++◌, [], ◌∷◌, ◌∙◌, sym, ap, subst, rules}
-use Rattle.std.specs.Map.{values_of}
 use Rattle.number_index.specs.Numbers.{Changes, without_number}
 use Rattle.ask_route.specs.declared.ask.Ask.{Ask}
 use Rattle.ask_route.specs.Rows.{IsKept, Numbered, editor_key, id_key, number_key}

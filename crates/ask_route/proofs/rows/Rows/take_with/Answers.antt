@@ -11,10 +11,10 @@ loop-number-preserved c =
     let n = get_or items i 0 in
     let at = one_less items i c.loop-number-test.true in
     elim c.match-take.branch [
-    | in-Some w ↦ subst (λ v. Taking c.args.holder items (i + 1) (vec_len v) (vec_capacity v) v.items c.take.new.self c.args.self.now) (sym w.asks-is)
-        (more c.args.holder items i (vec_len c.loop-number.asks) (vec_capacity c.loop-number.asks) c.loop-number.asks.items c.loop-number.self c.args.self.now c.loop-number.invariant n at
-        w.in-Some.ask w.push_reserved.new.self.items c.take.new.self (vec_len w.push_reserved.new.self) (vec_capacity w.push_reserved.new.self) w.in-Some.ensures.value c.take.ensures.rows c.take.ensures.rise w.push_reserved.ensures.items w.push_reserved.ensures.len w.push_reserved.ensures.capacity)
-    | in_default w ↦ absurd (never c.args.holder items i (vec_len c.loop-number.asks) (vec_capacity c.loop-number.asks) c.loop-number.asks.items c.loop-number.self c.args.self.now c.loop-number.invariant n at w.in_default.ensures.value)
+      | in-Some w ↦ subst (λ v. Taking c.args.holder items (i + 1) (vec_len v) (vec_capacity v) v.items c.take.new.self c.args.self.now) (sym w.asks-is)
+          (more c.args.holder items i (vec_len c.loop-number.asks) (vec_capacity c.loop-number.asks) c.loop-number.asks.items c.loop-number.self c.args.self.now c.loop-number.invariant n at
+          w.in-Some.ask w.push_reserved.new.self.items c.take.new.self (vec_len w.push_reserved.new.self) (vec_capacity w.push_reserved.new.self) w.in-Some.ensures.value c.take.ensures.rows c.take.ensures.rise w.push_reserved.ensures.items w.push_reserved.ensures.len w.push_reserved.ensures.capacity)
+      | in_default w ↦ absurd (never c.args.holder items i (vec_len c.loop-number.asks) (vec_capacity c.loop-number.asks) c.loop-number.asks.items c.loop-number.self c.args.self.now c.loop-number.invariant n at w.in_default.ensures.value)
     ]
 
 pub returns-clause-asks : goal.returns-clause-asks
