@@ -1,5 +1,5 @@
 -- What is kept stays so: behind an ask that comes, and one that goes.
-use Rattle.std.proofs.Common.{◌≡◌, ℕ, ◌+◌, ◌<◌, ◌≤◌, Bool, true, false, cond, List, [], ◌∷◌, ◌++◌, refl, sym, ◌∙◌, ap, ap₂, subst, arith}
+use Rattle.std.proofs.Common.{◌≡◌, ℕ, ◌+◌, ◌<◌, ◌≤◌, Bool, true, false, cond, List, [], ◌∷◌, ◌++◌, find, refl, sym, ◌∙◌, ap, ap₂, subst, arith}
 use Rattle.std.specs.Prelude.{Option, Some, None, ◌&&◌, ◌||◌, bytes_eq, nat_eq}
 use Rattle.std.specs.List.{AllByRecursion}
 use Rattle.std.specs.Ordering.{nat_cmp, match_ordering}
@@ -19,7 +19,7 @@ use Rattle.id_rewrite.specs.Forms.{form}
 use Rattle.id_rewrite.proofs.Finding.{alike, texts_same}
 use Rattle.ask_route.specs.declared.ask.Ask.{Ask}
 use Rattle.ask_route.specs.declared.ask.Seat.{Seat}
-use Rattle.ask_route.specs.Tables.{AreIds, has_id, is_held, is_seat, is_seated, is_under, is_with, numbers_of, seat_of}
+use Rattle.ask_route.specs.Tables.{AreIds, ask_of, has_id, is_held, is_seat, is_seated, is_under, is_with, numbers_of, seat_of}
 use Rattle.ask_route.specs.Rows.{row_at, numbers_with, first_with, first_number, chosen, numbers_among, Rise, Indexes, IsKept, id_key, number_key, editor_key, print_key, seat_key, holder_key, holder_in}
 use Rattle.ask_route.proofs.Numbering.{among_of, chosen_of, first_of, rise_le, hit_self, hit_below, insert_last}
 
@@ -211,3 +211,7 @@ module _ (rows : List (ℕ × Ask)) (next : ℕ) (is ns es : List (List ℕ × L
 pub means : (meaning : List ℕ → Id) (i : Id) (id : List ℕ) (asks : List Ask) → IsIdText i id → AreIds meaning asks → list_any (is_under id) asks ≡ has_id meaning i asks
 means meaning i id [] h all = refl
 means meaning i id (a ∷ asks) h all = ap₂ (λ b c. b || c) (texts_same i (meaning a.id) id a.id h all.0) (means meaning i id asks h all.1)
+
+pub find_means : (meaning : List ℕ → Id) (i : Id) (id : List ℕ) (asks : List Ask) → IsIdText i id → AreIds meaning asks → find (is_under id) asks ≡ ask_of meaning i asks
+find_means meaning i id [] h all = refl
+find_means meaning i id (a ∷ asks) h all = ap₂ (λ b (o : Option Ask). cond b (Some a) o) (texts_same i (meaning a.id) id a.id h all.0) (find_means meaning i id asks h all.1)

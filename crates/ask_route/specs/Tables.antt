@@ -1,5 +1,5 @@
 -- The asks of one start of a server: its requests that wait for an editor's answer, in the order in which they were put (LSP 3.17, Base Protocol, Request Message).
-use Rattle.std.specs.Prelude.{ℕ, Bool, true, false, ◌&&◌, List, [], ◌∷◌, filter, flat_map, nat_eq, if◌then◌else◌}
+use Rattle.std.specs.Prelude.{ℕ, Bool, true, false, ◌&&◌, List, [], ◌∷◌, filter, find, flat_map, nat_eq, if◌then◌else◌}
 use Rattle.std.specs.Prelude.{Option, Some, None}
 use Rattle.std.specs.List.{AllByRecursion, list_any}
 use Rattle.rpc_message.specs.Message.{Id, same_id}
@@ -72,3 +72,7 @@ AreIds meaning asks = AllByRecursion (λ ask. IsIdText (meaning ask.id) ask.id) 
 -- some ask has the same id
 abbrev pub has_id : (List ℕ → Id) → Id → List Ask → Bool
 has_id meaning id asks = list_any (λ ask. same_id id (meaning ask.id)) asks
+
+-- the first ask that has it
+abbrev pub ask_of : (List ℕ → Id) → Id → List Ask → Option Ask
+ask_of meaning id asks = find (λ ask. same_id id (meaning ask.id)) asks

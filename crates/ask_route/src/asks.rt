@@ -3,7 +3,7 @@ ghost use Rattle.std.specs.Prelude.{◌≡◌, Some, None, ◌++◌, [], ◌∷�
 ghost use Rattle.std.specs.List.{list_any};
 ghost use Rattle.rpc_message.specs.Message.{Id};
 ghost use Rattle.rpc_message.specs.ValueTexts.{IsIdText};
-ghost use Rattle.ask_route.specs.Tables.{AreIds, asked, has_id, is_seated, is_under, is_with, less, numbers_of, parked, seat_in};
+ghost use Rattle.ask_route.specs.Tables.{AreIds, ask_of, asked, has_id, is_seated, is_under, is_with, less, numbers_of, parked, seat_in};
 
 use crate::ask::{Ask, Place, Seat, seat_of};
 use crate::rows::Rows;
@@ -13,8 +13,9 @@ use std::marker::Model;
 
 /// The asks of one start of a server: its requests that wait for an editor's answer, in the order in which they were put.
 ///
-/// Each was asked of an editor under a number, or is parked until an editor can be asked. A look-up compares keys as often
-/// as the logarithm of how many asks there are; by an id, its time is linear in the id beside.
+/// Each was asked of an editor under a number, or is parked until an editor can be asked. A call compares keys as often as
+/// the logarithm of how many asks there are, for each ask that it gives or takes out. By an id its time is linear in the id
+/// beside; by a number it looks at the asks that any editors have under this number.
 #[derive(Drop)]
 pub struct Asks {
     alloc: Global,
@@ -76,8 +77,16 @@ impl Asks {
     }
 
     /// The editor that has the first ask with this id, and its number there (LSP 3.17, Cancellation Support). None where
-    /// no ask has the id, or where it is parked. It takes no memory.
+    /// no ask has the id, or where it is parked. `id` is as in `is_open`. It takes no memory.
     pub fn find(&self, id: &[u8]) -> Option<Seat>
+        ensures exact { result ≡ seat_in (find (is_under id.now) self.now) }
+        ensures same { (meaning : _) (i : Id) → IsIdText i id.now → AreIds meaning self.now → result ≡ seat_in (ask_of meaning i self.now) }
+    {
+        self.found(id)
+    }
+
+    // Where the first ask with this id is.
+    fn found(&self, id: &[u8]) -> Option<Seat>
         ensures { result ≡ seat_in (find (is_under id.now) self.now) }
     {
         match self.rows.find_under(id) {
