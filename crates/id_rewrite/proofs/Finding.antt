@@ -30,7 +30,7 @@ bytes_are (x ∷ xs) (y ∷ ys) e = let b = both (nat_eq x y) (bytes_eq xs ys) e
     both true b e = (refl, e)
     both false b e = absurd (cc)
 
-alike : (editor other : ℕ) (id key : List ℕ) → other ≡ editor → form id ≡ form key → fingerprint editor id ≡ fingerprint other key
+pub alike : (editor other : ℕ) (id key : List ℕ) → other ≡ editor → form id ≡ form key → fingerprint editor id ≡ fingerprint other key
 unfolding fingerprint
 alike editor other id key e f = ap₂ (λ n xs. front (sha256 (to_be_bytes w64 n ++ words xs))) (sym e) f
 

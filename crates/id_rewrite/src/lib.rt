@@ -7,5 +7,6 @@ mod pending;
 mod slots;
 mod table;
 
+pub use form::{fingerprint, same_form};
 pub use pending::{Numbered, NumbersUsed, Pending};
 pub use table::IdTable;
