@@ -4,5 +4,6 @@ pub mod Founding
 pub mod Leavings
 pub mod Openings
 pub mod Refusing
+pub mod Replies
 pub mod Welcomes
 pub mod Stops

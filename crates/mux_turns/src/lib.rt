@@ -23,7 +23,7 @@ mod starts;
 mod status;
 mod ticks;
 
-pub use answers::{answered_number, pass_on, take_answer};
+pub use answers::{answered_number, take_answer};
 pub use doubled::{doubles, take_doubled, take_doubled_own};
 pub use ends::{take_ending, take_left, take_stopping};
 pub use evicting::{evict, replace, stage_at};
