@@ -15,22 +15,16 @@ use Rattle.event_model.specs.declared.phase.Phase.TheVariants.{Absent, New, Wait
 use Rattle.event_model.specs.declared.stage.Stage.{Stage}
 use Rattle.event_model.specs.declared.stage.Stage.TheVariants.{Unspawned, Spawning, Initializing, Ready, Stopping, Ending, Ended}
 use Rattle.event_model.specs.Event.{Event}
-use Rattle.event_model.specs.Members.{reads_versions}
 use Rattle.event_model.specs.Phases.{is_malformed}
 use Rattle.event_model.specs.Settings.{Settings}
 use Rattle.event_model.specs.Stages.{is_first_result}
 use Rattle.group_words.specs.Houses.{is_first_error, groups_of}
-use Rattle.group_facts.specs.Built.{built_early, built_from_editor, built_from_server, built_response, is_passed_plainly, is_shown_whole, is_left}
+use Rattle.group_facts.specs.Built.{built_early, built_from_editor, built_from_server, built_response, is_shown_whole, is_left}
 use Rattle.group_facts.specs.Lively.{lives_at}
 use Rattle.std.specs.Option.{option_map_or}
-use Rattle.group_rows.specs.Forwarded.{Forwarded, answered_by, forwarding_of, is_under}
-use Rattle.id_rewrite.specs.declared.pending.Numbered.{Numbered}
-use Rattle.id_rewrite.specs.Tables.{has_number, pending_of}
-use Rattle.mux_tables.specs.declared.tables.Start.{Start}
 use Rattle.mux_tables.specs.declared.tables.Tables.{Tables}
-use Rattle.mux_tables.specs.Stands.{NamesAt, Stands, forwarded_of, is_over, number_in, of_ids}
-use Rattle.mux_tables.proofs.Starts.{start_at_place}
-use Rattle.mux_turns.proofs.Matched.{found_none, found_some}
+use Rattle.mux_turns.specs.Answers.{is_response}
+use Rattle.mux_tables.specs.Stands.{Stands, is_over}
 
 -- what a message of each sort is
 
@@ -72,43 +66,13 @@ response_built phase ids (notification method params) x h (inr e) = absurd (cc)
 
 -- of a start
 
-some_mapped : (k : ℕ) (rs : List Numbered) → is_some (pending_of k rs) ≡ is_some (find (is_under k) (map forwarded_of rs))
-some_mapped k [] = refl
-some_mapped k (r ∷ rs) = go (nat_eq r.number k) (some_mapped k rs)
-  where
-    go : (b : Bool) → is_some (pending_of k rs) ≡ is_some (find (is_under k) (map forwarded_of rs)) → is_some (option_map (λ (q : Numbered). q.pending) (cond b (Some r) (find (has_number k) rs))) ≡ is_some (cond b (Some (forwarded_of r)) (find (is_under k) (map forwarded_of rs)))
-    go true h = refl
-    go false h = h
-
-module _ (settings : Settings) (t : Tables) (before : List Event) (g s : ℕ) (id : Option Id) (st : Stands settings t before) (within : g < length t.lasts.items) (at : slice_get (map number_in t.lasts.items) g ≡ Some s) where
-  pub asked_here : (z : Start) (k : ℕ) (b : Bool) → slice_get t.lasts.items g ≡ Some z → NamesAt id (Some k) → b ≡ is_some (pending_of k z.ids.requests) → b ≡ is_some (find (answered_by id) (forwarding_of s before).open_requests)
-  asked_here z k b here names is =
-      let own = start_at_place t.lasts.items g s z here at in
-      let opened = ap (λ n. (forwarding_of n before).open_requests) (sym own) ∙ ((st.lasts.each g z here).parts of_ids).open_requests in
-      is ∙ (some_mapped k z.ids.requests ∙ (ap (λ fs. is_some (find (is_under k) fs)) (sym opened) ∙ ap is_some (sym (found_some settings t before g s id st within at k names))))
-
-  pub asked_nowhere : NamesAt id None → false ≡ is_some (find (answered_by id) (forwarding_of s before).open_requests)
-  asked_nowhere names = ap is_some (sym (found_none settings t before g s id st within at names))
-
-pub plainly : (o : Option Forwarded) (r : Json) (a v : Bool) → a ≡ is_some o → v ≡ reads_versions r → (not a || not v) ≡ is_passed_plainly o r
-plainly None r a v is reads = rw is refl
-plainly (Some f) r a v is reads = rw (is, reads) refl
-
-pub failure_built : (fs : List Forwarded) (m : Message) → sort_of m ≡ Some sort.Error → true ≡ built_response fs m
-failure_built fs (error id e) h = refl
-failure_built fs (request id method params) h = absurd (cc)
-failure_built fs (notification method params) h = absurd (cc)
-failure_built fs (result id r) h = absurd (cc)
-failure_built fs not_json h = absurd (cc)
-failure_built fs not_message h = absurd (cc)
-
-pub no_call_built : (fs : List Forwarded) (m : Message) (x : Sort) → sort_of m ≡ Some x → (x ≡ sort.Result → ⊥) → (x ≡ sort.Error → ⊥) → false ≡ built_response fs m
-no_call_built fs (request id method params) x h r e = refl
-no_call_built fs (notification method params) x h r e = refl
-no_call_built fs (result id v) x h r e = absurd (r (cc))
-no_call_built fs (error id v) x h r e = absurd (e (cc))
-no_call_built fs not_json x h r e = absurd (cc)
-no_call_built fs not_message x h r e = absurd (cc)
+pub sort_built : (m : Message) (x : Sort) → sort_of m ≡ Some x → is_response x ≡ built_response m
+sort_built (result id r) x h = let is : sort.Result ≡ x = cc in ap is_response (sym is)
+sort_built (error id e) x h = let is : sort.Error ≡ x = cc in ap is_response (sym is)
+sort_built (request id method params) x h = let is : sort.Request ≡ x = cc in ap is_response (sym is)
+sort_built (notification method params) x h = let is : sort.Notification ≡ x = cc in ap is_response (sym is)
+sort_built not_json x h = absurd (cc)
+sort_built not_message x h = absurd (cc)
 
 -- before its result
 pub early_first : (body : List ℕ) (m : Message) → is_first_result m ≡ true → is_shown_whole body ≡ built_early body m
@@ -128,9 +92,9 @@ early_other body not_json h = refl
 early_other body not_message h = refl
 
 -- of a start that is to end each message is built
-pub late_built : (x y : Stage) (fs : List Forwarded) (body : List ℕ) (m : Message) → y ≡ x → (y ≡ Stopping) ⊎ (y ≡ Ending) → true ≡ built_from_server x fs body m
-late_built x y fs body m same (inl at) = ap (λ z. built_from_server z fs body m) (sym at ∙ same)
-late_built x y fs body m same (inr at) = ap (λ z. built_from_server z fs body m) (sym at ∙ same)
+pub late_built : (x y : Stage) (body : List ℕ) (m : Message) → y ≡ x → (y ≡ Stopping) ⊎ (y ≡ Ending) → true ≡ built_from_server x body m
+late_built x y body m same (inl at) = ap (λ z. built_from_server z body m) (sym at ∙ same)
+late_built x y body m same (inr at) = ap (λ z. built_from_server z body m) (sym at ∙ same)
 
 -- X1 to X3
 pub left_here : (settings : Settings) (t : Tables) (before : List Event) (s g : ℕ) (b : Bool) → Stands settings t before → Some g ≡ slice_get t.origins.groups.items s → b ≡ lives_at g (groups_of settings before) → not b ≡ is_left settings before s
@@ -140,14 +104,14 @@ pub left_nowhere : (settings : Settings) (t : Tables) (before : List Event) (s :
 left_nowhere settings t before s st at = ap (λ o. not (option_map_or (λ h. lives_at h (groups_of settings before)) o false)) (at ∙ sym (st.origins.group s))
 
 -- of a start that is over no message is built
-pub over_built : (stage : Stage) (fs : List Forwarded) (body : List ℕ) (m : Message) → is_malformed m ≡ false → is_over stage ≡ true → false ≡ built_from_server stage fs body m
-over_built Unspawned fs body m well h = sym well
-over_built Ended fs body m well h = sym well
-over_built Spawning fs body m well h = absurd (cc)
-over_built Initializing fs body m well h = absurd (cc)
-over_built Ready fs body m well h = absurd (cc)
-over_built Stopping fs body m well h = absurd (cc)
-over_built Ending fs body m well h = absurd (cc)
+pub over_built : (stage : Stage) (body : List ℕ) (m : Message) → is_malformed m ≡ false → is_over stage ≡ true → false ≡ built_from_server stage body m
+over_built Unspawned body m well h = sym well
+over_built Ended body m well h = sym well
+over_built Spawning body m well h = absurd (cc)
+over_built Initializing body m well h = absurd (cc)
+over_built Ready body m well h = absurd (cc)
+over_built Stopping body m well h = absurd (cc)
+over_built Ending body m well h = absurd (cc)
 
 -- a message that was read isn't malformed
 pub read_well : (p : Parsed) (body : List ℕ) → IsRead p body → is_malformed (message_of body) ≡ false
@@ -170,17 +134,17 @@ and_off false false h = refl
 and_off a true h = absurd (cc)
 
 -- by where the start stands
-pub as_here : (x y : Stage) (fs : List Forwarded) (body : List ℕ) (m : Message) (b : Bool) → y ≡ x → b ≡ built_from_server y fs body m → b ≡ built_from_server x fs body m
-as_here x y fs body m b same is = is ∙ ap (λ z. built_from_server z fs body m) same
+pub as_here : (x y : Stage) (body : List ℕ) (m : Message) (b : Bool) → y ≡ x → b ≡ built_from_server y body m → b ≡ built_from_server x body m
+as_here x y body m b same is = is ∙ ap (λ z. built_from_server z body m) same
 
-pub other_built : (y : Stage) (fs : List Forwarded) (body : List ℕ) (m : Message) → (y ≡ Initializing → ⊥) → (y ≡ Ready → ⊥) → (y ≡ Stopping → ⊥) → (y ≡ Ending → ⊥) → is_malformed m ≡ false → false ≡ built_from_server y fs body m
-other_built Unspawned fs body m i r s e well = sym well
-other_built Spawning fs body m i r s e well = sym well
-other_built Ended fs body m i r s e well = sym well
-other_built Initializing fs body m i r s e well = absurd (i refl)
-other_built Ready fs body m i r s e well = absurd (r refl)
-other_built Stopping fs body m i r s e well = absurd (s refl)
-other_built Ending fs body m i r s e well = absurd (e refl)
+pub other_built : (y : Stage) (body : List ℕ) (m : Message) → (y ≡ Initializing → ⊥) → (y ≡ Ready → ⊥) → (y ≡ Stopping → ⊥) → (y ≡ Ending → ⊥) → is_malformed m ≡ false → false ≡ built_from_server y body m
+other_built Unspawned body m i r s e well = sym well
+other_built Spawning body m i r s e well = sym well
+other_built Ended body m i r s e well = sym well
+other_built Initializing body m i r s e well = absurd (i refl)
+other_built Ready body m i r s e well = absurd (r refl)
+other_built Stopping body m i r s e well = absurd (s refl)
+other_built Ending body m i r s e well = absurd (e refl)
 
 pub and_first : (a b : Bool) → a ≡ true → b ≡ (a && b)
 and_first a b h = ap (λ x. x && b) (sym h)

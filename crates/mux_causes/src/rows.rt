@@ -1,16 +1,15 @@
 // Which causes meet rows of the routing table that are built.
 ghost use Rattle.std.specs.Prelude.{◌≡◌, ◌≤◌, ◌<◌, ◌&&◌, ◌||◌, ℕ, not, true, false, bytes_eq, codes, length, map, find, is_some, List, Option, Some, IfOk, slice_get};
 ghost use Rattle.event_model.specs.Event.{Event};
-ghost use Rattle.event_model.specs.Members.{has_token, reads_versions};
+ghost use Rattle.event_model.specs.Members.{has_token};
 ghost use Rattle.event_model.specs.Phases.{desk_of, is_served};
-ghost use Rattle.event_model.specs.Requests.{answered_id, is_open, open_of};
+ghost use Rattle.event_model.specs.Requests.{is_open, open_of};
 ghost use Rattle.event_model.specs.Settings.{Settings};
 ghost use Rattle.event_model.specs.Stages.{is_first_result, life_of};
-ghost use Rattle.group_facts.specs.Built.{built_behind, built_early, built_from_editor, built_from_server, built_notice, built_request, built_response, doubles, is_left, is_marked, is_passed_plainly, is_plain, is_shown_whole, is_standard};
+ghost use Rattle.group_facts.specs.Built.{built_behind, built_early, built_from_editor, built_from_server, built_notice, built_request, built_response, doubles, is_left, is_marked, is_plain, is_shown_whole, is_standard};
 ghost use Rattle.group_facts.specs.Facts.{Known};
 ghost use Rattle.group_facts.specs.Lively.{lives_at};
 ghost use Rattle.group_facts.specs.Settled.{Settled};
-ghost use Rattle.group_rows.specs.Forwarded.{answered_by, forwarding_of};
 ghost use Rattle.group_rows.specs.Rows.{names_lspmux};
 ghost use Rattle.group_words.specs.Houses.{groups_of};
 ghost use Rattle.json_text.specs.Json.{Json};
@@ -19,6 +18,7 @@ ghost use Rattle.lsp_method.specs.declared.variants.Origin.TheVariants.{Editor};
 ghost use Rattle.mux_history.specs.Cores.{body_length};
 ghost use Rattle.mux_model.specs.Built.{is_other};
 ghost use Rattle.mux_model.specs.Methods.{is_cancelling};
+ghost use Rattle.mux_turns.specs.Answers.{is_response};
 ghost use Rattle.mux_tables.specs.Stands.{Stands, number_in};
 ghost use Rattle.rpc_message.specs.Message.{Id, message_of, notification, request, result as outcome};
 ghost use Rattle.rpc_message.specs.Parsed.{IsRead};
@@ -27,9 +27,9 @@ use event_model::{Phase, Stage};
 use lsp_method::Class;
 use message_body::{Body, Memory};
 use mux_history::Cause;
-use mux_members::{class_in, has_token, is_cancelling, is_first_result, reads_versions};
+use mux_members::{class_in, has_token, is_cancelling, is_first_result};
 use mux_tables::Tables;
-use mux_turns::{answered_number, asks_lspmux, doubles, shown_of};
+use mux_turns::{asks_lspmux, doubles, shown_of};
 use rpc_message::{Malformed, Message, Sort};
 use std::alloc::Global;
 
@@ -175,41 +175,18 @@ fn is_shown_whole(alloc: Global, message: &Message) -> Result<bool, Memory>
     Ok(told.bytes() == answer)
 }
 
-// S5: whether a response of a group's last start answers a request that is open there.
-fn is_asked(tables: &Tables, g: usize, message: &Message) -> bool
-    requires { g < length tables.now.lasts.items }
-    ensures { (settings : Settings) (before : List Event) (body : List ℕ) (s : ℕ) → slice_get (map number_in tables.now.lasts.items) g ≡ Some s
-        → Stands settings tables.now before → IsRead message.now body
-        → result ≡ is_some (find (answered_by (answered_id (message_of body))) (forwarding_of s before).open_requests) }
+// Whether a message of this class answers a request (JSON-RPC 2.0, section 5).
+fn is_response(sort: Sort) -> bool
+    ensures { result ≡ is_response sort }
 {
-    match answered_number(message) {
-        Some(n) => tables.lasts[g].ids.get(n).is_some(),
-        None => false,
-    }
+    matches!(sort, Sort::Result | Sort::Error)
 }
 
-// S5: whether a result may be passed on: it answers no request that is open, or has no versions.
-fn passes(tables: &Tables, g: usize, message: &Message) -> bool
-    requires { g < length tables.now.lasts.items }
-    ensures { (settings : Settings) (before : List Event) (body : List ℕ) (s : ℕ) (id : Option Id) (value : Json)
-        → slice_get (map number_in tables.now.lasts.items) g ≡ Some s → Stands settings tables.now before → IsRead message.now body
-        → message_of body ≡ outcome id value → result ≡ is_passed_plainly (find (answered_by id) (forwarding_of s before).open_requests) value }
+// S5: a message of a start that is ready.
+fn built_response(message: &Message) -> bool
+    ensures { (body : List ℕ) → IsRead message.now body → result ≡ built_response (message_of body) }
 {
-    !is_asked(tables, g, message) || !reads_versions(message)
-}
-
-// A message of a start that is ready.
-fn built_response(tables: &Tables, g: usize, message: &Message) -> bool
-    requires { g < length tables.now.lasts.items }
-    ensures { (settings : Settings) (before : List Event) (body : List ℕ) (s : ℕ) → slice_get (map number_in tables.now.lasts.items) g ≡ Some s
-        → Stands settings tables.now before → IsRead message.now body
-        → result ≡ built_response (forwarding_of s before).open_requests (message_of body) }
-{
-    match message.sort() {
-        Sort::Result => passes(tables, g, message),
-        Sort::Error => true,
-        _ => false,
-    }
+    is_response(message.sort())
 }
 
 // S2 to S4: a message of a start that gave no result yet.
@@ -228,11 +205,11 @@ fn built_answer(tables: &Tables, alloc: Global, g: usize, message: &Message) -> 
     requires { g < length tables.now.lasts.items }
     ensures { (settings : Settings) (before : List Event) (body : List ℕ) (s : ℕ) → slice_get (map number_in tables.now.lasts.items) g ≡ Some s
         → Stands settings tables.now before → IsRead message.now body
-        → IfOk result (λ answer. answer ≡ built_from_server (life_of s before).stage (forwarding_of s before).open_requests body (message_of body)) }
+        → IfOk result (λ answer. answer ≡ built_from_server (life_of s before).stage body (message_of body)) }
 {
     match tables.stage(g) {
         Stage::Initializing => built_early(alloc, message),
-        Stage::Ready => Ok(built_response(tables, g, message)),
+        Stage::Ready => Ok(built_response(message)),
         Stage::Stopping | Stage::Ending => Ok(true),
         _ => Ok(false),
     }
@@ -246,7 +223,7 @@ fn built_from_start(
     message: &Message,
 ) -> Result<bool, Memory>
     ensures { (settings : Settings) (before : List Event) (body : List ℕ) → Stands settings tables.now before → IsRead message.now body
-        → IfOk result (λ answer. answer ≡ built_from_server (life_of s before).stage (forwarding_of s before).open_requests body (message_of body)) }
+        → IfOk result (λ answer. answer ≡ built_from_server (life_of s before).stage body (message_of body)) }
 {
     match tables.last(s) {
         None => Ok(false),
@@ -258,7 +235,7 @@ fn built_from_start(
 fn built_from_server(tables: &Tables, alloc: Global, s: u64, body: &Body) -> Result<bool, Memory>
     requires { length body.now ≤ 268435456 }
     ensures { (settings : Settings) (before : List Event) → Stands settings tables.now before
-        → IfOk result (λ answer. answer ≡ built_from_server (life_of s before).stage (forwarding_of s before).open_requests body.now (message_of body.now)) }
+        → IfOk result (λ answer. answer ≡ built_from_server (life_of s before).stage body.now (message_of body.now)) }
 {
     match Message::read(alloc, body.bytes()) {
         Ok(message) => built_from_start(tables, alloc, s, &message),

@@ -4,28 +4,23 @@ use Rattle.std.specs.Prelude.{IfOk}
 use Rattle.rpc_message.specs.Message.{message_of}
 use Rattle.event_model.specs.Stages.{life_of}
 use Rattle.group_facts.specs.Built.{built_from_server}
-use Rattle.group_rows.specs.Forwarded.{forwarding_of}
 use Rattle.mux_causes.proofs.Meant.{as_here, late_built, other_built, read_well}
 use Rattle.mux_causes.proofs.rows.built_answer.Goals as goal
 
 pub returns-in-Initializing : goal.returns-in-Initializing
 returns-in-Initializing c = λ settings before body s at st read.
-    let fs = (forwarding_of s before).open_requests in
-    subst (λ stage. IfOk c.built_early.result (λ answer. answer ≡ built_from_server stage fs body (message_of body))) (sym c.in-Initializing.is ∙ c.stage.ensures settings before s at st) (c.built_early.ensures body read)
+    subst (λ stage. IfOk c.built_early.result (λ answer. answer ≡ built_from_server stage body (message_of body))) (sym c.in-Initializing.is ∙ c.stage.ensures settings before s at st) (c.built_early.ensures body read)
 
 pub returns-in-Ready : goal.returns-in-Ready
 returns-in-Ready c = λ settings before body s at st read.
-    let fs = (forwarding_of s before).open_requests in
-    as_here (life_of s before).stage c.stage.result fs body (message_of body) c.built_response.result (c.stage.ensures settings before s at st)
-    (c.built_response.ensures settings before body s at st read ∙ ap (λ stage. built_from_server stage fs body (message_of body)) (sym c.in-Ready.is))
+    as_here (life_of s before).stage c.stage.result body (message_of body) c.built_response.result (c.stage.ensures settings before s at st)
+    (c.built_response.ensures body read ∙ ap (λ stage. built_from_server stage body (message_of body)) (sym c.in-Ready.is))
 
 pub returns-in-Stopping : goal.returns-in-Stopping
 returns-in-Stopping c = λ settings before body s at st read.
-    let fs = (forwarding_of s before).open_requests in
-    late_built (life_of s before).stage c.stage.result fs body (message_of body) (c.stage.ensures settings before s at st) c.in-Stopping.is
+    late_built (life_of s before).stage c.stage.result body (message_of body) (c.stage.ensures settings before s at st) c.in-Stopping.is
 
 pub returns-in_default : goal.returns-in_default
 returns-in_default c = λ settings before body s at st read.
-    let fs = (forwarding_of s before).open_requests in
-    as_here (life_of s before).stage c.stage.result fs body (message_of body) _ (c.stage.ensures settings before s at st)
-    (other_built c.stage.result fs body (message_of body) c.in_default.not-Initializing c.in_default.not-Ready c.in_default.not-Stopping c.in_default.not-Ending (read_well c.args.message.now body read))
+    as_here (life_of s before).stage c.stage.result body (message_of body) _ (c.stage.ensures settings before s at st)
+    (other_built c.stage.result body (message_of body) c.in_default.not-Initializing c.in_default.not-Ready c.in_default.not-Stopping c.in_default.not-Ending (read_well c.args.message.now body read))
