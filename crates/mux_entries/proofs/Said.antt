@@ -27,8 +27,9 @@ use Rattle.event_model.proofs.Frames.{never}
 use Rattle.event_model.proofs.Turns.{alike, alike_then}
 use Rattle.group_facts.specs.Built.{built_early, built_from_server, is_shown_whole}
 use Rattle.group_facts.specs.Facts.{AllForwarded, IsForwarded, WaitingAsked, is_early}
+use Rattle.group_rows.specs.Answers.{answer_row, hand_on}
 use Rattle.group_rows.specs.Forwarded.{Forwarded, answered_by, forwarding_of, names}
-use Rattle.group_rows.specs.Rows.{first_result, from_server, pass_on, refused_row, response_row, hasty_row, stopping_row}
+use Rattle.group_rows.specs.Rows.{first_result, from_server, refused_row, hasty_row, stopping_row}
 use Rattle.group_rows.specs.Ends.{last_number}
 use Rattle.group_words.specs.Houses.{is_first_error}
 use Rattle.group_words.specs.Rows.{shown_of}
@@ -170,7 +171,7 @@ module _ (settings : Settings) (s : ℕ) (before : List Event) (body : List ℕ)
   -- S1
   pub malformed_row : (m : Message) (stage : Stage) → is_malformed m ≡ true → Alike (from_server settings s before body m stage) nothing
   malformed_row m Initializing h = alike_then (is_second refl (unanswered_first m (malformed_names m h))) (alike_then (is_second refl (unanswered_error m (malformed_names m h))) (alike (unasked_row m (malformed_aside m h))))
-  malformed_row m Ready h = alike (ap (λ o. on o nothing (pass_on before body)) (ap (λ id. find (answered_by id) (forwarding_of s before).open_requests) (malformed_names m h) ∙ nobody (forwarding_of s before).open_requests))
+  malformed_row m Ready h = alike (ap (λ o. on o nothing (hand_on settings before s body)) (ap (λ id. find (answered_by id) (forwarding_of s before).open_requests) (malformed_names m h) ∙ nobody (forwarding_of s before).open_requests))
   malformed_row m Unspawned h = alike refl
   malformed_row m Spawning h = alike refl
   malformed_row m Stopping h = is_second refl (ap (λ id. names id (last_number s before)) (malformed_names m h))
@@ -237,9 +238,9 @@ pub record IsFirst (settings : Settings) (before : List Event) (s : ℕ) (body :
   pub shown : IsShown body
   pub row : Alike (from_server settings s before body (message_of body) (life_of s before).stage) (first_result settings before s body)
 
-module _ (settings : Settings) (before : List Event) (s : ℕ) (body : List ℕ) (stage : (life_of s before).stage ≡ Initializing) (built : built_from_server (life_of s before).stage (forwarding_of s before).open_requests body (message_of body) ≡ true) where
+module _ (settings : Settings) (before : List Event) (s : ℕ) (body : List ℕ) (stage : (life_of s before).stage ≡ Initializing) (built : built_from_server (life_of s before).stage body (message_of body) ≡ true) where
   now_built : built_early body (message_of body) ≡ true
-  now_built = ap (λ g. built_from_server g (forwarding_of s before).open_requests body (message_of body)) (sym stage) ∙ built
+  now_built = ap (λ g. built_from_server g body (message_of body)) (sym stage) ∙ built
 
   pub first_entry : is_first_result (message_of body) ≡ true → IsFirst settings before s body
   first_entry first =
@@ -260,7 +261,7 @@ asked_so before f k = record { name = k.id; text = k.text; answered = λ waits. 
 pub asked : (before : List Event) (s : ℕ) (m : Message) → AllForwarded before → (f : Forwarded) → find (answered_by (answered_id m)) (forwarding_of s before).open_requests ≡ Some f → IsAsked before f
 asked before s m all f found = asked_so before f (found_is (IsForwarded before) (answered_by (answered_id m)) f (forwarding_of s before).open_requests (all s) found)
 
-pub ready_row : (settings : Settings) (before : List Event) (s : ℕ) (body : List ℕ) → (life_of s before).stage ≡ Ready → Alike (from_server settings s before body (message_of body) (life_of s before).stage) (response_row s before body (message_of body))
+pub ready_row : (settings : Settings) (before : List Event) (s : ℕ) (body : List ℕ) → (life_of s before).stage ≡ Ready → Alike (from_server settings s before body (message_of body) (life_of s before).stage) (answer_row settings s before body (message_of body))
 ready_row settings before s body stage = alike (ap (from_server settings s before body (message_of body)) stage)
 
 -- S4
@@ -268,15 +269,15 @@ pub stopped_row : (settings : Settings) (before : List Event) (s : ℕ) (body : 
 stopped_row settings before s body stage = alike (ap (from_server settings s before body (message_of body)) stage)
 
 -- in other stages no message is built
-others_none : (stage : Stage) (fs : List Forwarded) (body : List ℕ) (m : Message) → (stage ≡ Initializing → ⊥) → (stage ≡ Ready → ⊥) → (stage ≡ Stopping → ⊥) → (stage ≡ Ending → ⊥) → built_from_server stage fs body m ≡ is_malformed m
-others_none Initializing fs body m i r s e = absurd (i refl)
-others_none Ready fs body m i r s e = absurd (r refl)
-others_none Stopping fs body m i r s e = absurd (s refl)
-others_none Ending fs body m i r s e = absurd (e refl)
-others_none Unspawned fs body m i r s e = refl
-others_none Spawning fs body m i r s e = refl
-others_none Ended fs body m i r s e = refl
+others_none : (stage : Stage) (body : List ℕ) (m : Message) → (stage ≡ Initializing → ⊥) → (stage ≡ Ready → ⊥) → (stage ≡ Stopping → ⊥) → (stage ≡ Ending → ⊥) → built_from_server stage body m ≡ is_malformed m
+others_none Initializing body m i r s e = absurd (i refl)
+others_none Ready body m i r s e = absurd (r refl)
+others_none Stopping body m i r s e = absurd (s refl)
+others_none Ending body m i r s e = absurd (e refl)
+others_none Unspawned body m i r s e = refl
+others_none Spawning body m i r s e = refl
+others_none Ended body m i r s e = refl
 
-pub built_elsewhere : {A : Type 0} (stage kept : Stage) (fs : List Forwarded) (body : List ℕ) (m : Message) → stage ≡ kept → (kept ≡ Initializing → ⊥) → (kept ≡ Ready → ⊥) → (kept ≡ Stopping → ⊥) → (kept ≡ Ending → ⊥)
-    → is_malformed m ≡ false → built_from_server stage fs body m ≡ true → A
-built_elsewhere stage kept fs body m at i r s e well built = never (sym built ∙ others_none stage fs body m (λ h. i (sym at ∙ h)) (λ h. r (sym at ∙ h)) (λ h. s (sym at ∙ h)) (λ h. e (sym at ∙ h)) ∙ well)
+pub built_elsewhere : {A : Type 0} (stage kept : Stage) (body : List ℕ) (m : Message) → stage ≡ kept → (kept ≡ Initializing → ⊥) → (kept ≡ Ready → ⊥) → (kept ≡ Stopping → ⊥) → (kept ≡ Ending → ⊥)
+    → is_malformed m ≡ false → built_from_server stage body m ≡ true → A
+built_elsewhere stage kept body m at i r s e well built = never (sym built ∙ others_none stage body m (λ h. i (sym at ∙ h)) (λ h. r (sym at ∙ h)) (λ h. s (sym at ∙ h)) (λ h. e (sym at ∙ h)) ∙ well)

@@ -9,3 +9,5 @@ mod languages;
 mod play;
 #[cfg(test)]
 mod tests;
+#[cfg(test)]
+mod versions;

@@ -7,7 +7,7 @@ use std::test::Fail;
 pub const MOST: u32 = 2_147_483_647;
 
 // An editor that runs, on a start that is ready; the next number is 2.
-const OPENING: [(&str, &str); 5] = [
+pub const OPENING: [(&str, &str); 5] = [
     ("join 0\n", ""),
     (
         "ed 0 {\"jsonrpc\":\"2.0\",\"id\":0,\"method\":\"initialize\",\"params\":{\"rootUri\":\"file:///w\",\"capabilities\":{}}}\n",

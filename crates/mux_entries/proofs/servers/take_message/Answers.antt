@@ -3,7 +3,6 @@ use Rattle.std.proofs.Common.{sym, ◌∙◌}
 use Rattle.event_model.specs.Stages.{life_of}
 use Rattle.event_model.proofs.Places.{item_at}
 use Rattle.group_facts.specs.Built.{built_from_server}
-use Rattle.group_rows.specs.Forwarded.{forwarding_of}
 use Rattle.rpc_message.specs.Message.{message_of}
 use Rattle.mux_tables.specs.Documents.{AllStand, nothing_owed}
 use Rattle.mux_entries.proofs.EditorRows.{done_alike, done_quietly}
@@ -19,16 +18,15 @@ returns-in_ok-take_answer-in-Ready-clause-does c = λ settings before body s rea
     let x = item_at t.lasts.items c.args.g c.requires in
     let ready = sym (c.stage_at-stage.ensures x.0 x.1) ∙ c.in-Ready.is in
     let stage = stage_here settings t before c.args.g s x.0 x.1 at st ∙ ready in
-    let done = c.in_ok-take_answer-in-Ready.ensures.does settings before body s x.0 read first x.1 ready at (asked before s (message_of body) known.asked) st in
-    let docs = c.in_ok-take_answer-in-Ready.ensures.documents settings nothing_owed before body s x.0 read first x.1 ready at st ds in
-    done_alike (λ k events. AllStand settings k events) (ready_row settings before s body stage) (record { outs = done.outs; stands = (done.stands, docs) })
+    let done = c.in_ok-take_answer-in-Ready.ensures.does settings before body s x.0 read first x.1 ready at (asked before s (message_of body) known.asked) st ds in
+    done_alike (λ k events. AllStand settings k events) (ready_row settings before s body stage) done
 
 pub returns-in_default-clause-does : goal.returns-in_default-clause-does
 returns-in_default-clause-does c = λ settings before body s read first at known run built st ds.
     let t = c.args.tables.now in
     let x = item_at t.lasts.items c.args.g c.requires in
     let here = stage_here settings t before c.args.g s x.0 x.1 at st ∙ sym (c.stage_at-stage.ensures x.0 x.1) in
-    built_elsewhere (life_of s before).stage c.stage_at-stage.result (forwarding_of s before).open_requests body (message_of body) here c.in_default.not-Initializing c.in_default.not-Ready c.in_default.not-Stopping c.in_default.not-Ending (read_well c.args.message.now body read) built
+    built_elsewhere (life_of s before).stage c.stage_at-stage.result body (message_of body) here c.in_default.not-Initializing c.in_default.not-Ready c.in_default.not-Stopping c.in_default.not-Ending (read_well c.args.message.now body read) built
 
 pub returns-in_ok-take_stopping-in-Stopping-clause-does : goal.returns-in_ok-take_stopping-in-Stopping-clause-does
 returns-in_ok-take_stopping-in-Stopping-clause-does c = λ settings before body s read first at known run built st ds.
