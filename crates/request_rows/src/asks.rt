@@ -13,7 +13,13 @@ fn an_ask_is_answered_once(rt: HostRuntime) -> Result<(), Fail> {
     let mut asks = Asks::new(alloc);
     asks.ask(3, 1, text(alloc, b"\"q\"")?)?;
     asks.ask(3, 2, text(alloc, b"7")?)?;
-    assert!(rt; asks.find(b"\"\\u0071\"") == Some(Seat { editor: 3, number: 1 }));
+    assert!(rt;
+        asks.find(b"\"\\u0071\"")
+            == Some(Seat {
+                editor: 3,
+                number: 1
+            })
+    );
     assert!(rt; asks.answer(4, 1).is_none());
     assert!(rt; matches!(asks.answer(3, 1), Some(id) if id.bytes() == b"\"q\"".as_slice()));
     assert!(rt; asks.answer(3, 1).is_none());

@@ -1,7 +1,9 @@
-//! Tests of the tables of open requests and of asks, through the public calls of id_rewrite and ask_route.
+//! Tests of the tables of open requests, of asks and of registrations, through the public calls of id_rewrite, ask_route and registrations.
 #![tactic(auto)]
 
 #[cfg(test)]
 mod asks;
+#[cfg(test)]
+mod registrations;
 #[cfg(test)]
 mod requests;
