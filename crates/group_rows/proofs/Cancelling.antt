@@ -1,6 +1,5 @@
 -- What an editor's own `$/cancelRequest` says under the number of the request that it names.
-use Rattle.std.proofs.Common.{◌≡◌, ℕ, ◌<◌, ◌≤◌, ◌^◌, Bool, true, false, ◌&&◌, not, List, [], ◌∷◌, codes, bytes_eq, decimal, if◌then◌else◌, cond, Option, Some, None, refl, sym, ◌∙◌, ap, append-nil, arith, find, nat_eq}
-use Rattle.std.specs.List.{AllByRecursion, list_any}
+use Rattle.std.proofs.Common.{◌≡◌, ℕ, ◌<◌, ◌≤◌, ◌^◌, Bool, true, false, List, [], codes, bytes_eq, decimal, if◌then◌else◌, Option, Some, None, refl, sym, ◌∙◌, ap, append-nil, arith}
 use Rattle.std.specs.Option.{option_and_then}
 use Rattle.std.specs.Prelude.{MatchOption}
 use Rattle.json_text.specs.declared.kind.Word.TheVariants.{Null, False, True}
@@ -9,14 +8,13 @@ use Rattle.json_text.specs.Bare.{bare_members, nowhere}
 use Rattle.json_text.specs.Json.{Json, word, number, string, array, object, Members, no_members, member, IsText, depth, members_depth}
 use Rattle.json_text.specs.Named.{named, if_named, or_else}
 use Rattle.json_text.specs.Number.{IsNumber}
-use Rattle.json_text.specs.Paths.{key, put_at, value_at}
+use Rattle.json_text.specs.Paths.{put_at, value_at}
 use Rattle.json_text.specs.Replace.{replace}
-use Rattle.json_text.specs.Tree.{tree_of}
 use Rattle.json_text.proofs.Depths.{named_below}
 use Rattle.json_text.proofs.Laws.{tree_complete, tree_sound}
 use Rattle.json_text.proofs.Moves.{placed}
 use Rattle.json_text.proofs.Put.{members_depth_bare}
-use Rattle.json_nodes.specs.Puts.{member_edits, put_members}
+use Rattle.json_nodes.specs.Puts.{member_edits, new_or, put_members}
 use Rattle.json_nodes.proofs.PutBare.{flat_members}
 use Rattle.rpc_message.specs.Message.{Id, given, id_of, message_of, notification}
 use Rattle.rpc_message.specs.ValueTexts.{IsIdText, IsOptionText}
@@ -56,7 +54,7 @@ module _ (digits : List ℕ) where
       go false = tt
 
   none_case : (j : Json) (o r : Option Json) (b : Bool) → (o ≡ None → r ≡ None) → or_else o (if_named b j) ≡ None
-      → or_else r (if_named b (elim (if b then Some (number nowhere digits) else None) [ None ↦ j | Some u ↦ u ])) ≡ None
+      → or_else r (if_named b (new_or (if b then Some (number nowhere digits) else None) j)) ≡ None
   none_case j (Some k) r b g e = absurd (cc)
   none_case j None r true g e = absurd (cc)
   none_case j None r false g e = ap (λ z. or_else z None) (g refl)
@@ -67,8 +65,8 @@ module _ (digits : List ℕ) where
   no_id (member s cs j ms) e = none_case j (named (codes "id") ms) (named (codes "id") (put_members new_number ms)) (bytes_eq (codes "id") cs) (λ h. no_id ms h) e
 
   id_case : (j x : Json) (o r : Option Json) (b : Bool) → ((k : Json) → o ≡ Some k → r ≡ Some (number nowhere digits)) → (o ≡ None → r ≡ None) → or_else o (if_named b j) ≡ Some x
-      → or_else r (if_named b (elim (if b then Some (number nowhere digits) else None) [ None ↦ j | Some u ↦ u ])) ≡ Some (number nowhere digits)
-  id_case j x (Some k) r b f g e = ap (λ z. or_else z (if_named b (elim (if b then Some (number nowhere digits) else None) [ None ↦ j | Some u ↦ u ]))) (f k refl)
+      → or_else r (if_named b (new_or (if b then Some (number nowhere digits) else None) j)) ≡ Some (number nowhere digits)
+  id_case j x (Some k) r b f g e = ap (λ z. or_else z (if_named b (new_or (if b then Some (number nowhere digits) else None) j))) (f k refl)
   id_case j x None r true f g e = ap (λ z. or_else z (Some (number nowhere digits))) (g refl)
   id_case j x None r false f g e = absurd (cc)
 
@@ -102,7 +100,6 @@ module _ (n : ℕ) (body method : List ℕ) (params : Option Json) (low : n < 10
       bytes = ap (λ o. replace body (id_puts (decimal n) (named_of (codes "params") o))) said.tree ∙ ap (λ o. replace body (id_puts (decimal n) o)) at
 
       shallow : depth (put_at [] (object nowhere (put_members (new_number (decimal n)) (bare_members js))) (object nowhere (bare_members js))) ≤ 1023
-      unfolding put_at
       shallow =
           let sound : IsText body (object said.span said.members) × (depth (object said.span said.members) ≤ 1024) = tree_sound body (object said.span said.members) said.tree in
           let whole : depth (object said.span said.members) ≤ 1024 = sound.1 in

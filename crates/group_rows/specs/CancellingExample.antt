@@ -1,5 +1,5 @@
 -- Worked cancels of editors' requests.
-use Rattle.std.specs.Prelude.{ℕ, List, [], ◌∷◌, ◌++◌, codes, flat_map}
+use Rattle.std.specs.Prelude.{List, [], ◌∷◌, ◌++◌, codes, flat_map}
 use Rattle.mux_history.specs.declared.cause.Cause.{Cause}
 use Rattle.mux_history.specs.declared.cause.Cause.TheVariants.{FromEditor, FromServer}
 use Rattle.mux_history.specs.declared.out.Out.{Out}
