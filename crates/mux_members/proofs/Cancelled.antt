@@ -9,12 +9,12 @@ use Rattle.json_nodes.specs.Doc.{Doc}
 use Rattle.rpc_message.specs.declared.envelope.Envelope.{Envelope}
 use Rattle.rpc_message.specs.declared.envelope.Envelope.TheVariants.{Request, Notification, Outcome, Failure}
 use Rattle.rpc_message.specs.Envelopes.{Tells}
-use Rattle.rpc_message.specs.Message.{Id, Message, error, id_of, integer, integer_if, is_integer, is_integer_value, is_string_value, notification, request, result, result_tree, text}
+use Rattle.rpc_message.specs.Message.{Id, Message, error, id_of, integer, integer_if, is_integer, notification, request, result, result_tree, text}
 use Rattle.rpc_message.specs.Parsed.{FoundBare}
 use Rattle.rpc_message.specs.ValueTexts.{IsIdText}
 use Rattle.rpc_message.proofs.Meaning.{id_bare}
 use Rattle.event_model.specs.Members.{named_of}
-use Rattle.mux_members.specs.Cancels.{IsTextOf}
+use Rattle.mux_members.specs.Cancels.{IsTextOf, may_be_id}
 use Rattle.mux_members.specs.Envelopes.{notification_params}
 use Rattle.mux_members.proofs.Bared.{of_bare}
 
@@ -28,9 +28,6 @@ told_notified doc (Failure i f) m method params t h = absurd (let same : m ≡ e
 -- the bytes of an id's value are the text of the id
 id_text : (t : Json) (at : ℕ) (w : List ℕ) (i : Id) → value t at w → id_of t ≡ Some i → IsIdText i w
 id_text t at w i v h = let p : Placed t 0 w = moved t at w v 0 in record { tree = p.tree; stands = p.stands; is = sym (id_bare p.tree) ∙ ap id_of p.same ∙ id_bare t ∙ h }
-
-abbrev pub may_be_id : Option Json → Bool
-may_be_id o = is_integer_value o || is_string_value o
 
 some_id : (o : Option Json) (w : List ℕ) → may_be_id o ≡ true → ((t : Json) → o ≡ Some t → (at : ℕ) × value t at w) → IsTextOf (option_and_then id_of o) (Some w)
 some_id (Some (number s ds)) w h f = go (is_integer ds) refl h

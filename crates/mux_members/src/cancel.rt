@@ -1,15 +1,24 @@
 //! What a notification that cancels a request names (LSP 3.17, Cancellation Support).
 ghost use Rattle.std.specs.Prelude.{◌≡◌, ℕ, List, Option, codes, option_map};
 ghost use Rattle.std.specs.Option.{option_and_then};
+ghost use Rattle.json_nodes.specs.At.{Found};
 ghost use Rattle.json_text.specs.Json.{Json};
 ghost use Rattle.event_model.specs.Members.{named_of};
-ghost use Rattle.mux_members.specs.Cancels.{IsTextOf};
+ghost use Rattle.mux_members.specs.Cancels.{IsTextOf, may_be_id};
 ghost use Rattle.rpc_message.specs.Message.{id_of, message_of, notification};
 ghost use Rattle.rpc_message.specs.Parsed.{IsRead};
 
 use crate::envelope::notification_params;
 use crate::look::{bytes, is_integer, is_text, member};
+use json_span::Tape;
 use rpc_message::Message;
+
+// Whether a value is an integer or a string, as an id is (JSON-RPC 2.0, section 4).
+fn is_id(tape: &Tape, node: Option<u32>) -> bool
+    ensures { (o : Option Json) → Found tape.now o node → result ≡ may_be_id o }
+{
+    is_integer(tape, node) || is_text(tape, node)
+}
 
 /// E11: the bytes of the id that a notification's params name; none where they name no integer and no string.
 pub fn cancelled_id<'a>(m: &'a Message) -> Option<&'a [u8]>
@@ -18,7 +27,7 @@ pub fn cancelled_id<'a>(m: &'a Message) -> Option<&'a [u8]>
 {
     let tape = m.tape();
     let id = member(tape, notification_params(m), "id");
-    if is_integer(tape, id) || is_text(tape, id) {
+    if is_id(tape, id) {
         Some(bytes(tape, id))
     } else {
         None
