@@ -19,7 +19,7 @@ use Rattle.group_words.specs.Houses.{home_of}
 use Rattle.mux_tables.specs.Stands.{start_for}
 
 -- where the group has no start, and where it has one
-no_start : (home : Option ℕ) (start : ℕ → Option ℕ) (p : Row) (f : ℕ → ℕ → Row) → option_and_then start home ≡ None → on home p (λ g. on (start g) p (f g)) ≡ p
+pub no_start : (home : Option ℕ) (start : ℕ → Option ℕ) (p : Row) (f : ℕ → ℕ → Row) → option_and_then start home ≡ None → on home p (λ g. on (start g) p (f g)) ≡ p
 no_start None start p f h = refl
 no_start (Some g) start p f h = ap (λ o. on o p (f g)) h
 
