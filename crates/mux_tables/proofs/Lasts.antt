@@ -14,7 +14,7 @@ use Rattle.event_model.proofs.Places.{each_set, Same, same, other, compare, same
 use Rattle.mux_tables.specs.declared.tables.Start.{Start}
 use Rattle.mux_tables.specs.Stands.{blank, forwarded_of, IsLost, Lost, of_ids, of_life, OriginsStand, LastStands, LastsStand, Rise}
 use Rattle.mux_tables.proofs.Frames.{names_start, spawns, starts_alone, start_alone, group_alone, life_alone, last_stands, part_apart}
-use Rattle.mux_tables.proofs.Placed.{groups_apart, left_away, left_there, lost_left, lost_set, place_before, rise_remove, rise_set}
+use Rattle.mux_tables.proofs.Placed.{groups_apart, left_there, lost_left, lost_set, place_before, rise_remove, rise_set}
 
 pub same_place : {i j : ℕ} → ◌≡◌ {A = Option ℕ} (Some i) (Some j) → i ≡ j
 same_place e = cc

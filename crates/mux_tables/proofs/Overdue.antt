@@ -54,7 +54,7 @@ module _ (settings : Settings) (t : Tables) (before : List Event) (p s : ℕ) (x
   awaited_here None is when = sym (awaited_none s before (off x.life.stage refl))
     where
       off : (stage : Stage) → x.life.stage ≡ stage → is_stopping (life_of s before).stage ≡ false
-      off Stopping e = absurd (when.1 e)
+      off Stopping e = never (sym (when.1 e))
       off Unspawned e = ap is_stopping (stage_is ∙ e)
       off Spawning e = ap is_stopping (stage_is ∙ e)
       off Initializing e = ap is_stopping (stage_is ∙ e)
