@@ -62,7 +62,7 @@ module _ (settings : Settings) (t : Tables) (before : List Event) (p s : ℕ) (x
       off Ending e = ap is_stopping (stage_is ∙ e)
       off Ended e = ap is_stopping (stage_is ∙ e)
   awaited_here (Some k) is when =
-      let stops : x.life.stage ≡ Stopping = when.0 tt in
+      let stops : x.life.stage ≡ Stopping = when.0 refl in
       let kept : moment_in x.life.stopping ≡ stop_of x.life.start before = subst (λ g. StopAt g x.life.stopping (stop_of x.life.start before)) stops ((st.lasts.each p x here).parts of_stop) in
       ap moment_in is ∙ (kept ∙ (ap (λ n. stop_of n before) (start_at_place t.lasts.items p s x here at) ∙ sym (rw (ap is_stopping (stage_is ∙ stops)) refl)))
 
