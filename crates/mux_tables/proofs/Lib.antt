@@ -42,3 +42,4 @@ pub mod DocumentNotes
 pub mod Homes
 pub mod Waits
 pub mod Live
+pub mod Placed

@@ -20,7 +20,7 @@ use Rattle.mux_tables.specs.declared.tables.Start.{Start}
 use Rattle.mux_tables.specs.declared.tables.Tables.{Tables}
 use Rattle.group_rows.specs.Forwarded.{forwarding_behind, forwarding_of}
 use Rattle.group_rows.specs.Ticks.{is_stopping, stop_of}
-use Rattle.mux_tables.specs.Stands.{GroupsStand, IdsAt, IdsStand, Part, of_life, of_ids, of_shown, of_stop, PartStands, ShownAt, StopAt, Stands, number_in, stage_in}
+use Rattle.mux_tables.specs.Stands.{GroupsStand, IdsAt, IdsStand, Part, of_life, of_ids, of_shown, of_stop, PartStands, ShownAt, StopAt, Stands, house_in, number_in, stage_in}
 use Rattle.mux_tables.proofs.Frames.{names_start, names_editor, spawns, ticks, touches, part_quiet}
 use Rattle.mux_tables.proofs.IdMoves.{ids_more}
 use Rattle.mux_tables.proofs.Moves.{parts_move}
@@ -59,6 +59,11 @@ pub stages_stay : (xs : List Start) (g : ℕ) (z y : Start) → g < length xs �
 stages_stay [] g z y h e k = absurd (omega arith)
 stages_stay (x ∷ xs) zero z y h e k = ap (λ n. n ∷ map stage_in xs) (k ∙ ap stage_in e)
 stages_stay (x ∷ xs) (suc g) z y h e k = ap (λ ns. x.life.stage ∷ ns) (stages_stay xs g z y (omega arith) e k)
+
+pub houses_stay : (xs : List Start) (g : ℕ) (z y : Start) → g < length xs → z ≡ get_or xs g z → y.life.group ≡ z.life.group → map house_in (slice_set xs g y) ≡ map house_in xs
+houses_stay [] g z y h e k = absurd (omega arith)
+houses_stay (x ∷ xs) zero z y h e k = ap (λ n. n ∷ map house_in xs) (k ∙ ap house_in e)
+houses_stay (x ∷ xs) (suc g) z y h e k = ap (λ ns. x.life.group ∷ ns) (houses_stay xs g z y (omega arith) e k)
 
 -- its stage goes on
 pub part_life : (limit : ℕ) (events : List Event) (ev : Event) (x y : Start) → y.life.start ≡ x.life.start → life_behind x.life.start (record { stage = x.life.stage; started = x.started }) ev ≡ record { stage = y.life.stage; started = y.started }

@@ -1,5 +1,5 @@
 -- Rows of an editor's group, and of a group's start.
-use Rattle.std.proofs.Common.{◌≡◌, ℕ, Bool, true, false, List, refl, ap, sym, ◌∙◌}
+use Rattle.std.proofs.Common.{◌≡◌, ℕ, Bool, true, false, ◌&&◌, nat_lt, List, refl, ap, sym, ◌∙◌}
 use Rattle.std.specs.Prelude.{Option, Some, None}
 use Rattle.std.specs.Option.{option_and_then}
 use Rattle.mux_history.specs.declared.out.Out.TheVariants.{ToServer}
@@ -16,12 +16,16 @@ use Rattle.group_rows.specs.Forwarded.{forwarding_of}
 use Rattle.group_rows.specs.Leaves.{cancel, cancels, cancels_row, uncancelled_of}
 use Rattle.group_rows.specs.Rows.{answer_error, can_ask, forward, notice_at, notice_row, request_at, request_row, sync_row}
 use Rattle.group_words.specs.Houses.{home_of}
-use Rattle.mux_tables.specs.Stands.{start_for}
+use Rattle.mux_tables.specs.Stands.{HasEnded, start_for}
 
--- where the group has no start, and where it has one
-pub no_start : (home : Option ℕ) (start : ℕ → Option ℕ) (p : Row) (f : ℕ → ℕ → Row) → option_and_then start home ≡ None → on home p (λ g. on (start g) p (f g)) ≡ p
-no_start None start p f h = refl
-no_start (Some g) start p f h = ap (λ o. on o p (f g)) h
+-- where the group has no start, or one that ended, and where it has another
+pub ended_start : (home : Option ℕ) (start : ℕ → Option ℕ) (p : Row) (f : ℕ → ℕ → Row) → ((g s : ℕ) → option_and_then start home ≡ Some s → Alike (f g s) p) → Alike (on home p (λ g. on (start g) p (f g))) p
+ended_start None start p f h = alike refl
+ended_start (Some g) start p f h = go (start g) refl
+  where
+    go : (o : Option ℕ) → start g ≡ o → Alike (on o p (f g)) p
+    go None e = alike refl
+    go (Some s) e = h g s e
 
 pub some_start : (home : Option ℕ) (start : ℕ → Option ℕ) (p : Row) (f : ℕ → ℕ → Row) (g s : ℕ) → home ≡ Some g → start g ≡ Some s → on home p (λ g. on (start g) p (f g)) ≡ f g s
 some_start home start p f g s h k = ap (λ o. on o p (λ g. on (start g) p (f g))) h ∙ ap (λ o. on o p (f g)) k
@@ -35,8 +39,8 @@ is_second {r} {p} {q} e h = alike_then (alike (e ∙ ap (λ c. choose c p q) h))
 
 module _ (settings : Settings) (before : List Event) (e : ℕ) where
   -- L1
-  pub none_left : start_for settings e before ≡ None → Alike (cancels_row settings before e) nothing
-  none_left h = alike (no_start (home_of settings e before) (λ g. start_of g before) nothing (λ g s. cancels before s e) h)
+  pub ended_left : HasEnded (start_for settings e before) before → Alike (cancels_row settings before e) nothing
+  ended_left h = ended_start (home_of settings e before) (λ g. start_of g before) nothing (λ g s. cancels before s e) (λ g s at. is_second refl (ap is_ready (h s at)))
 
   left_at : (g s : ℕ) → home_of settings e before ≡ Some g → start_of g before ≡ Some s → cancels_row settings before e ≡ cancels before s e
   left_at g s h k = some_start (home_of settings e before) (λ g. start_of g before) nothing (λ g s. cancels before s e) g s h k
@@ -50,8 +54,8 @@ module _ (settings : Settings) (before : List Event) (e : ℕ) where
 
   -- E16 and E17
   module _ (body : List ℕ) where
-    pub none_noted : start_for settings e before ≡ None → Alike (notice_row settings before e body) nothing
-    none_noted h = alike (no_start (home_of settings e before) (λ g. start_of g before) nothing (notice_at settings before e body) h)
+    pub ended_noted : HasEnded (start_for settings e before) before → Alike (notice_row settings before e body) nothing
+    ended_noted h = ended_start (home_of settings e before) (λ g. start_of g before) nothing (notice_at settings before e body) (λ g s at. is_second refl (ap is_ready (h s at)))
 
     noted : (g s : ℕ) → home_of settings e before ≡ Some g → start_of g before ≡ Some s → notice_row settings before e body ≡ notice_at settings before e body g s
     noted g s h k = some_start (home_of settings e before) (λ g. start_of g before) nothing (notice_at settings before e body) g s h k
@@ -64,8 +68,9 @@ module _ (settings : Settings) (before : List Event) (e : ℕ) where
 
   -- E10
   module _ (body : List ℕ) where
-    pub none_asked : start_for settings e before ≡ None → Alike (request_row settings before e body) (answer_error e body request_failed)
-    none_asked h = alike (no_start (home_of settings e before) (λ g. start_of g before) (answer_error e body request_failed) (request_at settings before e body) h)
+    pub ended_asked : HasEnded (start_for settings e before) before → Alike (request_row settings before e body) (answer_error e body request_failed)
+    ended_asked h = ended_start (home_of settings e before) (λ g. start_of g before) (answer_error e body request_failed) (request_at settings before e body)
+        (λ g s at. is_second refl (ap (λ k. is_ready k && nat_lt (forwarding_of s before).next settings.limits.requests) (h s at)))
 
     asked : (g s : ℕ) → home_of settings e before ≡ Some g → start_of g before ≡ Some s → request_row settings before e body ≡ request_at settings before e body g s
     asked g s h k = some_start (home_of settings e before) (λ g. start_of g before) (answer_error e body request_failed) (request_at settings before e body) g s h k
