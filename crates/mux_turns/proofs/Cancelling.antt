@@ -43,12 +43,13 @@ use Rattle.id_rewrite.proofs.Finding.{texts_same}
 use Rattle.mux_tables.specs.declared.tables.Start.{Start}
 use Rattle.mux_tables.specs.declared.tables.Tables.{Tables}
 use Rattle.mux_tables.specs.Documents.{AllStand, DocumentsStand, changes_documents, nothing_owed}
-use Rattle.mux_tables.specs.Stands.{Stands, forwarded_of, of_ids, start_for}
+use Rattle.mux_tables.specs.Stands.{Stands, forwarded_of, number_in, of_ids, start_for}
 use Rattle.mux_tables.proofs.DocumentOwed.{all_does}
+use Rattle.mux_tables.proofs.Starts.{start_at_place}
 use Rattle.mux_turns.specs.Cancels.{HaveIds}
 use Rattle.mux_turns.proofs.Asides.{and_off}
 use Rattle.mux_turns.proofs.Numbers.{decimals}
-use Rattle.mux_turns.proofs.Rows.{is_first, is_second, no_start, some_start}
+use Rattle.mux_turns.proofs.Rows.{ended_start, is_first, is_second, some_start}
 
 -- A request that is found is the one of its number
 
@@ -121,6 +122,13 @@ have_ids settings t before g z asked st here =
     let opened = ((st.lasts.each g z here).parts of_ids).open_requests in
     subst HaveIds opened (all_of (IsForwarded before) (λ (f : Forwarded). (id : Id) × IsIdText id f.id) (λ f k. (k.id, k.text)) (forwarding_of z.life.start before).open_requests (asked z.life.start))
 
+-- what is found among them is what the events say
+pub called_at : (settings : Settings) (t : Tables) (before : List Event) (g s : ℕ) (z : Start) (e : ℕ) (i : Id) (o : Option ℕ) → AllForwarded before → Stands settings t before → slice_get t.lasts.items g ≡ Some z → slice_get (map number_in t.lasts.items) g ≡ Some s
+    → (HaveIds (map forwarded_of z.ids.requests) → o ≡ number_called e i (map forwarded_of z.ids.requests)) → o ≡ number_called e i (forwarding_of s before).open_requests
+called_at settings t before g s z e i o asked st here at f =
+    let opened = ((st.lasts.each g z here).parts of_ids).open_requests in
+    f (have_ids settings t before g z asked st here) ∙ (ap (number_called e i) (sym opened) ∙ ap (λ n. number_called e i (forwarding_of n before).open_requests) (start_at_place t.lasts.items g s z here at))
+
 -- What the params name
 
 pub names_none : (o : Option Id) → IsTextOf o None → o ≡ None
@@ -156,9 +164,9 @@ module _ (settings : Settings) (before : List Event) (e : ℕ) (body : List ℕ)
       by_home None = alike refl
       by_home (Some g) = by_start (start_of g before)
 
-  -- no start
-  pub startless : start_for settings e before ≡ None → Silent (cancelling_row settings before e body params)
-  startless h = alike (no_start (home_of settings e before) (λ g. start_of g before) nothing (λ g s. cancelling_at before e body params s) h)
+  -- no start, or one that ended
+  pub startless : HasEnded (start_for settings e before) before → Silent (cancelling_row settings before e body params)
+  startless h = ended_start (home_of settings e before) (λ g. start_of g before) nothing (λ g s. cancelling_at before e body params s) (λ g s at. is_second refl (ap is_ready (h s at)))
 
   module _ (g s : ℕ) (stage : Stage) (home : home_of settings e before ≡ Some g) (start : start_of g before ≡ Some s) (at : stage ≡ (life_of s before).stage) where
     there : cancelling_row settings before e body params ≡ cancelling_at before e body params s

@@ -2,7 +2,7 @@
 #![tactic(auto)]
 
 mod answers;
-mod cancels;
+mod cancelled;
 mod doubled;
 mod ends;
 mod evicting;
@@ -25,7 +25,7 @@ mod status;
 mod ticks;
 
 pub use answers::{answered_number, take_answer};
-pub use cancels::{Uncancelled, take_cancel};
+pub use cancelled::{Target, take_cancel};
 pub use doubled::{doubles, take_doubled, take_doubled_own};
 pub use ends::{take_ending, take_left, take_stopping};
 pub use evicting::{evict, replace, stage_at};

@@ -34,9 +34,9 @@ use mux_tables::Tables;
 use rpc_message::Message;
 use std::alloc::Global;
 
-/// A request that is open at the last start of a group, which is ready, and wasn't cancelled.
+/// What a cancel names: a request that is open at the last start of a group, which is ready, and wasn't cancelled.
 #[derive(Clone, Copy, Debug)]
-pub struct Uncancelled {
+pub struct Target {
     /// The place of the group.
     pub group: usize,
     pub number: u32,
@@ -56,7 +56,7 @@ fn uncancelled(ids: &IdTable, e: u64, id: &[u8]) -> Option<u32>
 }
 
 // What a `$/cancelRequest` of an editor names.
-fn named(tables: &Tables, e: u64, message: &Message) -> Option<Uncancelled>
+fn named(tables: &Tables, e: u64, message: &Message) -> Option<Target>
     ensures inside { IfSome result (λ x. x.group < length tables.now.lasts.items) }
     ensures names { (settings : Settings) (before : List Event) (body method : List ℕ) (params : Option Json) → IsRead message.now body
         → message_of body ≡ notification method params → AllForwarded before → Stands settings tables.now before
@@ -64,11 +64,12 @@ fn named(tables: &Tables, e: u64, message: &Message) -> Option<Uncancelled>
 {
     let id = cancelled_id(message)?;
     let group = tables.place(e)?;
-    if !stage_at(tables, group).is_ready() {
-        return None;
+    if stage_at(tables, group).is_ready() {
+        let number = uncancelled(&tables.lasts[group].ids, e, id)?;
+        Some(Target { group, number })
+    } else {
+        None
     }
-    let number = uncancelled(&tables.lasts[group].ids, e, id)?;
-    Some(Uncancelled { group, number })
 }
 
 // The changes that give each `id` of params another text.
@@ -90,7 +91,7 @@ fn id_changes(
 }
 
 // A notification with a number in place of each `id` of its params, and all else as it came.
-fn numbered(alloc: Global, message: &Message, n: u32) -> Result<Body, Memory>
+fn renumbered(alloc: Global, message: &Message, n: u32) -> Result<Body, Memory>
     ensures { (body method : List ℕ) (params : Option Json) → IsRead message.now body → message_of body ≡ notification method params
         → IfOk result (λ text. text ≡ numbered_text n body) }
 {
@@ -101,11 +102,11 @@ fn numbered(alloc: Global, message: &Message, n: u32) -> Result<Body, Memory>
 }
 
 // The cancel goes to the group's last start, under the number of its request.
-fn cancel(
+fn pass_cancel(
     tables: &mut Tables,
     alloc: Global,
     outs: &mut Outs,
-    request: Uncancelled,
+    request: Target,
     message: &Message,
 ) -> Result<(), Memory>
     requires { request.group < length tables.old.lasts.items }
@@ -117,7 +118,7 @@ fn cancel(
         → OnOk result (Does (λ k events. AllStand settings k events) (send (ToServer s (numbered_text request.number body))) base
         (tables.old, nothing_owed) outs.old (tables.new, nothing_owed) outs.new) }
 {
-    let text = numbered(alloc, message, request.number)?;
+    let text = renumbered(alloc, message, request.number)?;
     tables.cancel(outs, request.group, request.number, text)?;
     Ok(())
 }
@@ -146,7 +147,7 @@ pub fn take_cancel(
     match request {
         None => Ok(()),
         Some(request) => {
-            cancel(tables, alloc, outs, request, message)?;
+            pass_cancel(tables, alloc, outs, request, message)?;
             Ok(())
         }
     }
