@@ -7,11 +7,11 @@ use Rattle.rpc_message.specs.Message.{message_of}
 use Rattle.rpc_message.specs.Parsed.{params_in}
 use Rattle.group_rows.specs.Cancelling.{id_puts}
 use Rattle.mux_turns.proofs.Cancelling.{params_puts}
-use Rattle.mux_turns.proofs.cancelled.numbered.Goals as goal
+use Rattle.mux_turns.proofs.cancelled.renumbered.Goals as goal
 
 pub returns : goal.returns
 returns c = λ body method params read says.
     let o = params_in (message_of body) read.tree in
     let found = subst (λ d. Found d o c.params.result) (sym c.tape.ensures) (c.params.ensures.member body read) in
-    let edits = c.in_ok-changes.ensures.edits o found ∙ (ap (λ w. id_puts w o) (c.as_bytes.ensures.value ∙ c.format-text.ensures) ∙ params_puts c.args.message.now body method params read (decimal c.args.n) says) in
+    let edits = c.in_ok-changes.ensures.edits o found ∙ (ap (λ w. id_puts w o) (c.as_bytes.ensures.value ∙ c.format-text.ensures.text) ∙ params_puts c.args.message.now body method params read (decimal c.args.n) says) in
     subst (λ es. IfOk c.with_cuts.result (λ text. text ≡ replace body es)) edits (c.with_cuts.ensures body read)
