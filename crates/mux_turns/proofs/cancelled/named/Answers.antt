@@ -46,8 +46,10 @@ returns-in_ok-number-clause-names c = λ settings before body method params read
     let g = c.in_ok-group.group in
     let n = c.in_ok-number.number in
     let id = names_some (named_id params) c.in_ok-id.id.now (c.in_ok-id.ensures body method params read says) in
-    let here = read_here t.lasts.items g c.index.result.now c.in_ok-group.ensures.inside c.index.ensures in
-    ((id.0, id.1), λ s at.
-    one_open settings before e body params g s c.stage_at.result (c.in_ok-group.ensures.home settings before st) (c.in_ok-group.ensures.start settings before s at st)
-    (stage_there settings t before g s c.stage_at.result st at c.stage_at.ensures) id.0 (Some n) (sym c.is_ready.ensures ∙ c.if-is_ready.true) id.1
-    (called_at settings t before g s c.index.result.now e id.0 (Some n) asked st here at (λ ids. c.in_ok-number.ensures id.0 id.2 ids)) n refl)
+    let here = read_here t.lasts.items g c.index.result.now c.in_ok-group.ensures.inside c.index.ensures in (
+      (id.0, id.1),
+      λ s at.
+          one_open settings before e body params g s c.stage_at.result (c.in_ok-group.ensures.home settings before st) (c.in_ok-group.ensures.start settings before s at st)
+          (stage_there settings t before g s c.stage_at.result st at c.stage_at.ensures) id.0 (Some n) (sym c.is_ready.ensures ∙ c.if-is_ready.true) id.1
+          (called_at settings t before g s c.index.result.now e id.0 (Some n) asked st here at (λ ids. c.in_ok-number.ensures id.0 id.2 ids)) n refl,
+    )
