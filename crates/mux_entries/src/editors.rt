@@ -31,9 +31,9 @@ use mux_history::Outs;
 use mux_members::{class_in, goes_on, is_cancel, is_exit, is_initialize, is_open};
 use mux_tables::Tables;
 use mux_turns::{
-    asks_lspmux, doubles, take_cancel, take_closed, take_doubled, take_doubled_own, take_down, take_early,
-    take_exit, take_gone, take_initialize, take_malformed, take_notice, take_open, take_passed,
-    take_quiet, take_request, take_shutdown, take_status, take_wrong,
+    asks_lspmux, doubles, take_cancel, take_closed, take_doubled, take_doubled_own, take_down,
+    take_early, take_exit, take_gone, take_initialize, take_malformed, take_notice, take_open,
+    take_passed, take_quiet, take_request, take_shutdown, take_status, take_wrong,
 };
 use rpc_message::{Malformed, Message, Sort};
 use std::alloc::Global;

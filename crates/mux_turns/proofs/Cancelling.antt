@@ -177,11 +177,11 @@ module _ (settings : Settings) (before : List Event) (e : ℕ) (body : List ℕ)
     unready_cancel r = is_second there (ap is_ready (sym at) ∙ r)
 
     module _ (id : Id) (o : Option ℕ) (r : is_ready stage ≡ true) (named : named_id params ≡ Some id) (is : o ≡ number_called e id (forwarding_of s before).open_requests) where
-      number : number_named e params (forwarding_of s before).open_requests ≡ o
-      number = ap (λ z. option_and_then (λ i. number_called e i (forwarding_of s before).open_requests) z) named ∙ sym is
+      number_here : number_named e params (forwarding_of s before).open_requests ≡ o
+      number_here = ap (λ z. option_and_then (λ i. number_called e i (forwarding_of s before).open_requests) z) named ∙ sym is
 
       row_is : Alike (cancelling_row settings before e body params) (named_row s o)
-      row_is = alike_then (is_first there (ap is_ready (sym at) ∙ r)) (alike (ap (named_row s) number))
+      row_is = alike_then (is_first there (ap is_ready (sym at) ∙ r)) (alike (ap (named_row s) number_here))
 
       pub none_open : o ≡ None → Silent (cancelling_row settings before e body params)
       none_open none = alike_then row_is (alike (ap (named_row s) none))

@@ -1,5 +1,5 @@
 //! E11: an editor cancels a request of its own.
-ghost use Rattle.std.specs.Prelude.{◌≡◌, ◌<◌, ℕ, List, [], Option, Some, codes, length, map, IfOk, IfSome, MatchOption, OnOk, slice_get};
+ghost use Rattle.std.specs.Prelude.{◌≡◌, ◌<◌, ℕ, List, [], Option, Some, true, codes, length, map, IfOk, IfSome, MatchOption, OnOk, slice_get};
 ghost use Rattle.event_model.specs.Does.{Does, Done};
 ghost use Rattle.event_model.specs.Event.{Event, with_cause};
 ghost use Rattle.event_model.specs.Phases.{desk_of, is_served};
@@ -106,20 +106,21 @@ fn pass_cancel(
     tables: &mut Tables,
     alloc: Global,
     outs: &mut Outs,
-    request: Target,
+    g: usize,
+    n: u32,
     message: &Message,
 ) -> Result<(), Memory>
-    requires { request.group < length tables.old.lasts.items }
+    requires { g < length tables.old.lasts.items }
     ensures requests { tables.new.requests ≡ tables.old.requests }
     ensures versions { tables.new.versions ≡ tables.old.versions }
     ensures does { (settings : Settings) (base : List Event) (body : List ℕ) (params : Option Json) (id : Id) (s : ℕ) → IsRead message.now body
         → message_of body ≡ notification (codes "$/cancelRequest") params → named_id params ≡ Some id
-        → slice_get (map number_in tables.old.lasts.items) request.group ≡ Some s
-        → OnOk result (Does (λ k events. AllStand settings k events) (send (ToServer s (numbered_text request.number body))) base
+        → slice_get (map number_in tables.old.lasts.items) g ≡ Some s
+        → OnOk result (Does (λ k events. AllStand settings k events) (send (ToServer s (numbered_text n body))) base
         (tables.old, nothing_owed) outs.old (tables.new, nothing_owed) outs.new) }
 {
-    let text = renumbered(alloc, message, request.number)?;
-    tables.cancel(outs, request.group, request.number, text)?;
+    let text = renumbered(alloc, message, n)?;
+    tables.cancel(outs, g, n, text)?;
     Ok(())
 }
 
@@ -147,7 +148,7 @@ pub fn take_cancel(
     match request {
         None => Ok(()),
         Some(request) => {
-            pass_cancel(tables, alloc, outs, request, message)?;
+            pass_cancel(tables, alloc, outs, request.group, request.number, message)?;
             Ok(())
         }
     }

@@ -23,7 +23,7 @@ returns-in-None-clause-does c = λ settings before body params read says served 
     let e = c.args.e in
     let base = with_cause before (FromEditor e body) in
     let u = c.hear_editor.new.self in
-    let silent = subst (λ o. Names settings before e body params (map number_in c.args.tables.now.lasts.items) o) c.in-None.is (c.named.ensures.names settings before body (codes "$/cancelRequest") params read says known.asked st) in
+    let silent = subst (λ o. Names settings before e body params (map number_in c.args.tables.now.lasts.items) o) c.in-None.is (c.named-request.ensures.names settings before body (codes "$/cancelRequest") params read says known.asked st) in
     let heard = c.hear_editor.ensures.stands settings before body st (unplaced (desk_of e before).phase (message_of body) served) (notice_stops before e (message_of body) (codes "$/cancelRequest") params says)
     (old_unopened settings.servers before e (message_of body) (not_new (desk_of e before).phase served))
     (stands_so before e body (notification (codes "$/cancelRequest") params) Running says (λ q i h. notice_runs (codes "$/cancelRequest") params refl body q i h) served) in
@@ -37,7 +37,7 @@ returns-in_ok-pass_cancel-in-Some-clause-does c = λ settings before body params
     let base = with_cause before (FromEditor e body) in
     let u = c.hear_editor.new.self in
     let x = c.in-Some.request in
-    let names = subst (λ o. Names settings before e body params (map number_in c.args.tables.now.lasts.items) o) c.in-Some.is (c.named.ensures.names settings before body (codes "$/cancelRequest") params read says known.asked st) in
+    let names = subst (λ o. Names settings before e body params (map number_in c.args.tables.now.lasts.items) o) c.in-Some.is (c.named-request.ensures.names settings before body (codes "$/cancelRequest") params read says known.asked st) in
     let s = start_there c.args.tables.now.lasts.items x.group c.in-Some.ensures.inside in
     let heard = c.hear_editor.ensures.stands settings before body st (unplaced (desk_of e before).phase (message_of body) served) (notice_stops before e (message_of body) (codes "$/cancelRequest") params says)
     (old_unopened settings.servers before e (message_of body) (not_new (desk_of e before).phase served))
