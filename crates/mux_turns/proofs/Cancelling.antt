@@ -43,7 +43,7 @@ use Rattle.id_rewrite.proofs.Finding.{texts_same}
 use Rattle.mux_tables.specs.declared.tables.Start.{Start}
 use Rattle.mux_tables.specs.declared.tables.Tables.{Tables}
 use Rattle.mux_tables.specs.Documents.{AllStand, DocumentsStand, changes_documents, nothing_owed}
-use Rattle.mux_tables.specs.Stands.{Stands, forwarded_of, number_in, of_ids, start_for}
+use Rattle.mux_tables.specs.Stands.{HasEnded, Stands, forwarded_of, number_in, of_ids, start_for}
 use Rattle.mux_tables.proofs.DocumentOwed.{all_does}
 use Rattle.mux_tables.proofs.Starts.{start_at_place}
 use Rattle.mux_turns.specs.Cancels.{HaveIds}
