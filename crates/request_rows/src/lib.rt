@@ -4,6 +4,6 @@
 #[cfg(test)]
 mod asks;
 #[cfg(test)]
-mod registrations;
+mod live;
 #[cfg(test)]
 mod requests;
