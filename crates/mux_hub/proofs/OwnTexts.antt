@@ -51,7 +51,7 @@ module _ (settings : Settings) (t : Tables) (before : List Event) (st : Stands s
   -- the last start of a group, where it is ready
   last_of : (g s : ℕ) → start_of g before ≡ Some s → is_ready (life_of s before).stage ≡ true → (k : KeptAt g t.lasts.items) × (k.last.life.start ≡ s)
   last_of g s is ready =
-      let k = kept_start settings t before g st s is (λ e. never (sym (ap is_ready e) ∙ ready)) in
+      let k = kept_start settings t before g st s is (λ e. never (sym ready ∙ ap is_ready e)) in
       (k, same_item (sym (st.lasts.each k.place k.last k.at).start ∙ (ap (λ n. start_of n before) k.group ∙ is)))
 
   -- the documents of a group whose last start is ready
