@@ -8,3 +8,5 @@ pub mod Texts
 pub mod Leaves
 pub mod Status
 pub mod Ticks
+pub mod AskRows
+pub mod Asks
