@@ -27,7 +27,9 @@ use Rattle.group_words.specs.Houses.{Meant, declared_for, emptied, groups_of, ho
 use Rattle.group_words.proofs.Frames.{groups_more, home_more}
 use Rattle.mux_tables.specs.declared.tables.Tables.{Tables}
 use Rattle.mux_tables.specs.Names.{NameStands, id_in}
-use Rattle.mux_tables.specs.Stands.{EditorsStand, GroupsStand, Stands, ends, phase_in, group_in, meant_in, stays_in}
+use Rattle.mux_tables.specs.Stands.{AnswersNone, EditorsStand, GroupsStand, Stands, ends, is_answer, phase_in, group_in, meant_in, stays_in}
+use Rattle.group_rows.specs.Asks.{asks_of}
+use Rattle.mux_tables.proofs.Asks.{answers_none, none_answered}
 use Rattle.mux_tables.proofs.Ends.{tick_heard}
 use Rattle.mux_tables.proofs.Exits.{stop_groups}
 use Rattle.mux_tables.proofs.Frames.{desk_apart, itself, groups_stand, meant_apart}
@@ -89,7 +91,7 @@ joined_editors settings t u events e last is s = record {
 
 pub joined_moves : (settings : Settings) (t u : Tables) (events : List Event) (e : ℕ) → e ≡ length t.editors → u.editors ≡ t.editors ++ joined ∷ [] → u.groups ≡ t.groups → u.time ≡ t.time → u.lasts ≡ t.lasts → u.origins ≡ t.origins → u.requests ≡ t.requests
     → Stands settings t events → Stands settings u (events ++ took (Joined e) not_message ∷ [])
-joined_moves settings t u events e last is gs now ls os r s = house_moves settings t u events (took (Joined e) not_message) (λ n. refl) refl (ap (λ v. v.items) ls) os r (λ h. record {
+joined_moves settings t u events e last is gs now ls os r s = house_moves settings t u events (took (Joined e) not_message) (λ n. refl) (λ n. refl) refl (ap (λ v. v.items) ls) os r (λ h. record {
   editors = joined_editors settings t.editors u.editors events e last is h.editors;
   groups = subst (λ g. GroupsStand settings g (events ++ took (Joined e) not_message ∷ [])) (sym gs) (groups_stand settings t.groups events (took (Joined e) not_message) refl h.groups);
   now = one_more time_behind _ _ events (took (Joined e) not_message) h.now ∙ sym now;
@@ -136,7 +138,7 @@ module _ (settings : Settings) (t u : Tables) (events : List Event) (e : ℕ) (b
     (now : u.time ≡ t.time) (ls : u.lasts ≡ t.lasts) (os : u.origins ≡ t.origins) (r : u.requests ≡ t.requests)
     (stays : places (desk_of e events).phase (message_of body) ≡ false) (step : (desk_of e (events ++ heard (FromEditor e body) ∷ [])).phase ≡ y.phase)
     (group : y.group ≡ (session_of t.editors e).group) (id : y.id ≡ (session_of t.editors e).id)
-    (means : (desk_of e (events ++ heard (FromEditor e body) ∷ [])).phase ≡ New → meant_in (Some y) ≡ meant_of settings.servers e (events ++ heard (FromEditor e body) ∷ [])) where
+    (means : (desk_of e (events ++ heard (FromEditor e body) ∷ [])).phase ≡ New → meant_in (Some y) ≡ meant_of settings.servers e (events ++ heard (FromEditor e body) ∷ [])) (silent : AnswersNone e (message_of body) events) where
   abbrev ev : Event
   ev = took (FromEditor e body) (message_of body)
 
@@ -174,7 +176,7 @@ module _ (settings : Settings) (t u : Tables) (events : List Event) (e : ℕ) (b
           (meant_apart settings.servers e n body (message_of body) events (ne_eqb e n (λ q. h (sym q)))) (s.meant n) w
 
   all_heard : (GroupsStand settings t.groups events → GroupsStand settings u.groups (events ++ ev ∷ [])) → Stands settings t events → Stands settings u (events ++ ev ∷ [])
-  all_heard go = house_moves settings t u events ev (λ n. refl) refl (ap (λ v. v.items) ls) os r (λ h. record {
+  all_heard go = house_moves settings t u events ev (λ n. refl) (λ n. none_answered e n (message_of body) events (silent n)) refl (ap (λ v. v.items) ls) os r (λ h. record {
     editors = heard_editors h.editors;
     groups = go h.groups;
     now = one_more time_behind _ _ events ev h.now ∙ sym now;
@@ -187,6 +189,14 @@ module _ (settings : Settings) (t u : Tables) (events : List Event) (e : ℕ) (b
   stopped_moves : (ns : List ℕ) → ns ≡ all_from 0 is_live t.groups.groups → u.groups ≡ with_groups (ends ns t.groups.groups) t.groups → stops events e (message_of body) ≡ true → Stands settings t events → Stands settings u (events ++ ev ∷ [])
   stopped_moves ns all gs stop = all_heard (λ h. stop_groups settings events e body (message_of body) t.groups u.groups stays stop (ap (λ (w : Table). w.limit) gs) (ap (λ (w : Table). w.idle) gs) (ap (λ (w : Table). w.groups) gs ∙ ap (λ ms. ends ms t.groups.groups) all) h)
 
+-- a request answers nothing
+pub asks_silent : (name : List ℕ) (m : Message) → requests name m ≡ true → is_answer m ≡ false
+asks_silent name (request id method params) h = refl
+asks_silent name rest h = never (sym h)
+
+pub stop_silent : (events : List Event) (e : ℕ) (m : Message) → stops events e m ≡ true → AnswersNone e m events
+stop_silent events e m h = answers_none e m events (asks_silent (codes "lspmux/stop") m (and_parts (requests (codes "lspmux/stop") m) _ h).0)
+
 -- one that stops all is no `lspmux/open`
 stops_asks : (events : List Event) (e : ℕ) (servers : List Server) (m : Message) → stops events e m ≡ true → is_first_open servers events e m ≡ false
 stops_asks events e servers m h = ap (λ b. is_new (desk_of e events).phase && (b && not (meant_of servers e events).opened)) (unnamed m (and_parts (requests (codes "lspmux/stop") m) _ h).0) ∙ and_off (is_new (desk_of e events).phase)
@@ -198,17 +208,17 @@ stops_asks events e servers m h = ap (λ b. is_new (desk_of e events).phase && (
 -- the same, as the code sets the phase
 module _ (settings : Settings) (t u : Tables) (events : List Event) (e : ℕ) (body : List ℕ) (p : Phase) (l : e < length t.editors) (set : u.editors ≡ with_session t.editors e (phased t.editors e p))
     (now : u.time ≡ t.time) (ls : u.lasts ≡ t.lasts) (os : u.origins ≡ t.origins) (r : u.requests ≡ t.requests)
-    (stays : places (desk_of e events).phase (message_of body) ≡ false) (step : (desk_of e (events ++ heard (FromEditor e body) ∷ [])).phase ≡ p) where
+    (stays : places (desk_of e events).phase (message_of body) ≡ false) (step : (desk_of e (events ++ heard (FromEditor e body) ∷ [])).phase ≡ p) (silent : AnswersNone e (message_of body) events) where
   abbrev put : Session
   put = record (session_of t.editors e) { phase = p }
 
   pub set_moves : u.groups ≡ t.groups → stops events e (message_of body) ≡ false → is_first_open settings.servers events e (message_of body) ≡ false → Stands settings t events → Stands settings u (events ++ heard (FromEditor e body) ∷ [])
   set_moves gs goes off s = heard_moves settings t u events e body put l (set ∙ heard_plain settings t.editors events e p l s.house.editors body step) now ls os r stays step refl refl
-      (meant_kept settings t.editors events e body l p stays off s.house.editors) gs goes s
+      (meant_kept settings t.editors events e body l p stays off s.house.editors) silent gs goes s
 
   pub stop_moves : (ns : List ℕ) → ns ≡ all_from 0 is_live t.groups.groups → u.groups ≡ with_groups (ends ns t.groups.groups) t.groups → stops events e (message_of body) ≡ true → Stands settings t events → Stands settings u (events ++ heard (FromEditor e body) ∷ [])
   stop_moves ns all gs stop s = stopped_moves settings t u events e body put l (set ∙ heard_plain settings t.editors events e p l s.house.editors body step) now ls os r stays step refl refl
-      (meant_kept settings t.editors events e body l p stays (stops_asks events e settings.servers (message_of body) stop) s.house.editors) ns all gs stop s
+      (meant_kept settings t.editors events e body l p stays (stops_asks events e settings.servers (message_of body) stop) s.house.editors) silent ns all gs stop s
 
 -- E4: the first `lspmux/open` of a new editor
 module _ (settings : Settings) (t u : Tables) (events : List Event) (e : ℕ) (body : List ℕ) (o : Option ℕ) (l : e < length t.editors) (set : u.editors ≡ with_session t.editors e (unless_gone (meaning o) (session_of t.editors e)))
@@ -250,7 +260,7 @@ module _ (settings : Settings) (t u : Tables) (events : List Event) (e : ℕ) (b
       (set ∙ ap (λ p. with_session t.editors e (if is_gone p then seen else record seen { opened = true; server = o })) (stands_new s.house.editors)) now ls os r
       (ap (λ b. is_new (desk_of e events).phase && b) (no_first (message_of body) asks) ∙ and_off (is_new (desk_of e events).phase))
       (now_new ∙ sym (stands_new s.house.editors))
-      refl refl (λ w. meant_first settings t.editors events e body l o is first)
+      refl refl (λ w. meant_first settings t.editors events e body l o is first) (answers_none e (message_of body) events (asks_silent (codes "lspmux/open") (message_of body) asks))
       gs (ap (λ b. b && (is_there (desk_of e events).phase && not (is_doubled events e (message_of body)))) (no_stop (message_of body) asks)) s
 
 -- X6: no table speaks of bytes that were written
@@ -264,7 +274,7 @@ pub gone_heard : (settings : Settings) (t u : Tables) (events : List Event) (e :
     → u.groups ≡ with_groups (emptied home was (stays_in mid) t.time t.groups.groups) t.groups
     → Stands settings t events → Stands settings u (events ++ took (EditorGone e why) not_message ∷ [])
 gone_heard settings t u events e why mid p home was l phases homes begun set es now ls os r gs =
-    house_moves settings t u events (took (EditorGone e why) not_message) (λ n. refl) refl (ap (λ v. v.items) ls) os r
+    house_moves settings t u events (took (EditorGone e why) not_message) (λ n. refl) (λ n. refl) refl (ap (λ v. v.items) ls) os r
     (gone_by settings events e why not_message t u mid p home was l phases homes begun set es now gs)
 
 -- E7
@@ -274,10 +284,10 @@ pub initialized_moves : (settings : Settings) (before : List Event) (e : ℕ) (b
     → (p ≡ placed_for settings before e body (groups_of settings before)) × Stands settings u (before ++ took (FromEditor e body) (message_of body) ∷ [])
 initialized_moves settings before e body t u mid x p key given id first at new own k d chosen placed busy sits now ls os r s =
     let h = initialize_heard settings before e body (message_of body) t u mid x p key given id first at new own k d chosen placed busy sits now s.house in
-    (h.0, house_moves settings t u before (took (FromEditor e body) (message_of body)) (λ n. refl) refl (ap (λ v. v.items) ls) os r (λ _. h.1) s)
+    (h.0, house_moves settings t u before (took (FromEditor e body) (message_of body)) (λ n. refl) (λ n. none_answered e n (message_of body) before (answers_none e (message_of body) before (asks_silent (codes "initialize") (message_of body) first) n)) refl (ap (λ v. v.items) ls) os r (λ _. h.1) s)
 
 -- X7
 pub ticked_moves : (settings : Settings) (t u : Tables) (events : List Event) (now later : ℕ) (ns : List ℕ) → later ≡ max t.time now → u.editors ≡ t.editors → u.time ≡ later → ns ≡ all_from 0 (is_due t.groups.idle later) t.groups.groups
     → u.groups ≡ with_groups (ends ns t.groups.groups) t.groups → u.lasts ≡ t.lasts → u.origins ≡ t.origins → u.requests ≡ t.requests → Stands settings t events → Stands settings u (events ++ took (Tick now) not_message ∷ [])
 ticked_moves settings t u events now later ns l es k n gs ls os r =
-    house_moves settings t u events (took (Tick now) not_message) (λ n. refl) refl (ap (λ v. v.items) ls) os r (tick_heard settings events now later not_message t u ns l es k n gs)
+    house_moves settings t u events (took (Tick now) not_message) (λ n. refl) (λ n. refl) refl (ap (λ v. v.items) ls) os r (tick_heard settings events now later not_message t u ns l es k n gs)

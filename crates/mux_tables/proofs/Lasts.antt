@@ -11,8 +11,9 @@ use Rattle.event_model.specs.Stages.{Life, life_behind, life_of}
 use Rattle.event_model.proofs.Frames.{one_more}
 use Rattle.event_model.proofs.Places.{each_set, each_kept, Same, same, other, compare}
 use Rattle.mux_tables.specs.declared.tables.Start.{Start}
-use Rattle.mux_tables.specs.Stands.{blank, OriginsStand, LastStands, LastsStand}
-use Rattle.mux_tables.proofs.Frames.{names_start, spawns, starts_alone, start_alone, group_alone, life_alone, last_stands, part_apart}
+use Rattle.group_rows.specs.Asks.{asking_of}
+use Rattle.mux_tables.specs.Stands.{AsksStay, blank, OriginsStand, LastStands, LastsStand}
+use Rattle.mux_tables.proofs.Frames.{asks_alone, names_editor, names_start, spawns, starts_alone, start_alone, group_alone, life_alone, last_stands, part_apart}
 
 pub same_place : {i j : ℕ} → ◌≡◌ {A = Option ℕ} (Some i) (Some j) → i ≡ j
 same_place e = cc
@@ -40,28 +41,31 @@ group_before : (events : List Event) (ev : Event) (s g : ℕ) → spawns ev ≡ 
 group_before events ev s g k e = sym (one_more (group_behind s) _ _ events ev refl ∙ group_alone s _ ev k) ∙ e
 
 -- the event names no start
-pub lasts_stand : (limit : ℕ) (lasts : List Start) (events : List Event) (ev : Event) → ((n : ℕ) → names_start n ev ≡ false) → spawns ev ≡ false → LastsStand limit lasts events → LastsStand limit lasts (events ++ ev ∷ [])
-lasts_stand limit lasts events ev h k s = record {
+pub lasts_stand : (limit : ℕ) (lasts : List Start) (events : List Event) (ev : Event) → ((n : ℕ) → names_start n ev ≡ false) → ((n : ℕ) → AsksStay n events ev) → spawns ev ≡ false → LastsStand limit lasts events → LastsStand limit lasts (events ++ ev ∷ [])
+lasts_stand limit lasts events ev h a k s = record {
   none = λ g l. one_more (start_behind g) _ _ events ev (s.none g l) ∙ start_alone g _ ev k;
-  each = each_kept (LastStands limit events) (LastStands limit (events ++ ev ∷ [])) lasts s.each (λ j z r. last_stands limit events ev j z (h z.life.start) (λ o. start_alone j o ev k) r);
-  fresh = λ n l p. part_apart p limit (blank limit n) events ev (h n) (s.fresh n (subst (λ m. m ≤ n) (one_more starts_behind _ _ events ev refl ∙ starts_alone _ ev k) l) p);
+  each = each_kept (LastStands limit events) (LastStands limit (events ++ ev ∷ [])) lasts s.each (λ j z r. last_stands limit events ev j z (h z.life.start) (a z.life.start) (λ o. start_alone j o ev k) r);
+  fresh = λ n l p. part_apart p limit (blank limit n) events ev (h n) (a n) (s.fresh n (subst (λ m. m ≤ n) (one_more starts_behind _ _ events ev refl ∙ starts_alone _ ev k) l) p);
   old = λ n g e. last_stays events ev n g k (h n) (s.old n g (group_before events ev n g k e));
 }
 
 -- the event names the last start of one group alone, which goes from x to y
-pub one_last : (limit : ℕ) (origins : List ℕ) (lasts after : List Start) (events : List Event) (ev : Event) (i : ℕ) (x y : Start) → ((n : ℕ) → names_start n ev ≡ nat_eq x.life.start n) → spawns ev ≡ false
+pub one_last : (limit : ℕ) (origins : List ℕ) (lasts after : List Start) (events : List Event) (ev : Event) (i : ℕ) (x y : Start) → ((n : ℕ) → names_start n ev ≡ nat_eq x.life.start n) → names_editor ev ≡ false → spawns ev ≡ false
     → slice_get lasts i ≡ Some x → after ≡ slice_set lasts i y → OriginsStand origins events → (LastStands limit events i x → LastStands limit (events ++ ev ∷ []) i y) → LastsStand limit lasts events → LastsStand limit after (events ++ ev ∷ [])
-one_last limit origins lasts after events ev i x y h k at e st go s =
+one_last limit origins lasts after events ev i x y h w k at e st go s =
     let same : length after ≡ length lasts = ap length e ∙ length-set lasts i y in
     record {
       none = λ g l. one_more (start_behind g) _ _ events ev (s.none g (subst (λ m. m ≤ g) same l)) ∙ start_alone g _ ev k;
       each = each_set (LastStands limit events) (LastStands limit (events ++ ev ∷ [])) lasts after i x y at e s.each go
-          (λ j z d r q. last_stands limit events ev j z (h z.life.start ∙ apart limit events i j x z d r q) (λ o. start_alone j o ev k) q);
+          (λ j z d r q.
+          let other = h z.life.start ∙ apart limit events i j x z d r q in
+          last_stands limit events ev j z other (asks_alone z.life.start events (asking_of z.life.start events) ev w other) (λ o. start_alone j o ev k) q);
       fresh = λ n l p.
           let older : starts_of events ≤ n = subst (λ m. m ≤ n) (one_more starts_behind _ _ events ev refl ∙ starts_alone _ ev k) l in
           let k = known limit origins events i x st (s.each i x at) in
-          part_apart p limit (blank limit n) events ev (h n ∙ ne_eqb x.life.start n (λ q. absurd (omega arith))) (s.fresh n older p);
-      old = λ n g w. older n g (compare x.life.start n) (s.each i x at) (s.old n g (group_before events ev n g k w)) (group_before events ev n g k w);
+          let other = h n ∙ ne_eqb x.life.start n (λ q. absurd (omega arith)) in
+          part_apart p limit (blank limit n) events ev other (asks_alone n events (asking_of n events) ev w other) (s.fresh n older p);
+      old = λ n g q. older n g (compare x.life.start n) (s.each i x at) (s.old n g (group_before events ev n g k q)) (group_before events ev n g k q);
     }
   where
     older : (n g : ℕ) → Same x.life.start n → LastStands limit events i x → Last events n g → group_of n events ≡ Some g → Last (events ++ ev ∷ []) n g

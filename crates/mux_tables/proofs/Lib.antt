@@ -1,3 +1,4 @@
+pub mod Asks
 pub mod Awaited
 pub mod Begins
 pub mod Frames

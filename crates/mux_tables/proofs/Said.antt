@@ -22,8 +22,8 @@ use Rattle.group_table.specs.Tables.{with_groups}
 use Rattle.group_words.specs.Houses.{emptied, meant_behind, time_behind}
 use Rattle.group_words.proofs.Frames.{home_stays}
 use Rattle.mux_tables.specs.declared.tables.Tables.{Tables}
-use Rattle.mux_tables.specs.Stands.{EditorsStand, GroupsStand, HouseStands, Keeps, Stands, phase_in, group_in, stays_in}
-use Rattle.mux_tables.proofs.Frames.{groups_stand}
+use Rattle.mux_tables.specs.Stands.{AsksStay, EditorsStand, GroupsStand, HouseStands, Keeps, Stands, is_request, of_asks, phase_in, group_in, stays_in}
+use Rattle.mux_tables.proofs.Frames.{asks_stay, groups_stand, touches}
 use Rattle.mux_tables.proofs.Leaves.{closed_by}
 use Rattle.mux_tables.proofs.Moves.{house_moves}
 use Rattle.mux_tables.proofs.Named.{Goes, goes_so, goes_then, goes_told, meant_by, named_by}
@@ -68,7 +68,7 @@ module _ (settings : Settings) (events : List Event) (e : ℕ) (body : List ℕ)
   }
     where
       at : (n : ℕ) → Same e n → (desk_of n (events ++ ev ∷ [])).phase ≡ phase_in (slice_get t n)
-      at _ same = k ∙ s.phase e
+      at _ same = k.0 ∙ s.phase e
       at n (other h) = ap (λ (d : Desk). d.phase) (one_more (desk_behind n) _ _ events ev refl ∙ untold n (desk_of n events) (ne_eqb e n (λ q. h (sym q)))) ∙ s.phase n
 
   moved_editors : (t : List Session) (p : Phase) → e < length t → (desk_of e (events ++ ev ∷ [])).phase ≡ p → EditorsStand settings t events → EditorsStand settings (with_session t e (record (session_of t e) { phase = p })) (events ++ ev ∷ [])
@@ -96,12 +96,12 @@ module _ (settings : Settings) (events : List Event) (e : ℕ) (body : List ℕ)
 
 pub told_does : (settings : Settings) (t : Tables) (xs ys : List Out) (base : List Event) (e : ℕ) (body : List ℕ) → Keeps e body (behind base xs) → ys ≡ xs ++ ToEditor e body ∷ [] → Does (λ t events. Stands settings t events) (send (ToEditor e body)) base t xs t ys
 told_does settings t xs ys base e body k is = does_send settings (ToEditor e body) base t t xs ys is
-    (house_moves settings t t (behind base xs) (said (ToEditor e body)) (λ n. refl) refl refl refl refl (λ h. told_house settings (behind base xs) e body t t (kept_editors settings (behind base xs) e body t.editors k h.editors) refl refl h))
+    (house_moves settings t t (behind base xs) (said (ToEditor e body)) (λ n. refl) (λ n. asks_stay n (behind base xs) (said (ToEditor e body)) k.1) refl refl refl refl (λ h. told_house settings (behind base xs) e body t t (kept_editors settings (behind base xs) e body t.editors k h.editors) refl refl h))
 
-pub welcome_does : (settings : Settings) (t u : Tables) (xs ys : List Out) (base : List Event) (e : ℕ) (body : List ℕ) (p : Phase) → e < length t.editors → (desk_of e (behind base xs ++ said (ToEditor e body) ∷ [])).phase ≡ p → u.editors ≡ with_session t.editors e (phased t.editors e p)
+pub welcome_does : (settings : Settings) (t u : Tables) (xs ys : List Out) (base : List Event) (e : ℕ) (body : List ℕ) (p : Phase) → e < length t.editors → (desk_of e (behind base xs ++ said (ToEditor e body) ∷ [])).phase ≡ p → is_request (message_of body) ≡ false → u.editors ≡ with_session t.editors e (phased t.editors e p)
     → u.groups ≡ t.groups → u.time ≡ t.time → u.lasts ≡ t.lasts → u.origins ≡ t.origins → u.requests ≡ t.requests → ys ≡ xs ++ ToEditor e body ∷ [] → Does (λ t events. Stands settings t events) (send (ToEditor e body)) base t xs u ys
-welcome_does settings t u xs ys base e body p l k es gs now ls os r is = does_send settings (ToEditor e body) base t u xs ys is
-    (house_moves settings t u (behind base xs) (said (ToEditor e body)) (λ n. refl) refl (ap (λ v. v.items) ls) os r
+welcome_does settings t u xs ys base e body p l k q es gs now ls os r is = does_send settings (ToEditor e body) base t u xs ys is
+    (house_moves settings t u (behind base xs) (said (ToEditor e body)) (λ n. refl) (λ n. asks_stay n (behind base xs) (said (ToEditor e body)) q) refl (ap (λ v. v.items) ls) os r
     (λ h. told_house settings (behind base xs) e body t u (subst (λ z. EditorsStand settings z (behind base xs ++ said (ToEditor e body) ∷ [])) (sym (es ∙ told_plain settings t.editors (behind base xs) e p l h.editors body k)) (moved_editors settings (behind base xs) e body t.editors p l k h.editors)) gs now h))
 
 pub close_does : (settings : Settings) (t u : Tables) (xs ys : List Out) (base : List Event) (e : ℕ) (mid : List Session) (before p : Phase) (home : Option ℕ) (was : Bool) → e < length t.editors
@@ -109,5 +109,5 @@ pub close_does : (settings : Settings) (t u : Tables) (xs ys : List Out) (base :
     → mid ≡ with_session t.editors e (phased t.editors e p) → u.editors ≡ mid → u.time ≡ t.time → u.lasts ≡ t.lasts → u.origins ≡ t.origins → u.requests ≡ t.requests
     → u.groups ≡ with_groups (emptied home was (stays_in mid) t.time t.groups.groups) t.groups → ys ≡ xs ++ CloseEditor e ∷ [] → Does (λ t events. Stands settings t events) (send (CloseEditor e)) base t xs u ys
 close_does settings t u xs ys base e mid before p home was l phases homes closes begun set es now ls os r gs is = does_send settings (CloseEditor e) base t u xs ys is
-    (house_moves settings t u (behind base xs) (said (CloseEditor e)) (λ n. refl) refl (ap (λ v. v.items) ls) os r
+    (house_moves settings t u (behind base xs) (said (CloseEditor e)) (λ n. refl) (λ n. refl) refl (ap (λ v. v.items) ls) os r
     (closed_by settings (behind base xs) e not_message t u mid before p home was l phases homes closes begun (set ∙ plain t.editors e p (ap is_gone closes ∙ (closed_gone before ∙ ap is_gone phases))) es now gs))

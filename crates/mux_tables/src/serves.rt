@@ -24,6 +24,7 @@ use crate::requests::{answer, forget};
 use crate::seats::lose;
 use crate::stops::end_stop;
 use crate::tables::Tables;
+use ask_route::Asks;
 use event_model::Stage;
 use id_rewrite::{IdTable, Pending};
 use message_body::{Body, Memory};
@@ -146,10 +147,13 @@ impl Tables {
         let wanted = self.needs_server(g as u64)?;
         lose(&mut self.groups, g as u64, wanted, restarts);
         unready(&mut self.documents, g);
+        let ids = IdTable::new(alloc, self.requests);
+        let asks = Asks::new(alloc);
         let last = &mut self.lasts[g];
         last.life.over();
         last.shown = None;
-        last.ids = IdTable::new(alloc, self.requests);
+        last.ids = ids;
+        last.asks = asks;
         end_stop(&mut self.origins.stopping, last.life.start());
         Ok(())
     }
@@ -210,10 +214,13 @@ impl Tables {
             → DocumentsStand settings owed self.new (events ++ heard (StartFailed s) ∷ []) }
     {
         unready(&mut self.documents, g);
+        let ids = IdTable::new(alloc, self.requests);
+        let asks = Asks::new(alloc);
         let last = &mut self.lasts[g];
         last.life.over();
         last.shown = None;
-        last.ids = IdTable::new(alloc, self.requests);
+        last.ids = ids;
+        last.asks = asks;
         end_stop(&mut self.origins.stopping, last.life.start());
     }
 
