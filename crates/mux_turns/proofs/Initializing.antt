@@ -257,7 +257,7 @@ turned settings t u before base e body method id params xs ys zs owed says off a
       let last = (does_then answers closes).done k.0 in
       let answer = error_text (id_bytes body) request_failed in
       let keeps = keeps_error e answer (behind base xs) (Some id) (error_tree request_failed) (refused_says answer body (id_bytes body) method id params request_failed refl refl says) in
-      let phase : (desk_of e (behind base ys)).phase ≡ (desk_of e (behind base xs)).phase = ap (λ es. (desk_of e es).phase) (ap (behind base) first.outs ∙ behind_more base xs (ToEditor e answer ∷ [])) ∙ keeps in
+      let phase : (desk_of e (behind base ys)).phase ≡ (desk_of e (behind base xs)).phase = ap (λ es. (desk_of e es).phase) (ap (behind base) first.outs ∙ behind_more base xs (ToEditor e answer ∷ [])) ∙ keeps.0 in
       let ds = stay k.1 in
       record { outs = last.outs; stands = (last.stands, unserved_leaves settings t u (behind base ys) (behind base zs) e owed first.stands ds (ap is_served phase ∙ off) (leaves first.stands ds)) };
 }
