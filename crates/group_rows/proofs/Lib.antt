@@ -9,3 +9,4 @@ pub mod WorkedAnswers
 pub mod Statuses
 pub mod Stops
 pub mod Versions
+pub mod WorkedAsks

@@ -21,7 +21,7 @@ use Rattle.event_model.specs.Spawns.{group_of, start_of}
 use Rattle.event_model.specs.Stages.{life_of, is_ready}
 use Rattle.group_words.specs.Houses.{editors_in, groups_of, home_of}
 use Rattle.group_words.specs.Rows.{folders_text}
-use Rattle.group_rows.specs.Asks.{Ask, asks_of, is_seated, is_under, next_ask}
+use Rattle.group_rows.specs.Asks.{Ask, asks_of, has_number, is_seated, is_under, next_ask}
 use Rattle.group_rows.specs.Forwarded.{Forwarded, forwarding_of}
 use Rattle.group_rows.specs.Leaves.{cancel_text}
 
@@ -29,9 +29,9 @@ use Rattle.group_rows.specs.Leaves.{cancel_text}
 abbrev pub running_in : Settings → ℕ → List Event → List ℕ
 running_in settings g events = editors_in is_running g (λ e. home_of settings e events) events
 
--- the editor is asked what the start asks, under the editor's next number
+-- the editor is asked what the start asks, under the editor's next number, while one is left
 abbrev pub ask : List ℕ → ℕ → Row
-ask body e = look (λ events. send (ToEditor e (with_id_text body (decimal (next_ask e events)))))
+ask body e = look (λ events. choose (has_number e events) (send (ToEditor e (with_id_text body (decimal (next_ask e events))))) nothing)
 
 -- S9: the start is answered at once, and each editor that runs is asked (LSP 3.17, the refresh requests of Language Features)
 abbrev pub refresh_row : Settings → List Event → ℕ → ℕ → List ℕ → Row

@@ -1,7 +1,6 @@
 -- What a start asks of editors: its requests that wait for the answer of one editor, and the numbers under which editors are asked (LSP 3.17, Base Protocol, Request Message).
-use Rattle.std.specs.Prelude.{ℕ, ◌+◌, Bool, true, false, not, ◌&&◌, List, [], ◌∷◌, ◌++◌, filter, find, fold, codes, nat_eq, if◌then◌else◌}
+use Rattle.std.specs.Prelude.{ℕ, ◌+◌, ◌^◌, Bool, true, false, not, ◌&&◌, List, [], ◌∷◌, ◌++◌, filter, fold, nat_eq, nat_lt, if◌then◌else◌}
 use Rattle.std.specs.Prelude.{Option, Some, None}
-use Rattle.std.specs.Option.{option_and_then}
 use Rattle.mux_history.specs.declared.cause.Cause.TheVariants.{FromEditor, FromServer, StartFailed, ServerGone}
 use Rattle.mux_history.specs.declared.out.Out.TheVariants.{ToEditor, ToServer}
 use Rattle.lsp_method.specs.Class.{class_of}
@@ -21,6 +20,10 @@ asked_behind e n other = n
 
 abbrev pub next_ask : ℕ → List Event → ℕ
 next_ask e events = fold (asked_behind e) 1 events
+
+-- the numbers of requests to an editor are below 2^64
+abbrev pub has_number : ℕ → List Event → Bool
+has_number e events = nat_lt (next_ask e events) (2 ^ 64)
 
 -- S11 and S12: one editor answers a request of this method
 abbrev pub goes_to_one : Class → Bool

@@ -10,3 +10,4 @@ pub mod Status
 pub mod Ticks
 pub mod AskRows
 pub mod Asks
+pub mod AsksExample
