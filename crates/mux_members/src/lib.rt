@@ -10,8 +10,8 @@ mod params;
 
 pub use look::{first_item, is_object, member, member_bytes, next_value};
 pub use method::{
-    class_in, goes_on, is_cancelling, is_dollar, is_exit, is_initialize, is_initialized,
-    is_message_request, is_open, is_status, is_wrong,
+    asked_class, class_in, goes_on, is_cancelling, is_dollar, is_exit, is_initialize,
+    is_initialized, is_message_request, is_open, is_status, is_wrong, told_class,
 };
 pub use notice::{Notice, notice_in, speaks, string};
 pub use outcome::{encoding, is_first_result, reads_versions};

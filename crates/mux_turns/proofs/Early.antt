@@ -87,3 +87,7 @@ module _ (m : Message) (id : Id) (method : List ℕ) (params : Option Json) (say
 pub hasty_unready : (t u : Tables) (g : ℕ) (z w : Start) → slice_get t.lasts.items g ≡ Some z → slice_get u.lasts.items g ≡ Some w → map stage_in u.lasts.items ≡ map stage_in t.lasts.items → z.life.stage ≡ Initializing → is_ready w.life.stage ≡ false
 hasty_unready t u g z w was here stages stage =
     ap is_ready (sym (mapped_is stage_in t.lasts.items g z w.life.stage was (ap (λ ks. slice_get ks g) (sym stages) ∙ mapped_on stage_in u.lasts.items g w here)) ∙ stage)
+
+-- a notification answers none
+pub noticed_named : (m : Message) (method : List ℕ) (params : Option Json) → m ≡ notification method params → NamesAt (answered_id m) None
+noticed_named m method params says = subst (λ n. NamesAt (answered_id n) None) (sym says) (λ n small. refl)

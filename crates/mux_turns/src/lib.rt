@@ -2,6 +2,7 @@
 #![tactic(auto)]
 
 mod answers;
+mod broadcasts;
 mod doubled;
 mod ends;
 mod evicting;
@@ -24,6 +25,7 @@ mod status;
 mod ticks;
 
 pub use answers::{answered_number, take_answer};
+pub use broadcasts::take_broadcast;
 pub use doubled::{doubles, take_doubled, take_doubled_own};
 pub use ends::{take_ending, take_left, take_stopping};
 pub use evicting::{evict, replace, stage_at};
