@@ -50,7 +50,7 @@ later_number e n m other h = h
 
 later_asked : (events : List Event) (ev : Event) (as : List Ask) → AllByRecursion (WasAsked events) as → AllByRecursion (WasAsked (events ++ ev ∷ [])) as
 later_asked events ev [] h = tt
-later_asked events ev (a ∷ as) h = (subst (λ m. a.number < m) (sym (one_more (asked_behind a.editor) _ _ events ev refl)) (later_number a.editor a.number (next_ask a.editor events) ev h.0), later_asked events ev as h.1)
+later_asked events ev (a ∷ as) h = ((subst (λ m. a.number < m) (sym (one_more (asked_behind a.editor) _ _ events ev refl)) (later_number a.editor a.number (next_ask a.editor events) ev h.0.0), h.0.1), later_asked events ev as h.1)
 
 asks_later : (stage : Stage) (events : List Event) (ev : Event) (as : List Ask) (kept : List route.Ask) → AsksAt stage events as kept → AsksAt stage (events ++ ev ∷ []) as kept
 asks_later Ready events ev as kept s = record { same = s.same; texts = s.texts; asked = later_asked events ev as s.asked; apart = s.apart }

@@ -1,3 +1,5 @@
+pub mod Refusing
+pub mod Apart
 pub mod Asks
 pub mod Awaited
 pub mod Begins

@@ -23,7 +23,7 @@ use Rattle.mux_tables.specs.Stands.{HouseStands}
 use Rattle.mux_tables.proofs.Phased.{phased}
 use Rattle.mux_tables.proofs.Placing.{initialize_moves}
 
-set_set : {X : Type 0} (xs : List X) (i : ℕ) (y z : X) → slice_set (slice_set xs i y) i z ≡ slice_set xs i z
+pub set_set : {X : Type 0} (xs : List X) (i : ℕ) (y z : X) → slice_set (slice_set xs i y) i z ≡ slice_set xs i z
 set_set [] i y z = refl
 set_set (x ∷ xs) zero y z = refl
 set_set (x ∷ xs) (suc i) y z = ap (λ ws. x ∷ ws) (set_set xs i y z)

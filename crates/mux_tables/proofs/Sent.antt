@@ -36,7 +36,7 @@ use Rattle.mux_tables.proofs.Said.{does_send}
 use Rattle.mux_tables.proofs.Starts.{groups_kept, is_late, late_asks, late_shown, no_stop, part_ids, part_life, read_here, start_at_place, start_moves, still_asks, still_ids, still_life, still_shown, still_stop}
 use Rattle.mux_tables.proofs.Awaited.{Added, StopsMove, stop_added, stopping_less, told_stops}
 
-same_set : (xs : List Start) (g : ℕ) (z : Start) → slice_get xs g ≡ Some z → slice_set xs g z ≡ xs
+pub same_set : (xs : List Start) (g : ℕ) (z : Start) → slice_get xs g ≡ Some z → slice_set xs g z ≡ xs
 same_set [] g z h = refl
 same_set (x ∷ xs) zero z h = ap (λ w. w ∷ xs) (sym (same_item h))
 same_set (x ∷ xs) (suc g) z h = ap (λ ws. x ∷ ws) (same_set xs g z h)

@@ -5,7 +5,7 @@ use Rattle.std.specs.Option.{option_and_then}
 use Rattle.std.specs.Prelude.{Option, Some, None, slice_get, slice_set}
 use Rattle.ask_route.specs.declared.ask.Ask as route
 use Rattle.ask_route.specs.Tables as asks
-use Rattle.rpc_message.specs.Message.{Id, Message, message_of, request, result_bytes}
+use Rattle.rpc_message.specs.Message.{Id, Message, message_of, request, result_bytes, same_id}
 use Rattle.rpc_message.specs.ValueTexts.{IsIdText}
 use Rattle.event_model.specs.declared.phase.Phase.{Phase}
 use Rattle.event_model.specs.declared.phase.Phase.TheVariants.{Absent, Answered, New}
@@ -119,17 +119,20 @@ kept_ask a = asks.asked a.editor a.number a.bytes
 abbrev pub HasText : Ask → Type 0
 HasText a = IsIdText a.id a.bytes
 
--- its number was given to its editor
+-- its number was given to its editor, and is one of 32 bits
 abbrev pub WasAsked : List Event → Ask → Type 0
-WasAsked events a = a.number < next_ask a.editor events
+WasAsked events a = (a.number < next_ask a.editor events) × (a.number < 2 ^ 32)
 
--- no other ask of its editor has its number
+-- no other ask of its editor has its number, and none its id
 abbrev pub is_beside : Ask → Ask → Bool
 is_beside a b = nat_eq b.editor a.editor && nat_eq b.number a.number
 
+abbrev pub IsOther : Ask → Ask → Type 0
+IsOther a b = (is_beside a b ≡ false) × (same_id a.id b.id ≡ false)
+
 abbrev pub AreApart : List Ask → Type 0
 AreApart [] = Unit {0}
-AreApart (a ∷ as) = AllByRecursion (λ b. is_beside a b ≡ false) as × AreApart as
+AreApart (a ∷ as) = AllByRecursion (IsOther a) as × AreApart as
 
 -- what a start that is ready asked
 pub record AsksStand (events : List Event) (open_asks : List Ask) (kept : List route.Ask) : Type 0 where

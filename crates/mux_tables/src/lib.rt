@@ -2,6 +2,7 @@
 #![tactic(auto)]
 
 mod answers;
+mod asks;
 mod documents;
 mod hears;
 mod looks;
