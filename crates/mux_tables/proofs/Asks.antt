@@ -63,8 +63,8 @@ asks_later other events ev as kept s = tt
 pub asks_by : (limit : ℕ) (x : Start) (events : List Event) (ev : Event) → AsksStay x.life.start events ev → PartStands of_asks limit x events → PartStands of_asks limit x (events ++ ev ∷ [])
 asks_by limit x events ev same s = subst (λ as. AsksAt x.life.stage (events ++ ev ∷ []) as x.asks) (sym (asks_more x.life.start events ev same)) (asks_later x.life.stage events ev (asks_of x.life.start events) x.asks s)
 
--- a body to the start that answers nothing, where it is ready
-pub told_asks : (stage : Stage) (s : ℕ) (events : List Event) (body : List ℕ) (m : Message) (kept : List route.Ask) → (is_ready stage ≡ true → is_answer m ≡ false) → AsksAt stage events (asks_of s events) kept
+-- a body to the start that answers none of them, where it is ready
+pub told_asks : (stage : Stage) (s : ℕ) (events : List Event) (body : List ℕ) (m : Message) (kept : List route.Ask) → (is_ready stage ≡ true → AsksStay s events (did (ToServer s body) m)) → AsksAt stage events (asks_of s events) kept
     → AsksAt stage (events ++ did (ToServer s body) m ∷ []) (asks_of s (events ++ did (ToServer s body) m ∷ [])) kept
 told_asks stage s events body m kept silent h = at stage silent h
   where
@@ -75,18 +75,32 @@ told_asks stage s events body m kept silent h = at stage silent h
     told true P yes no = yes
     told false P yes no = no
 
-    stays : is_answer m ≡ false → AsksStay s events ev
-    stays h = told (nat_eq s s) (λ as. as ≡ asks_of s events) (unhanded (asks_of s events) (answered_id m) h) refl
-
     empties : asks_of s events ≡ [] → asks_of s (events ++ ev ∷ []) ≡ []
     empties none = ap (λ (x : Asking). x.asks) (asking_more s events ev) ∙ told (nat_eq s s) (λ as. as ≡ []) (ap (filter (λ a. not (is_under (answered_id m) a))) none) none
 
-    at : (stage : Stage) → (is_ready stage ≡ true → is_answer m ≡ false) → AsksAt stage events (asks_of s events) kept → AsksAt stage (events ++ ev ∷ []) (asks_of s (events ++ ev ∷ [])) kept
-    at Ready silent h = subst (λ as. AsksStand (events ++ ev ∷ []) as kept) (sym (asks_more s events ev (stays (silent refl)))) (asks_later Ready events ev (asks_of s events) kept h)
+    at : (stage : Stage) → (is_ready stage ≡ true → AsksStay s events ev) → AsksAt stage events (asks_of s events) kept → AsksAt stage (events ++ ev ∷ []) (asks_of s (events ++ ev ∷ [])) kept
+    at Ready silent h = subst (λ as. AsksStand (events ++ ev ∷ []) as kept) (sym (asks_more s events ev (silent refl))) (asks_later Ready events ev (asks_of s events) kept h)
     at Unspawned silent h = (empties h.0, h.1)
     at Spawning silent h = (empties h.0, h.1)
     at Initializing silent h = (empties h.0, h.1)
     at other silent h = tt
+
+-- it is under the id of none of them
+pub none_handed : (s : ℕ) (events : List Event) (body : List ℕ) (m : Message) → AllByRecursion (λ (a : Ask). is_under (answered_id m) a ≡ false) (asks_of s events) → AsksStay s events (did (ToServer s body) m)
+none_handed s events body m h = told (nat_eq s s) (go (asks_of s events) h)
+  where
+    told : (b : Bool) → filter (λ a. not (is_under (answered_id m) a)) (asks_of s events) ≡ asks_of s events
+        → (if b then record { asker = (asking_of s events).asker; asks = filter (λ a. not (is_under (answered_id m) a)) (asks_of s events) } else asking_of s events).asks ≡ asks_of s events
+    told true k = k
+    told false k = refl
+
+    test : (a : Ask) (as bs : List Ask) (b : Bool) → b ≡ false → as ≡ bs → (if not b then a ∷ as else as) ≡ a ∷ bs
+    test a as bs false h k = ap (λ cs. a ∷ cs) k
+    test a as bs true h k = never h
+
+    go : (as : List Ask) → AllByRecursion (λ (a : Ask). is_under (answered_id m) a ≡ false) as → filter (λ a. not (is_under (answered_id m) a)) as ≡ as
+    go [] h = refl
+    go (a ∷ as) h = test a (filter (λ a. not (is_under (answered_id m) a)) as) as (is_under (answered_id m) a) h.0 (go as h.1)
 
 -- where a start goes on
 pub begun_asks : (g : Stage) (l : Standing) (events : List Event) (as : ℕ → List Ask) (kept : List route.Ask) → l.stage ≡ g → AsksAt l.stage events (as l.start) kept → AsksAt (begun_at g l).stage events (as (begun_at g l).start) kept

@@ -27,7 +27,7 @@ use Rattle.group_words.specs.Houses.{Meant, declared_for, emptied, groups_of, ho
 use Rattle.group_words.proofs.Frames.{groups_more, home_more}
 use Rattle.mux_tables.specs.declared.tables.Tables.{Tables}
 use Rattle.mux_tables.specs.Names.{NameStands, id_in}
-use Rattle.mux_tables.specs.Stands.{AnswersNone, EditorsStand, GroupsStand, Stands, ends, is_answer, phase_in, group_in, meant_in, stays_in}
+use Rattle.mux_tables.specs.Stands.{AnswersNone, EditorsStand, GroupsStand, HouseStands, Stands, ends, is_answer, phase_in, group_in, meant_in, stays_in}
 use Rattle.group_rows.specs.Asks.{asks_of}
 use Rattle.mux_tables.proofs.Asks.{answers_none, none_answered}
 use Rattle.mux_tables.proofs.Ends.{tick_heard}
@@ -138,7 +138,7 @@ module _ (settings : Settings) (t u : Tables) (events : List Event) (e : ℕ) (b
     (now : u.time ≡ t.time) (ls : u.lasts ≡ t.lasts) (os : u.origins ≡ t.origins) (r : u.requests ≡ t.requests)
     (stays : places (desk_of e events).phase (message_of body) ≡ false) (step : (desk_of e (events ++ heard (FromEditor e body) ∷ [])).phase ≡ y.phase)
     (group : y.group ≡ (session_of t.editors e).group) (id : y.id ≡ (session_of t.editors e).id)
-    (means : (desk_of e (events ++ heard (FromEditor e body) ∷ [])).phase ≡ New → meant_in (Some y) ≡ meant_of settings.servers e (events ++ heard (FromEditor e body) ∷ [])) (silent : AnswersNone e (message_of body) events) where
+    (means : (desk_of e (events ++ heard (FromEditor e body) ∷ [])).phase ≡ New → meant_in (Some y) ≡ meant_of settings.servers e (events ++ heard (FromEditor e body) ∷ [])) where
   abbrev ev : Event
   ev = took (FromEditor e body) (message_of body)
 
@@ -175,19 +175,25 @@ module _ (settings : Settings) (t u : Tables) (events : List Event) (e : ℕ) (b
       meant_at n (other h) w = meant_by (goes_so (desk_apart e n body (message_of body) events (ne_eqb e n (λ q. h (sym q))))) (ap meant_in (get_set_other t.editors e n y h))
           (meant_apart settings.servers e n body (message_of body) events (ne_eqb e n (λ q. h (sym q)))) (s.meant n) w
 
-  all_heard : (GroupsStand settings t.groups events → GroupsStand settings u.groups (events ++ ev ∷ [])) → Stands settings t events → Stands settings u (events ++ ev ∷ [])
-  all_heard go = house_moves settings t u events ev (λ n. refl) (λ n. none_answered e n (message_of body) events (silent n)) refl (ap (λ v. v.items) ls) os r (λ h. record {
+  heard_house : (GroupsStand settings t.groups events → GroupsStand settings u.groups (events ++ ev ∷ [])) → HouseStands settings t events → HouseStands settings u (events ++ ev ∷ [])
+  heard_house go h = record {
     editors = heard_editors h.editors;
     groups = go h.groups;
     now = one_more time_behind _ _ events ev h.now ∙ sym now;
-  })
+  }
 
-  heard_moves : u.groups ≡ t.groups → stops events e (message_of body) ≡ false → Stands settings t events → Stands settings u (events ++ ev ∷ [])
-  heard_moves gs goes = all_heard (λ h. subst (λ g. GroupsStand settings g (events ++ ev ∷ [])) (sym gs) (record { groups = groups_more settings events ev ∙ (rw (stays, goes) refl ∙ h.groups); limit = h.limit; idle = h.idle }))
+  heard_groups : u.groups ≡ t.groups → stops events e (message_of body) ≡ false → GroupsStand settings t.groups events → GroupsStand settings u.groups (events ++ ev ∷ [])
+  heard_groups gs goes h = subst (λ g. GroupsStand settings g (events ++ ev ∷ [])) (sym gs) (record { groups = groups_more settings events ev ∙ (rw (stays, goes) refl ∙ h.groups); limit = h.limit; idle = h.idle })
+
+  all_heard : AnswersNone e (message_of body) events → (GroupsStand settings t.groups events → GroupsStand settings u.groups (events ++ ev ∷ [])) → Stands settings t events → Stands settings u (events ++ ev ∷ [])
+  all_heard silent go = house_moves settings t u events ev (λ n. refl) (λ n. none_answered e n (message_of body) events (silent n)) refl (ap (λ v. v.items) ls) os r (heard_house go)
+
+  heard_moves : AnswersNone e (message_of body) events → u.groups ≡ t.groups → stops events e (message_of body) ≡ false → Stands settings t events → Stands settings u (events ++ ev ∷ [])
+  heard_moves silent gs goes = all_heard silent (heard_groups gs goes)
 
   -- E6
-  stopped_moves : (ns : List ℕ) → ns ≡ all_from 0 is_live t.groups.groups → u.groups ≡ with_groups (ends ns t.groups.groups) t.groups → stops events e (message_of body) ≡ true → Stands settings t events → Stands settings u (events ++ ev ∷ [])
-  stopped_moves ns all gs stop = all_heard (λ h. stop_groups settings events e body (message_of body) t.groups u.groups stays stop (ap (λ (w : Table). w.limit) gs) (ap (λ (w : Table). w.idle) gs) (ap (λ (w : Table). w.groups) gs ∙ ap (λ ms. ends ms t.groups.groups) all) h)
+  stopped_moves : AnswersNone e (message_of body) events → (ns : List ℕ) → ns ≡ all_from 0 is_live t.groups.groups → u.groups ≡ with_groups (ends ns t.groups.groups) t.groups → stops events e (message_of body) ≡ true → Stands settings t events → Stands settings u (events ++ ev ∷ [])
+  stopped_moves silent ns all gs stop = all_heard silent (λ h. stop_groups settings events e body (message_of body) t.groups u.groups stays stop (ap (λ (w : Table). w.limit) gs) (ap (λ (w : Table). w.idle) gs) (ap (λ (w : Table). w.groups) gs ∙ ap (λ ms. ends ms t.groups.groups) all) h)
 
 -- a request answers nothing
 pub asks_silent : (name : List ℕ) (m : Message) → requests name m ≡ true → is_answer m ≡ false
@@ -208,16 +214,21 @@ stops_asks events e servers m h = ap (λ b. is_new (desk_of e events).phase && (
 -- the same, as the code sets the phase
 module _ (settings : Settings) (t u : Tables) (events : List Event) (e : ℕ) (body : List ℕ) (p : Phase) (l : e < length t.editors) (set : u.editors ≡ with_session t.editors e (phased t.editors e p))
     (now : u.time ≡ t.time) (ls : u.lasts ≡ t.lasts) (os : u.origins ≡ t.origins) (r : u.requests ≡ t.requests)
-    (stays : places (desk_of e events).phase (message_of body) ≡ false) (step : (desk_of e (events ++ heard (FromEditor e body) ∷ [])).phase ≡ p) (silent : AnswersNone e (message_of body) events) where
+    (stays : places (desk_of e events).phase (message_of body) ≡ false) (step : (desk_of e (events ++ heard (FromEditor e body) ∷ [])).phase ≡ p) where
   abbrev put : Session
   put = record (session_of t.editors e) { phase = p }
 
-  pub set_moves : u.groups ≡ t.groups → stops events e (message_of body) ≡ false → is_first_open settings.servers events e (message_of body) ≡ false → Stands settings t events → Stands settings u (events ++ heard (FromEditor e body) ∷ [])
-  set_moves gs goes off s = heard_moves settings t u events e body put l (set ∙ heard_plain settings t.editors events e p l s.house.editors body step) now ls os r stays step refl refl
+  pub set_house : u.groups ≡ t.groups → stops events e (message_of body) ≡ false → is_first_open settings.servers events e (message_of body) ≡ false → HouseStands settings t events → HouseStands settings u (events ++ heard (FromEditor e body) ∷ [])
+  set_house gs goes off h = heard_house settings t u events e body put l (set ∙ heard_plain settings t.editors events e p l h.editors body step) now ls os r stays step refl refl
+      (meant_kept settings t.editors events e body l p stays off h.editors)
+      (heard_groups settings t u events e body put l (set ∙ heard_plain settings t.editors events e p l h.editors body step) now ls os r stays step refl refl (meant_kept settings t.editors events e body l p stays off h.editors) gs goes) h
+
+  pub set_moves : AnswersNone e (message_of body) events → u.groups ≡ t.groups → stops events e (message_of body) ≡ false → is_first_open settings.servers events e (message_of body) ≡ false → Stands settings t events → Stands settings u (events ++ heard (FromEditor e body) ∷ [])
+  set_moves silent gs goes off s = heard_moves settings t u events e body put l (set ∙ heard_plain settings t.editors events e p l s.house.editors body step) now ls os r stays step refl refl
       (meant_kept settings t.editors events e body l p stays off s.house.editors) silent gs goes s
 
-  pub stop_moves : (ns : List ℕ) → ns ≡ all_from 0 is_live t.groups.groups → u.groups ≡ with_groups (ends ns t.groups.groups) t.groups → stops events e (message_of body) ≡ true → Stands settings t events → Stands settings u (events ++ heard (FromEditor e body) ∷ [])
-  stop_moves ns all gs stop s = stopped_moves settings t u events e body put l (set ∙ heard_plain settings t.editors events e p l s.house.editors body step) now ls os r stays step refl refl
+  pub stop_moves : AnswersNone e (message_of body) events → (ns : List ℕ) → ns ≡ all_from 0 is_live t.groups.groups → u.groups ≡ with_groups (ends ns t.groups.groups) t.groups → stops events e (message_of body) ≡ true → Stands settings t events → Stands settings u (events ++ heard (FromEditor e body) ∷ [])
+  stop_moves silent ns all gs stop s = stopped_moves settings t u events e body put l (set ∙ heard_plain settings t.editors events e p l s.house.editors body step) now ls os r stays step refl refl
       (meant_kept settings t.editors events e body l p stays (stops_asks events e settings.servers (message_of body) stop) s.house.editors) silent ns all gs stop s
 
 -- E4: the first `lspmux/open` of a new editor

@@ -49,6 +49,22 @@ lasts_stand limit lasts events ev h a k s = record {
   old = λ n g e. last_stays events ev n g k (h n) (s.old n g (group_before events ev n g k e));
 }
 
+-- the event names no start, and changes the asks of the last start of one group alone, which goes from x to y
+pub asked_last : (limit : ℕ) (origins : List ℕ) (lasts after : List Start) (events : List Event) (ev : Event) (i : ℕ) (x y : Start) → ((n : ℕ) → names_start n ev ≡ false) → ((n : ℕ) → nat_eq x.life.start n ≡ false → AsksStay n events ev) → spawns ev ≡ false
+    → slice_get lasts i ≡ Some x → after ≡ slice_set lasts i y → OriginsStand origins events → (LastStands limit events i x → LastStands limit (events ++ ev ∷ []) i y) → LastsStand limit lasts events → LastsStand limit after (events ++ ev ∷ [])
+asked_last limit origins lasts after events ev i x y h a k at e st go s =
+    let same : length after ≡ length lasts = ap length e ∙ length-set lasts i y in
+    record {
+      none = λ g l. one_more (start_behind g) _ _ events ev (s.none g (subst (λ m. m ≤ g) same l)) ∙ start_alone g _ ev k;
+      each = each_set (LastStands limit events) (LastStands limit (events ++ ev ∷ [])) lasts after i x y at e s.each go
+          (λ j z d r q. last_stands limit events ev j z (h z.life.start) (a z.life.start (apart limit events i j x z d r q)) (λ o. start_alone j o ev k) q);
+      fresh = λ n l p.
+          let older : starts_of events ≤ n = subst (λ m. m ≤ n) (one_more starts_behind _ _ events ev refl ∙ starts_alone _ ev k) l in
+          let k = known limit origins events i x st (s.each i x at) in
+          part_apart p limit (blank limit n) events ev (h n) (a n (ne_eqb x.life.start n (λ q. absurd (omega arith)))) (s.fresh n older p);
+      old = λ n g q. last_stays events ev n g k (h n) (s.old n g (group_before events ev n g k q));
+    }
+
 -- the event names the last start of one group alone, which goes from x to y
 pub one_last : (limit : ℕ) (origins : List ℕ) (lasts after : List Start) (events : List Event) (ev : Event) (i : ℕ) (x y : Start) → ((n : ℕ) → names_start n ev ≡ nat_eq x.life.start n) → names_editor ev ≡ false → spawns ev ≡ false
     → slice_get lasts i ≡ Some x → after ≡ slice_set lasts i y → OriginsStand origins events → (LastStands limit events i x → LastStands limit (events ++ ev ∷ []) i y) → LastsStand limit lasts events → LastsStand limit after (events ++ ev ∷ [])

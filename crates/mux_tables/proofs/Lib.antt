@@ -1,3 +1,4 @@
+pub mod Replying
 pub mod Refusing
 pub mod Apart
 pub mod Asks

@@ -37,6 +37,19 @@ module _ (settings : Settings) where
     range = s.range;
   }
 
+  -- an event that editors, groups and the time speak of, and what editors were asked
+  pub house_and_lasts : (t u : Tables) (events : List Event) (ev : Event) → ((n : ℕ) → names_start n ev ≡ false) → spawns ev ≡ false → u.origins ≡ t.origins → u.requests ≡ t.requests
+      → (OriginsStand t.origins.groups.items events → LastsStand t.requests t.lasts.items events → LastsStand t.requests u.lasts.items (events ++ ev ∷ []))
+      → (HouseStands settings t events → HouseStands settings u (events ++ ev ∷ [])) → Stands settings t events → Stands settings u (events ++ ev ∷ [])
+  house_and_lasts t u events ev n k os r ls go s = record {
+    house = go s.house;
+    origins = subst (λ v. OriginsStand v.groups.items (events ++ ev ∷ [])) (sym os) (origins_stand t.origins.groups.items events ev k s.origins);
+    stopping = stops_kept t u events ev os k (λ m. ap (λ (l : Life). is_stopping l.stage) (life_alone m (life_of m events) ev (n m))) s.stopping;
+    lasts = subst (λ m. LastsStand m u.lasts.items (events ++ ev ∷ [])) (sym r) (ls s.origins s.lasts);
+    requests = s.requests ∙ sym r;
+    range = subst (λ n. n < 2 ^ 32) (sym r) s.range;
+  }
+
   -- an event that editors, groups and the time alone speak of
   pub house_moves : (t u : Tables) (events : List Event) (ev : Event) → ((n : ℕ) → names_start n ev ≡ false) → ((n : ℕ) → AsksStay n events ev) → spawns ev ≡ false → u.lasts.items ≡ t.lasts.items → u.origins ≡ t.origins → u.requests ≡ t.requests
       → (HouseStands settings t events → HouseStands settings u (events ++ ev ∷ [])) → Stands settings t events → Stands settings u (events ++ ev ∷ [])

@@ -49,7 +49,7 @@ handed s events body id is = ap (λ (x : Asking). x.asks) (asking_more s events 
     ∙ ap (λ o. filter (λ a. not (is_under o a)) (asks_of s events)) is)
 
 -- the asks of a start that is ready
-ready_asks : (stage : Stage) (events : List Event) (as : List Ask) (kept : List route.Ask) → stage ≡ Ready → AsksAt stage events as kept → AsksStand events as kept
+pub ready_asks : (stage : Stage) (events : List Event) (as : List Ask) (kept : List route.Ask) → stage ≡ Ready → AsksAt stage events as kept → AsksStand events as kept
 ready_asks stage events as kept is s = subst (λ k. AsksAt k events as kept) is s
 
 -- the answer is said

@@ -27,9 +27,11 @@ use Rattle.mux_tables.specs.declared.tables.Tables.{Tables}
 use Rattle.group_rows.specs.Forwarded.{forwarding_of, is_written, moves_ids}
 use Rattle.group_rows.specs.Ticks.{is_stopping, stop_of}
 use Rattle.group_words.specs.Houses.{time_of}
-use Rattle.mux_tables.specs.Stands.{Part, of_life, of_ids, of_shown, of_stop, of_asks, PartStands, Sends, Stands, StopAt, forwarded_of, is_answer, number_in, unstopped}
-use Rattle.mux_tables.proofs.Asks.{told_asks}
-use Rattle.mux_tables.proofs.Frames.{groups_stand, itself, part_quiet, stop_more}
+use Rattle.mux_tables.specs.Stands.{AsksStay, Part, of_life, of_ids, of_shown, of_stop, of_asks, PartStands, Sends, Stands, StopAt, forwarded_of, is_answer, number_in, unstopped}
+use Rattle.event_model.specs.Requests.{answered_id}
+use Rattle.group_rows.specs.Asks.{Ask, asks_of, is_under}
+use Rattle.mux_tables.proofs.Asks.{none_handed, told_asks}
+use Rattle.mux_tables.proofs.Frames.{asks_stay, groups_stand, itself, part_quiet, stop_more}
 use Rattle.mux_tables.proofs.IdMoves.{cancelled_ids, sent_as, sent_ids}
 use Rattle.mux_tables.proofs.Lasts.{known}
 use Rattle.mux_tables.proofs.Said.{does_send}
@@ -67,7 +69,7 @@ module _ (settings : Settings) (t u : Tables) (xs ys : List Out) (base : List Ev
 
 -- one that moves no table of a start
 pub unmoved_does : (settings : Settings) (t u : Tables) (xs ys : List Out) (base : List Event) (g s start : ℕ) (z : Start) (text : List ℕ) → slice_get (map number_in t.lasts.items) g ≡ Some s → g < length t.lasts.items → z ≡ get_or t.lasts.items g z
-    → requests (codes "shutdown") (message_of text) ≡ false → moves_ids (message_of text) ≡ false → (is_ready z.life.stage ≡ true → is_answer (message_of text) ≡ false) → u.lasts.items ≡ t.lasts.items → u.editors ≡ t.editors → u.groups ≡ t.groups → u.time ≡ t.time → u.origins ≡ t.origins → u.requests ≡ t.requests
+    → requests (codes "shutdown") (message_of text) ≡ false → moves_ids (message_of text) ≡ false → (is_ready z.life.stage ≡ true → AsksStay z.life.start (behind base xs) (said (ToServer z.life.start text))) → u.lasts.items ≡ t.lasts.items → u.editors ≡ t.editors → u.groups ≡ t.groups → u.time ≡ t.time → u.origins ≡ t.origins → u.requests ≡ t.requests
     → start ≡ z.life.start → ys ≡ xs ++ ToServer start text ∷ [] → Does (λ t events. Stands settings t events) (send (ToServer s text)) base t xs u ys
 unmoved_does settings t u xs ys base g s start z text at within read runs counts silent ls es gs now os r is said_so =
     sent_does settings t u xs ys base g s start z z text at within read (ls ∙ sym (same_set t.lasts.items g z (read_here t.lasts.items g z within read))) refl refl es gs now (ap (λ v. v.groups) os) r is said_so (λ st. told_stops t u (behind base xs) s text os runs) (λ st p h. part p h)
@@ -82,7 +84,16 @@ unmoved_does settings t u xs ys base g s start z text at within read runs counts
 -- nor any other
 pub notify_does : (settings : Settings) (t : Tables) (xs ys : List Out) (base : List Event) (g s start : ℕ) (z : Start) (text : List ℕ) → slice_get (map number_in t.lasts.items) g ≡ Some s → g < length t.lasts.items → z ≡ get_or t.lasts.items g z
     → requests (codes "shutdown") (message_of text) ≡ false → moves_ids (message_of text) ≡ false → (is_ready z.life.stage ≡ true → is_answer (message_of text) ≡ false) → start ≡ z.life.start → ys ≡ xs ++ ToServer start text ∷ [] → Does (λ t events. Stands settings t events) (send (ToServer s text)) base t xs t ys
-notify_does settings t xs ys base g s start z text at within read runs counts silent is said_so = unmoved_does settings t t xs ys base g s start z text at within read runs counts silent refl refl refl refl refl refl is said_so
+notify_does settings t xs ys base g s start z text at within read runs counts silent is said_so = unmoved_does settings t t xs ys base g s start z text at within read runs counts (λ ready. asks_stay z.life.start (behind base xs) (said (ToServer z.life.start text)) (silent ready)) refl refl refl refl refl refl is said_so
+
+-- an answer under the id of no ask that is left
+pub respond_does : (settings : Settings) (t : Tables) (xs ys : List Out) (base : List Event) (g s start : ℕ) (z : Start) (text : List ℕ) → slice_get (map number_in t.lasts.items) g ≡ Some s → g < length t.lasts.items → z ≡ get_or t.lasts.items g z
+    → requests (codes "shutdown") (message_of text) ≡ false → moves_ids (message_of text) ≡ false → AllByRecursion (λ (a : Ask). is_under (answered_id (message_of text)) a ≡ false) (asks_of s (behind base xs)) → start ≡ z.life.start → ys ≡ xs ++ ToServer start text ∷ []
+    → Does (λ t events. Stands settings t events) (send (ToServer s text)) base t xs t ys
+respond_does settings t xs ys base g s start z text at within read runs counts free is said_so =
+    let same : z.life.start ≡ s = start_at_place t.lasts.items g s z (read_here t.lasts.items g z within read) at in
+    unmoved_does settings t t xs ys base g s start z text at within read runs counts
+    (λ _. none_handed z.life.start (behind base xs) text (message_of text) (subst (λ n. AllByRecursion (λ (a : Ask). is_under (answered_id (message_of text)) a ≡ false) (asks_of n (behind base xs))) (sym same) free)) refl refl refl refl refl refl is said_so
 
 not_shutdown : (method : List ℕ) → is_own method ≡ false → bytes_eq (codes "shutdown") method ≡ false
 not_shutdown method h = go (bytes_eq (codes "shutdown") method) refl

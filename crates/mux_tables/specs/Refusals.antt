@@ -1,9 +1,9 @@
--- L1: what is kept of the asks of an editor that leaves, each refused.
-use Rattle.std.specs.Prelude.{ℕ, List, map}
-use Rattle.std.specs.Prelude.{Option, Some}
+-- What is kept of a start's asks, where an editor answers one (E19), or leaves (L1).
+use Rattle.std.specs.Prelude.{◌≡◌, ℕ, List, find, map}
+use Rattle.std.specs.Prelude.{Option, Some, None, MatchOption, option_map}
 use Rattle.std.specs.List.{filter}
 use Rattle.ask_route.specs.declared.ask.Ask.{Ask}
-use Rattle.ask_route.specs.Tables.{is_with}
+use Rattle.ask_route.specs.Tables.{is_seated, is_with, less}
 use Rattle.mux_history.specs.declared.out.Out.{Out}
 use Rattle.mux_history.specs.declared.out.Out.TheVariants.{ToServer}
 use Rattle.rpc_message.specs.Texts.{error_text, request_failed}
@@ -24,3 +24,10 @@ refusal s ask = send (ToServer s (error_text ask.id request_failed))
 
 abbrev pub refusals : ℕ → List Ask → List Out
 refusals s kept = map (λ (ask : Ask). ToServer s (error_text ask.id request_failed)) kept
+
+-- what is left without the one that an editor has under this number, and the id of that one
+abbrev pub Left : ℕ → Option ℕ → List Ask → List Ask → Type 0
+Left e n kept left = MatchOption n (left ≡ kept) (λ k. left ≡ less (is_seated e k) kept)
+
+abbrev pub Given : ℕ → Option ℕ → List Ask → Option (List ℕ) → Type 0
+Given e n kept given = MatchOption n (given ≡ None) (λ k. given ≡ option_map (λ (ask : Ask). ask.id) (find (is_seated e k) kept))

@@ -119,9 +119,9 @@ kept_ask a = asks.asked a.editor a.number a.bytes
 abbrev pub HasText : Ask → Type 0
 HasText a = IsIdText a.id a.bytes
 
--- its number was given to its editor, and is one of 32 bits
+-- its number was given to its editor, and is one of 64 bits
 abbrev pub WasAsked : List Event → Ask → Type 0
-WasAsked events a = (a.number < next_ask a.editor events) × (a.number < 2 ^ 32)
+WasAsked events a = (a.number < next_ask a.editor events) × (a.number < 2 ^ 64)
 
 -- no other ask of its editor has its number, and none its id
 abbrev pub is_beside : Ask → Ask → Bool
@@ -222,6 +222,15 @@ Names id k = (n : ℕ) → n < 2 ^ 32 → names id n ≡ nat_eq n k
 abbrev pub NamesAt : Option Id → Option ℕ → Type 0
 NamesAt id None = (n : ℕ) → n < 2 ^ 32 → names id n ≡ false
 NamesAt id (Some k) = Names id k
+
+-- the same of a number of 64 bits
+abbrev pub NamesAsk : Option Id → Option ℕ → Type 0
+NamesAsk id None = (n : ℕ) → n < 2 ^ 64 → names id n ≡ false
+NamesAsk id (Some k) = (n : ℕ) → n < 2 ^ 64 → names id n ≡ nat_eq n k
+
+-- an editor's message answers at most asks of start s
+abbrev pub AnswersOne : ℕ → ℕ → Message → List Event → Type 0
+AnswersOne s e m events = (n : ℕ) → nat_eq s n ≡ false → AllByRecursion (λ (a : Ask). is_seated e (answered_id m) a ≡ false) (asks_of n events)
 
 -- its program runs from now on
 abbrev pub begun_at : Stage → Standing → Standing

@@ -1,10 +1,11 @@
 // What each out does to the tables.
 ghost use Rattle.std.specs.Prelude.{◌≡◌, ◌≢◌, ◌<◌, ◌≤◌, ◌^◌, ◌++◌, ◌∷◌, [], ℕ, List, map, Option, Some, false, true, length, IfOk, OnOk, codes, bytes_eq, slice_get, nat_eq};
+ghost use Rattle.std.specs.List.{AllByRecursion};
 ghost use Rattle.event_model.specs.declared.stage.Stage.TheVariants.{Ended, Ready};
 ghost use Rattle.event_model.specs.Does.{Does};
 ghost use Rattle.event_model.specs.Event.{Event, behind, requests};
 ghost use Rattle.event_model.specs.Phases.{desk_of, is_served, phase_closed};
-ghost use Rattle.event_model.specs.Requests.{is_own};
+ghost use Rattle.event_model.specs.Requests.{answered_id, is_own};
 ghost use Rattle.event_model.specs.Row.{look, send, ◌⨾◌};
 ghost use Rattle.event_model.specs.Settings.{Settings};
 ghost use Rattle.event_model.specs.Stages.{is_ready};
@@ -18,10 +19,12 @@ ghost use Rattle.rpc_message.specs.Message as message;
 ghost use Rattle.rpc_message.specs.Message.{Id, message_of};
 ghost use Rattle.mux_tables.specs.declared.tables.Start.{Start};
 ghost use Rattle.document_model.specs.Sayings.{nothing, saying_of};
+ghost use Rattle.group_rows.specs.Asks.{Ask, asks_of, is_under};
 ghost use Rattle.group_rows.specs.Forwarded.{is_written, moves_ids};
 ghost use Rattle.group_rows.specs.Texts.{is_synced, worker_of};
 ghost use Rattle.mux_tables.specs.Documents.{AllStand, DocumentsStand, Leaves, Owed, nothing_owed, owes, syncing, to};
 ghost use Rattle.mux_tables.specs.Names.{id_in};
+ghost use Rattle.mux_tables.specs.Refusals.{asks_in};
 ghost use Rattle.mux_tables.specs.Stands.{Keeps, Sends, Stands, Welcomes, is_answer, number_in, stage_in, start_for};
 
 use crate::documents::{leave, sync, unready};
@@ -129,6 +132,21 @@ impl Tables {
         ensures does { (settings : Settings) (base : List Event) (s : ℕ) → slice_get (map number_in self.now.lasts.items) g ≡ Some s
             → requests (codes "shutdown") (message_of text) ≡ false → moves_ids (message_of text) ≡ false
             → ((x : Start) → slice_get self.now.lasts.items g ≡ Some x → is_ready x.life.stage ≡ true → is_answer (message_of text) ≡ false)
+            → OnOk result (Does (λ t events. Stands settings t events) (send (ToServer s text)) base self.now outs.old self.now outs.new) }
+        ensures documents { (settings : Settings) (owed : Owed) (base : List Event) → saying_of (message_of text) ≡ nothing
+            → is_synced (message_of text) ≡ false → DocumentsStand settings owed self.now (behind base outs.old)
+            → OnOk result (DocumentsStand settings owed self.now (behind base outs.new)) }
+    {
+        outs.push(Out::ToServer(self.lasts[g].life.start(), text))?;
+        Ok(())
+    }
+
+    /// An answer to a request of the group's last start goes there, under the id of no ask that is left.
+    pub fn respond(&self, outs: &mut Outs, g: usize, text: Body) -> Result<(), Memory>
+        requires { g < length self.now.lasts.items }
+        ensures does { (settings : Settings) (base : List Event) (s : ℕ) → slice_get (map number_in self.now.lasts.items) g ≡ Some s
+            → requests (codes "shutdown") (message_of text) ≡ false → moves_ids (message_of text) ≡ false
+            → AllByRecursion (λ (a : Ask). is_under (answered_id (message_of text)) a ≡ false) (asks_of s (behind base outs.old))
             → OnOk result (Does (λ t events. Stands settings t events) (send (ToServer s text)) base self.now outs.old self.now outs.new) }
         ensures documents { (settings : Settings) (owed : Owed) (base : List Event) → saying_of (message_of text) ≡ nothing
             → is_synced (message_of text) ≡ false → DocumentsStand settings owed self.now (behind base outs.old)
@@ -247,6 +265,7 @@ impl Tables {
         ensures versions { self.new.versions ≡ self.old.versions }
         ensures starts { OnOk result (map number_in self.new.lasts.items ≡ map number_in self.old.lasts.items) }
         ensures stages { OnOk result (map stage_in self.new.lasts.items ≡ map stage_in self.old.lasts.items) }
+        ensures asks { OnOk result (map asks_in self.new.lasts.items ≡ map asks_in self.old.lasts.items) }
         ensures does { (settings : Settings) (base : List Event) (s : ℕ) (method : List ℕ) (ps : Option Json)
             → slice_get (map number_in self.old.lasts.items) g ≡ Some s → message_of text ≡ message.notification method ps
             → bytes_eq method (codes "$/cancelRequest") ≡ true

@@ -6,6 +6,7 @@ ghost use Rattle.event_model.specs.Row.{each};
 ghost use Rattle.event_model.specs.Settings.{Settings};
 ghost use Rattle.group_rows.specs.Leaves.{cancel, cancel_text, cancels_row, leave_row};
 ghost use Rattle.mux_tables.specs.Documents.{AllStand, DocumentsStand, Owed, nothing_owed};
+ghost use Rattle.mux_tables.specs.Refusals.{asks_in};
 ghost use Rattle.mux_tables.specs.Stands.{Stands, number_in, stage_in};
 ghost use Rattle.mux_turns.specs.Leavings.{Leaves, Pays};
 
@@ -21,6 +22,8 @@ use std::alloc::Global;
 pub struct Departure {
     /// The place of the group.
     pub group: usize,
+    /// Its number.
+    pub editor: u64,
     /// The numbers, rising, of its open requests that it didn't cancel.
     pub requests: Vec<u32>,
 }
@@ -50,6 +53,7 @@ fn cancel_all(
     ensures versions { tables.new.versions ≡ tables.old.versions }
     ensures starts { OnOk result (map number_in tables.new.lasts.items ≡ map number_in tables.old.lasts.items) }
     ensures stages { OnOk result (map stage_in tables.new.lasts.items ≡ map stage_in tables.old.lasts.items) }
+    ensures asks { OnOk result (map asks_in tables.new.lasts.items ≡ map asks_in tables.old.lasts.items) }
     ensures does { (settings : Settings) (base : List Event) (s : ℕ) → slice_get (map number_in tables.old.lasts.items) g ≡ Some s
         → OnOk result (Does (λ t events. Stands settings t events) (each (cancel s) numbers.now) base tables.old outs.old tables.new outs.new) }
     ensures documents { (settings : Settings) (owed : Owed) (base : List Event) → DocumentsStand settings owed tables.old (behind base outs.old)
@@ -66,7 +70,7 @@ fn cancel_all(
 pub fn leaving(tables: &Tables, e: u64) -> Result<Option<Departure>, Memory>
     ensures inside { IfOk result (λ o. IfSome o (λ l. l.group < length tables.now.lasts.items)) }
     ensures leaves { (settings : Settings) (before : List Event) → Stands settings tables.now before
-        → IfOk result (λ o. Leaves settings before e (map number_in tables.now.lasts.items) o) }
+        → IfOk result (λ o. Leaves settings before e tables.now.lasts.items o) }
 {
     let Some(group) = tables.place(e) else {
         return Ok(None);
@@ -75,10 +79,14 @@ pub fn leaving(tables: &Tables, e: u64) -> Result<Option<Departure>, Memory>
         return Ok(None);
     }
     let requests = tables.uncancelled_of(group, e)?;
-    Ok(Some(Departure { group, requests }))
+    Ok(Some(Departure {
+        group,
+        editor: e,
+        requests,
+    }))
 }
 
-// L1: the open requests of an editor that leaves are cancelled, numbers rising.
+// L1: the open requests of an editor that leaves are cancelled, numbers rising, and what the start asked of it is refused.
 fn leave(
     tables: &mut Tables,
     alloc: Global,
@@ -91,21 +99,24 @@ fn leave(
     ensures starts { OnOk result (map number_in tables.new.lasts.items ≡ map number_in tables.old.lasts.items) }
     ensures stages { OnOk result (map stage_in tables.new.lasts.items ≡ map stage_in tables.old.lasts.items) }
     ensures does { (settings : Settings) (before base : List Event) (e : ℕ)
-        → Leaves settings before e (map number_in tables.old.lasts.items) leaving.now
+        → Leaves settings before e tables.old.lasts.items leaving.now
         → OnOk result (Does (λ t events. Stands settings t events) (cancels_row settings before e) base tables.old outs.old tables.new outs.new) }
-    ensures documents { (settings : Settings) (owed : Owed) (base : List Event) → DocumentsStand settings owed tables.old (behind base outs.old)
+    ensures documents { (settings : Settings) (owed : Owed) (before base : List Event) (e : ℕ)
+        → Leaves settings before e tables.old.lasts.items leaving.now → Stands settings tables.old (behind base outs.old)
+        → DocumentsStand settings owed tables.old (behind base outs.old)
         → OnOk result (DocumentsStand settings owed tables.new (behind base outs.new)) }
 {
     match leaving {
         None => Ok(()),
         Some(left) => {
             cancel_all(tables, alloc, outs, left.group, &left.requests)?;
+            tables.refuse_asks(alloc, outs, left.group, left.editor)?;
             Ok(())
         }
     }
 }
 
-/// L1: an editor leaves: what was looked up is cancelled, and the last start of its group is sent the bodies that it is owed for the
+/// L1: an editor leaves: what was looked up is cancelled, what the last start of its group asked of it is refused, and that start is sent the bodies that it is owed for the
 /// editor's documents.
 pub fn depart(
     tables: &mut Tables,
@@ -118,7 +129,7 @@ pub fn depart(
     ensures requests { tables.new.requests ≡ tables.old.requests }
     ensures versions { tables.new.versions ≡ tables.old.versions }
     ensures does { (settings : Settings) (before base : List Event) (e : ℕ) (owing : Owed)
-        → Leaves settings before e (map number_in tables.old.lasts.items) leaving.now → Pays settings before e tables.old owed owing
+        → Leaves settings before e tables.old.lasts.items leaving.now → Pays settings before e tables.old owed owing
         → OnOk result (Does (λ k events. AllStand settings k events) (leave_row settings before e) base
         (tables.old, owing) outs.old (tables.new, nothing_owed) outs.new) }
 {

@@ -14,6 +14,7 @@ loop-n-preserved c = record {
   versions = c.cancel.ensures.versions ∙ c.loop-n.invariant.versions;
   starts = c.in_ok-cancel.ensures.starts ∙ c.loop-n.invariant.starts;
   stages = c.in_ok-cancel.ensures.stages ∙ c.loop-n.invariant.stages;
+  asks = c.in_ok-cancel.ensures.asks ∙ c.loop-n.invariant.asks;
   does = λ settings base s at.
       let n = get_or c.args.numbers.now c.loop-n.n-index 0 in
       let low = c.type_inv.numbers c.loop-n.n-index in

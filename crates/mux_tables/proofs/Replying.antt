@@ -1,0 +1,169 @@
+-- E19: an editor answers what a start asked of it.
+use Rattle.std.proofs.Common.{◌≡◌, ℕ, ◌<◌, ◌^◌, Bool, true, false, not, ◌&&◌, cond, List, [], ◌∷◌, ◌++◌, filter, find, map, length, refl, ap, sym, subst, ◌∙◌, nat_eq, arith}
+use Rattle.std.specs.Prelude.{Option, Some, None, MatchOption, option_map, slice_get, slice_set}
+use Rattle.std.specs.List.{AllByRecursion}
+use Rattle.std.proofs.lemmas.Bool.{and_parts}
+use Rattle.std.proofs.lemmas.Bool.Decides.{nat_tests}
+use Rattle.ask_route.specs.declared.ask.Ask as route
+use Rattle.ask_route.specs.Tables as asks
+use Rattle.mux_history.specs.declared.cause.Cause.TheVariants.{FromEditor}
+use Rattle.rpc_message.specs.Message.{Id, Message, message_of}
+use Rattle.event_model.specs.declared.phase.Phase.{Phase}
+use Rattle.event_model.specs.declared.stage.Stage.{Stage}
+use Rattle.event_model.specs.declared.stage.Stage.TheVariants.{Unspawned, Spawning, Initializing, Ready}
+use Rattle.event_model.specs.Event.{Event, heard}
+use Rattle.event_model.specs.Phases.{desk_of}
+use Rattle.event_model.specs.Requests.{answered_id}
+use Rattle.event_model.specs.Settings.{Settings}
+use Rattle.event_model.specs.Spawns.{group_behind, start_behind}
+use Rattle.event_model.proofs.Frames.{never, one_more}
+use Rattle.editor_session.specs.declared.session.Session.{Session}
+use Rattle.editor_session.specs.Sessions.{with_session}
+use Rattle.group_words.specs.Houses.{is_first_open, places, stops}
+use Rattle.group_rows.specs.Asks.{Ask, Asking, asks_of, is_seated}
+use Rattle.group_rows.specs.Forwarded.{names}
+use Rattle.mux_tables.specs.declared.tables.Start.{Start}
+use Rattle.mux_tables.specs.declared.tables.Tables.{Tables}
+use Rattle.mux_tables.specs.Refusals.{Given, Left}
+use Rattle.mux_tables.specs.Stands.{AnswersOne, AreApart, AsksAt, AsksStand, HouseStands, IsOther, LastStands, NamesAsk, Part, of_life, of_ids, of_shown, of_stop, of_asks, PartStands, Stands, WasAsked, is_beside, kept_ask}
+use Rattle.mux_tables.proofs.Apart.{stand_filter}
+use Rattle.mux_tables.proofs.Asks.{asking_more, asks_later, none_answered}
+use Rattle.mux_tables.proofs.Frames.{part_quiet}
+use Rattle.mux_tables.proofs.Heard.{set_house}
+use Rattle.mux_tables.proofs.Lasts.{asked_last}
+use Rattle.mux_tables.proofs.Moves.{house_and_lasts}
+use Rattle.mux_tables.proofs.Phased.{phased}
+use Rattle.mux_tables.proofs.Refusing.{ready_asks}
+
+module _ (e k : ℕ) (id : Option Id) (named : (n : ℕ) → n < 2 ^ 64 → names id n ≡ nat_eq n k) where
+  same_seat : (events : List Event) (a : Ask) → WasAsked events a → is_seated e id a ≡ asks.is_seated e k (kept_ask a)
+  same_seat events a h = ap (λ b. nat_eq a.editor e && b) (named a.number h.1)
+
+  -- where one is there, no other is
+  others : (events : List Event) (a : Ask) (as : List Ask) → asks.is_seated e k (kept_ask a) ≡ true → AllByRecursion (WasAsked events) as → AllByRecursion (IsOther a) as → filter (λ b. not (is_seated e id b)) as ≡ as
+  others events a [] is h o = refl
+  others events a (b ∷ as) is h o = kept (is_seated e id b) off (others events a as is h.1 o.1)
+    where
+      parts : (nat_eq a.editor e ≡ true) × (nat_eq a.number k ≡ true)
+      parts = and_parts (nat_eq a.editor e) (nat_eq a.number k) is
+
+      editor : a.editor ≡ e
+      editor = let p = parts.0 in grind (arith, nat_tests)
+
+      number : a.number ≡ k
+      number = let p = parts.1 in grind (arith, nat_tests)
+
+      off : is_seated e id b ≡ false
+      off = same_seat events b h.0 ∙ (ap (λ n. nat_eq b.editor n && nat_eq b.number k) (sym editor) ∙ (ap (λ n. nat_eq b.editor a.editor && nat_eq b.number n) (sym number) ∙ o.0.0))
+
+      kept : (c : Bool) → c ≡ false → filter (λ b. not (is_seated e id b)) as ≡ as → cond (not c) (b ∷ filter (λ b. not (is_seated e id b)) as) (filter (λ b. not (is_seated e id b)) as) ≡ b ∷ as
+      kept false q r = ap (λ bs. b ∷ bs) r
+      kept true q r = never q
+
+  less_filter : (events : List Event) (as : List Ask) → AllByRecursion (WasAsked events) as → AreApart as → asks.less (asks.is_seated e k) (map kept_ask as) ≡ map kept_ask (filter (λ a. not (is_seated e id a)) as)
+  less_filter events [] h o = refl
+  less_filter events (a ∷ as) h o = go (asks.is_seated e k (kept_ask a)) (is_seated e id a) refl (same_seat events a h.0)
+    where
+      go : (c d : Bool) → asks.is_seated e k (kept_ask a) ≡ c → d ≡ c
+          → cond c (map kept_ask as) (kept_ask a ∷ asks.less (asks.is_seated e k) (map kept_ask as)) ≡ map kept_ask (cond (not d) (a ∷ filter (λ a. not (is_seated e id a)) as) (filter (λ a. not (is_seated e id a)) as))
+      go true true is q = ap (map kept_ask) (sym (others events a as is h.1 o.0))
+      go false false is q = ap (λ ks. kept_ask a ∷ ks) (less_filter events as h.1 o.1)
+      go true false is q = cc
+      go false true is q = cc
+
+  find_kept : (events : List Event) (as : List Ask) → AllByRecursion (WasAsked events) as → option_map (λ (q : route.Ask). q.id) (find (asks.is_seated e k) (map kept_ask as)) ≡ option_map (λ (a : Ask). a.bytes) (find (is_seated e id) as)
+  find_kept events [] h = refl
+  find_kept events (a ∷ as) h = go (asks.is_seated e k (kept_ask a)) (is_seated e id a) (same_seat events a h.0)
+    where
+      go : (c d : Bool) → d ≡ c → option_map (λ (q : route.Ask). q.id) (cond c (Some (kept_ask a)) (find (asks.is_seated e k) (map kept_ask as))) ≡ option_map (λ (a : Ask). a.bytes) (cond d (Some a) (find (is_seated e id) as))
+      go true true q = refl
+      go false false q = find_kept events as h.1
+      go true false q = cc
+      go false true q = cc
+
+-- a message that names no number
+none_named : (e : ℕ) (id : Option Id) (events : List Event) → ((n : ℕ) → n < 2 ^ 64 → names id n ≡ false) → (as : List Ask) → AllByRecursion (WasAsked events) as → AllByRecursion (λ (a : Ask). is_seated e id a ≡ false) as
+none_named e id events named [] h = tt
+none_named e id events named (a ∷ as) h = (ap (λ b. nat_eq a.editor e && b) (named a.number h.0.1) ∙ off (nat_eq a.editor e), none_named e id events named as h.1)
+  where
+    off : (b : Bool) → (b && false) ≡ false
+    off true = refl
+    off false = refl
+
+none_filter : (e : ℕ) (id : Option Id) (as : List Ask) → AllByRecursion (λ (a : Ask). is_seated e id a ≡ false) as → filter (λ a. not (is_seated e id a)) as ≡ as
+none_filter e id [] h = refl
+none_filter e id (a ∷ as) h = go (is_seated e id a) h.0 (none_filter e id as h.1)
+  where
+    go : (c : Bool) → c ≡ false → filter (λ a. not (is_seated e id a)) as ≡ as → cond (not c) (a ∷ filter (λ a. not (is_seated e id a)) as) (filter (λ a. not (is_seated e id a)) as) ≡ a ∷ as
+    go false q r = ap (λ bs. a ∷ bs) r
+    go true q r = never q
+
+none_found : (e : ℕ) (id : Option Id) (as : List Ask) → AllByRecursion (λ (a : Ask). is_seated e id a ≡ false) as → find (is_seated e id) as ≡ None
+none_found e id [] h = refl
+none_found e id (a ∷ as) h = go (is_seated e id a) h.0 (none_found e id as h.1)
+  where
+    go : (c : Bool) → c ≡ false → find (is_seated e id) as ≡ None → cond c (Some a) (find (is_seated e id) as) ≡ None
+    go false q r = r
+    go true q r = never q
+
+answered_stand : (e : ℕ) (id : Option Id) (n : Option ℕ) (events : List Event) (as : List Ask) (kept left : List route.Ask) → NamesAsk id n → Left e n kept left → AsksStand events as kept → AsksStand events (filter (λ a. not (is_seated e id a)) as) left
+answered_stand e id None events as kept left named is s = subst (λ bs. AsksStand events bs left) (sym (none_filter e id as (none_named e id events named as s.asked)))
+    (record { same = is ∙ s.same; texts = s.texts; asked = s.asked; apart = s.apart })
+answered_stand e id (Some k) events as kept left named is s =
+    let same = is ∙ (ap (asks.less (asks.is_seated e k)) s.same ∙ less_filter e k id named events as s.asked s.apart) in
+    subst (λ ks. AsksStand events (filter (λ a. not (is_seated e id a)) as) ks) (sym same) (stand_filter events (λ a. not (is_seated e id a)) as s.texts s.asked s.apart)
+
+pub answer_given : (e : ℕ) (id : Option Id) (n : Option ℕ) (events : List Event) (as : List Ask) (kept : List route.Ask) (given : Option (List ℕ)) → NamesAsk id n → Given e n kept given → AsksStand events as kept → given ≡ option_map (λ (a : Ask). a.bytes) (find (is_seated e id) as)
+answer_given e id None events as kept given named is s = is ∙ sym (ap (option_map (λ (a : Ask). a.bytes)) (none_found e id as (none_named e id events named as s.asked)))
+answer_given e id (Some k) events as kept given named is s = is ∙ (ap (λ ks. option_map (λ (q : route.Ask). q.id) (find (asks.is_seated e k) ks)) s.same ∙ find_kept e k id named events as s.asked)
+
+-- by where the start stands
+empty_left : (e : ℕ) (n : Option ℕ) (kept left : List route.Ask) → kept ≡ [] → Left e n kept left → left ≡ []
+empty_left e None kept left none is = is ∙ none
+empty_left e (Some k) kept left none is = is ∙ ap (asks.less (asks.is_seated e k)) none
+
+answered_at : (stage : Stage) (e : ℕ) (id : Option Id) (n : Option ℕ) (events : List Event) (as : List Ask) (kept left : List route.Ask) → NamesAsk id n → Left e n kept left → AsksAt stage events as kept → AsksAt stage events (filter (λ a. not (is_seated e id a)) as) left
+answered_at Ready e id n events as kept left named is s = answered_stand e id n events as kept left named is s
+answered_at Unspawned e id n events as kept left named is s = (ap (filter (λ a. not (is_seated e id a))) s.0, empty_left e n kept left s.1 is)
+answered_at Spawning e id n events as kept left named is s = (ap (filter (λ a. not (is_seated e id a))) s.0, empty_left e n kept left s.1 is)
+answered_at Initializing e id n events as kept left named is s = (ap (filter (λ a. not (is_seated e id a))) s.0, empty_left e n kept left s.1 is)
+answered_at other e id n events as kept left named is s = tt
+
+module _ (settings : Settings) (t u : Tables) (events : List Event) (g e : ℕ) (body : List ℕ) (p : Phase) (n : Option ℕ) (z : Start) (left : List route.Ask) (l : e < length t.editors) (at : slice_get t.lasts.items g ≡ Some z) (set : u.editors ≡ with_session t.editors e (phased t.editors e p))
+    (ls : u.lasts.items ≡ slice_set t.lasts.items g (record z { asks = left })) (gs : u.groups ≡ t.groups) (now : u.time ≡ t.time) (os : u.origins ≡ t.origins) (r : u.requests ≡ t.requests) (named : NamesAsk (answered_id (message_of body)) n) (is : Left e n z.asks left) (one : AnswersOne z.life.start e (message_of body) events) where
+  abbrev ev : Event
+  ev = heard (FromEditor e body)
+
+  abbrev y : Start
+  y = record z { asks = left }
+
+  part : (q : Part) → PartStands q t.requests z events → PartStands q t.requests y (events ++ ev ∷ [])
+  part of_life h = part_quiet of_life t.requests z events ev refl h
+  part of_ids h = part_quiet of_ids t.requests z events ev refl h
+  part of_shown h = part_quiet of_shown t.requests z events ev refl h
+  part of_stop h = part_quiet of_stop t.requests z events ev refl h
+  part of_asks h = subst (λ as. AsksAt z.life.stage (events ++ ev ∷ []) as left) (sym (ap (λ (x : Asking). x.asks) (asking_more z.life.start events ev)))
+      (asks_later z.life.stage events ev (filter (λ a. not (is_seated e (answered_id (message_of body)) a)) (asks_of z.life.start events)) left
+      (answered_at z.life.stage e (answered_id (message_of body)) n events (asks_of z.life.start events) z.asks left named is h))
+
+  pub replied_moves : places (desk_of e events).phase (message_of body) ≡ false → stops events e (message_of body) ≡ false → is_first_open settings.servers events e (message_of body) ≡ false → (desk_of e (events ++ ev ∷ [])).phase ≡ p
+      → Stands settings t events → Stands settings u (events ++ ev ∷ [])
+  replied_moves stays goes off step st = house_and_lasts settings t u events ev (λ m. refl) refl os r
+      (λ origins lasts. asked_last t.requests t.origins.groups.items t.lasts.items u.lasts.items events ev g z y (λ m. refl) (λ m away. none_answered e m (message_of body) events (one m away)) refl at ls origins
+      (λ s. record { start = one_more (start_behind g) _ _ events ev s.start; home = one_more (group_behind z.life.start) _ _ events ev s.home; own = s.own; parts = λ q. part q (s.parts q) }) lasts)
+      (λ h.
+      let k = set_house settings t (record u { lasts = t.lasts }) events e body p l set now refl os r stays step gs goes off h in
+      record { editors = k.editors; groups = k.groups; now = k.now }) st
+
+-- the same, as the code has it
+pub replied_by : (settings : Settings) (t u : Tables) (events : List Event) (g e : ℕ) (body : List ℕ) (p : Phase) (n : Option ℕ) (x z : Start) (left : List route.Ask) → e < length t.editors → slice_get t.lasts.items g ≡ Some x → z ≡ x → u.editors ≡ with_session t.editors e (phased t.editors e p)
+    → u.lasts.items ≡ slice_set t.lasts.items g (record z { asks = left }) → u.groups ≡ t.groups → u.time ≡ t.time → u.origins ≡ t.origins → u.requests ≡ t.requests → NamesAsk (answered_id (message_of body)) n → Left e n z.asks left → AnswersOne x.life.start e (message_of body) events
+    → places (desk_of e events).phase (message_of body) ≡ false → stops events e (message_of body) ≡ false → is_first_open settings.servers events e (message_of body) ≡ false → (desk_of e (events ++ heard (FromEditor e body) ∷ [])).phase ≡ p
+    → Stands settings t events → Stands settings u (events ++ heard (FromEditor e body) ∷ [])
+replied_by settings t u events g e body p n x z left l at same set ls gs now os r named is one =
+    replied_moves settings t u events g e body p n x left l at set (ls ∙ ap (λ (w : Start). slice_set t.lasts.items g (record w { asks = left })) same) gs now os r named (subst (λ (w : Start). Left e n w.asks left) same is) one
+
+pub answer_seen : (settings : Settings) (t : Tables) (events : List Event) (g e : ℕ) (id : Option Id) (n : Option ℕ) (x z : Start) (given : Option (List ℕ)) → slice_get t.lasts.items g ≡ Some x → z ≡ x → x.life.stage ≡ Ready → NamesAsk id n → Given e n z.asks given → Stands settings t events
+    → given ≡ option_map (λ (a : Ask). a.bytes) (find (is_seated e id) (asks_of x.life.start events))
+answer_seen settings t events g e id n x z given at same ready named is st =
+    answer_given e id n events (asks_of x.life.start events) x.asks given named (subst (λ (w : Start). Given e n w.asks given) same is) (ready_asks x.life.stage events (asks_of x.life.start events) x.asks ready ((st.lasts.each g x at).parts of_asks))
