@@ -1,6 +1,6 @@
 -- E19: an editor answers what a start asked of it.
 use Rattle.std.proofs.Common.{◌≡◌, ℕ, ◌<◌, ◌^◌, Bool, true, false, not, ◌&&◌, cond, List, [], ◌∷◌, ◌++◌, filter, find, map, length, refl, ap, sym, subst, ◌∙◌, nat_eq, arith}
-use Rattle.std.specs.Prelude.{Option, Some, None, MatchOption, option_map, slice_get, slice_set}
+use Rattle.std.specs.Prelude.{Option, Some, None, IfSome, MatchOption, option_map, slice_get, slice_set}
 use Rattle.std.specs.List.{AllByRecursion}
 use Rattle.std.proofs.lemmas.Bool.{and_parts}
 use Rattle.std.proofs.lemmas.Bool.Decides.{nat_tests}
@@ -20,13 +20,13 @@ use Rattle.event_model.proofs.Frames.{never, one_more}
 use Rattle.editor_session.specs.declared.session.Session.{Session}
 use Rattle.editor_session.specs.Sessions.{with_session}
 use Rattle.group_words.specs.Houses.{is_first_open, places, stops}
-use Rattle.group_rows.specs.Asks.{Ask, Asking, asks_of, is_seated}
+use Rattle.group_rows.specs.Asks.{Ask, Asking, asks_of, is_seated, is_under}
 use Rattle.group_rows.specs.Forwarded.{names}
 use Rattle.mux_tables.specs.declared.tables.Start.{Start}
 use Rattle.mux_tables.specs.declared.tables.Tables.{Tables}
 use Rattle.mux_tables.specs.Refusals.{Given, Left}
-use Rattle.mux_tables.specs.Stands.{AnswersOne, AreApart, AsksAt, AsksStand, HouseStands, IsOther, LastStands, NamesAsk, Part, of_life, of_ids, of_shown, of_stop, of_asks, PartStands, Stands, WasAsked, is_beside, kept_ask}
-use Rattle.mux_tables.proofs.Apart.{stand_filter}
+use Rattle.mux_tables.specs.Stands.{AnswersOne, AreApart, AsksAt, AsksStand, HasText, HouseStands, IsOther, LastStands, NamesAsk, Part, of_life, of_ids, of_shown, of_stop, of_asks, PartStands, Stands, WasAsked, is_beside, kept_ask}
+use Rattle.mux_tables.proofs.Apart.{all_filter, id_flip, stand_filter}
 use Rattle.mux_tables.proofs.Asks.{asking_more, asks_later, none_answered}
 use Rattle.mux_tables.proofs.Frames.{part_quiet}
 use Rattle.mux_tables.proofs.Heard.{set_house}
@@ -167,3 +167,41 @@ pub answer_seen : (settings : Settings) (t : Tables) (events : List Event) (g e 
     → given ≡ option_map (λ (a : Ask). a.bytes) (find (is_seated e id) (asks_of x.life.start events))
 answer_seen settings t events g e id n x z given at same ready named is st =
     answer_given e id n events (asks_of x.life.start events) x.asks given named (subst (λ (w : Start). Given e n w.asks given) same is) (ready_asks x.life.stage events (asks_of x.life.start events) x.asks ready ((st.lasts.each g x at).parts of_asks))
+
+-- What is left has other ids than the one that is answered
+
+if_both : {A : Type 0} {P Q R : A → Type 0} (o : Option A) → IfSome o P → IfSome o Q → ((a : A) → P a → Q a → R a) → IfSome o R
+if_both None h k f = tt
+if_both (Some a) h k f = f a h k
+
+find_all : {P : Ask → Type 0} (p : Ask → Bool) (as : List Ask) → AllByRecursion P as → IfSome (find p as) P
+find_all p [] h = tt
+find_all {P} p (a ∷ as) h = go (p a)
+  where
+    go : (b : Bool) → IfSome (cond b (Some a) (find p as)) P
+    go true = h.0
+    go false = find_all p as h.1
+
+abbrev pub Alone : Ask → List Ask → Type 0
+Alone a as = AllByRecursion (λ (b : Ask). is_under (Some a.id) b ≡ false) as
+
+others_under : (a : Ask) (as : List Ask) → AllByRecursion (IsOther a) as → Alone a as
+others_under a [] h = tt
+others_under a (b ∷ as) h = (h.0.1, others_under a as h.1)
+
+found_alone : (p : Ask → Bool) (as : List Ask) → AreApart as → IfSome (find p as) (λ a. Alone a (filter (λ b. not (p b)) as))
+found_alone p [] h = tt
+found_alone p (a ∷ as) h = go (p a)
+  where
+    go : (b : Bool) → IfSome (cond b (Some a) (find p as)) (λ c. Alone c (cond (not b) (a ∷ filter (λ b. not (p b)) as) (filter (λ b. not (p b)) as)))
+    go true = all_filter (λ (b : Ask). is_under (Some a.id) b ≡ false) (λ b. not (p b)) as (others_under a as h.0)
+    go false = if_both (find p as) (find_all p as h.0) (found_alone p as h.1) (λ c o k. (id_flip c.id a.id o.1, k))
+
+pub found_fits : (settings : Settings) (t : Tables) (before : List Event) (g e : ℕ) (body : List ℕ) (x : Start) → slice_get t.lasts.items g ≡ Some x → x.life.stage ≡ Ready → Stands settings t before
+    → IfSome (find (is_seated e (answered_id (message_of body))) (asks_of x.life.start before)) (λ a. HasText a × Alone a (asks_of x.life.start (before ++ heard (FromEditor e body) ∷ [])))
+found_fits settings t before g e body x at ready st =
+    let as = asks_of x.life.start before in
+    let k = ready_asks x.life.stage before as x.asks ready ((st.lasts.each g x at).parts of_asks) in
+    let p : Ask → Bool = is_seated e (answered_id (message_of body)) in
+    subst (λ bs. IfSome (find p as) (λ a. HasText a × Alone a bs)) (sym (ap (λ (w : Asking). w.asks) (asking_more x.life.start before (heard (FromEditor e body)))))
+    (if_both (find p as) (find_all p as k.texts) (found_alone p as k.apart) (λ a h l. (h, l)))

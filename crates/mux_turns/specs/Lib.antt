@@ -7,3 +7,4 @@ pub mod Refusing
 pub mod Replies
 pub mod Welcomes
 pub mod Stops
+pub mod Handing

@@ -13,7 +13,7 @@ ghost use Rattle.mux_history.specs.declared.cause.Cause.TheVariants.{FromServer}
 ghost use Rattle.mux_tables.specs.declared.tables.Start.{Start};
 ghost use Rattle.mux_tables.specs.Documents.{AllStand, DocumentsStand, Owed, nothing_owed};
 ghost use Rattle.mux_tables.specs.Notes.{IsNoted};
-ghost use Rattle.mux_tables.specs.Stands.{NamesAt, Stands, forwarded_as, number_in};
+ghost use Rattle.mux_tables.specs.Stands.{NamesAsk, NamesAt, Stands, forwarded_as, number_in};
 ghost use Rattle.mux_turns.specs.Answers.{IsAsked, is_response};
 ghost use Rattle.mux_turns.specs.Replies.{reply_row};
 ghost use Rattle.response_route.specs.Answers.{answer_text};
@@ -31,7 +31,7 @@ use rpc_message::{Message, Sort};
 use std::alloc::Global;
 
 // Whether these bytes write a number.
-fn writes(bytes: &[u8], n: u32) -> bool
+fn writes(bytes: &[u8], n: u64) -> bool
     ensures { result ≡ bytes_eq bytes.now (decimal n) }
 {
     let mut digits = Buffer::new();
@@ -39,20 +39,20 @@ fn writes(bytes: &[u8], n: u32) -> bool
 }
 
 // The number that a text writes, if it writes one.
-fn parsed(text: &str) -> Option<u32>
-    ensures number { (n : ℕ) → n < 2 ^ 32 → text.now ≡ decimal n → result ≡ Some n }
-    ensures bound { IfSome result (λ n. n < 2 ^ 32) }
+fn parsed(text: &str) -> Option<u64>
+    ensures number { (n : ℕ) → n < 2 ^ 64 → text.now ≡ decimal n → result ≡ Some n }
+    ensures bound { IfSome result (λ n. n < 2 ^ 64) }
 {
-    match text.parse::<u32>() {
+    match text.parse::<u64>() {
         Ok(n) => Some(n),
         Err(_) => None,
     }
 }
 
 // The same of bytes.
-fn read(bytes: &[u8]) -> Option<u32>
-    ensures number { (n : ℕ) → n < 2 ^ 32 → bytes.now ≡ decimal n → result ≡ Some n }
-    ensures bound { IfSome result (λ n. n < 2 ^ 32) }
+fn read(bytes: &[u8]) -> Option<u64>
+    ensures number { (n : ℕ) → n < 2 ^ 64 → bytes.now ≡ decimal n → result ≡ Some n }
+    ensures bound { IfSome result (λ n. n < 2 ^ 64) }
 {
     match std::str::from_utf8(bytes) {
         Ok(text) => parsed(text),
@@ -60,9 +60,9 @@ fn read(bytes: &[u8]) -> Option<u32>
     }
 }
 
-// The number that the text of an id writes, where it is one of 32 bits, without a sign and leading zeros.
-fn number_in(id: &[u8]) -> Option<u32>
-    ensures { (i : Option Id) → IsResponseIdText i id.now → NamesAt i result }
+// The number that the text of an id writes, where it is one of 64 bits, without a sign and leading zeros.
+fn number_in(id: &[u8]) -> Option<u64>
+    ensures { (i : Option Id) → IsResponseIdText i id.now → NamesAsk i result }
 {
     let n = read(id)?;
     if writes(id, n) { Some(n) } else { None }
@@ -75,15 +75,35 @@ fn is_response(sort: Sort) -> bool
     matches!(sort, Sort::Result | Sort::Error)
 }
 
-/// The number that the id of a response writes, as those of forwarded requests are written; none of another message.
-pub fn answered_number(message: &Message) -> Option<u32>
-    ensures { (body : List ℕ) → IsRead message.now body → NamesAt (answered_id (message_of body)) result }
+/// The number that the id of a response writes, as those of requests to editors are written; none of another message.
+pub fn answered_ask(message: &Message) -> Option<u64>
+    ensures { (body : List ℕ) → IsRead message.now body → NamesAsk (answered_id (message_of body)) result }
 {
     if is_response(message.sort()) {
         number_in(message.id_bytes())
     } else {
         None
     }
+}
+
+// The same where it is one of 32 bits.
+fn narrow(n: Option<u64>) -> Option<u32>
+    ensures { (i : Option Id) → NamesAsk i n → NamesAt i result }
+{
+    match n {
+        None => None,
+        Some(n) => match u32::try_from(n) {
+            Ok(n) => Some(n),
+            Err(_) => None,
+        },
+    }
+}
+
+/// The number that the id of a response writes, as those of forwarded requests are written; none of another message.
+pub fn answered_number(message: &Message) -> Option<u32>
+    ensures { (body : List ℕ) → IsRead message.now body → NamesAt (answered_id (message_of body)) result }
+{
+    narrow(answered_ask(message))
 }
 
 /// What goes to an editor.

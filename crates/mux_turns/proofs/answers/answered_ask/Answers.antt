@@ -4,7 +4,7 @@ use Rattle.rpc_message.specs.Message.{message_of}
 use Rattle.rpc_message.specs.ValueTexts.{IsResponseIdText}
 use Rattle.event_model.specs.Requests.{answered_id}
 use Rattle.mux_turns.proofs.Numbers.{answered_text, unanswered}
-use Rattle.mux_turns.proofs.answers.answered_number.Goals as goal
+use Rattle.mux_turns.proofs.answers.answered_ask.Goals as goal
 
 pub returns-then-is_response : goal.returns-then-is_response
 returns-then-is_response c = λ body read. c.number_in.ensures (answered_id (message_of body))
