@@ -50,3 +50,4 @@ pub mod VersionsIn
 pub mod Waiting
 mod Worked
 pub mod Written
+pub mod Asks

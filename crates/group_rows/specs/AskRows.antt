@@ -1,5 +1,5 @@
 -- S9 to S12 and S14: what a ready start asks of editors and tells them, and E19: what it gets of their answers.
-use Rattle.std.specs.Prelude.{ℕ, List, [], ◌∷◌, filter, find, codes, decimal, nat_eq}
+use Rattle.std.specs.Prelude.{ℕ, Bool, false, List, [], ◌∷◌, filter, find, codes, decimal, nat_eq}
 use Rattle.std.specs.Prelude.{Option, Some, None, slice_get}
 use Rattle.std.specs.List.{last_or, list_any}
 use Rattle.std.specs.Option.{option_and_then, option_map}
@@ -13,7 +13,7 @@ use Rattle.rpc_message.specs.Message.{Id, Message, id_bytes, id_of}
 use Rattle.rpc_message.specs.Texts.{error_text, ok_text, request_failed, with_id_text}
 use Rattle.event_model.specs.Event.{Event}
 use Rattle.event_model.specs.Members.{named_of}
-use Rattle.event_model.specs.Phases.{is_running}
+use Rattle.event_model.specs.Phases.{desk_of, is_running}
 use Rattle.event_model.specs.Requests.{answered_id}
 use Rattle.event_model.specs.Row.{Row, nothing, send, choose, look, each, on, ◌⨾◌}
 use Rattle.event_model.specs.Settings.{Settings}
@@ -72,19 +72,19 @@ asking_row settings before g s body Refresh = refresh_row settings before g s bo
 asking_row settings before g s body Folders = folders_row settings before g s body
 asking_row settings before g s body Focused = focused_row settings before g s body
 asking_row settings before g s body Lowest = lowest_row settings before g body
-asking_row settings before g s body other = nothing
+asking_row settings before g s body _ = nothing
 
 -- a request under the id of an open ask gives nothing
 abbrev pub question_row : Settings → ℕ → List Event → List ℕ → Id → List ℕ → Row
 question_row settings s before body id method = choose (list_any (is_under (Some id)) (asks_of s before)) nothing
     (on (group_of s before) nothing (λ g. asking_row settings before g s body (class_of method Server false)))
 
--- S14: the editor that was asked is told that the answer is awaited no more (LSP 3.17, Cancellation Support)
-abbrev pub cancel_ask : Ask → Row
-cancel_ask a = send (ToEditor a.editor (cancel_text a.number))
+-- S14: the editor that was asked, while it runs, is told that the answer is awaited no more (LSP 3.17, Cancellation Support)
+abbrev pub cancel_ask : List Event → Ask → Row
+cancel_ask before a = choose (is_running (desk_of a.editor before).phase) (send (ToEditor a.editor (cancel_text a.number))) nothing
 
 abbrev pub cancelled_row : ℕ → List Event → Option Json → Row
-cancelled_row s before params = on (find (is_under (option_and_then id_of (named_of (codes "id") params))) (asks_of s before)) nothing cancel_ask
+cancelled_row s before params = on (find (is_under (option_and_then id_of (named_of (codes "id") params))) (asks_of s before)) nothing (cancel_ask before)
 
 -- a notification without a row of its own goes to each editor that runs
 abbrev pub broadcast : List ℕ → ℕ → Row
@@ -96,7 +96,7 @@ broadcast_row settings before s body = on (group_of s before) nothing (λ g. eac
 abbrev pub notified_row : Settings → ℕ → List Event → List ℕ → Option Json → Class → Row
 notified_row settings s before body params Cancel = cancelled_row s before params
 notified_row settings s before body params Broadcast = broadcast_row settings before s body
-notified_row settings s before body params other = nothing
+notified_row settings s before body params _ = nothing
 
 -- E19: a response under the number of an open ask goes to the start under the start's own id
 abbrev pub hand_back : ℕ → List ℕ → Ask → Row

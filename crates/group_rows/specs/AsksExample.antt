@@ -1,5 +1,5 @@
 -- Worked histories of what a start asks of two editors and tells them.
-use Rattle.std.specs.Prelude.{List, [], ◌∷◌, ◌++◌, codes}
+use Rattle.std.specs.Prelude.{List, [], ◌∷◌, codes}
 use Rattle.mux_history.specs.declared.cause.Cause.{Cause}
 use Rattle.mux_history.specs.declared.cause.Cause.TheVariants.{Joined, FromEditor, Started, FromServer}
 use Rattle.mux_history.specs.declared.out.Out.{Out}
@@ -60,11 +60,11 @@ both_told = FromServer 0 (codes "{\"jsonrpc\":\"2.0\",\"id\":7,\"method\":\"work
 
 abbrev pub both_told_outs : List (List Out)
 both_told_outs = (
-  ToServer 0 (codes "{\"jsonrpc\":\"2.0\",\"id\":7,\"result\":null}")
-      ∷ ToEditor 0 (codes "{\"jsonrpc\":\"2.0\",\"id\":1,\"method\":\"workspace/codeLens/refresh\"}")
-      ∷ ToEditor 1 (codes "{\"jsonrpc\":\"2.0\",\"id\":1,\"method\":\"workspace/codeLens/refresh\"}")
-      ∷ []
-)
+    ToServer 0 (codes "{\"jsonrpc\":\"2.0\",\"id\":7,\"result\":null}")
+    ∷ ToEditor 0 (codes "{\"jsonrpc\":\"2.0\",\"id\":1,\"method\":\"workspace/codeLens/refresh\"}")
+    ∷ ToEditor 1 (codes "{\"jsonrpc\":\"2.0\",\"id\":1,\"method\":\"workspace/codeLens/refresh\"}")
+    ∷ []
+    )
     ∷ []
     ∷ (ToEditor 0 (codes "{\"jsonrpc\":\"2.0\",\"method\":\"window/logMessage\"}") ∷ ToEditor 1 (codes "{\"jsonrpc\":\"2.0\",\"method\":\"window/logMessage\"}") ∷ [])
     ∷ []
@@ -113,10 +113,10 @@ abbrev pub asked_leaves_outs : List (List Out)
 asked_leaves_outs = (ToEditor 0 (codes "{\"jsonrpc\":\"2.0\",\"id\":1,\"method\":\"x\"}") ∷ [])
     ∷ (ToEditor 0 (codes "{\"jsonrpc\":\"2.0\",\"id\":2,\"method\":\"x\"}") ∷ [])
     ∷ (
-      ToEditor 0 (codes "{\"jsonrpc\":\"2.0\",\"id\":1,\"result\":null}")
-          ∷ ToServer 0 (codes "{\"jsonrpc\":\"2.0\",\"id\":7,\"error\":{\"code\":-32803,\"message\":\"Request failed\"}}")
-          ∷ ToServer 0 (codes "{\"jsonrpc\":\"2.0\",\"id\":8,\"error\":{\"code\":-32803,\"message\":\"Request failed\"}}")
-          ∷ []
+    ToEditor 0 (codes "{\"jsonrpc\":\"2.0\",\"id\":1,\"result\":null}")
+    ∷ ToServer 0 (codes "{\"jsonrpc\":\"2.0\",\"id\":7,\"error\":{\"code\":-32803,\"message\":\"Request failed\"}}")
+    ∷ ToServer 0 (codes "{\"jsonrpc\":\"2.0\",\"id\":8,\"error\":{\"code\":-32803,\"message\":\"Request failed\"}}")
+    ∷ []
     )
     ∷ (ToEditor 1 (codes "{\"jsonrpc\":\"2.0\",\"id\":1,\"method\":\"x\"}") ∷ [])
     ∷ []
