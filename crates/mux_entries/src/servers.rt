@@ -1,6 +1,6 @@
 //! What the program of a start says: S1 to S5.
 ghost use Rattle.std.specs.Prelude.{◌≡◌, ◌<◌, ◌≤◌, ℕ, List, [], map, Some, false, true, length, OnOk, slice_get};
-ghost use Rattle.event_model.specs.declared.stage.Stage.TheVariants.{Initializing};
+ghost use Rattle.event_model.specs.declared.stage.Stage.TheVariants.{Initializing, Ready};
 ghost use Rattle.event_model.specs.Does.{Alike, Done};
 ghost use Rattle.event_model.specs.Event.{Event, with_cause};
 ghost use Rattle.event_model.specs.Requests.{answered_id};
@@ -27,8 +27,8 @@ use mux_history::Outs;
 use mux_members::is_first_result;
 use mux_tables::Tables;
 use mux_turns::{
-    answered_number, is_first_error, stage_at, take_answer, take_ending, take_hasty, take_refused,
-    take_result, take_stopping,
+    answered_number, is_first_error, stage_at, take_answer, take_broadcast, take_ending,
+    take_hasty, take_refused, take_result, take_stopping,
 };
 use rpc_message::{Malformed, Message, Sort};
 use std::alloc::Global;
@@ -130,6 +130,39 @@ fn take_first(
     }
 }
 
+// A message comes from a start that is ready: a response to an editor's request, or a notification without a row of its own; no other one
+// is built.
+fn take_ready(
+    tables: &mut Tables,
+    alloc: Global,
+    outs: &mut Outs,
+    g: usize,
+    message: &Message,
+) -> Result<(), Memory>
+    requires group { g < length tables.old.lasts.items }
+    requires stage { (x : Start) → slice_get tables.old.lasts.items g ≡ Some x → x.life.stage ≡ Ready }
+    ensures same_limit { tables.new.requests ≡ tables.old.requests }
+    ensures same_versions { tables.new.versions ≡ tables.old.versions }
+    ensures does { (settings : Settings) (before : List Event) (body : List ℕ) (s : ℕ) → IsRead message.now body → outs.old ≡ []
+        → slice_get (map number_in tables.old.lasts.items) g ≡ Some s → Known settings before
+        → built_behind settings before (FromServer s body) ≡ true
+        → Stands settings tables.old before → DocumentsStand settings nothing_owed tables.old before
+        → OnOk result (Done (λ k events. AllStand settings k events) (row_of settings before (FromServer s body))
+        (with_cause before (FromServer s body)) [] (tables.new, nothing_owed) outs.new) }
+{
+    match message.sort() {
+        Sort::Request => Ok(()),
+        Sort::Notification => {
+            take_broadcast(tables, alloc, outs, g, message)?;
+            Ok(())
+        }
+        Sort::Result | Sort::Error => {
+            take_answer(tables, alloc, outs, g, message)?;
+            Ok(())
+        }
+    }
+}
+
 // A message comes from the group's last start. Behind its `shutdown` the response to it ends the start, and all else there, as all
 // behind its end, gives nothing (S4); in other stages than these none is built.
 fn take_message(
@@ -156,7 +189,7 @@ fn take_message(
             Ok(())
         }
         Stage::Ready => {
-            take_answer(tables, alloc, outs, g, message)?;
+            take_ready(tables, alloc, outs, g, message)?;
             Ok(())
         }
         Stage::Stopping => {

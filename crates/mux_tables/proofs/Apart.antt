@@ -33,17 +33,17 @@ all_filter P p (x ∷ xs) h = go (p x) (all_filter P p xs h.1)
     go true k = (h.0, k)
     go false k = k
 
-pub apart_filter : (p : Ask → Bool) (as : List Ask) → AreApart as → AreApart (filter p as)
+pub apart_filter : (p : Ask → Bool) (qs : List Ask) → AreApart qs → AreApart (filter p qs)
 apart_filter p [] h = tt
-apart_filter p (a ∷ as) h = go (p a) (apart_filter p as h.1)
+apart_filter p (a ∷ qs) h = go (p a) (apart_filter p qs h.1)
   where
-    go : (b : Bool) → AreApart (filter p as) → AreApart (cond b (a ∷ filter p as) (filter p as))
-    go true k = (all_filter (IsOther a) p as h.0, k)
+    go : (b : Bool) → AreApart (filter p qs) → AreApart (cond b (a ∷ filter p qs) (filter p qs))
+    go true k = (all_filter (IsOther a) p qs h.0, k)
     go false k = k
 
 -- those that pass a test, as they are kept
-pub stand_filter : (events : List Event) (p : Ask → Bool) (as : List Ask) → AllByRecursion HasText as → AllByRecursion (WasAsked events) as → AreApart as → AsksStand events (filter p as) (map kept_ask (filter p as))
-stand_filter events p as texts asked apart = record { same = refl; texts = all_filter HasText p as texts; asked = all_filter (WasAsked events) p as asked; apart = apart_filter p as apart }
+pub stand_filter : (events : List Event) (p : Ask → Bool) (qs : List Ask) → AllByRecursion HasText qs → AllByRecursion (WasAsked events) qs → AreApart qs → AsksStand events (filter p qs) (map kept_ask (filter p qs))
+stand_filter events p qs texts asked apart = record { same = refl; texts = all_filter HasText p qs texts; asked = all_filter (WasAsked events) p qs asked; apart = apart_filter p qs apart }
 
 -- without the one of an id, the others stay
 module _ (a : Ask) where
@@ -54,12 +54,12 @@ module _ (a : Ask) where
   kept_when b bs cs false h k = ap (λ ds. b ∷ ds) k
   kept_when b bs cs true h k = never h
 
-  pub later_stay : (as : List Ask) → AllByRecursion (IsOther a) as → filter rest as ≡ as
+  pub later_stay : (qs : List Ask) → AllByRecursion (IsOther a) qs → filter rest qs ≡ qs
   later_stay [] h = refl
-  later_stay (b ∷ as) h = kept_when b (filter rest as) as (same_id a.id b.id) h.0.1 (later_stay as h.1)
+  later_stay (b ∷ qs) h = kept_when b (filter rest qs) qs (same_id a.id b.id) h.0.1 (later_stay qs h.1)
 
-  one_goes : (as : List Ask) → cond (not (same_id a.id a.id)) (a ∷ filter rest as) (filter rest as) ≡ filter rest as
-  one_goes as = ap (λ c. cond (not c) (a ∷ filter rest as) (filter rest as)) (itself a.id)
+  one_goes : (qs : List Ask) → cond (not (same_id a.id a.id)) (a ∷ filter rest qs) (filter rest qs) ≡ filter rest qs
+  one_goes qs = ap (λ c. cond (not c) (a ∷ filter rest qs) (filter rest qs)) (itself a.id)
     where
       itself : (i : Id) → same_id i i ≡ true
       itself (integer w) = (bytes_eq-Decides w w).1 refl

@@ -16,7 +16,7 @@ use Rattle.mux_tables.specs.declared.tables.Tables.{Tables}
 use Rattle.mux_tables.specs.Stands.{Stands}
 use Rattle.mux_tables.proofs.DocumentFrames.{served_old}
 use Rattle.mux_tables.proofs.Frames.{itself}
-use Rattle.mux_tables.proofs.Asks.{answers_none}
+use Rattle.mux_tables.proofs.Asking.{answers_none}
 use Rattle.mux_tables.proofs.Heard.{asks_silent, set_moves}
 use Rattle.mux_tables.proofs.Phased.{phased}
 

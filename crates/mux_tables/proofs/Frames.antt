@@ -25,7 +25,7 @@ use Rattle.mux_tables.specs.declared.tables.Start.{Start}
 use Rattle.group_rows.specs.Asks.{Ask, Asking, asking_next, asking_of, asks_of, is_under}
 use Rattle.group_rows.specs.Forwarded.{Forwarding, forwarding_behind, forwarding_of, forwards, moves_ids, numbered}
 use Rattle.mux_tables.specs.Stands.{EditorsStand, GroupsStand, OriginsStand, IdsAt, IdsStand, Part, of_life, of_ids, of_shown, PartStands, LastStands, ShownAt, of_stop, StopAt, of_asks, AsksStay, is_answer, is_request}
-use Rattle.mux_tables.proofs.Asks.{asks_by, unanswered, unhanded}
+use Rattle.mux_tables.proofs.Asking.{asks_by, unanswered, unhanded}
 use Rattle.mux_tables.proofs.Named.{goes_so, meant_by, named_by}
 use Rattle.group_rows.specs.Ticks.{stop_next, stop_of}
 

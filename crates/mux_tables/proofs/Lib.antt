@@ -1,7 +1,7 @@
 pub mod Replying
 pub mod Refusing
 pub mod Apart
-pub mod Asks
+pub mod Asking
 pub mod Awaited
 pub mod Begins
 pub mod Frames

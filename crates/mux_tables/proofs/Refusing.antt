@@ -30,7 +30,7 @@ use Rattle.mux_tables.specs.Documents.{DocumentsStand, Owed}
 use Rattle.mux_tables.specs.Refusals.{of_editor, refusal, refusals}
 use Rattle.mux_tables.specs.Stands.{AreApart, AsksAt, AsksStand, HasText, Part, of_life, of_ids, of_shown, of_stop, of_asks, PartStands, Stands, WasAsked, kept_ask, number_in}
 use Rattle.mux_tables.proofs.Apart.{all_filter, one_less, stand_filter}
-use Rattle.mux_tables.proofs.Asks.{asking_more, asks_later}
+use Rattle.mux_tables.proofs.Asking.{asking_more, asks_later}
 use Rattle.mux_tables.proofs.Awaited.{told_stops}
 use Rattle.mux_tables.proofs.DocumentEvents.{shared_notified}
 use Rattle.mux_tables.proofs.DocumentMoves.{Rest, documents_all, documents_last}
@@ -49,8 +49,8 @@ handed s events body id is = ap (λ (x : Asking). x.asks) (asking_more s events 
     ∙ ap (λ o. filter (λ a. not (is_under o a)) (asks_of s events)) is)
 
 -- the asks of a start that is ready
-pub ready_asks : (stage : Stage) (events : List Event) (as : List Ask) (kept : List route.Ask) → stage ≡ Ready → AsksAt stage events as kept → AsksStand events as kept
-ready_asks stage events as kept is s = subst (λ k. AsksAt k events as kept) is s
+pub ready_asks : (stage : Stage) (events : List Event) (qs : List Ask) (kept : List route.Ask) → stage ≡ Ready → AsksAt stage events qs kept → AsksStand events qs kept
+ready_asks stage events qs kept is s = subst (λ k. AsksAt k events qs kept) is s
 
 -- the answer is said
 module _ (settings : Settings) (t u : Tables) (base : List Event) (xs ys : List Out) (g : ℕ) (z : Start) (kept : List route.Ask) (text : List ℕ) (id : Id) (at : slice_get t.lasts.items g ≡ Some z) (ready : z.life.stage ≡ Ready)
@@ -70,7 +70,7 @@ module _ (settings : Settings) (t u : Tables) (base : List Event) (xs ys : List 
       (λ st. told_stops t u here z.life.start text os runs) (λ st p h. part (keeps st) p h)
     where
       stands : kept ≡ map kept_ask (filter (λ a. not (is_under (Some id) a)) (asks_of z.life.start here)) → AsksStand here (asks_of z.life.start here) z.asks → AsksStand (here ++ ev ∷ []) (asks_of z.life.start (here ++ ev ∷ [])) kept
-      stands e s = subst (λ as. AsksStand (here ++ ev ∷ []) as kept) (sym (handed z.life.start here text id is))
+      stands e s = subst (λ qs. AsksStand (here ++ ev ∷ []) qs kept) (sym (handed z.life.start here text id is))
           (subst (λ ks. AsksStand (here ++ ev ∷ []) (filter (λ a. not (is_under (Some id) a)) (asks_of z.life.start here)) ks) (sym e)
           (asks_later Ready here ev (filter (λ a. not (is_under (Some id) a)) (asks_of z.life.start here)) (map kept_ask (filter (λ a. not (is_under (Some id) a)) (asks_of z.life.start here)))
           (stand_filter here (λ a. not (is_under (Some id) a)) (asks_of z.life.start here) s.texts s.asked s.apart)))
@@ -125,7 +125,7 @@ module _ (settings : Settings) (t : Tables) (base : List Event) (g e : ℕ) (z :
   s = z.life.start
 
   abbrev Rows : List Ask → Tables → List Out → Tables → List Out → Type 0
-  Rows as v xs u ys = Does (λ t events. Stands settings t events) (each (refusal s) (of_editor e (map kept_ask as))) base v xs u ys
+  Rows qs v xs u ys = Does (λ t events. Stands settings t events) (each (refusal s) (of_editor e (map kept_ask qs))) base v xs u ys
 
   -- the first of them goes
   next : (pre post : List Ask) (a : Ask) (v u : Tables) (xs ys : List Out) → v ≡ keeping t g z (map kept_ask (pre ++ a ∷ post)) → asks_of s (behind base xs) ≡ pre ++ a ∷ post → AreApart (pre ++ a ∷ post) → HasText a
@@ -152,7 +152,7 @@ module _ (settings : Settings) (t : Tables) (base : List Event) (g e : ℕ) (z :
   rest pre (a ∷ post) v u xs ys is all apart texts ends outs = go (nat_eq a.editor e) ends outs
     where
       over : List Ask → Tables → List Out → List Out → Type 0
-      over as w ws zs = Rows as w ws u zs
+      over qs w ws zs = Rows qs w ws u zs
 
       moved : (pre ++ a ∷ []) ++ post ≡ pre ++ a ∷ post
       moved = append_assoc pre (a ∷ []) post
@@ -163,8 +163,8 @@ module _ (settings : Settings) (t : Tables) (base : List Event) (g e : ℕ) (z :
       go true ends outs = next pre post a v u xs ys is all apart texts.0
           (λ later. rest pre post (keeping t g z (map kept_ask (pre ++ post))) u (xs ++ ToServer s (error_text a.bytes request_failed) ∷ []) ys refl later (less_apart pre apart) texts.1 ends
           (outs ∙ sym (append_assoc xs (ToServer s (error_text a.bytes request_failed) ∷ []) (refusals s (of_editor e (map kept_ask post))))))
-      go false ends outs = rest (pre ++ a ∷ []) post v u xs ys (is ∙ ap (λ as. keeping t g z (map kept_ask as)) (sym moved)) (all ∙ sym moved) (subst AreApart (sym moved) apart) texts.1
-          (λ events st. ends events (subst (λ as. Stands settings (keeping t g z (map kept_ask as)) events) (append_assoc pre (a ∷ []) (filter (λ a. not (is_with e a)) post)) st)) outs
+      go false ends outs = rest (pre ++ a ∷ []) post v u xs ys (is ∙ ap (λ qs. keeping t g z (map kept_ask qs)) (sym moved)) (all ∙ sym moved) (subst AreApart (sym moved) apart) texts.1
+          (λ events st. ends events (subst (λ qs. Stands settings (keeping t g z (map kept_ask qs)) events) (append_assoc pre (a ∷ []) (filter (λ a. not (is_with e a)) post)) st)) outs
 
       less_apart : (cs : List Ask) → AreApart (cs ++ a ∷ post) → AreApart (cs ++ post)
       less_apart [] h = h.1
@@ -179,15 +179,15 @@ module _ (settings : Settings) (t : Tables) (base : List Event) (g e : ℕ) (z :
       → ys ≡ xs ++ refusals s (of_editor e z.asks) → Does (λ t events. Stands settings t events) (each (refusal s) (of_editor e z.asks)) base t xs u ys
   refused_does u xs ys set es gs now os r outs = record {
     done = λ st.
-        let as = asks_of s (behind base xs) in
-        let k = ready_asks z.life.stage (behind base xs) as z.asks ready ((st.lasts.each g z at).parts of_asks) in
-        let first : slice_set t.lasts.items g (record z { asks = map kept_ask as }) ≡ t.lasts.items = ap (λ ks. slice_set t.lasts.items g (record z { asks = ks })) (sym k.same) ∙ same_set t.lasts.items g z at in
-        let last : filter (λ q. not (asks.is_with (Some e) q)) z.asks ≡ map kept_ask (filter (λ a. not (is_with e a)) as) = ap (filter (λ q. not (asks.is_with (Some e) q))) k.same ∙ filter_mapped kept_ask (λ q. not (asks.is_with (Some e) q)) as in
-        (subst (λ ks. Does (λ t events. Stands settings t events) (each (refusal s) (of_editor e ks)) base (keeping t g z (map kept_ask as)) xs u ys) (sym k.same)
-        (rest [] as (keeping t g z (map kept_ask as)) u xs ys refl refl k.apart k.texts
-        (λ events. same_stands settings (keeping t g z (map kept_ask (filter (λ a. not (is_with e a)) as))) u events (set ∙ ap (λ ks. slice_set t.lasts.items g (record z { asks = ks })) last) es gs now os r)
+        let qs = asks_of s (behind base xs) in
+        let k = ready_asks z.life.stage (behind base xs) qs z.asks ready ((st.lasts.each g z at).parts of_asks) in
+        let first : slice_set t.lasts.items g (record z { asks = map kept_ask qs }) ≡ t.lasts.items = ap (λ ks. slice_set t.lasts.items g (record z { asks = ks })) (sym k.same) ∙ same_set t.lasts.items g z at in
+        let last : filter (λ q. not (asks.is_with (Some e) q)) z.asks ≡ map kept_ask (filter (λ a. not (is_with e a)) qs) = ap (filter (λ q. not (asks.is_with (Some e) q))) k.same ∙ filter_mapped kept_ask (λ q. not (asks.is_with (Some e) q)) qs in
+        (subst (λ ks. Does (λ t events. Stands settings t events) (each (refusal s) (of_editor e ks)) base (keeping t g z (map kept_ask qs)) xs u ys) (sym k.same)
+        (rest [] qs (keeping t g z (map kept_ask qs)) u xs ys refl refl k.apart k.texts
+        (λ events. same_stands settings (keeping t g z (map kept_ask (filter (λ a. not (is_with e a)) qs))) u events (set ∙ ap (λ ks. slice_set t.lasts.items g (record z { asks = ks })) last) es gs now os r)
         (outs ∙ ap (λ ks. xs ++ refusals s (of_editor e ks)) k.same))).done
-        (same_stands settings t (keeping t g z (map kept_ask as)) (behind base xs) first refl refl refl refl refl st);
+        (same_stands settings t (keeping t g z (map kept_ask qs)) (behind base xs) first refl refl refl refl refl st);
   }
 
 -- the same, as the code has it
@@ -213,15 +213,15 @@ rest_same settings t events = record {
 
 module _ (settings : Settings) (owed : Owed) (t : Tables) (s : ℕ) where
   -- bodies that tell of none
-  still_told : (as : List Ask) (events : List Event) → AllByRecursion HasText as → DocumentsStand settings owed t events → DocumentsStand settings owed t (behind events (refusals s (map kept_ask as)))
+  still_told : (qs : List Ask) (events : List Event) → AllByRecursion HasText qs → DocumentsStand settings owed t events → DocumentsStand settings owed t (behind events (refusals s (map kept_ask qs)))
   still_told [] events h ds = subst (λ es. DocumentsStand settings owed t es) (sym (append-nil events)) ds
-  still_told (a ∷ as) events h ds =
+  still_told (a ∷ qs) events h ds =
       let text = error_text a.bytes request_failed in
       let says = refused_says a h.0 in
       let silent : saying_of (message_of text) ≡ no_saying = ap saying_of says in
       let aside : is_synced (message_of text) ≡ false = ap is_synced says in
-      subst (λ es. DocumentsStand settings owed t es) (append_assoc events (said (ToServer s text) ∷ []) (map said (refusals s (map kept_ask as))))
-      (still_told as (events ++ said (ToServer s text) ∷ []) h.1 (documents_all settings owed owed t t events (events ++ said (ToServer s text) ∷ []) (rest_notified settings t events s text (message_of text) silent aside) refl refl refl
+      subst (λ es. DocumentsStand settings owed t es) (append_assoc events (said (ToServer s text) ∷ []) (map said (refusals s (map kept_ask qs))))
+      (still_told qs (events ++ said (ToServer s text) ∷ []) h.1 (documents_all settings owed owed t t events (events ++ said (ToServer s text) ∷ []) (rest_notified settings t events s text (message_of text) silent aside) refl refl refl
       (λ g x d at k. shared_notified settings events (owed g) g x.life.start x.life.stage d s text (message_of text) silent aside k) ds))
 
 pub refused_documents : (settings : Settings) (owed : Owed) (t u : Tables) (base : List Event) (g e : ℕ) (x z : Start) (kept left : List route.Ask) (start : ℕ) (xs ys : List Out) → z ≡ x → slice_get t.lasts.items g ≡ Some x → x.life.stage ≡ Ready → left ≡ of_editor e z.asks → start ≡ z.life.start
@@ -229,12 +229,12 @@ pub refused_documents : (settings : Settings) (owed : Owed) (t u : Tables) (base
     → Stands settings t (behind base xs) → DocumentsStand settings owed t (behind base xs) → DocumentsStand settings owed u (behind base ys)
 refused_documents settings owed t u base g e x z kept left start xs ys same at ready leaves own set ds vs outs st docs =
     let now = behind base xs in
-    let as = asks_of x.life.start now in
-    let k = ready_asks x.life.stage now as x.asks ready ((st.lasts.each g x at).parts of_asks) in
+    let qs = asks_of x.life.start now in
+    let k = ready_asks x.life.stage now qs x.asks ready ((st.lasts.each g x at).parts of_asks) in
     let there : slice_get t.lasts.items g ≡ Some z = at ∙ ap Some (sym same) in
-    let those : left ≡ map kept_ask (filter (is_with e) as) = leaves ∙ ap (λ (w : Start). of_editor e w.asks) same ∙ ap (of_editor e) k.same ∙ filter_mapped kept_ask (asks.is_with (Some e)) as in
-    let told = still_told settings owed t start (filter (is_with e) as) now (all_filter HasText (is_with e) as k.texts) docs in
-    let later : behind base ys ≡ behind now (refusals start (map kept_ask (filter (is_with e) as))) = ap (behind base) (outs ∙ ap (λ ks. xs ++ refusals start ks) those) ∙ behind_more base xs (refusals start (map kept_ask (filter (is_with e) as))) in
+    let those : left ≡ map kept_ask (filter (is_with e) qs) = leaves ∙ ap (λ (w : Start). of_editor e w.asks) same ∙ ap (of_editor e) k.same ∙ filter_mapped kept_ask (asks.is_with (Some e)) qs in
+    let told = still_told settings owed t start (filter (is_with e) qs) now (all_filter HasText (is_with e) qs k.texts) docs in
+    let later : behind base ys ≡ behind now (refusals start (map kept_ask (filter (is_with e) qs))) = ap (behind base) (outs ∙ ap (λ ks. xs ++ refusals start ks) those) ∙ behind_more base xs (refusals start (map kept_ask (filter (is_with e) qs))) in
     subst (λ es. DocumentsStand settings owed u es) (sym later)
-    (documents_last settings owed owed t u (behind now (refusals start (map kept_ask (filter (is_with e) as)))) (behind now (refusals start (map kept_ask (filter (is_with e) as))))
-    (rest_same settings t (behind now (refusals start (map kept_ask (filter (is_with e) as))))) vs g z (record z { asks = kept }) there set (ap (λ v. v.items) ds) (λ n. n) (λ d h. h) (λ j w c away has h. h) told)
+    (documents_last settings owed owed t u (behind now (refusals start (map kept_ask (filter (is_with e) qs)))) (behind now (refusals start (map kept_ask (filter (is_with e) qs))))
+    (rest_same settings t (behind now (refusals start (map kept_ask (filter (is_with e) qs))))) vs g z (record z { asks = kept }) there set (ap (λ v. v.items) ds) (λ n. n) (λ d h. h) (λ j w c away has h. h) told)

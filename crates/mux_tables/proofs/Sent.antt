@@ -30,7 +30,7 @@ use Rattle.group_words.specs.Houses.{time_of}
 use Rattle.mux_tables.specs.Stands.{AsksStay, Part, of_life, of_ids, of_shown, of_stop, of_asks, PartStands, Sends, Stands, StopAt, forwarded_of, is_answer, number_in, unstopped}
 use Rattle.event_model.specs.Requests.{answered_id}
 use Rattle.group_rows.specs.Asks.{Ask, asks_of, is_under}
-use Rattle.mux_tables.proofs.Asks.{none_handed, told_asks}
+use Rattle.mux_tables.proofs.Asking.{none_handed, told_asks}
 use Rattle.mux_tables.proofs.Frames.{asks_stay, groups_stand, itself, part_quiet, stop_more}
 use Rattle.mux_tables.proofs.IdMoves.{cancelled_ids, sent_as, sent_ids}
 use Rattle.mux_tables.proofs.Lasts.{known}

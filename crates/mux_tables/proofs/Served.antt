@@ -26,7 +26,7 @@ use Rattle.mux_tables.specs.declared.tables.Tables.{Tables}
 use Rattle.group_rows.specs.Forwarded.{Forwarding, forwarding_behind, forwarding_of, is_under}
 use Rattle.group_rows.specs.Asks.{Ask, asks_of}
 use Rattle.mux_tables.specs.Stands.{AsksAt, Exits, IdsAt, NamesAt, Part, of_life, of_ids, of_shown, of_stop, of_asks, PartStands, ShownAt, Stands, StopAt, begun_at, forwarded_as, is_early, number_in, unstopped}
-use Rattle.mux_tables.proofs.Asks.{begun_asks, first_asks}
+use Rattle.mux_tables.proofs.Asking.{begun_asks, first_asks}
 use Rattle.mux_tables.proofs.Exits.{lost_groups, refused_groups}
 use Rattle.mux_tables.proofs.Frames.{itself, groups_stand, names_editor, names_start, part_quiet, result_quiet, spawns, stop_more, ticks}
 use Rattle.mux_tables.proofs.IdMoves.{answered_ids, ended_ids, failed_ids, unanswered_ids, found_seen}

@@ -27,7 +27,7 @@ use Rattle.group_rows.specs.Forwarded.{forwarding_behind}
 use Rattle.group_rows.specs.Ticks.{is_stopping}
 use Rattle.group_rows.specs.Asks.{Ask, asking_of, asks_of}
 use Rattle.mux_tables.specs.Stands.{AsksAt, OriginsStand, IdsAt, IdsStand, Part, of_life, of_ids, of_shown, of_stop, of_asks, PartStands, ShownAt, blank, LastStands, LastsStand, Stands}
-use Rattle.mux_tables.proofs.Asks.{asks_more}
+use Rattle.mux_tables.proofs.Asking.{asks_more}
 use Rattle.mux_tables.proofs.Frames.{asks_alone, groups_stand, itself, last_stands, life_alone, part_apart}
 use Rattle.mux_tables.proofs.Lasts.{Last, known, same_place}
 use Rattle.mux_tables.proofs.Moves.{house_stands}

@@ -104,7 +104,7 @@ still_stop limit events ev x y l q s = subst (λ (z : Standing). StopAt z.stage 
 
 pub still_asks : (limit : ℕ) (events : List Event) (ev : Event) (x y : Start) → y.life ≡ x.life → y.asks ≡ x.asks → touches of_asks ev ≡ false → PartStands of_asks limit x events → PartStands of_asks limit y (events ++ ev ∷ [])
 still_asks limit events ev x y l k q s =
-    subst (λ as. AsksAt y.life.stage (events ++ ev ∷ []) (asks_of y.life.start (events ++ ev ∷ [])) as) (sym k)
+    subst (λ qs. AsksAt y.life.stage (events ++ ev ∷ []) (asks_of y.life.start (events ++ ev ∷ [])) qs) (sym k)
     (subst (λ (z : Standing). AsksAt z.stage (events ++ ev ∷ []) (asks_of z.start (events ++ ev ∷ [])) x.asks) (sym l) (part_quiet of_asks limit x events ev q s))
 
 -- one whose answer to `shutdown` isn't awaited

@@ -132,7 +132,7 @@ IsOther a b = (is_beside a b ≡ false) × (same_id a.id b.id ≡ false)
 
 abbrev pub AreApart : List Ask → Type 0
 AreApart [] = Unit {0}
-AreApart (a ∷ as) = AllByRecursion (IsOther a) as × AreApart as
+AreApart (a ∷ qs) = AllByRecursion (IsOther a) qs × AreApart qs
 
 -- what a start that is ready asked
 pub record AsksStand (events : List Event) (open_asks : List Ask) (kept : List route.Ask) : Type 0 where

@@ -8,7 +8,7 @@ ghost use Rattle.event_model.specs.Phases.{desk_of};
 ghost use Rattle.event_model.specs.Requests.{answered_id};
 ghost use Rattle.event_model.specs.Row.{each};
 ghost use Rattle.event_model.specs.Settings.{Settings};
-ghost use Rattle.group_rows.specs.Asks.{Ask, asks_of, is_seated};
+ghost use Rattle.group_rows.specs.Asks.{Ask as Open, asks_of, is_seated};
 ghost use Rattle.group_words.specs.Houses.{is_first_open, places, stops};
 ghost use Rattle.mux_history.specs.declared.cause.Cause.TheVariants.{FromEditor};
 ghost use Rattle.rpc_message.specs.Message.{message_of};
@@ -60,7 +60,7 @@ impl Tables {
         ensures stages { map stage_in self.new.lasts.items ≡ map stage_in self.old.lasts.items }
         ensures given { (settings : Settings) (events : List Event) (body : List ℕ) (x : Start) → slice_get self.old.lasts.items g ≡ Some x
             → x.life.stage ≡ Ready → NamesAsk (answered_id (message_of body)) n → Stands settings self.old events
-            → result ≡ option_map (λ (a : Ask). a.bytes) (find (is_seated e (answered_id (message_of body))) (asks_of x.life.start events)) }
+            → result ≡ option_map (λ (a : Open). a.bytes) (find (is_seated e (answered_id (message_of body))) (asks_of x.life.start events)) }
         ensures stands { (settings : Settings) (events : List Event) (body : List ℕ) (x : Start) → slice_get self.old.lasts.items g ≡ Some x
             → NamesAsk (answered_id (message_of body)) n → AnswersOne x.life.start e (message_of body) events
             → places (desk_of e events).phase (message_of body) ≡ false → stops events e (message_of body) ≡ false

@@ -1,3 +1,5 @@
+pub mod Leaving
+pub mod Handing
 pub mod Answering
 pub mod Asides
 pub mod Asked

@@ -8,7 +8,7 @@ use Rattle.event_model.specs.Event.{requests}
 use Rattle.event_model.specs.Phases.{desk_of, is_served}
 use Rattle.rpc_message.specs.Message.{message_of, request}
 use Rattle.mux_tables.specs.Stands.{is_answer}
-use Rattle.mux_tables.proofs.Asks.{answers_none}
+use Rattle.mux_tables.proofs.Asking.{answers_none}
 use Rattle.mux_turns.proofs.Asides.{unserved_keeps}
 use Rattle.mux_turns.proofs.Classes.{shutdown_named}
 use Rattle.mux_turns.proofs.Doubling.{doubled_placed, doubled_stays, doubled_stops, doubled_unopened, serves_standard}

@@ -3,7 +3,7 @@ use Rattle.std.proofs.Common.{sym, ◌∙◌}
 use Rattle.event_model.specs.Phases.{desk_of}
 use Rattle.rpc_message.specs.Message.{message_of}
 use Rattle.mux_tables.specs.Stands.{is_answer}
-use Rattle.mux_tables.proofs.Asks.{answers_none}
+use Rattle.mux_tables.proofs.Asking.{answers_none}
 use Rattle.mux_turns.proofs.Asides.{old_unopened}
 use Rattle.mux_turns.proofs.Doubling.{begun_new}
 use Rattle.mux_turns.proofs.Lspmux.{lspmux_is, own_keeps, own_placed, own_stays, own_stops}

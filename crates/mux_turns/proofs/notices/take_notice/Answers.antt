@@ -8,7 +8,7 @@ use Rattle.mux_history.specs.declared.cause.Cause.TheVariants.{FromEditor}
 use Rattle.rpc_message.specs.Message.{message_of, notification}
 use Rattle.mux_tables.specs.Documents.{AllStand, nothing_owed, noticing, owes}
 use Rattle.mux_tables.specs.Stands.{is_answer}
-use Rattle.mux_tables.proofs.Asks.{answers_none}
+use Rattle.mux_tables.proofs.Asking.{answers_none}
 use Rattle.mux_turns.proofs.Asides.{old_unopened}
 use Rattle.mux_turns.proofs.Matched.{whole_entry}
 use Rattle.mux_turns.proofs.Noticing.{noticed}

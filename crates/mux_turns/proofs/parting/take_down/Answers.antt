@@ -11,7 +11,7 @@ use Rattle.rpc_message.specs.Texts.{invalid_request}
 use Rattle.mux_tables.specs.Documents.{AllStand, nothing_owed}
 use Rattle.mux_tables.proofs.DocumentOwed.{all_does}
 use Rattle.mux_tables.specs.Stands.{is_answer}
-use Rattle.mux_tables.proofs.Asks.{answers_none}
+use Rattle.mux_tables.proofs.Asking.{answers_none}
 use Rattle.mux_turns.proofs.Asides.{desk_now, old_unopened, unserved_keeps}
 use Rattle.mux_turns.proofs.Matched.{whole_entry}
 use Rattle.mux_turns.proofs.parting.take_down.Goals as goal

@@ -2,7 +2,7 @@
 use Rattle.std.proofs.Common.{sym, ◌∙◌}
 use Rattle.event_model.specs.Phases.{desk_of}
 use Rattle.rpc_message.specs.Message.{message_of}
-use Rattle.mux_tables.proofs.Asks.{answers_none}
+use Rattle.mux_tables.proofs.Asking.{answers_none}
 use Rattle.mux_turns.proofs.Asides.{aside, desk_now, exit_answers, exit_aside, exit_keeps, exit_stays}
 use Rattle.mux_turns.proofs.parting.take_exit.Goals as goal
 

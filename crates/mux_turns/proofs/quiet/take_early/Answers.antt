@@ -8,7 +8,7 @@ use Rattle.rpc_message.specs.Message.{message_of}
 use Rattle.mux_tables.specs.Documents.{AllStand, nothing_owed}
 use Rattle.mux_tables.proofs.DocumentOwed.{all_does}
 use Rattle.mux_tables.specs.Stands.{is_answer}
-use Rattle.mux_tables.proofs.Asks.{answers_none}
+use Rattle.mux_tables.proofs.Asking.{answers_none}
 use Rattle.mux_turns.proofs.Asides.{desk_now, early_keeps, early_stays, unnamed_unopened}
 use Rattle.mux_turns.proofs.Lspmux.{unasked_open}
 use Rattle.mux_turns.proofs.Matched.{whole_entry}

@@ -10,7 +10,7 @@ use Rattle.rpc_message.specs.Message.{message_of}
 use Rattle.event_model.proofs.Frames.{never}
 use Rattle.mux_tables.specs.Documents.{AllStand, nothing_owed}
 use Rattle.mux_tables.proofs.DocumentOwed.{all_does}
-use Rattle.mux_tables.proofs.Asks.{answers_none}
+use Rattle.mux_tables.proofs.Asking.{answers_none}
 use Rattle.mux_turns.proofs.Asides.{aside, desk_now, malformed_aside, malformed_keeps, malformed_silent, malformed_stays, refused}
 use Rattle.mux_turns.proofs.Matched.{whole_entry}
 use Rattle.mux_turns.proofs.quiet.take_malformed.Goals as goal
