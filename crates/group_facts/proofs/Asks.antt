@@ -36,7 +36,7 @@ asked_of_more e events event = fold-append (editor_behind e) [] events (event �
 
 -- Lists of asks
 
-differ_filtered : (test : Ask → Bool) (xs : List Ask) → AllDiffer xs → AllDiffer (filter test xs)
+pub differ_filtered : (test : Ask → Bool) (xs : List Ask) → AllDiffer xs → AllDiffer (filter test xs)
 differ_filtered test [] h = tt
 differ_filtered test (a ∷ xs) h = go (test a) (differ_filtered test xs h.1)
   where
@@ -54,11 +54,11 @@ id_apart i k h = go (same_id k i) refl
 -- an ask under another id at the end
 differ_last : (xs : List Ask) (a : Ask) → list_any (is_under (Some a.id)) xs ≡ false → AllDiffer xs → AllDiffer (xs ++ a ∷ [])
 differ_last [] a fresh h = (tt, tt)
-differ_last (x ∷ xs) a fresh h = go (is_under (Some a.id) x) refl fresh
+differ_last (x ∷ xs) a fresh h = go (is_under (Some a.id) x) refl (λ k. differ_last xs a k h.1) fresh
   where
-    go : (b : Bool) → same_id a.id x.id ≡ b → (b || list_any (is_under (Some a.id)) xs) ≡ false → AllDiffer (x ∷ (xs ++ a ∷ []))
-    go true same k = never k
-    go false other k = (all_join (λ (b : Ask). same_id x.id b.id ≡ false) xs (a ∷ []) h.0 (id_apart a.id x.id other, tt), differ_last xs a k h.1)
+    go : (b : Bool) → same_id a.id x.id ≡ b → (list_any (is_under (Some a.id)) xs ≡ false → AllDiffer (xs ++ a ∷ [])) → (b || list_any (is_under (Some a.id)) xs) ≡ false → AllDiffer (x ∷ (xs ++ a ∷ []))
+    go true same rest k = never k
+    go false other rest k = (all_join (λ (b : Ask). same_id x.id b.id ≡ false) xs (a ∷ []) h.0 (id_apart a.id x.id other, tt), rest k)
 
 -- What stays open
 
@@ -153,7 +153,7 @@ asks_ended events n h s = stay s events (said (EndServer n)) (h s) (λ a k. aske
 
 -- A body to an editor
 
-is_question : Message → Bool
+abbrev is_question : Message → Bool
 is_question (request id method ps) = true
 is_question _ = false
 

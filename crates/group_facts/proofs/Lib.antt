@@ -51,3 +51,4 @@ pub mod Waiting
 mod Worked
 pub mod Written
 pub mod Asks
+pub mod AskingRows
