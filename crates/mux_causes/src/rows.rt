@@ -6,7 +6,7 @@ ghost use Rattle.event_model.specs.Phases.{desk_of, is_served};
 ghost use Rattle.event_model.specs.Requests.{is_open, open_of};
 ghost use Rattle.event_model.specs.Settings.{Settings};
 ghost use Rattle.event_model.specs.Stages.{is_first_result, life_of};
-ghost use Rattle.group_facts.specs.Built.{built_behind, built_early, built_from_editor, built_from_server, built_notice, built_request, built_response, doubles, is_left, is_marked, is_plain, is_shown_whole, is_standard};
+ghost use Rattle.group_facts.specs.Built.{built_behind, built_early, built_from_editor, built_from_server, built_notice, built_ready, built_request, built_telling, doubles, is_left, is_marked, is_plain, is_shown_whole, is_standard};
 ghost use Rattle.group_facts.specs.Facts.{Known};
 ghost use Rattle.group_facts.specs.Lively.{lives_at};
 ghost use Rattle.group_facts.specs.Settled.{Settled};
@@ -14,11 +14,10 @@ ghost use Rattle.group_rows.specs.Rows.{names_lspmux};
 ghost use Rattle.group_words.specs.Houses.{groups_of};
 ghost use Rattle.json_text.specs.Json.{Json};
 ghost use Rattle.lsp_method.specs.Class.{class_of};
-ghost use Rattle.lsp_method.specs.declared.variants.Origin.TheVariants.{Editor};
+ghost use Rattle.lsp_method.specs.declared.variants.Origin.TheVariants.{Editor, Server};
 ghost use Rattle.mux_history.specs.Cores.{body_length};
 ghost use Rattle.mux_model.specs.Built.{is_other};
 ghost use Rattle.mux_model.specs.Methods.{is_cancelling};
-ghost use Rattle.mux_turns.specs.Answers.{is_response};
 ghost use Rattle.mux_tables.specs.Stands.{Stands, number_in};
 ghost use Rattle.rpc_message.specs.Message.{Id, message_of, notification, request, result as outcome};
 ghost use Rattle.rpc_message.specs.Parsed.{IsRead};
@@ -27,7 +26,7 @@ use event_model::{Phase, Stage};
 use lsp_method::Class;
 use message_body::{Body, Memory};
 use mux_history::Cause;
-use mux_members::{class_in, has_token, is_cancelling, is_first_result};
+use mux_members::{class_in, has_token, is_cancelling, is_first_result, told_class};
 use mux_tables::Tables;
 use mux_turns::{asks_lspmux, doubles, shown_of};
 use rpc_message::{Malformed, Message, Sort};
@@ -175,18 +174,31 @@ fn is_shown_whole(alloc: Global, message: &Message) -> Result<bool, Memory>
     Ok(told.bytes() == answer)
 }
 
-// Whether a message of this class answers a request (JSON-RPC 2.0, section 5).
-fn is_response(sort: Sort) -> bool
-    ensures { result ≡ is_response sort }
+// Whether notifications of this class go to each editor.
+fn goes_to_all(class: Class) -> bool
+    ensures { result ≡ built_telling class }
 {
-    matches!(sort, Sort::Result | Sort::Error)
+    matches!(class, Class::Broadcast)
+}
+
+// Whether a notification of a start that is ready is built.
+fn built_telling(message: &Message) -> bool
+    ensures { (body method : List ℕ) (params : Option Json) → IsRead message.now body → message_of body ≡ notification method params
+        → result ≡ built_telling (class_of method Server true) }
+{
+    goes_to_all(told_class(message))
 }
 
 // S5: a message of a start that is ready.
-fn built_response(message: &Message) -> bool
-    ensures { (body : List ℕ) → IsRead message.now body → result ≡ built_response (message_of body) }
+fn built_ready(message: &Message) -> bool
+    ensures { (settings : Settings) (before : List Event) (s : ℕ) (body : List ℕ) → IsRead message.now body
+        → result ≡ built_ready settings before s (message_of body) }
 {
-    is_response(message.sort())
+    match message.sort() {
+        Sort::Request => false,
+        Sort::Notification => built_telling(message),
+        Sort::Result | Sort::Error => true,
+    }
 }
 
 // S2 to S4: a message of a start that gave no result yet.
@@ -205,11 +217,11 @@ fn built_answer(tables: &Tables, alloc: Global, g: usize, message: &Message) -> 
     requires { g < length tables.now.lasts.items }
     ensures { (settings : Settings) (before : List Event) (body : List ℕ) (s : ℕ) → slice_get (map number_in tables.now.lasts.items) g ≡ Some s
         → Stands settings tables.now before → IsRead message.now body
-        → IfOk result (λ answer. answer ≡ built_from_server (life_of s before).stage body (message_of body)) }
+        → IfOk result (λ answer. answer ≡ built_from_server settings before s (life_of s before).stage body (message_of body)) }
 {
     match tables.stage(g) {
         Stage::Initializing => built_early(alloc, message),
-        Stage::Ready => Ok(built_response(message)),
+        Stage::Ready => Ok(built_ready(message)),
         Stage::Stopping | Stage::Ending => Ok(true),
         _ => Ok(false),
     }
@@ -223,7 +235,7 @@ fn built_from_start(
     message: &Message,
 ) -> Result<bool, Memory>
     ensures { (settings : Settings) (before : List Event) (body : List ℕ) → Stands settings tables.now before → IsRead message.now body
-        → IfOk result (λ answer. answer ≡ built_from_server (life_of s before).stage body (message_of body)) }
+        → IfOk result (λ answer. answer ≡ built_from_server settings before s (life_of s before).stage body (message_of body)) }
 {
     match tables.last(s) {
         None => Ok(false),
@@ -235,7 +247,7 @@ fn built_from_start(
 fn built_from_server(tables: &Tables, alloc: Global, s: u64, body: &Body) -> Result<bool, Memory>
     requires { length body.now ≤ 268435456 }
     ensures { (settings : Settings) (before : List Event) → Stands settings tables.now before
-        → IfOk result (λ answer. answer ≡ built_from_server (life_of s before).stage body.now (message_of body.now)) }
+        → IfOk result (λ answer. answer ≡ built_from_server settings before s (life_of s before).stage body.now (message_of body.now)) }
 {
     match Message::read(alloc, body.bytes()) {
         Ok(message) => built_from_start(tables, alloc, s, &message),

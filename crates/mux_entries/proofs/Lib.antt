@@ -1,3 +1,4 @@
+pub mod EditorAsks
 pub mod EditorBuilt
 pub mod EditorRows
 pub mod Said

@@ -9,18 +9,18 @@ use Rattle.mux_causes.proofs.rows.built_answer.Goals as goal
 
 pub returns-in-Initializing : goal.returns-in-Initializing
 returns-in-Initializing c = λ settings before body s at st read.
-    subst (λ stage. IfOk c.built_early.result (λ answer. answer ≡ built_from_server stage body (message_of body))) (sym c.in-Initializing.is ∙ c.stage.ensures settings before s at st) (c.built_early.ensures body read)
+    subst (λ stage. IfOk c.built_early.result (λ answer. answer ≡ built_from_server settings before s stage body (message_of body))) (sym c.in-Initializing.is ∙ c.stage.ensures settings before s at st) (c.built_early.ensures body read)
 
 pub returns-in-Ready : goal.returns-in-Ready
 returns-in-Ready c = λ settings before body s at st read.
-    as_here (life_of s before).stage c.stage.result body (message_of body) c.built_response.result (c.stage.ensures settings before s at st)
-    (c.built_response.ensures body read ∙ ap (λ stage. built_from_server stage body (message_of body)) (sym c.in-Ready.is))
+    as_here settings before s (life_of s before).stage c.stage.result body (message_of body) c.built_ready.result (c.stage.ensures settings before s at st)
+    (c.built_ready.ensures settings before s body read ∙ ap (λ stage. built_from_server settings before s stage body (message_of body)) (sym c.in-Ready.is))
 
 pub returns-in-Stopping : goal.returns-in-Stopping
 returns-in-Stopping c = λ settings before body s at st read.
-    late_built (life_of s before).stage c.stage.result body (message_of body) (c.stage.ensures settings before s at st) c.in-Stopping.is
+    late_built settings before s (life_of s before).stage c.stage.result body (message_of body) (c.stage.ensures settings before s at st) c.in-Stopping.is
 
 pub returns-in_default : goal.returns-in_default
 returns-in_default c = λ settings before body s at st read.
-    as_here (life_of s before).stage c.stage.result body (message_of body) _ (c.stage.ensures settings before s at st)
-    (other_built c.stage.result body (message_of body) c.in_default.not-Initializing c.in_default.not-Ready c.in_default.not-Stopping c.in_default.not-Ending (read_well c.args.message.now body read))
+    as_here settings before s (life_of s before).stage c.stage.result body (message_of body) _ (c.stage.ensures settings before s at st)
+    (other_built settings before s c.stage.result body (message_of body) c.in_default.not-Initializing c.in_default.not-Ready c.in_default.not-Stopping c.in_default.not-Ending (read_well c.args.message.now body read))
