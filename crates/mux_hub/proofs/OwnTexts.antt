@@ -43,22 +43,23 @@ use Rattle.mux_tables.specs.declared.tables.Tables.{Tables}
 use Rattle.mux_tables.specs.Documents.{DocumentsStand, SharedStands, nothing_owed}
 use Rattle.mux_tables.specs.Stands.{Stands, of_life}
 use Rattle.mux_tables.proofs.DocumentMoves.{documents_at}
+use Rattle.mux_tables.proofs.Homes.{kept_start}
+use Rattle.mux_tables.proofs.Placed.{KeptAt}
 use Rattle.mux_hub.specs.Entries.{emits, entry_of}
 
 module _ (settings : Settings) (t : Tables) (before : List Event) (st : Stands settings t before) (ds : DocumentsStand settings nothing_owed t before) where
-  -- the last start of a group that has one
-  last_of : (g s : ℕ) → start_of g before ≡ Some s → (x : Start) × (slice_get t.lasts.items g ≡ Some x) × (x.life.start ≡ s)
-  last_of g s is = by (nat_lt g (length t.lasts.items)) refl
-    where
-      by : (b : Bool) → nat_lt g (length t.lasts.items) ≡ b → (x : Start) × (slice_get t.lasts.items g ≡ Some x) × (x.life.start ≡ s)
-      by true l = let at = item_at t.lasts.items g (ltb-true g (length t.lasts.items) l) in (at.0, at.1, same_item (sym ((st.lasts.each g at.0 at.1).start) ∙ is))
-      by false l = let h : length t.lasts.items ≤ g = grind (arith, nat_tests) in absurd (let e : start_of g before ≡ None = st.lasts.none g h in cc)
+  -- the last start of a group, where it is ready
+  last_of : (g s : ℕ) → start_of g before ≡ Some s → is_ready (life_of s before).stage ≡ true → (k : KeptAt g t.lasts.items) × (k.last.life.start ≡ s)
+  last_of g s is ready =
+      let k = kept_start settings t before g st s is (λ e. never (sym (ap is_ready e) ∙ ready)) in
+      (k, same_item (sym (st.lasts.each k.place k.last k.at).start ∙ (ap (λ n. start_of n before) k.group ∙ is)))
 
   -- the documents of a group whose last start is ready
-  shared_of : (g s : ℕ) (x : Start) (d : Documents) → slice_get t.lasts.items g ≡ Some x → x.life.start ≡ s → slice_get t.documents.items g ≡ Some d → is_ready (life_of s before).stage ≡ true → SharedStands settings before [] g s Ready d
-  shared_of g s x d at same has ready =
-      let stage : x.life.stage ≡ Ready = ready_is x.life.stage (ap (λ (l : Life). is_ready l.stage) (sym (subst (λ n. life_of n before ≡ record { stage = x.life.stage; started = x.started }) same ((st.lasts.each g x at).parts of_life))) ∙ ready) in
-      subst (λ n. SharedStands settings before [] g n Ready d) same (subst (λ (q : Stage). SharedStands settings before [] g x.life.start q d) stage (ds.each g x d at has))
+  shared_of : (g s : ℕ) (k : KeptAt g t.lasts.items) (d : Documents) → k.last.life.start ≡ s → slice_get t.documents.items k.place ≡ Some d → is_ready (life_of s before).stage ≡ true → SharedStands settings before [] g s Ready d
+  shared_of g s k d same has ready =
+      let x = k.last in
+      let stage : x.life.stage ≡ Ready = ready_is x.life.stage (ap (λ (l : Life). is_ready l.stage) (sym (subst (λ n. life_of n before ≡ record { stage = x.life.stage; started = x.started }) same ((st.lasts.each k.place x k.at).parts of_life))) ∙ ready) in
+      subst (λ n. SharedStands settings before [] g n Ready d) same (subst (λ (q : Stage). SharedStands settings before [] g x.life.start q d) stage (subst (λ n. SharedStands settings before [] n x.life.start x.life.stage d) k.group (ds.each k.place x d k.at has)))
 
   worker_told : (s : ℕ) (bodies : List (List ℕ)) (w : Option ℕ) → fold worker_behind w (map said (to s bodies)) ≡ w
   worker_told s [] w = refl
@@ -73,13 +74,13 @@ module _ (settings : Settings) (t : Tables) (before : List Event) (st : Stands s
       → (u : List ℕ) (o : Open) → found w u (texts_of settings g events) ≡ Some o → HasOwn o (held_at s u events)
   behind_sync events s e asked k w g works home u o is =
       let bodies : List (List ℕ) = sync_bodies settings.limits.versions (λ v. held_at s v before) e (texts_of settings k.group before).opens in
-      let x = last_of k.group s k.start in
-      let d = documents_at settings nothing_owed t before k.group x.0 x.1 ds in
-      let shared = shared_of k.group s x.0 d.0 x.1 x.2 d.1 k.ready in
+      let x = last_of k.group s k.start k.ready in
+      let d = documents_at settings nothing_owed t before x.0.place x.0.last x.0.at ds in
+      let shared = shared_of k.group s x.0 d.0 x.1 d.1 k.ready in
       let few : d.0.versions < 2 ^ 32 = subst (λ n. n < 2 ^ 32) (sym (shared.versions ∙ ds.versions)) ds.range in
       let holds : HeldStands s shared.start.code d.0 before = subst (λ es. HeldStands s shared.start.code d.0 es) (append-nil before) shared.start.holds in
       let worker : w ≡ e = same_item (sym works ∙ (ap worker_of k.place ∙ (outs_more worker_behind None (Some e) (with_cause before (FromEditor e asked)) (to s bodies) (one_more worker_behind None (worker_of before) before (heard (FromEditor e asked)) refl) ∙ worker_told s bodies (Some e)))) in
-      let lived : group_of s before ≡ Some k.group = subst (λ n. group_of n before ≡ Some k.group) x.2 (st.lasts.each k.group x.0 x.1).home in
+      let lived : group_of s before ≡ Some k.group = subst (λ n. group_of n before ≡ Some k.group) x.1 (subst (λ n. group_of x.0.last.life.start before ≡ Some n) x.0.group (st.lasts.each x.0.place x.0.last x.0.at).home) in
       let group : g ≡ k.group = same_item (sym home ∙ (ap (group_of s) k.place ∙ (outs_more (group_behind s) None (Some k.group) (with_cause before (FromEditor e asked)) (to s bodies) (one_more (group_behind s) None (Some k.group) before (heard (FromEditor e asked)) lived) ∙ group_told s s bodies (Some k.group)))) in
       let own = own_texts settings k.group s e shared.start.code before asked d.0 k.stays k.silent shared.versions few shared.texts holds u o
       (subst (λ es. found e u (texts_of settings k.group es) ≡ Some o) k.place (subst (λ n. found e u (texts_of settings n events) ≡ Some o) group (subst (λ n. found n u (texts_of settings g events) ≡ Some o) worker is))) in

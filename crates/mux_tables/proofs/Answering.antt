@@ -48,10 +48,10 @@ versions_here : (settings : Settings) (t : Tables) (events : List Event) (g s e 
     → (u : List ℕ) → stamp_of u stamps ≡ stamp_at agreed_version settings s e events u
 versions_here settings t events g s e x stamps at ready number given st ds u =
     let d = documents_at settings nothing_owed t events g x at ds in
-    let was : SharedStands settings events [] g x.life.start Ready d.0 = subst (λ (q : Stage). SharedStands settings events [] g x.life.start q d.0) ready (ds.each g x d.0 at d.1) in
+    let was : SharedStands settings events [] x.life.group x.life.start Ready d.0 = subst (λ (q : Stage). SharedStands settings events [] x.life.group x.life.start q d.0) ready (ds.each g x d.0 at d.1) in
     let holds : HeldStands x.life.start was.start.code d.0 events = subst (λ es. HeldStands x.life.start was.start.code d.0 es) (append-nil events) was.start.holds in
     let stamped_so : StampsAt stamps (λ d. map (now_version e d) (versions_of e d)) (Some d.0) = subst (λ o. StampsAt stamps (λ d. map (now_version e d) (versions_of e d)) o) d.1 given in
-    stamped_so u ∙ (now_stamps e u d.0 ∙ (sym (now_stamp settings g x.life.start e was.start.code d.0 events was.texts holds (st.lasts.each g x at).home u) ∙ ap (λ n. stamp_at agreed_version settings n e events u) number))
+    stamped_so u ∙ (now_stamps e u d.0 ∙ (sym (now_stamp settings x.life.group x.life.start e was.start.code d.0 events was.texts holds (st.lasts.each g x at).home u) ∙ ap (λ n. stamp_at agreed_version settings n e events u) number))
 
 pub versions_seen : {E : Type 0} (settings : Settings) (t : Tables) (events : List Event) (g s e : ℕ) (x : Start) (result : Result (List (List ℕ × Stamp)) E) → slice_get t.lasts.items g ≡ Some x → x.life.stage ≡ Ready → slice_get (map number_in t.lasts.items) g ≡ Some s
     → IfOk result (λ stamps. StampsAt stamps (λ d. map (now_version e d) (versions_of e d)) (slice_get t.documents.items g)) → Stands settings t events → DocumentsStand settings nothing_owed t events
@@ -84,7 +84,7 @@ left_nowhere settings t events g s e u within at st ds left =
     let x = item_at t.lasts.items g within in
     let d = documents_at settings nothing_owed t events g x.0 x.1 ds in
     let was = ds.each g x.0 d.0 x.1 d.1 in
-    let home : group_of s events ≡ Some g = ap (λ n. group_of n events) (sym (start_at_place t.lasts.items g s x.0 x.1 at)) ∙ (st.lasts.each g x.0 x.1).home in
+    let home : group_of s events ≡ Some x.0.life.group = ap (λ n. group_of n events) (sym (start_at_place t.lasts.items g s x.0 x.1 at)) ∙ (st.lasts.each g x.0 x.1).home in
     let shared : shared_texts settings s events ≡ texts_in d.0 = ap (λ o. option_map_or (λ k. texts_of settings k events) o no_texts) home ∙ was.texts.texts in
     ap (λ (z : Texts). option_map (λ o. stamped (agreed_version o (held_at s u events)) o) (found e u z)) shared
-    ∙ ap (option_map (λ o. stamped (agreed_version o (held_at s u events)) o)) (none_open settings events g e u d.0.opens (not_served (desk_of e events).phase left) was.owned)
+    ∙ ap (option_map (λ o. stamped (agreed_version o (held_at s u events)) o)) (none_open settings events x.0.life.group e u d.0.opens (not_served (desk_of e events).phase left) was.owned)

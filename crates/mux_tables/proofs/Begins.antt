@@ -17,8 +17,9 @@ blank_stands limit s h of_asks = (refl, refl)
 
 no_lasts : (limit : ℕ) → 2 ≤ limit → LastsStand limit [] []
 no_lasts limit h = record {
-  none = λ g l. refl;
+  rise = tt;
   each = λ i x e. absurd (none_some e);
+  lost = λ g s none e. absurd (none_some e);
   fresh = λ s l p. blank_stands limit s h p;
   old = λ s g e. absurd (none_some e);
 }

@@ -22,7 +22,7 @@ use Rattle.event_model.specs.Members.{named_of}
 use Rattle.event_model.specs.Phases.{desk_of, is_served}
 use Rattle.event_model.specs.Row.{look, send, ◌⨾◌}
 use Rattle.event_model.specs.Settings.{Settings}
-use Rattle.event_model.specs.Spawns.{group_of, starts_behind, starts_of}
+use Rattle.event_model.specs.Spawns.{group_of, start_behind, start_of, starts_behind, starts_of}
 use Rattle.event_model.proofs.Frames.{never, one_more, outs_more, outs_still}
 use Rattle.event_model.proofs.Turns.{behind_more, does_entry}
 use Rattle.event_model.proofs.Places.{get_set_same}
@@ -54,7 +54,8 @@ use Rattle.mux_tables.specs.Notes.{IsNoted, NotesStand, StampsAt, stamp_in}
 use Rattle.mux_tables.specs.Stands.{Sends, Stands, forwarded_of, is_answer, number_in, of_ids}
 use Rattle.mux_tables.proofs.DocumentEvents.{shared_beside}
 use Rattle.mux_tables.proofs.DocumentFrames.{all_owned, owner_stays, sent_apart, sent_silent, shared_stays, start_stays}
-use Rattle.mux_tables.proofs.DocumentMoves.{Rest, documents_at, documents_set, set_same, starts_kept}
+use Rattle.mux_tables.proofs.DocumentMoves.{Rest, documents_at, documents_set, founds_kept, set_same, starts_kept}
+use Rattle.mux_tables.proofs.Placed.{groups_apart}
 use Rattle.mux_tables.proofs.DocumentOwed.{stands_told}
 use Rattle.mux_tables.proofs.DocumentSaid.{cancel_silent}
 use Rattle.mux_tables.proofs.Frames.{asks_stay, itself}
@@ -88,6 +89,13 @@ owned_told settings j s o (body ∷ bodies) events k = subst (λ es. IsOwned set
 starts_told : (s : ℕ) (bodies : List (List ℕ)) (n : ℕ) → fold starts_behind n (map said (to s bodies)) ≡ n
 starts_told s [] n = refl
 starts_told s (body ∷ bodies) n = starts_told s bodies n
+
+founds_told : (g s : ℕ) (bodies : List (List ℕ)) (events : List Event) → start_of g (behind events (to s bodies)) ≡ start_of g events
+founds_told g s bodies events = outs_more (start_behind g) None (start_of g events) events (to s bodies) refl ∙ stay bodies (start_of g events)
+  where
+    stay : (bodies : List (List ℕ)) (o : Option ℕ) → fold (start_behind g) o (map said (to s bodies)) ≡ o
+    stay [] o = refl
+    stay (body ∷ bodies) o = stay bodies o
 
 sent_beside : (n s : ℕ) (u : List ℕ) (bodies : List (List ℕ)) (events : List Event) → nat_eq s n ≡ false → sent_of n u (behind events (to s bodies)) ≡ sent_of n u events
 sent_beside n s u [] events off = ap (sent_of n u) (append-nil events)
@@ -132,13 +140,16 @@ plain_notice method ps h = (quiet (saying_by method ps) (is_aside method) h, kep
     kept true cancels = never (sym h ∙ (cancel_silent method ps cancels).1)
     kept false other = refl
 
-module _ (settings : Settings) (t : Tables) (now : List Event) (g e : ℕ) (z : Start) (d : Documents) (text : List ℕ) (at : slice_get t.lasts.items g ≡ Some z) (has : slice_get t.documents.items g ≡ Some d) (ready : z.life.stage ≡ Ready)
+module _ (settings : Settings) (t : Tables) (now : List Event) (i e : ℕ) (z : Start) (d : Documents) (text : List ℕ) (at : slice_get t.lasts.items i ≡ Some z) (has : slice_get t.documents.items i ≡ Some d) (ready : z.life.stage ≡ Ready)
     (silent : saying_of (message_of text) ≡ nothing) (synced : is_synced (message_of text) ≡ true) (works : worker_of now ≡ Some e) (st : Stands settings t now) (ds : DocumentsStand settings nothing_owed t now) where
   abbrev s : ℕ
   s = z.life.start
 
+  abbrev g : ℕ
+  g = z.life.group
+
   was : SharedStands settings now [] g s Ready d
-  was = subst (λ (q : Stage). SharedStands settings now [] g s q d) ready (ds.each g z d at has)
+  was = subst (λ (q : Stage). SharedStands settings now [] g s q d) ready (ds.each i z d at has)
 
   few : d.versions < 2 ^ 32
   few = subst (λ n. n < 2 ^ 32) (sym (was.versions ∙ ds.versions)) ds.range
@@ -165,10 +176,10 @@ module _ (settings : Settings) (t : Tables) (now : List Event) (g e : ℕ) (z : 
   last = mid ++ said (ToServer s text) ∷ []
 
   pub mid_stands : Stands settings t mid
-  mid_stands = stands_told settings t g z at bodies now tell st
+  mid_stands = stands_told settings t i z at bodies now tell st
 
   here : group_of s mid ≡ Some g
-  here = (mid_stands.lasts.each g z at).home
+  here = (mid_stands.lasts.each i z at).home
 
   last_texts : texts_of settings g last ≡ texts_in (sync_row e d).after
   last_texts = texts_more settings g mid (said (ToServer s text)) ∙ (rw (here, itself g, synced, worker_stays now (to s bodies) ∙ works) (ap (touch_all (Some e)) (texts_told settings g s now bodies tell ∙ was.texts.texts)) ∙ sym (sync_texts e d))
@@ -217,19 +228,23 @@ module _ (settings : Settings) (t : Tables) (now : List Event) (g e : ℕ) (z : 
 
   pub last_rest : Rest settings t now last
   last_rest =
-      let within = slice_get_within t.lasts.items g z at in
-      let old = known t.requests t.origins.groups.items now g z st.origins (st.lasts.each g z at) in
+      let last = st.lasts.each i z at in
+      let old = known t.requests t.origins.groups.items now g z st.origins last in
       record {
-        texts = λ j l k. texts_apart settings j s text (message_of text) mid (ap (is_home j) here ∙ ne_eqb g j (λ q. absurd (omega (arith, q, l, within)))) ∙ (texts_told settings j s now bodies tell ∙ k);
+        texts = λ j l k. texts_apart settings j s text (message_of text) mid (ap (is_home j) here ∙ ne_eqb g j (λ q. some_none (sym last.start ∙ (ap (λ n. start_of n now) q ∙ l)))) ∙ (texts_told settings j s now bodies tell ∙ k);
         encoding = λ j l. encoding_stays j mid (said (ToServer s text)) refl ∙ encoding_told j s now bodies;
+        founds = λ j l. sym (founds_told j s bodies now) ∙ founds_kept mid (said (ToServer s text)) refl j l;
         starts = λ n l. subst (λ m. m ≤ n) (outs_more starts_behind 0 (starts_of now) now (to s bodies) refl ∙ starts_told s bodies (starts_of now)) (starts_kept mid (said (ToServer s text)) refl n l);
         sent = λ n l u. sent_silent n s u text (message_of text) mid silent ∙ sent_beside n s u bodies now (ne_eqb s n (λ q. absurd (omega (arith, q, l, old))));
         moments = λ j x n p there asked.
-            let i = (mid_stands.lasts.each j x there).parts of_ids in
-            let low : n < x.ids.next = below_next n 2 x.ids.next x.ids.requests p i.order.rising asked in
-            moment_apart x.life.start n s mid text (message_of text) (ap (λ k. nat_eq k n) i.next ∙ ne_eqb x.ids.next n (λ q. absurd (omega (arith, q, low)))) ∙ moment_told x.life.start n s bodies now tell;
+            let ids = (mid_stands.lasts.each j x there).parts of_ids in
+            let low : n < x.ids.next = below_next n 2 x.ids.next x.ids.requests p ids.order.rising asked in
+            moment_apart x.life.start n s mid text (message_of text) (ap (λ k. nat_eq k n) ids.next ∙ ne_eqb x.ids.next n (λ q. absurd (omega (arith, q, low)))) ∙ moment_told x.life.start n s bodies now tell;
         left = λ n h. left_stays mid (said (ToServer s text)) refl n (left_told s bodies now n h);
       }
+    where
+      some_none : {n : ℕ} → ◌≡◌ {A = Option ℕ} (Some n) None → ⊥
+      some_none q = cc
 
   mid_held : Held (sync_row e d).after (λ u. held_at s u mid)
   mid_held = held_same (sync_row e d).after (λ u. told_outs d.encoding u (held_at s u now) (sync_row e d).outs) (λ u. held_at s u mid)
@@ -246,15 +261,17 @@ module _ (settings : Settings) (t : Tables) (now : List Event) (g e : ℕ) (z : 
   -- what was noted of the request itself
   pub asked_noted : (name : Id) (method : List ℕ) (ps : Option Json) (noted : List (List ℕ × Stamp)) → message_of text ≡ request name method ps → is_own method ≡ false → StampsAt noted (versions_of e) (Some (sync_row e d).after)
       → IsNoted settings s z.ids.next e last (Some noted)
-  asked_noted name method ps noted says own stamps = (mid, moment_here s z.ids.next mid text (message_of text) name method ps says own ((mid_stands.lasts.each g z at).parts of_ids).next, λ u. stamps u ∙ mid_noted u)
+  asked_noted name method ps noted says own stamps = (mid, moment_here s z.ids.next mid text (message_of text) name method ps says own ((mid_stands.lasts.each i z at).parts of_ids).next, λ u. stamps u ∙ mid_noted u)
 
   -- all tables, where those of editors and starts stand behind the body itself
-  module _ (u : Tables) (ids : Table) (put : u.lasts.items ≡ slice_set t.lasts.items g (record z { ids = ids })) (vs : u.versions ≡ t.versions) (set : u.documents.items ≡ slice_set t.documents.items g (sync_row e d).after) (stands : Stands settings t mid → Stands settings u last)
+  module _ (u : Tables) (ids : Table) (put : u.lasts.items ≡ slice_set t.lasts.items i (record z { ids = ids })) (vs : u.versions ≡ t.versions) (set : u.documents.items ≡ slice_set t.documents.items i (sync_row e d).after) (stands : Stands settings t mid → Stands settings u last)
       (notes : NotesStand settings s z.ids.requests last → NotesStand settings s ids.requests last) where
     docs_last : DocumentsStand settings nothing_owed u last
-    docs_last = documents_set settings nothing_owed nothing_owed t u now last last_rest vs g z (record z { ids = ids }) d (sync_row e d).after at has put set notes
+    docs_last = documents_set settings nothing_owed nothing_owed t u now last last_rest vs i z (record z { ids = ids }) d (sync_row e d).after at has put set notes
         (λ _. subst (λ (q : Stage). SharedStands settings last [] g s q (sync_row e d).after) (sym ready) now_shared)
-        (λ j w c off there h. other_last j w.life.start w.life.stage c (ne_eqb g j (λ q. off (sym q))) (apart t.requests now g j z w off (st.lasts.each g z at) (st.lasts.each j w there)) h) ds
+        (λ j w c off there h.
+            let far = groups_apart t.lasts.items i j z w st.lasts.rise at there off in
+            other_last w.life.group w.life.start w.life.stage c (ne_eqb g w.life.group (λ q. far (sym q))) (apart t.requests now g w.life.group z w far (st.lasts.each i z at) (st.lasts.each j w there)) h) ds
 
     -- and what was sent before it
     pub all_last : (n : ℕ) → s ≡ n → ((sync_row e d).outs ≡ to n (syncing settings now g n e)) × AllStand settings (u, nothing_owed) (behind (behind now (to n (syncing settings now g n e))) (ToServer n text ∷ []))
@@ -264,17 +281,18 @@ module _ (settings : Settings) (t : Tables) (now : List Event) (g e : ℕ) (z : 
     )
 
 -- the outs of the code: a sync, and then the body
-abbrev Ran : Settings → Tables → Tables → List Event → ℕ → ℕ → ℕ → List ℕ → Documents → Type 0
-Ran settings t u now g s e text d = slice_get t.documents.items g ≡ Some d → u.documents.items ≡ slice_set t.documents.items g (sync_row e d).after → Stands settings t now → DocumentsStand settings nothing_owed t now
+abbrev Ran : Settings → Tables → Tables → List Event → ℕ → ℕ → ℕ → ℕ → List ℕ → Documents → Type 0
+Ran settings t u now i g s e text d = slice_get t.documents.items i ≡ Some d → u.documents.items ≡ slice_set t.documents.items i (sync_row e d).after → Stands settings t now → DocumentsStand settings nothing_owed t now
     → ((sync_row e d).outs ≡ to s (syncing settings now g s e)) × AllStand settings (u, nothing_owed) (behind (behind now (to s (syncing settings now g s e))) (ToServer s text ∷ []))
 
-synced_does : (settings : Settings) (t u : Tables) (xs ys told : List Out) (base : List Event) (g s start e : ℕ) (z : Start) (text : List ℕ) → slice_get t.lasts.items g ≡ Some z → z.life.start ≡ s → ((d : Documents) → Ran settings t u (behind base xs) g s e text d)
-    → StepAt (sync_row e) g (slice_get t.documents.items g) t.documents.items told u.documents.items → start ≡ z.life.start → ys ≡ (xs ++ told) ++ ToServer start text ∷ []
-    → Does (λ k events. AllStand settings k events) (look (λ now. to_start s (syncing settings now g s e) ⨾ send (ToServer s text))) base (t, nothing_owed) xs (u, nothing_owed) ys
-synced_does settings t u xs ys told base g s start e z text here number ran does is said_so = record {
+synced_does : (settings : Settings) (t u : Tables) (xs ys told : List Out) (base : List Event) (i s start e : ℕ) (z : Start) (text : List ℕ) → slice_get t.lasts.items i ≡ Some z → z.life.start ≡ s → ((d : Documents) → Ran settings t u (behind base xs) i z.life.group s e text d)
+    → StepAt (sync_row e) i (slice_get t.documents.items i) t.documents.items told u.documents.items → start ≡ z.life.start → ys ≡ (xs ++ told) ++ ToServer start text ∷ []
+    → Does (λ k events. AllStand settings k events) (look (λ now. to_start s (syncing settings now z.life.group s e) ⨾ send (ToServer s text))) base (t, nothing_owed) xs (u, nothing_owed) ys
+synced_does settings t u xs ys told base i s start e z text here number ran does is said_so = record {
   done = λ k.
-      let d = documents_at settings nothing_owed t (behind base xs) g z here k.1 in
-      let made : StepAt (sync_row e) g (Some d.0) t.documents.items told u.documents.items = subst (λ o. StepAt (sync_row e) g o t.documents.items told u.documents.items) d.1 does in
+      let g = z.life.group in
+      let d = documents_at settings nothing_owed t (behind base xs) i z here k.1 in
+      let made : StepAt (sync_row e) i (Some d.0) t.documents.items told u.documents.items = subst (λ o. StepAt (sync_row e) i o t.documents.items told u.documents.items) d.1 does in
       let now = ran d.0 d.1 made.1 k.0 k.1 in
       let all : ys ≡ xs ++ (to s (syncing settings (behind base xs) g s e) ++ ToServer s text ∷ []) = said_so ∙ (ap (λ n. (xs ++ told) ++ ToServer n text ∷ []) (is ∙ number) ∙ (append_assoc xs told (ToServer s text ∷ []) ∙ ap (λ ws. xs ++ (ws ++ ToServer s text ∷ [])) (made.0 ∙ now.0))) in
       record {
@@ -289,12 +307,13 @@ pub asked_does : (settings : Settings) (t u : Tables) (xs ys told : List Out) (b
     → ids.requests ≡ z.ids.requests ++ record { number = z.ids.next; pending = pending } ∷ [] → ids.next ≡ z.ids.next + 1 → ids.limit ≡ z.ids.limit → IsInOrder ids
     → u.lasts.items ≡ slice_set t.lasts.items g (record z { ids = ids }) → u.editors ≡ t.editors → u.groups ≡ t.groups → u.time ≡ t.time → u.origins ≡ t.origins → u.requests ≡ t.requests → u.versions ≡ t.versions
     → StepAt (sync_row e) g (slice_get t.documents.items g) t.documents.items told u.documents.items → pending.editor ≡ e → pending.noted ≡ Some noted → StampsAt noted (versions_of e) (slice_get u.documents.items g)
-    → start ≡ z.life.start → ys ≡ (xs ++ told) ++ ToServer start text ∷ []
-    → Does (λ k events. AllStand settings k events) (look (λ now. to_start s (syncing settings now g s e) ⨾ send (ToServer s text))) base (t, nothing_owed) xs (u, nothing_owed) ys
-asked_does settings t u xs ys told base g s start e z ids pending noted text id method name ps at within read ready says own sends works kept put next limit order set es gs time os r vs does asker notes stamps is said_so =
-    synced_does settings t u xs ys told base g s start e z text here number (λ d has docs st ds. all_last settings t now g e z d text here has ready silent synced works st ds u ids set vs docs (stands d has st ds)
+    → start ≡ z.life.start → ys ≡ (xs ++ told) ++ ToServer start text ∷ [] → (h : ℕ) → z.life.group ≡ h
+    → Does (λ k events. AllStand settings k events) (look (λ now. to_start s (syncing settings now h s e) ⨾ send (ToServer s text))) base (t, nothing_owed) xs (u, nothing_owed) ys
+asked_does settings t u xs ys told base g s start e z ids pending noted text id method name ps at within read ready says own sends works kept put next limit order set es gs time os r vs does asker notes stamps is said_so h mine =
+    subst (λ g. Does (λ k events. AllStand settings k events) (look (λ now. to_start s (syncing settings now g s e) ⨾ send (ToServer s text))) base (t, nothing_owed) xs (u, nothing_owed) ys) mine
+    (synced_does settings t u xs ys told base g s start e z text here number (λ d has docs st ds. all_last settings t now g e z d text here has ready silent synced works st ds u ids set vs docs (stands d has st ds)
     (notes_more settings z.life.start z.ids.next pending ids.requests z.ids.requests
-    (behind now (to z.life.start (rows.sync_bodies d.versions (λ w. held_at z.life.start w now) e d.opens)) ++ said (ToServer z.life.start text) ∷ []) put (noted_now d has docs st ds)) s number) does is said_so
+    (behind now (to z.life.start (rows.sync_bodies d.versions (λ w. held_at z.life.start w now) e d.opens)) ++ said (ToServer z.life.start text) ∷ []) put (noted_now d has docs st ds)) s number) does is said_so)
   where
     now : List Event
     now = behind base xs
@@ -333,10 +352,11 @@ asked_does settings t u xs ys told base g s start e z ids pending noted text id 
 pub passed_does : (settings : Settings) (t u : Tables) (xs ys told : List Out) (base : List Event) (g s start e : ℕ) (z : Start) (text method : List ℕ) (ps : Option Json) → slice_get (map number_in t.lasts.items) g ≡ Some s → g < length t.lasts.items → z ≡ get_or t.lasts.items g z
     → z.life.stage ≡ Ready → message_of text ≡ notification method ps → is_synced (message_of text) ≡ true → worker_of (behind base xs) ≡ Some e
     → u.lasts ≡ t.lasts → u.editors ≡ t.editors → u.groups ≡ t.groups → u.time ≡ t.time → u.origins ≡ t.origins → u.requests ≡ t.requests → u.versions ≡ t.versions
-    → StepAt (sync_row e) g (slice_get t.documents.items g) t.documents.items told u.documents.items → start ≡ z.life.start → ys ≡ (xs ++ told) ++ ToServer start text ∷ []
-    → Does (λ k events. AllStand settings k events) (look (λ now. to_start s (syncing settings now g s e) ⨾ send (ToServer s text))) base (t, nothing_owed) xs (u, nothing_owed) ys
-passed_does settings t u xs ys told base g s start e z text method ps at within read ready says synced works ls es gs time os r vs does is said_so =
-    synced_does settings t u xs ys told base g s start e z text here number (λ d has docs st ds. all_last settings t now g e z d text here has ready silent synced works st ds u z.ids put vs docs (stands d) (λ k. k) s number) does is said_so
+    → StepAt (sync_row e) g (slice_get t.documents.items g) t.documents.items told u.documents.items → start ≡ z.life.start → ys ≡ (xs ++ told) ++ ToServer start text ∷ [] → (h : ℕ) → z.life.group ≡ h
+    → Does (λ k events. AllStand settings k events) (look (λ now. to_start s (syncing settings now h s e) ⨾ send (ToServer s text))) base (t, nothing_owed) xs (u, nothing_owed) ys
+passed_does settings t u xs ys told base g s start e z text method ps at within read ready says synced works ls es gs time os r vs does is said_so h mine =
+    subst (λ g. Does (λ k events. AllStand settings k events) (look (λ now. to_start s (syncing settings now g s e) ⨾ send (ToServer s text))) base (t, nothing_owed) xs (u, nothing_owed) ys) mine
+    (synced_does settings t u xs ys told base g s start e z text here number (λ d has docs st ds. all_last settings t now g e z d text here has ready silent synced works st ds u z.ids put vs docs (stands d) (λ k. k) s number) does is said_so)
   where
     now : List Event
     now = behind base xs

@@ -29,8 +29,9 @@ use Rattle.mux_tables.specs.Notes.{NotesStand, has_left}
 use Rattle.mux_tables.specs.Stands.{LastStands, Stands, begun_at, number_in, of_life, phase_in}
 use Rattle.mux_tables.proofs.DocumentEvents.{heard_encoding, heard_texts, shared_heard, shared_other, shared_own, shared_quiet}
 use Rattle.mux_tables.proofs.DocumentFrames.{sent_stays, sent_unheard}
-use Rattle.mux_tables.proofs.DocumentMoves.{Rest, documents_all, documents_last, quiet_documents, rest_quiet, starts_kept}
+use Rattle.mux_tables.proofs.DocumentMoves.{Rest, documents_all, documents_last, founds_kept, quiet_documents, rest_quiet, starts_kept}
 use Rattle.mux_tables.proofs.Lasts.{apart, known}
+use Rattle.mux_tables.proofs.Placed.{groups_apart}
 use Rattle.mux_tables.proofs.Noting.{joined_left, left_stays, moment_stays, notes_answered}
 use Rattle.mux_tables.proofs.Starts.{read_here, read_same, start_at_place}
 
@@ -56,6 +57,7 @@ pub rest_heard : (settings : Settings) (t : Tables) (events : List Event) (e : �
 rest_heard settings t events e body m q = record {
   texts = λ g l h. heard_texts settings g e body m events q ∙ h;
   encoding = λ g l. encoding_stays g events (took (FromEditor e body) m) refl;
+  founds = founds_kept events (took (FromEditor e body) m) refl;
   starts = starts_kept events (took (FromEditor e body) m) refl;
   sent = λ s l u. sent_stays s u events (took (FromEditor e body) m) refl;
   moments = λ g x n p at there. moment_stays x.life.start n events (took (FromEditor e body) m) refl;
@@ -65,13 +67,13 @@ rest_heard settings t events e body m q = record {
 pub heard_documents : (settings : Settings) (owed : Owed) (t u : Tables) (events : List Event) (e : ℕ) (body : List ℕ) (m : Message) → changes_documents events e m ≡ false → u.lasts ≡ t.lasts → u.documents ≡ t.documents → u.versions ≡ t.versions
     → DocumentsStand settings owed t events → DocumentsStand settings owed u (events ++ took (FromEditor e body) m ∷ [])
 heard_documents settings owed t u events e body m q ls ds vs = documents_all settings owed owed t u events (events ++ took (FromEditor e body) m ∷ []) (rest_heard settings t events e body m q) vs (ap (λ v. v.items) ls) (ap (λ v. v.items) ds)
-    (λ g x d at h. shared_heard settings events (owed g) g x.life.start x.life.stage d e body m q h)
+    (λ g x d at h. shared_heard settings events (owed x.life.group) x.life.group x.life.start x.life.stage d e body m q h)
 
 -- a response, with what is kept of what its start asked
 pub reply_documents : (settings : Settings) (owed : Owed) (t u : Tables) (events : List Event) (g e : ℕ) (z : Start) (left : List Ask) (body : List ℕ) → slice_get t.lasts.items g ≡ Some z → changes_documents events e (message_of body) ≡ false
     → u.lasts.items ≡ slice_set t.lasts.items g (record z { asks = left }) → u.documents ≡ t.documents → u.versions ≡ t.versions → DocumentsStand settings owed t events → DocumentsStand settings owed u (events ++ took (FromEditor e body) (message_of body) ∷ [])
 reply_documents settings owed t u events g e z left body at q ls ds vs = documents_last settings owed owed t u events (events ++ took (FromEditor e body) (message_of body) ∷ []) (rest_heard settings t events e body (message_of body) q) vs g z (record z { asks = left }) at ls (ap (λ v. v.items) ds) (λ n. n)
-    (λ d h. shared_heard settings events (owed g) g z.life.start z.life.stage d e body (message_of body) q h) (λ j w c away there h. shared_heard settings events (owed j) j w.life.start w.life.stage c e body (message_of body) q h)
+    (λ d h. shared_heard settings events (owed z.life.group) z.life.group z.life.start z.life.stage d e body (message_of body) q h) (λ j w c away there h. shared_heard settings events (owed w.life.group) w.life.group w.life.start w.life.stage c e body (message_of body) q h)
 
 -- its `initialize`, and one that stops all
 pub first_unchanged : (settings : Settings) (t : Tables) (events : List Event) (e : ℕ) (x : Session) (m : Message) → slice_get t.editors e ≡ Some x → x.phase ≡ New → Stands settings t events → changes_documents events e m ≡ false
@@ -104,17 +106,22 @@ begun_number : (g : Stage) (life : Standing) → (begun_at g life).start ≡ lif
 begun_number Spawning life = refl
 begun_number other life = refl
 
+begun_group : (g : Stage) (life : Standing) → (begun_at g life).group ≡ life.group
+begun_group Spawning life = refl
+begun_group other life = refl
+
 module _ (settings : Settings) (owed : Owed) (events : List Event) (s : ℕ) where
   abbrev later : List Event
   later = events ++ took (Started s) not_message ∷ []
 
-  started_quiet : (j : ℕ) (y : Start) (c : Documents) → SharedStands settings events (owed j) j y.life.start y.life.stage c → SharedStands settings later (owed j) j y.life.start y.life.stage c
-  started_quiet j y c h = shared_quiet settings events (owed j) j y.life.start y.life.stage c (took (Started s) not_message) refl (λ o k. refl) h
+  started_quiet : (j : ℕ) (y : Start) (c : Documents) → SharedStands settings events (owed y.life.group) y.life.group y.life.start y.life.stage c → SharedStands settings later (owed y.life.group) y.life.group y.life.start y.life.stage c
+  started_quiet j y c h = shared_quiet settings events (owed y.life.group) y.life.group y.life.start y.life.stage c (took (Started s) not_message) refl (λ o k. refl) h
 
-  begun : (g : ℕ) (z : Start) (life : Standing) (d : Documents) → life ≡ begun_at z.life.stage z.life → SharedStands settings later (owed g) g z.life.start z.life.stage d → SharedStands settings later (owed g) g life.start life.stage d
-  begun g z life d is h = subst (λ (l : Standing). SharedStands settings later (owed g) g l.start l.stage d) (sym is)
-      (subst (λ n. SharedStands settings later (owed g) g n (begun_at z.life.stage z.life).stage d) (sym (begun_number z.life.stage z.life))
-      (record { texts = h.texts; versions = h.versions; owned = h.owned; start = begun_told z.life.stage z.life z.life.start (owed g) d later refl h.start }))
+  begun : (g : ℕ) (z : Start) (life : Standing) (d : Documents) → life ≡ begun_at z.life.stage z.life → SharedStands settings later (owed z.life.group) z.life.group z.life.start z.life.stage d → SharedStands settings later (owed life.group) life.group life.start life.stage d
+  begun g z life d is h = subst (λ (l : Standing). SharedStands settings later (owed l.group) l.group l.start l.stage d) (sym is)
+      (subst (λ n. SharedStands settings later (owed n) n (begun_at z.life.stage z.life).start (begun_at z.life.stage z.life).stage d) (sym (begun_group z.life.stage z.life))
+      (subst (λ n. SharedStands settings later (owed z.life.group) z.life.group n (begun_at z.life.stage z.life).stage d) (sym (begun_number z.life.stage z.life))
+      (record { texts = h.texts; versions = h.versions; owned = h.owned; start = begun_told z.life.stage z.life z.life.start (owed z.life.group) d later refl h.start })))
 
   pub started_documents : (t u : Tables) (g : ℕ) (z : Start) (life : Standing) → g < length t.lasts.items → z ≡ get_or t.lasts.items g z → life ≡ begun_at z.life.stage z.life
       → u.lasts.items ≡ slice_set t.lasts.items g (record z { life = life; started = true }) → u.documents ≡ t.documents → u.versions ≡ t.versions
@@ -129,6 +136,7 @@ pub rest_from : (settings : Settings) (t : Tables) (events : List Event) (n : �
 rest_from settings t events n body m later old = record {
   texts = λ g l h. texts_stay settings g events (took (FromServer n body) m) refl ∙ h;
   encoding = λ g l. heard_encoding g n body m events later;
+  founds = founds_kept events (took (FromServer n body) m) refl;
   starts = starts_kept events (took (FromServer n body) m) refl;
   sent = λ s l u. sent_unheard s n u body m events (ne_eqb n s (λ q. absurd (omega (arith, q, l, old))));
   moments = λ g x k p at there. moment_stays x.life.start k events (took (FromServer n body) m) refl;
@@ -140,15 +148,15 @@ pub answer_documents : (settings : Settings) (owed : Owed) (t u : Tables) (event
     → DocumentsStand settings owed t events → DocumentsStand settings owed u (events ++ took (FromServer s body) m ∷ [])
 answer_documents settings owed t u events g s z y body m k at within read later runs life taken set ds vs st =
     subst (λ n. DocumentsStand settings owed t events → DocumentsStand settings owed u (events ++ took (FromServer n body) m ∷ [])) (start_at_place t.lasts.items g s z here at)
-    (documents_last settings owed owed t u events (events ++ took (FromServer z.life.start body) m ∷ []) (rest_from settings t events z.life.start body m told (known t.requests t.origins.groups.items events g z st.origins last)) vs g z y here set (ap (λ v. v.items) ds)
+    (documents_last settings owed owed t u events (events ++ took (FromServer z.life.start body) m ∷ []) (rest_from settings t events z.life.start body m told (known t.requests t.origins.groups.items events z.life.group z st.origins last)) vs g z y here set (ap (λ v. v.items) ds)
     (λ h. subst (λ (l : Standing). NotesStand settings l.start y.ids.requests (events ++ took (FromServer z.life.start body) m ∷ [])) (sym life) (notes_answered settings z.life.start k y.ids.requests z.ids.requests (events ++ took (FromServer z.life.start body) m ∷ []) taken h))
-    (λ d h. subst (λ (l : Standing). SharedStands settings (events ++ took (FromServer z.life.start body) m ∷ []) (owed g) g l.start l.stage d) (sym life) (shared_own settings events (owed g) g z.life.start z.life.stage d body m told stage runs h))
-    (λ j w c away there h. shared_other settings events (owed j) j w.life.start w.life.stage c z.life.start body m told (apart t.requests events g j z w away last (st.lasts.each j w there)) h))
+    (λ d h. subst (λ (l : Standing). SharedStands settings (events ++ took (FromServer z.life.start body) m ∷ []) (owed l.group) l.group l.start l.stage d) (sym life) (shared_own settings events (owed z.life.group) z.life.group z.life.start z.life.stage d body m told stage runs h))
+    (λ j w c away there h. shared_other settings events (owed w.life.group) w.life.group w.life.start w.life.stage c z.life.start body m told (apart t.requests events z.life.group w.life.group z w (groups_apart t.lasts.items g j z w st.lasts.rise here there away) last (st.lasts.each j w there)) h))
   where
     here : slice_get t.lasts.items g ≡ Some z
     here = read_here t.lasts.items g z within read
 
-    last : LastStands t.requests events g z
+    last : LastStands t.requests events z.life.group z
     last = st.lasts.each g z here
 
     stage : (life_of z.life.start events).stage ≡ z.life.stage

@@ -39,11 +39,13 @@ use Rattle.group_laws.proofs.Left.{left_held}
 use Rattle.mux_tables.specs.declared.tables.Start.{Start}
 use Rattle.mux_tables.specs.declared.tables.Tables.{Tables}
 use Rattle.mux_tables.specs.Documents.{AllTell, DocumentsStand, IsOwned, Leaves, Owed, SharedStands, StartTold, StepAt, StepFrom, leaving, nothing_owed, owes, to}
-use Rattle.mux_tables.specs.Stands.{Stands, group_in, of_life, start_for}
+use Rattle.mux_tables.specs.Stands.{IsLost, IsPlace, Stands, group_in, of_life, start_for}
 use Rattle.mux_tables.proofs.DocumentFrames.{all_owned, owner_stays, parts, sent_stays, shared_stays, start_stays, touches_sent, untold_stays}
 use Rattle.mux_tables.proofs.Noting.{asks_on, joins, left_stays, moment_stays}
-use Rattle.mux_tables.proofs.DocumentMoves.{Rest, documents_all, documents_at, documents_set, set_same, starts_kept}
-use Rattle.mux_tables.proofs.DocumentOwed.{owes_here, owes_there}
+use Rattle.mux_tables.proofs.DocumentMoves.{Rest, documents_all, documents_at, documents_set, founds_kept, set_same, starts_kept}
+use Rattle.mux_tables.proofs.Lasts.{lost_ended}
+use Rattle.mux_tables.proofs.Placed.{groups_apart}
+use Rattle.mux_tables.proofs.DocumentOwed.{nothing_owes, owes_here, owes_there}
 use Rattle.mux_tables.proofs.Frames.{itself, spawns}
 
 kept_owners : (e : ℕ) (P Q : Open → Type 0) (os : List Open) → ((o : Open) → nat_eq o.editor e ≡ false → P o → Q o) → AllByRecursion P os → AllByRecursion Q (filter (λ (o : Open). not (nat_eq o.editor e)) os)
@@ -123,41 +125,48 @@ module _ (settings : Settings) (t u : Tables) (events later : List Event) (e : �
     (away : (j s : ℕ) (stage : Stage) (c : Documents) → is_home j home ≡ false → SharedStands settings events [] j s stage c → SharedStands settings later [] j s stage c)
     (removed : (g : ℕ) → home ≡ Some g → texts_of settings g later ≡ without_editor e (texts_of settings g events)) (kept : (g : ℕ) → encoding_of g later ≡ encoding_of g events) (same : (s : ℕ) (u : List ℕ) → sent_of s u later ≡ sent_of s u events)
     (owners : (g : ℕ) (o : Open) → nat_eq o.editor e ≡ false → IsOwned settings events g o → IsOwned settings later g o) where
-  nobody : ((j : ℕ) (x : Start) → slice_get t.lasts.items j ≡ Some x → is_home j home ≡ false) → u.documents.items ≡ t.documents.items → DocumentsStand settings nothing_owed t events → DocumentsStand settings nothing_owed u later
-  nobody none ds s = documents_all settings nothing_owed nothing_owed t u events later rest vs ls ds (λ j x c at h. away j x.life.start x.life.stage c (none j x at) h) s
+  nobody : ((j : ℕ) (x : Start) → slice_get t.lasts.items j ≡ Some x → is_home x.life.group home ≡ false) → u.documents.items ≡ t.documents.items → DocumentsStand settings nothing_owed t events → DocumentsStand settings nothing_owed u later
+  nobody none ds s = documents_all settings nothing_owed nothing_owed t u events later rest vs ls ds (λ j x c at h. away x.life.group x.life.start x.life.stage c (none j x at) h) s
 
-  left_at : (g : ℕ) → home ≡ Some g → (o : Option Start) → slice_get t.lasts.items g ≡ o → StepAt (leave_row e) g (slice_get t.documents.items g) t.documents.items outs u.documents.items → DocumentsStand settings nothing_owed t events → Leaves settings events e (Some g) (start_of g events) outs u later
-  left_at g own None at left s =
-      let long : length t.lasts.items ≤ g = get_past t.lasts.items g at in
-      let still : StepAt (leave_row e) g None t.documents.items outs u.documents.items = subst (λ o. StepAt (leave_row e) g o t.documents.items outs u.documents.items) (past_get t.documents.items g (subst (λ n. n ≤ g) (sym s.count) long)) left in
-      subst (λ o. Leaves settings events e (Some g) o outs u later) (sym (st.lasts.none g long)) (still.0, nobody (λ j x there. ap (is_home j) own ∙ ne_eqb g j (λ q. other j x there (sym q))) still.1 s)
+  -- nothing is kept of its group: the last start there ended, if there is one
+  left_lost : (g : ℕ) → home ≡ Some g → IsLost g t.lasts.items → (o : Option ℕ) → start_of g events ≡ o → outs ≡ [] → u.documents.items ≡ t.documents.items → DocumentsStand settings nothing_owed t events → Leaves settings events e (Some g) o outs u later
+  left_lost g own lost o starts none ds s = go o starts (nobody (λ j x there. ap (is_home x.life.group) own ∙ ne_eqb g x.life.group (λ q. lost j x there (sym q))) ds s)
     where
-      clash : {x : Start} → ◌≡◌ {A = Option Start} None (Some x) → ⊥
-      clash k = cc
+      go : (o : Option ℕ) → start_of g events ≡ o → DocumentsStand settings nothing_owed u later → Leaves settings events e (Some g) o outs u later
+      go None starts all = (none, all)
+      go (Some n) starts all =
+          let silent : leaving settings events g n e ≡ [] = rw (ap is_ready (lost_ended t.requests g n events (st.lasts.lost g n lost starts))) refl in
+          (none ∙ ap (to n) (sym silent), subst (λ bs. DocumentsStand settings (owes g bs) u later) (sym silent) (nothing_owes settings u g later all))
 
-      other : (j : ℕ) (x : Start) → slice_get t.lasts.items j ≡ Some x → j ≡ g → ⊥
-      other j x there q = clash (sym at ∙ (ap (slice_get t.lasts.items) (sym q) ∙ there))
-  left_at g own (Some x) at left s =
-      let d = documents_at settings nothing_owed t events g x at s in
-      let moved : StepAt (leave_row e) g (Some d.0) t.documents.items outs u.documents.items = subst (λ o. StepAt (leave_row e) g o t.documents.items outs u.documents.items) d.1 left in
-      let stage : (life_of x.life.start events).stage ≡ x.life.stage = ap (λ (l : Life). l.stage) ((st.lasts.each g x at).parts of_life) in
-      let was : SharedStands settings events [] g x.life.start x.life.stage d.0 = s.each g x d.0 at d.1 in
+  left_at : (i : ℕ) (x : Start) → slice_get t.lasts.items i ≡ Some x → home ≡ Some x.life.group → StepAt (leave_row e) i (slice_get t.documents.items i) t.documents.items outs u.documents.items → DocumentsStand settings nothing_owed t events → Leaves settings events e (Some x.life.group) (start_of x.life.group events) outs u later
+  left_at i x at own left s =
+      let g = x.life.group in
+      let d = documents_at settings nothing_owed t events i x at s in
+      let moved : StepAt (leave_row e) i (Some d.0) t.documents.items outs u.documents.items = subst (λ o. StepAt (leave_row e) i o t.documents.items outs u.documents.items) d.1 left in
+      let stage : (life_of x.life.start events).stage ≡ x.life.stage = ap (λ (l : Life). l.stage) ((st.lasts.each i x at).parts of_life) in
+      let was : SharedStands settings events [] g x.life.start x.life.stage d.0 = s.each i x d.0 at d.1 in
       let few : d.0.versions < 2 ^ 32 = subst (λ n. n < 2 ^ 32) (sym (was.versions ∙ s.versions)) s.range in
       let b = leaving settings events g x.life.start e in
       let go = left_shared settings events later e g x.life.start d.0 (removed g own) (kept g) (same x.life.start) (owners g) few x.life.stage stage was in
-      subst (λ o. Leaves settings events e (Some g) o outs u later) (sym (st.lasts.each g x at).start) (
+      subst (λ o. Leaves settings events e (Some g) o outs u later) (sym (st.lasts.each i x at).start) (
         moved.0 ∙ go.1,
-        documents_set settings nothing_owed (owes g b) t u events later rest vs g x x d.0 (leave_row e d.0).after at d.1 (ls ∙ sym (set_same t.lasts.items g x at)) moved.1 (λ k. k)
+        documents_set settings nothing_owed (owes g b) t u events later rest vs i x x d.0 (leave_row e d.0).after at d.1 (ls ∙ sym (set_same t.lasts.items i x at)) moved.1 (λ k. k)
             (λ _. subst (λ w. SharedStands settings later w g x.life.start x.life.stage (leave_row e d.0).after) (sym (owes_here g b)) go.0)
-            (λ j z c off there h. subst (λ w. SharedStands settings later w j z.life.start z.life.stage c) (sym (owes_there g j b off)) (away j z.life.start z.life.stage c (ap (is_home j) own ∙ ne_eqb g j (λ q. off (sym q))) h)) s,
+            (λ j z c off there h.
+                let far = groups_apart t.lasts.items i j x z st.lasts.rise at there off in
+                subst (λ w. SharedStands settings later w z.life.group z.life.start z.life.stage c) (sym (owes_there g z.life.group b far)) (away z.life.group z.life.start z.life.stage c (ap (is_home z.life.group) own ∙ ne_eqb g z.life.group (λ q. far (sym q))) h)) s,
       )
 
-  left_from : (o : Option ℕ) → home ≡ o → StepFrom (leave_row e) o t.documents.items outs u.documents.items → DocumentsStand settings nothing_owed t events → Leaves settings events e o (option_and_then (λ g. start_of g events) o) outs u later
-  left_from None own left s = (left.0, nobody (λ j x at. ap (is_home j) own) left.1 s)
-  left_from (Some g) own left s = left_at g own (slice_get t.lasts.items g) refl left s
+  left_from : (o place : Option ℕ) → home ≡ o → IsPlace t.lasts.items o place → StepFrom (leave_row e) place t.documents.items outs u.documents.items → DocumentsStand settings nothing_owed t events → Leaves settings events e o (option_and_then (λ g. start_of g events) o) outs u later
+  left_from None None own placed left s = (left.0, nobody (λ j x at. ap (is_home x.life.group) own) left.1 s)
+  left_from (Some g) None own placed left s = left_lost g own (placed g refl st.lasts.rise) (start_of g events) refl left.0 left.1 s
+  left_from o (Some i) own placed left s = go (item_at t.lasts.items i placed.0)
+    where
+      go : (x : Start) × (slice_get t.lasts.items i ≡ Some x) → Leaves settings events e o (option_and_then (λ g. start_of g events) o) outs u later
+      go x = subst (λ h. Leaves settings events e h (option_and_then (λ g. start_of g events) h) outs u later) (sym (placed.1 x.0 x.1)) (left_at i x.0 x.1 (own ∙ placed.1 x.0 x.1) left s)
 
-  pub left_documents : StepFrom (leave_row e) home t.documents.items outs u.documents.items → DocumentsStand settings nothing_owed t events → Leaves settings events e (home_of settings e events) (start_for settings e events) outs u later
-  left_documents left s = subst (λ o. Leaves settings events e o (option_and_then (λ g. start_of g events) o) outs u later) (sym is) (left_from home refl left s)
+  pub left_documents : (place : Option ℕ) → IsPlace t.lasts.items home place → StepFrom (leave_row e) place t.documents.items outs u.documents.items → DocumentsStand settings nothing_owed t events → Leaves settings events e (home_of settings e events) (start_for settings e events) outs u later
+  left_documents place placed left s = subst (λ o. Leaves settings events e o (option_and_then (λ g. start_of g events) o) outs u later) (sym is) (left_from home place refl placed left s)
 
 -- an editor has no documents where it isn't at home
 none_left : (e : ℕ) (os : List Open) → AllByRecursion (λ (o : Open). nat_eq o.editor e ≡ false) os → filter (λ (o : Open). not (nat_eq o.editor e)) os ≡ os
@@ -210,14 +219,15 @@ module _ (settings : Settings) (t u : Tables) (events : List Event) (ev : Event)
   rest = record {
     texts = λ g l h. leaves g ∙ ap (without_editor e) h;
     encoding = λ g l. encoding_stays g events ev encodes;
+    founds = founds_kept events ev spawn;
     starts = starts_kept events ev spawn;
     sent = λ s l w. sent_stays s w events ev sends;
     moments = λ g x n p at there. moment_stays x.life.start n events ev (asks_unsent ev sends);
     left = left_stays events ev quits;
   }
 
-  leave_documents : StepFrom (leave_row e) home t.documents.items outs u.documents.items → DocumentsStand settings nothing_owed t events → Leaves settings events e (home_of settings e events) (start_for settings e events) outs u later
-  leave_documents left s = left_documents settings t u events later e home outs is ls vs rest st away (λ g own. leaves g) (λ g. encoding_stays g events ev encodes) (λ s w. sent_stays s w events ev sends) owner left s
+  leave_documents : (place : Option ℕ) → IsPlace t.lasts.items home place → StepFrom (leave_row e) place t.documents.items outs u.documents.items → DocumentsStand settings nothing_owed t events → Leaves settings events e (home_of settings e events) (start_for settings e events) outs u later
+  leave_documents place placed left s = left_documents settings t u events later e home outs is ls vs rest st away (λ g own. leaves g) (λ g. encoding_stays g events ev encodes) (λ s w. sent_stays s w events ev sends) owner place placed left s
 
   -- an editor that isn't served has no documents
   module _ (owed : Owed) (unserved : is_served (desk_of e events).phase ≡ false) where
@@ -248,37 +258,37 @@ module _ (settings : Settings) (t u : Tables) (events : List Event) (ev : Event)
     step_at g None at left s = left
     step_at g (Some d) at left s =
         let x = item_at t.lasts.items g (subst (λ n. g < n) s.count (slice_get_within t.documents.items g d at)) in
-        let k = no_step d (none_of g d.opens (s.each g x.0 d x.1 at).owned) in
+        let k = no_step d (none_of x.0.life.group d.opens (s.each g x.0 d x.1 at).owned) in
         (left.0 ∙ ap (λ (z : Step). z.outs) k, left.1 ∙ (ap (λ (z : Step). slice_set t.documents.items g z.after) k ∙ set_same t.documents.items g d at))
 
     step_from : (o : Option ℕ) → StepFrom (leave_row e) o t.documents.items outs u.documents.items → DocumentsStand settings owed t events → (outs ≡ []) × (u.documents.items ≡ t.documents.items)
     step_from None left s = left
     step_from (Some g) left s = step_at g (slice_get t.documents.items g) refl left s
 
-    unserved_documents : StepFrom (leave_row e) home t.documents.items outs u.documents.items → DocumentsStand settings owed t events → (outs ≡ []) × DocumentsStand settings owed u later
-    unserved_documents left s = let k = step_from home left s in (k.0, documents_all settings owed owed t u events later rest vs ls k.1 (λ g x d at h. still g x.life.start x.life.stage d h) s)
+    unserved_documents : (place : Option ℕ) → StepFrom (leave_row e) place t.documents.items outs u.documents.items → DocumentsStand settings owed t events → (outs ≡ []) × DocumentsStand settings owed u later
+    unserved_documents place left s = let k = step_from place left s in (k.0, documents_all settings owed owed t u events later rest vs ls k.1 (λ g x d at h. still x.life.group x.life.start x.life.stage d h) s)
 
-pub gone_documents : (settings : Settings) (t u : Tables) (events : List Event) (e : ℕ) (why : Why) (home : Option ℕ) (outs : List Out) → e < length t.editors → home ≡ (session_of t.editors e).group → u.lasts ≡ t.lasts → u.versions ≡ t.versions → StepFrom (leave_row e) home t.documents.items outs u.documents.items
+pub gone_documents : (settings : Settings) (t u : Tables) (events : List Event) (e : ℕ) (why : Why) (home place : Option ℕ) (outs : List Out) → e < length t.editors → home ≡ (session_of t.editors e).group → IsPlace t.lasts.items home place → u.lasts ≡ t.lasts → u.versions ≡ t.versions → StepFrom (leave_row e) place t.documents.items outs u.documents.items
     → Stands settings t events → DocumentsStand settings nothing_owed t events → Leaves settings events e (home_of settings e events) (start_for settings e events) outs u (events ++ heard (EditorGone e why) ∷ [])
-gone_documents settings t u events e why home outs l is ls vs left st s = leave_documents settings t u events (heard (EditorGone e why)) e home outs (λ g. texts_more settings g events (heard (EditorGone e why))) refl refl refl refl (λ n h. h) (home_seen settings t events e home l is st) (ap (λ v. v.items) ls) vs st left s
+gone_documents settings t u events e why home place outs l is placed ls vs left st s = leave_documents settings t u events (heard (EditorGone e why)) e home outs (λ g. texts_more settings g events (heard (EditorGone e why))) refl refl refl refl (λ n h. h) (home_seen settings t events e home l is st) (ap (λ v. v.items) ls) vs st place placed left s
 
-pub closed_documents : (settings : Settings) (t u : Tables) (base : List Event) (xs ys : List Out) (e : ℕ) (home : Option ℕ) (owed : List Out) → e < length t.editors → home ≡ (session_of t.editors e).group → u.lasts ≡ t.lasts → u.versions ≡ t.versions → StepFrom (leave_row e) home t.documents.items owed u.documents.items → ys ≡ xs ++ CloseEditor e ∷ []
+pub closed_documents : (settings : Settings) (t u : Tables) (base : List Event) (xs ys : List Out) (e : ℕ) (home place : Option ℕ) (owed : List Out) → e < length t.editors → home ≡ (session_of t.editors e).group → IsPlace t.lasts.items home place → u.lasts ≡ t.lasts → u.versions ≡ t.versions → StepFrom (leave_row e) place t.documents.items owed u.documents.items → ys ≡ xs ++ CloseEditor e ∷ []
     → Stands settings t (behind base xs) → DocumentsStand settings nothing_owed t (behind base xs) → Leaves settings (behind base xs) e (home_of settings e (behind base xs)) (start_for settings e (behind base xs)) owed u (behind base ys)
-closed_documents settings t u base xs ys e home owed l is ls vs left said_so st s =
+closed_documents settings t u base xs ys e home place owed l is placed ls vs left said_so st s =
     subst (λ es. Leaves settings (behind base xs) e (home_of settings e (behind base xs)) (start_for settings e (behind base xs)) owed u es) (sym (ap (behind base) said_so ∙ behind_more base xs (CloseEditor e ∷ [])))
-    (leave_documents settings t u (behind base xs) (said (CloseEditor e)) e home owed (λ g. texts_more settings g (behind base xs) (said (CloseEditor e))) refl refl refl refl (λ n h. h) (home_seen settings t (behind base xs) e home l is st) (ap (λ v. v.items) ls) vs st left s)
+    (leave_documents settings t u (behind base xs) (said (CloseEditor e)) e home owed (λ g. texts_more settings g (behind base xs) (said (CloseEditor e))) refl refl refl refl (λ n h. h) (home_seen settings t (behind base xs) e home l is st) (ap (λ v. v.items) ls) vs st place placed left s)
 
-pub gone_unserved : (settings : Settings) (t u : Tables) (events : List Event) (e : ℕ) (why : Why) (home : Option ℕ) (outs : List Out) → e < length t.editors → home ≡ (session_of t.editors e).group → u.lasts ≡ t.lasts → u.versions ≡ t.versions → StepFrom (leave_row e) home t.documents.items outs u.documents.items
+pub gone_unserved : (settings : Settings) (t u : Tables) (events : List Event) (e : ℕ) (why : Why) (home place : Option ℕ) (outs : List Out) → e < length t.editors → home ≡ (session_of t.editors e).group → u.lasts ≡ t.lasts → u.versions ≡ t.versions → StepFrom (leave_row e) place t.documents.items outs u.documents.items
     → Stands settings t events → is_served (desk_of e events).phase ≡ false → DocumentsStand settings nothing_owed t events → (outs ≡ []) × DocumentsStand settings nothing_owed u (events ++ heard (EditorGone e why) ∷ [])
-gone_unserved settings t u events e why home outs l is ls vs left st unserved s = unserved_documents settings t u events (heard (EditorGone e why)) e home outs (λ g. texts_more settings g events (heard (EditorGone e why))) refl refl refl refl (λ n h. h)
-    (home_seen settings t events e home l is st) (ap (λ v. v.items) ls) vs st nothing_owed unserved left s
+gone_unserved settings t u events e why home place outs l is ls vs left st unserved s = unserved_documents settings t u events (heard (EditorGone e why)) e home outs (λ g. texts_more settings g events (heard (EditorGone e why))) refl refl refl refl (λ n h. h)
+    (home_seen settings t events e home l is st) (ap (λ v. v.items) ls) vs st nothing_owed unserved place left s
 
-pub closed_unserved : (settings : Settings) (owed : Owed) (t u : Tables) (base : List Event) (xs ys : List Out) (e : ℕ) (home : Option ℕ) (outs : List Out) → e < length t.editors → home ≡ (session_of t.editors e).group → u.lasts ≡ t.lasts → u.versions ≡ t.versions → StepFrom (leave_row e) home t.documents.items outs u.documents.items → ys ≡ xs ++ CloseEditor e ∷ []
+pub closed_unserved : (settings : Settings) (owed : Owed) (t u : Tables) (base : List Event) (xs ys : List Out) (e : ℕ) (home place : Option ℕ) (outs : List Out) → e < length t.editors → home ≡ (session_of t.editors e).group → u.lasts ≡ t.lasts → u.versions ≡ t.versions → StepFrom (leave_row e) place t.documents.items outs u.documents.items → ys ≡ xs ++ CloseEditor e ∷ []
     → Stands settings t (behind base xs) → is_served (desk_of e (behind base xs)).phase ≡ false → DocumentsStand settings owed t (behind base xs) → (outs ≡ []) × DocumentsStand settings owed u (behind base ys)
-closed_unserved settings owed t u base xs ys e home outs l is ls vs left said_so st unserved s =
+closed_unserved settings owed t u base xs ys e home place outs l is ls vs left said_so st unserved s =
     subst (λ es. (outs ≡ []) × DocumentsStand settings owed u es) (sym (ap (behind base) said_so ∙ behind_more base xs (CloseEditor e ∷ [])))
     (unserved_documents settings t u (behind base xs) (said (CloseEditor e)) e home outs (λ g. texts_more settings g (behind base xs) (said (CloseEditor e))) refl refl refl refl (λ n h. h)
-    (home_seen settings t (behind base xs) e home l is st) (ap (λ v. v.items) ls) vs st owed unserved left s)
+    (home_seen settings t (behind base xs) e home l is st) (ap (λ v. v.items) ls) vs st owed unserved place left s)
 
 -- E9: it asks to shut down
 module _ (settings : Settings) (t u : Tables) (events : List Event) (e : ℕ) (body : List ℕ) (m : Message) (home : Option ℕ) (outs : List Out) (served : is_served (desk_of e events).phase ≡ true) (asks : requests (codes "shutdown") m ≡ true) (is : home_of settings e events ≡ home) (ls : u.lasts.items ≡ t.lasts.items) (vs : u.versions ≡ t.versions) (st : Stands settings t events) where
@@ -302,6 +312,7 @@ module _ (settings : Settings) (t u : Tables) (events : List Event) (e : ℕ) (b
   down_rest = record {
     texts = λ g l h. texts_more settings g events (took (FromEditor e body) m) ∙ either g (is_home g (home_of settings e events) && is_served (desk_of e events).phase) (texts_of settings g events) h;
     encoding = λ g l. encoding_stays g events (took (FromEditor e body) m) refl;
+    founds = founds_kept events (took (FromEditor e body) m) refl;
     starts = starts_kept events (took (FromEditor e body) m) refl;
     sent = λ s l w. sent_stays s w events (took (FromEditor e body) m) refl;
     moments = λ g x n p at there. moment_stays x.life.start n events (took (FromEditor e body) m) refl;
@@ -312,5 +323,5 @@ module _ (settings : Settings) (t u : Tables) (events : List Event) (e : ℕ) (b
       either g true x h = rw asks (ap (without_editor e) h)
       either g false x h = h
 
-  pub shutdown_documents : StepFrom (leave_row e) home t.documents.items outs u.documents.items → DocumentsStand settings nothing_owed t events → Leaves settings events e (home_of settings e events) (start_for settings e events) outs u down
-  shutdown_documents left s = left_documents settings t u events down e home outs is ls vs down_rest st down_away down_removed (λ g. encoding_stays g events (took (FromEditor e body) m) refl) (λ s w. sent_stays s w events (took (FromEditor e body) m) refl) down_owner left s
+  pub shutdown_documents : (place : Option ℕ) → IsPlace t.lasts.items home place → StepFrom (leave_row e) place t.documents.items outs u.documents.items → DocumentsStand settings nothing_owed t events → Leaves settings events e (home_of settings e events) (start_for settings e events) outs u down
+  shutdown_documents place placed left s = left_documents settings t u events down e home outs is ls vs down_rest st down_away down_removed (λ g. encoding_stays g events (took (FromEditor e body) m) refl) (λ s w. sent_stays s w events (took (FromEditor e body) m) refl) down_owner place placed left s

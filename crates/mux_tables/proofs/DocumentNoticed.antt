@@ -42,12 +42,14 @@ use Rattle.group_laws.proofs.Documents.{document_held, document_right}
 use Rattle.mux_tables.specs.declared.tables.Start.{Start}
 use Rattle.mux_tables.specs.declared.tables.Tables.{Tables}
 use Rattle.mux_tables.specs.Documents.{AllTell, DocumentsStand, IsOwned, SharedStands, StartTold, StepAt, StepFrom, nothing_owed, noticing, owes, to}
-use Rattle.mux_tables.specs.Stands.{Stands, of_life}
+use Rattle.mux_tables.specs.Stands.{IsLost, IsPlace, LastStands, Stands, of_life}
 use Rattle.mux_tables.proofs.DocumentFrames.{all_owned, owner_stays, sent_stays, shared_stays, start_stays, untold_stays}
 use Rattle.mux_tables.proofs.DocumentLeft.{get_past}
 use Rattle.mux_tables.proofs.Noting.{left_stays, moment_stays}
-use Rattle.mux_tables.proofs.DocumentMoves.{Rest, documents_at, documents_set, set_same, starts_kept}
-use Rattle.mux_tables.proofs.DocumentOwed.{owes_here, owes_there}
+use Rattle.mux_tables.proofs.DocumentMoves.{Rest, documents_all, documents_at, documents_set, founds_kept, set_same, starts_kept}
+use Rattle.mux_tables.proofs.Lasts.{lost_ended}
+use Rattle.mux_tables.proofs.Placed.{groups_apart}
+use Rattle.mux_tables.proofs.DocumentOwed.{owes_here, owes_none, owes_there}
 use Rattle.mux_tables.proofs.Frames.{itself}
 
 -- what holds of all that is open, behind one more and one less
@@ -195,41 +197,60 @@ module _ (settings : Settings) (events : List Event) (g s e : ℕ) (body method 
   noticed_other j n stage c off h = shared_stays settings events later [] j n stage c (not_home j off) (encoding_stays j events (heard (FromEditor e body)) refl) (start_stays n [] c events later (λ u. sent_stays n u events (heard (FromEditor e body)) refl) stage)
       (λ k. all_owned (IsOwned settings events j) (IsOwned settings later j) c.opens (owner j) k) h
 
-  noticed_rest : (t : Tables) → g < length t.lasts.items → Rest settings t events later
-  noticed_rest t within = record {
-    texts = λ j l k. not_home j (ne_eqb g j (λ q. absurd (omega (arith, q, l, within)))) ∙ k;
+  noticed_rest : (t : Tables) → start_of g events ≡ Some s → Rest settings t events later
+  noticed_rest t starts = record {
+    texts = λ j l k. not_home j (ne_eqb g j (λ q. some_none (sym starts ∙ (ap (λ n. start_of n events) q ∙ l)))) ∙ k;
     encoding = λ j l. encoding_stays j events (heard (FromEditor e body)) refl;
+    founds = founds_kept events (heard (FromEditor e body)) refl;
     starts = starts_kept events (heard (FromEditor e body)) refl;
     sent = λ n l u. sent_stays n u events (heard (FromEditor e body)) refl;
     moments = λ j x n p at there. moment_stays x.life.start n events (heard (FromEditor e body)) refl;
     left = left_stays events (heard (FromEditor e body)) refl;
   }
-
-  founded : (t : Tables) → start_of g events ≡ Some s → Stands settings t events → (o : Option Start) → slice_get t.lasts.items g ≡ o → g < length t.lasts.items
-  founded t starts st (Some x) h = slice_get_within t.lasts.items g x h
-  founded t starts st None h = absurd (clash (sym (st.lasts.none g (get_past t.lasts.items g h)) ∙ starts))
     where
-      clash : ◌≡◌ {A = Option ℕ} None (Some s) → ⊥
-      clash k = cc
+      some_none : ◌≡◌ {A = Option ℕ} (Some s) None → ⊥
+      some_none k = cc
 
-  pub noticed_documents : (t u : Tables) (outs : List Out) → start_of g events ≡ Some s → u.lasts ≡ t.lasts → u.versions ≡ t.versions → StepAt (λ d. document_step e body (saying_of (message_of body)) d) g (slice_get t.documents.items g) t.documents.items outs u.documents.items → Stands settings t events → DocumentsStand settings nothing_owed t events
+  -- the group's start isn't over
+  noticed_at : (t u : Tables) (outs : List Out) (i : ℕ) (x : Start) → slice_get t.lasts.items i ≡ Some x → x.life.group ≡ g → start_of g events ≡ Some s → u.lasts ≡ t.lasts → u.versions ≡ t.versions
+      → StepAt (λ d. document_step e body (saying_of (message_of body)) d) i (slice_get t.documents.items i) t.documents.items outs u.documents.items → Stands settings t events → DocumentsStand settings nothing_owed t events
       → (outs ≡ to s bodies) × DocumentsStand settings (owes g bodies) u later
-  noticed_documents t u outs starts ls vs does st ds =
-      let within = founded t starts st (slice_get t.lasts.items g) refl in
-      let x = item_at t.lasts.items g within in
-      let last = st.lasts.each g x.0 x.1 in
-      let is : x.0.life.start ≡ s = same_item (sym last.start ∙ starts) in
-      let d = documents_at settings nothing_owed t events g x.0 x.1 ds in
-      let made : StepAt (λ c. document_step e body said c) g (Some d.0) t.documents.items outs u.documents.items = subst (λ o. StepAt (λ c. document_step e body said c) g o t.documents.items outs u.documents.items) d.1 (subst (λ y. StepAt (λ c. document_step e body y c) g (slice_get t.documents.items g) t.documents.items outs u.documents.items) says does) in
-      let was : SharedStands settings events [] g s x.0.life.stage d.0 = subst (λ n. SharedStands settings events [] g n x.0.life.stage d.0) is (ds.each g x.0 d.0 x.1 d.1) in
-      let stage : (life_of s events).stage ≡ x.0.life.stage = ap (λ n. (life_of n events).stage) (sym is) ∙ ap (λ (l : Life). l.stage) (last.parts of_life) in
+  noticed_at t u outs i x at mine starts ls vs does st ds =
+      let last : LastStands t.requests events g x = subst (λ n. LastStands t.requests events n x) mine (st.lasts.each i x at) in
+      let is : x.life.start ≡ s = same_item (sym last.start ∙ starts) in
+      let d = documents_at settings nothing_owed t events i x at ds in
+      let made : StepAt (λ c. document_step e body said c) i (Some d.0) t.documents.items outs u.documents.items = subst (λ o. StepAt (λ c. document_step e body said c) i o t.documents.items outs u.documents.items) d.1 (subst (λ y. StepAt (λ c. document_step e body y c) i (slice_get t.documents.items i) t.documents.items outs u.documents.items) says does) in
+      let was : SharedStands settings events [] g s x.life.stage d.0 = subst (λ n. SharedStands settings events [] g n x.life.stage d.0) is (subst (λ n. SharedStands settings events [] n x.life.start x.life.stage d.0) mine (ds.each i x d.0 at d.1)) in
+      let stage : (life_of s events).stage ≡ x.life.stage = ap (λ n. (life_of n events).stage) (sym is) ∙ ap (λ (l : Life). l.stage) (last.parts of_life) in
       let few : d.0.versions < 2 ^ 32 = subst (λ n. n < 2 ^ 32) (sym (was.versions ∙ ds.versions)) ds.range in
-      let go = noticed_shared d.0 few x.0.life.stage stage was in (
+      let go = noticed_shared d.0 few x.life.stage stage was in (
         made.0 ∙ go.1,
-        documents_set settings nothing_owed (owes g bodies) t u events later (noticed_rest t within) vs g x.0 x.0 d.0 (document_step e body said d.0).after x.1 d.1 (ap (λ v. v.items) ls ∙ sym (set_same t.lasts.items g x.0 x.1)) made.1 (λ k. k)
-            (λ _. subst (λ w. SharedStands settings later w g x.0.life.start x.0.life.stage (document_step e body said d.0).after) (sym (owes_here g bodies)) (subst (λ n. SharedStands settings later bodies g n x.0.life.stage (document_step e body said d.0).after) (sym is) go.0))
-            (λ j w c off there h. subst (λ q. SharedStands settings later q j w.life.start w.life.stage c) (sym (owes_there g j bodies off)) (noticed_other j w.life.start w.life.stage c (ne_eqb g j (λ q. off (sym q))) h)) ds,
+        documents_set settings nothing_owed (owes g bodies) t u events later (noticed_rest t starts) vs i x x d.0 (document_step e body said d.0).after at d.1 (ap (λ v. v.items) ls ∙ sym (set_same t.lasts.items i x at)) made.1 (λ k. k)
+            (λ _. subst (λ n. SharedStands settings later (owes g bodies n) n x.life.start x.life.stage (document_step e body said d.0).after) (sym mine)
+            (subst (λ w. SharedStands settings later w g x.life.start x.life.stage (document_step e body said d.0).after) (sym (owes_here g bodies)) (subst (λ n. SharedStands settings later bodies g n x.life.stage (document_step e body said d.0).after) (sym is) go.0)))
+            (λ j w c off there h.
+                let far : w.life.group ≡ g → ⊥ = λ q. groups_apart t.lasts.items i j x w st.lasts.rise at there off (q ∙ sym mine) in
+                subst (λ q. SharedStands settings later q w.life.group w.life.start w.life.stage c) (sym (owes_there g w.life.group bodies far)) (noticed_other w.life.group w.life.start w.life.stage c (ne_eqb g w.life.group (λ q. far (sym q))) h)) ds,
       )
 
-pub noticed_from : (row : Documents → Step) (home : Option ℕ) (g : ℕ) (old : List Documents) (outs : List Out) (new : List Documents) → home ≡ Some g → StepFrom row home old outs new → StepAt row g (slice_get old g) old outs new
-noticed_from row home g old outs new is h = subst (λ o. StepFrom row o old outs new) is h
+  -- it is over, and nothing is kept of the group
+  noticed_lost : (t u : Tables) (outs : List Out) → IsLost g t.lasts.items → start_of g events ≡ Some s → u.lasts ≡ t.lasts → u.versions ≡ t.versions → outs ≡ [] → u.documents.items ≡ t.documents.items → Stands settings t events → DocumentsStand settings nothing_owed t events
+      → (outs ≡ to s bodies) × DocumentsStand settings (owes g bodies) u later
+  noticed_lost t u outs lost starts ls vs none same st ds =
+      let silent : bodies ≡ [] = rw (ap is_ready (lost_ended t.requests g s events (st.lasts.lost g s lost starts))) refl in (
+        none ∙ ap (to s) (sym silent),
+        subst (λ bs. DocumentsStand settings (owes g bs) u later) (sym silent)
+            (documents_all settings nothing_owed (owes g []) t u events later (noticed_rest t starts) vs (ap (λ v. v.items) ls) same
+            (λ j w c there h. subst (λ q. SharedStands settings later q w.life.group w.life.start w.life.stage c) (sym (owes_none g w.life.group)) (noticed_other w.life.group w.life.start w.life.stage c (ne_eqb g w.life.group (λ q. lost j w there (sym q))) h)) ds),
+      )
+
+  pub noticed_documents : (t u : Tables) (outs : List Out) (place : Option ℕ) → IsPlace t.lasts.items (Some g) place → start_of g events ≡ Some s → u.lasts ≡ t.lasts → u.versions ≡ t.versions
+      → StepFrom (λ d. document_step e body (saying_of (message_of body)) d) place t.documents.items outs u.documents.items → Stands settings t events → DocumentsStand settings nothing_owed t events
+      → (outs ≡ to s bodies) × DocumentsStand settings (owes g bodies) u later
+  noticed_documents t u outs None placed starts ls vs does st ds = noticed_lost t u outs (placed g refl st.lasts.rise) starts ls vs does.0 does.1 st ds
+  noticed_documents t u outs (Some i) placed starts ls vs does st ds = go (slice_get t.lasts.items i) refl
+    where
+      go : (o : Option Start) → slice_get t.lasts.items i ≡ o → (outs ≡ to s bodies) × DocumentsStand settings (owes g bodies) u later
+      go (Some x) at = noticed_at t u outs i x at (same_item (sym (placed.1 x at))) starts ls vs does st ds
+      go None past = absurd (let within = placed.0 in let long = get_past t.lasts.items i past in omega (arith, within, long))
+

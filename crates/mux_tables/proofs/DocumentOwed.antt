@@ -30,7 +30,8 @@ use Rattle.mux_tables.specs.Stands.{Stands, is_answer, number_in}
 use Rattle.mux_tables.proofs.DocumentEvents.{shared_beside, shared_next}
 use Rattle.mux_tables.proofs.DocumentFrames.{sent_apart}
 use Rattle.mux_tables.proofs.Noting.{asks_told, left_stays, moment_stays}
-use Rattle.mux_tables.proofs.DocumentMoves.{Rest, documents_all, documents_at, documents_last, set_same, starts_kept}
+use Rattle.mux_tables.proofs.DocumentMoves.{Rest, documents_all, documents_at, documents_last, founds_kept, set_same, starts_kept}
+use Rattle.mux_tables.proofs.Placed.{groups_apart}
 use Rattle.mux_tables.proofs.Frames.{itself}
 use Rattle.mux_tables.proofs.Lasts.{apart, known}
 use Rattle.mux_tables.proofs.Sent.{notify_does}
@@ -52,7 +53,11 @@ owes_none g j = go (nat_eq g j)
 -- a group that owes nothing
 pub owes_nothing : (settings : Settings) (t : Tables) (g : ℕ) (events : List Event) → DocumentsStand settings (owes g []) t events → DocumentsStand settings nothing_owed t events
 owes_nothing settings t g events ds =
-    documents_all settings (owes g []) nothing_owed t t events events (record { texts = λ j l k. k; encoding = λ j l. refl; starts = λ n l. l; sent = λ n l u. refl; moments = λ j x n p at there. refl; left = λ e h. h }) refl refl refl (λ j z d there k. subst (λ w. SharedStands settings events w j z.life.start z.life.stage d) (owes_none g j) k) ds
+    documents_all settings (owes g []) nothing_owed t t events events (record { texts = λ j l k. k; encoding = λ j l. refl; founds = λ j k. k; starts = λ n l. l; sent = λ n l u. refl; moments = λ j x n p at there. refl; left = λ e h. h }) refl refl refl (λ j z d there k. subst (λ w. SharedStands settings events w z.life.group z.life.start z.life.stage d) (owes_none g z.life.group) k) ds
+
+pub nothing_owes : (settings : Settings) (t : Tables) (g : ℕ) (events : List Event) → DocumentsStand settings nothing_owed t events → DocumentsStand settings (owes g []) t events
+nothing_owes settings t g events ds =
+    documents_all settings nothing_owed (owes g []) t t events events (record { texts = λ j l k. k; encoding = λ j l. refl; founds = λ j k. k; starts = λ n l. l; sent = λ n l u. refl; moments = λ j x n p at there. refl; left = λ e h. h }) refl refl refl (λ j z d there k. subst (λ w. SharedStands settings events w z.life.group z.life.start z.life.stage d) (sym (owes_none g z.life.group)) k) ds
 
 -- what an out does to each of the two relations, it does to both
 pub all_does : {row : Row} (settings : Settings) (t u : Tables) (owed after : Owed) (base : List Event) (xs ys : List Out) → Does (λ t events. Stands settings t events) row base t xs u ys
@@ -92,22 +97,26 @@ module _ (settings : Settings) (t : Tables) (g : ℕ) (x : Start) (at : slice_ge
   stands_told [] events h st = subst (λ es. Stands settings t es) (sym (append-nil events)) st
   stands_told (body ∷ bodies) events h st = subst (λ es. Stands settings t es) (sym (first_behind events (ToServer x.life.start body) (to x.life.start bodies))) (stands_told bodies (events ++ said (ToServer x.life.start body) ∷ []) h.1 (next_stands body events h.0 st))
 
-module _ (settings : Settings) (t : Tables) (g : ℕ) (x : Start) (at : slice_get t.lasts.items g ≡ Some x) (ready : x.life.stage ≡ Ready) where
+module _ (settings : Settings) (t : Tables) (i : ℕ) (x : Start) (at : slice_get t.lasts.items i ≡ Some x) (ready : x.life.stage ≡ Ready) where
   abbrev s : ℕ
   s = x.life.start
+
+  abbrev g : ℕ
+  g = x.life.group
 
   next_rest : (body : List ℕ) (events : List Event) → speaks (saying_of (message_of body)) ≡ true → Stands settings t events → Rest settings t events (events ++ said (ToServer s body) ∷ [])
   next_rest body events h st = record {
     texts = λ j l k. texts_told settings j s events (body ∷ []) (h, tt) ∙ k;
     encoding = λ j l. encoding_stays j events (said (ToServer s body)) refl;
+    founds = founds_kept events (said (ToServer s body)) refl;
     starts = starts_kept events (said (ToServer s body)) refl;
-    sent = λ n l u. sent_apart n s u body (message_of body) events (ne_eqb s n (λ q. let old = known t.requests t.origins.groups.items events g x st.origins (st.lasts.each g x at) in absurd (omega (arith, q, l, old))));
+    sent = λ n l u. sent_apart n s u body (message_of body) events (ne_eqb s n (λ q. let old = known t.requests t.origins.groups.items events g x st.origins (st.lasts.each i x at) in absurd (omega (arith, q, l, old))));
     moments = λ j z n p there asked. moment_stays z.life.start n events (said (ToServer s body)) (asks_told s body (message_of body) h);
     left = left_stays events (said (ToServer s body)) refl;
   }
 
   next_documents : (body : List ℕ) (bodies : List (List ℕ)) (events : List Event) → Stands settings t events → DocumentsStand settings (owes g (body ∷ bodies)) t events → speaks (saying_of (message_of body)) ≡ true → DocumentsStand settings (owes g bodies) t (events ++ said (ToServer s body) ∷ [])
-  next_documents body bodies events st ds h = documents_last settings (owes g (body ∷ bodies)) (owes g bodies) t t events later (next_rest body events h st) refl g x x at (sym (set_same t.lasts.items g x at)) refl (λ k. k) own others ds
+  next_documents body bodies events st ds h = documents_last settings (owes g (body ∷ bodies)) (owes g bodies) t t events later (next_rest body events h st) refl i x x at (sym (set_same t.lasts.items i x at)) refl (λ k. k) own others ds
     where
       later : List Event
       later = events ++ said (ToServer s body) ∷ []
@@ -116,14 +125,16 @@ module _ (settings : Settings) (t : Tables) (g : ℕ) (x : Start) (at : slice_ge
       own d k = subst (λ w. SharedStands settings later w g s x.life.stage d) (sym (owes_here g bodies)) (subst (λ (q : Stage). SharedStands settings later bodies g s q d) (sym ready)
           (shared_next settings events body bodies g s d (subst (λ (q : Stage). SharedStands settings events (body ∷ bodies) g s q d) ready (subst (λ w. SharedStands settings events w g s x.life.stage d) (owes_here g (body ∷ bodies)) k))))
 
-      others : (j : ℕ) (z : Start) (c : Documents) → (j ≡ g → ⊥) → slice_get t.lasts.items j ≡ Some z → SharedStands settings events (owes g (body ∷ bodies) j) j z.life.start z.life.stage c → SharedStands settings later (owes g bodies j) j z.life.start z.life.stage c
-      others j z c away there k = subst (λ w. SharedStands settings later w j z.life.start z.life.stage c) (owes_there g j (body ∷ bodies) away ∙ sym (owes_there g j bodies away))
-          (shared_beside settings events (owes g (body ∷ bodies) j) j z.life.start z.life.stage c s body h (apart t.requests events g j x z away (st.lasts.each g x at) (st.lasts.each j z there)) k)
+      others : (j : ℕ) (z : Start) (c : Documents) → (j ≡ i → ⊥) → slice_get t.lasts.items j ≡ Some z → SharedStands settings events (owes g (body ∷ bodies) z.life.group) z.life.group z.life.start z.life.stage c → SharedStands settings later (owes g bodies z.life.group) z.life.group z.life.start z.life.stage c
+      others j z c away there k =
+          let far = groups_apart t.lasts.items i j x z st.lasts.rise at there away in
+          subst (λ w. SharedStands settings later w z.life.group z.life.start z.life.stage c) (owes_there g z.life.group (body ∷ bodies) far ∙ sym (owes_there g z.life.group bodies far))
+          (shared_beside settings events (owes g (body ∷ bodies) z.life.group) z.life.group z.life.start z.life.stage c s body h (apart t.requests events g z.life.group x z far (st.lasts.each i x at) (st.lasts.each j z there)) k)
 
   first_tells : (body : List ℕ) (bodies : List (List ℕ)) (events : List Event) → DocumentsStand settings (owes g (body ∷ bodies)) t events → speaks (saying_of (message_of body)) ≡ true
   first_tells body bodies events ds =
-      let d = documents_at settings (owes g (body ∷ bodies)) t events g x at ds in
-      let k : SharedStands settings events (body ∷ bodies) g s Ready d.0 = subst (λ (q : Stage). SharedStands settings events (body ∷ bodies) g s q d.0) ready (subst (λ w. SharedStands settings events w g s x.life.stage d.0) (owes_here g (body ∷ bodies)) (ds.each g x d.0 at d.1)) in
+      let d = documents_at settings (owes g (body ∷ bodies)) t events i x at ds in
+      let k : SharedStands settings events (body ∷ bodies) g s Ready d.0 = subst (λ (q : Stage). SharedStands settings events (body ∷ bodies) g s q d.0) ready (subst (λ w. SharedStands settings events w g s x.life.stage d.0) (owes_here g (body ∷ bodies)) (ds.each i x d.0 at d.1)) in
       k.start.tell.0
 
   all_paid : (bodies : List (List ℕ)) (events : List Event) → Stands settings t events → DocumentsStand settings (owes g bodies) t events → Stands settings t (behind events (to s bodies)) × DocumentsStand settings nothing_owed t (behind events (to s bodies))
@@ -131,7 +142,7 @@ module _ (settings : Settings) (t : Tables) (g : ℕ) (x : Start) (at : slice_ge
   all_paid (body ∷ bodies) events st ds =
       let h = first_tells body bodies events ds in
       subst (λ es. Stands settings t es × DocumentsStand settings nothing_owed t es) (sym (first_behind events (ToServer s body) (to s bodies)))
-      (all_paid bodies (events ++ said (ToServer s body) ∷ []) (next_stands settings t g x at body events h st) (next_documents body bodies events st ds h))
+      (all_paid bodies (events ++ said (ToServer s body) ∷ []) (next_stands settings t i x at body events h st) (next_documents body bodies events st ds h))
 
   pub paid_does : (base : List Event) (xs ys owed : List Out) (bodies : List (List ℕ)) → owed ≡ to s bodies → ys ≡ xs ++ owed → Does (AllStand settings) (to_start s bodies) base (t, owes g bodies) xs (t, nothing_owed) ys
   paid_does base xs ys owed bodies are is = record {

@@ -26,7 +26,7 @@ use Rattle.mux_tables.specs.Notes.{NotesStand}
 use Rattle.mux_tables.specs.Stands.{Exits}
 use Rattle.mux_tables.proofs.DocumentEvents.{shared_notified, shared_quiet}
 use Rattle.mux_tables.proofs.DocumentFrames.{sent_silent}
-use Rattle.mux_tables.proofs.DocumentMoves.{Rest, documents_all, documents_at, documents_last, documents_set, quiet_documents, rest_quiet, starts_kept}
+use Rattle.mux_tables.proofs.DocumentMoves.{Rest, documents_all, documents_at, documents_last, documents_set, founds_kept, quiet_documents, rest_quiet, starts_kept}
 use Rattle.mux_tables.proofs.Noting.{asks_aside, left_stays, moment_stays, notes_cancelled, notes_gone}
 use Rattle.mux_tables.proofs.Starts.{read_here}
 
@@ -46,6 +46,7 @@ pub rest_notified : (settings : Settings) (t : Tables) (events : List Event) (n 
 rest_notified settings t events n body m silent aside = record {
   texts = λ g l h. texts_stay settings g events (did (ToServer n body) m) aside ∙ h;
   encoding = λ g l. encoding_stays g events (did (ToServer n body) m) refl;
+  founds = founds_kept events (did (ToServer n body) m) refl;
   starts = starts_kept events (did (ToServer n body) m) refl;
   sent = λ s l u. sent_silent s n u body m events silent;
   moments = λ g x k p at there. moment_stays x.life.start k events (did (ToServer n body) m) (asks_aside n body m aside);
@@ -56,7 +57,7 @@ pub notified_documents : (settings : Settings) (owed : Owed) (t u : Tables) (bas
     → ys ≡ xs ++ ToServer n text ∷ [] → DocumentsStand settings owed t (behind base xs) → DocumentsStand settings owed u (behind base ys)
 notified_documents settings owed t u base xs ys n text silent aside ls ds vs is = documents_said settings owed owed t u (ToServer n text) base xs ys is
     (documents_all settings owed owed t u (behind base xs) (behind base xs ++ said (ToServer n text) ∷ []) (rest_notified settings t (behind base xs) n text (message_of text) silent aside) vs (ap (λ v. v.items) ls) (ap (λ v. v.items) ds)
-    (λ g x d at h. shared_notified settings (behind base xs) (owed g) g x.life.start x.life.stage d n text (message_of text) silent aside h))
+    (λ g x d at h. shared_notified settings (behind base xs) (owed x.life.group) x.life.group x.life.start x.life.stage d n text (message_of text) silent aside h))
 
 -- a cancel
 pub cancel_silent : (method : List ℕ) (ps : Option Json) → bytes_eq method (codes "$/cancelRequest") ≡ true → (saying_by method ps ≡ nothing) × (is_synced (notification method ps) ≡ false)
@@ -72,8 +73,8 @@ cancel_documents settings owed t u base xs ys g start n z y text method ps withi
     documents_said settings owed owed t u (ToServer start text) base xs ys is
     (documents_last settings owed owed t u (behind base xs) (behind base xs ++ said (ToServer start text) ∷ []) (rest_notified settings t (behind base xs) start text (message_of text) silent aside) vs g z y (read_here t.lasts.items g z within read) set (ap (λ v. v.items) ds)
     (λ k. subst (λ (l : Standing). NotesStand settings l.start y.ids.requests (behind base xs ++ said (ToServer start text) ∷ [])) (sym life) (notes_cancelled settings z.life.start n y.ids.requests z.ids.requests (behind base xs ++ said (ToServer start text) ∷ []) marks k))
-    (λ d h. subst (λ (l : Standing). SharedStands settings (behind base xs ++ said (ToServer start text) ∷ []) (owed g) g l.start l.stage d) (sym life) (shared_notified settings (behind base xs) (owed g) g z.life.start z.life.stage d start text (message_of text) silent aside h))
-    (λ j w c away there h. shared_notified settings (behind base xs) (owed j) j w.life.start w.life.stage c start text (message_of text) silent aside h))
+    (λ d h. subst (λ (l : Standing). SharedStands settings (behind base xs ++ said (ToServer start text) ∷ []) (owed l.group) l.group l.start l.stage d) (sym life) (shared_notified settings (behind base xs) (owed z.life.group) z.life.group z.life.start z.life.stage d start text (message_of text) silent aside h))
+    (λ j w c away there h. shared_notified settings (behind base xs) (owed w.life.group) w.life.group w.life.start w.life.stage c start text (message_of text) silent aside h))
 
 -- a start that isn't ready any more
 unready_shared : (settings : Settings) (events : List Event) (owed : List (List ℕ)) (g s : ℕ) (stage after : Stage) (d : Documents) → StartTold after s owed (unready_row d) events → SharedStands settings events owed g s stage d → SharedStands settings events owed g s after (unready_row d)
@@ -84,15 +85,15 @@ unready_shared settings events owed g s stage after d start h = record {
   start = start;
 }
 
-module _ (settings : Settings) (owed : Owed) (t u : Tables) (events later : List Event) (g : ℕ) (z y : Start) (rest : Rest settings t events later) (vs : u.versions ≡ t.versions) (at : slice_get t.lasts.items g ≡ Some z) (set : u.lasts.items ≡ slice_set t.lasts.items g y) (own : y.life.start ≡ z.life.start)
+module _ (settings : Settings) (owed : Owed) (t u : Tables) (events later : List Event) (g : ℕ) (z y : Start) (rest : Rest settings t events later) (vs : u.versions ≡ t.versions) (at : slice_get t.lasts.items g ≡ Some z) (set : u.lasts.items ≡ slice_set t.lasts.items g y) (own : y.life.start ≡ z.life.start) (group : y.life.group ≡ z.life.group)
     (notes : NotesStand settings z.life.start z.ids.requests later → NotesStand settings y.life.start y.ids.requests later)
     (dropped : (d : Documents) → slice_get t.documents.items g ≡ Some d → u.documents.items ≡ slice_set t.documents.items g (unready_row d))
-    (stays : (j : ℕ) (w : Start) (c : Documents) → SharedStands settings events (owed j) j w.life.start w.life.stage c → SharedStands settings later (owed j) j w.life.start w.life.stage c) where
-  unready_documents : ((s : ℕ) (d : Documents) → StartTold y.life.stage s (owed g) (unready_row d) later) → DocumentsStand settings owed t events → DocumentsStand settings owed u later
+    (stays : (j : ℕ) (w : Start) (c : Documents) → SharedStands settings events (owed w.life.group) w.life.group w.life.start w.life.stage c → SharedStands settings later (owed w.life.group) w.life.group w.life.start w.life.stage c) where
+  unready_documents : ((s : ℕ) (d : Documents) → StartTold y.life.stage s (owed z.life.group) (unready_row d) later) → DocumentsStand settings owed t events → DocumentsStand settings owed u later
   unready_documents idle s =
       let d = documents_at settings owed t events g z at s in
       documents_set settings owed owed t u events later rest vs g z y d.0 (unready_row d.0) at d.1 set (dropped d.0 d.1) notes
-      (λ h. subst (λ n. SharedStands settings later (owed g) g n y.life.stage (unready_row d.0)) (sym own) (unready_shared settings later (owed g) g z.life.start z.life.stage y.life.stage d.0 (idle z.life.start d.0) (stays g z d.0 h)))
+      (λ h. subst (λ n. SharedStands settings later (owed n) n y.life.start y.life.stage (unready_row d.0)) (sym group) (subst (λ n. SharedStands settings later (owed z.life.group) z.life.group n y.life.stage (unready_row d.0)) (sym own) (unready_shared settings later (owed z.life.group) z.life.group z.life.start z.life.stage y.life.stage d.0 (idle z.life.start d.0) (stays g z d.0 h))))
       (λ j w c away there h. stays j w c h) s
 
 idle_at : (stage after : Stage) (s : ℕ) (owed : List (List ℕ)) (d : Documents) (events : List Event) → after ≡ stage → StartTold stage s owed d events → StartTold after s owed d events
@@ -105,8 +106,8 @@ pub shut_documents : (settings : Settings) (owed : Owed) (t u : Tables) (base : 
 shut_documents settings owed t u base xs ys g start n now z life text name ps within read says stops set dropped vs is =
     documents_said settings owed owed t u (ToServer start text) base xs ys is
     (unready_documents settings owed t u (behind base xs) (behind base xs ++ said (ToServer start text) ∷ []) g z (record z { life = life; shown = None }) (rest_notified settings t (behind base xs) start text (message_of text) (ap saying_of says) (ap is_synced says)) vs
-    (read_here t.lasts.items g z within read) set (ap (λ (l : Standing). l.start) stops) (λ k. subst (λ s. NotesStand settings s z.ids.requests (behind base xs ++ said (ToServer start text) ∷ [])) (sym (ap (λ (l : Standing). l.start) stops)) k) dropped (λ j w c h. shared_notified settings (behind base xs) (owed j) j w.life.start w.life.stage c start text (message_of text) (ap saying_of says) (ap is_synced says) h)
-    (λ s d. idle_at Stopping life.stage s (owed g) (unready_row d) _ (ap (λ (l : Standing). l.stage) stops) refl))
+    (read_here t.lasts.items g z within read) set (ap (λ (l : Standing). l.start) stops) (ap (λ (l : Standing). l.group) stops) (λ k. subst (λ s. NotesStand settings s z.ids.requests (behind base xs ++ said (ToServer start text) ∷ [])) (sym (ap (λ (l : Standing). l.start) stops)) k) dropped (λ j w c h. shared_notified settings (behind base xs) (owed w.life.group) w.life.group w.life.start w.life.stage c start text (message_of text) (ap saying_of says) (ap is_synced says) h)
+    (λ s d. idle_at Stopping life.stage s (owed z.life.group) (unready_row d) _ (ap (λ (l : Standing). l.stage) stops) refl))
 
 -- its program is to be ended
 pub end_documents : (settings : Settings) (owed : Owed) (t u : Tables) (base : List Event) (xs ys : List Out) (g start : ℕ) (z : Start) (life : Standing) → g < length t.lasts.items → z ≡ get_or t.lasts.items g z → life ≡ moved Ending z.life
@@ -115,21 +116,21 @@ pub end_documents : (settings : Settings) (owed : Owed) (t u : Tables) (base : L
 end_documents settings owed t u base xs ys g start z life within read ends set dropped vs is =
     documents_said settings owed owed t u (EndServer start) base xs ys is
     (unready_documents settings owed t u (behind base xs) (behind base xs ++ said (EndServer start) ∷ []) g z (record z { life = life; shown = None }) (rest_quiet settings t (behind base xs) (said (EndServer start)) refl refl (left_stays (behind base xs) (said (EndServer start)) refl)) vs
-    (read_here t.lasts.items g z within read) set (ap (λ (l : Standing). l.start) ends) (λ k. subst (λ s. NotesStand settings s z.ids.requests (behind base xs ++ said (EndServer start) ∷ [])) (sym (ap (λ (l : Standing). l.start) ends)) k) dropped (λ j w c h. shared_quiet settings (behind base xs) (owed j) j w.life.start w.life.stage c (said (EndServer start)) refl (λ o k. refl) h)
-    (λ s d. idle_at Ending life.stage s (owed g) (unready_row d) _ (ap (λ (l : Standing). l.stage) ends) refl))
+    (read_here t.lasts.items g z within read) set (ap (λ (l : Standing). l.start) ends) (ap (λ (l : Standing). l.group) ends) (λ k. subst (λ s. NotesStand settings s z.ids.requests (behind base xs ++ said (EndServer start) ∷ [])) (sym (ap (λ (l : Standing). l.start) ends)) k) dropped (λ j w c h. shared_quiet settings (behind base xs) (owed w.life.group) w.life.group w.life.start w.life.stage c (said (EndServer start)) refl (λ o k. refl) h)
+    (λ s d. idle_at Ending life.stage s (owed z.life.group) (unready_row d) _ (ap (λ (l : Standing). l.stage) ends) refl))
 
 -- its program ended, or couldn't be run
 module _ (settings : Settings) (owed : Owed) (restarts : ℕ) (t u : Tables) (events : List Event) (g s : ℕ) (z : Start) (at : slice_get t.lasts.items g ≡ Some z) (x : Exits restarts t g z u) (vs : u.versions ≡ t.versions)
     (dropped : (d : Documents) → slice_get t.documents.items g ≡ Some d → u.documents.items ≡ slice_set t.documents.items g (unready_row d)) where
-  idle_behind : (later : List Event) (s : ℕ) (d : Documents) → StartTold x.start.life.stage s (owed g) (unready_row d) later
-  idle_behind later s d = idle_at Ended x.start.life.stage s (owed g) (unready_row d) later (ap (λ (l : Standing). l.stage) x.life) refl
+  idle_behind : (later : List Event) (s : ℕ) (d : Documents) → StartTold x.start.life.stage s (owed z.life.group) (unready_row d) later
+  idle_behind later s d = idle_at Ended x.start.life.stage s (owed z.life.group) (unready_row d) later (ap (λ (l : Standing). l.stage) x.life) refl
 
   pub exit_documents : DocumentsStand settings owed t events → DocumentsStand settings owed u (events ++ took (ServerGone s) not_message ∷ [])
-  exit_documents = unready_documents settings owed t u events (events ++ took (ServerGone s) not_message ∷ []) g z x.start (rest_quiet settings t events (took (ServerGone s) not_message) refl refl (left_stays events (took (ServerGone s) not_message) refl)) vs at x.lasts (ap (λ (l : Standing). l.start) x.life)
+  exit_documents = unready_documents settings owed t u events (events ++ took (ServerGone s) not_message ∷ []) g z x.start (rest_quiet settings t events (took (ServerGone s) not_message) refl refl (left_stays events (took (ServerGone s) not_message) refl)) vs at x.lasts (ap (λ (l : Standing). l.start) x.life) (ap (λ (l : Standing). l.group) x.life)
       (λ _. notes_gone settings x.start.life.start x.start.ids.requests (events ++ took (ServerGone s) not_message ∷ []) x.requests_gone) dropped
-      (λ j w c h. shared_quiet settings events (owed j) j w.life.start w.life.stage c (took (ServerGone s) not_message) refl (λ o k. refl) h) (idle_behind (events ++ took (ServerGone s) not_message ∷ []))
+      (λ j w c h. shared_quiet settings events (owed w.life.group) w.life.group w.life.start w.life.stage c (took (ServerGone s) not_message) refl (λ o k. refl) h) (idle_behind (events ++ took (ServerGone s) not_message ∷ []))
 
   pub failure_documents : DocumentsStand settings owed t events → DocumentsStand settings owed u (events ++ took (StartFailed s) not_message ∷ [])
-  failure_documents = unready_documents settings owed t u events (events ++ took (StartFailed s) not_message ∷ []) g z x.start (rest_quiet settings t events (took (StartFailed s) not_message) refl refl (left_stays events (took (StartFailed s) not_message) refl)) vs at x.lasts (ap (λ (l : Standing). l.start) x.life)
+  failure_documents = unready_documents settings owed t u events (events ++ took (StartFailed s) not_message ∷ []) g z x.start (rest_quiet settings t events (took (StartFailed s) not_message) refl refl (left_stays events (took (StartFailed s) not_message) refl)) vs at x.lasts (ap (λ (l : Standing). l.start) x.life) (ap (λ (l : Standing). l.group) x.life)
       (λ _. notes_gone settings x.start.life.start x.start.ids.requests (events ++ took (StartFailed s) not_message ∷ []) x.requests_gone) dropped
-      (λ j w c h. shared_quiet settings events (owed j) j w.life.start w.life.stage c (took (StartFailed s) not_message) refl (λ o k. refl) h) (idle_behind (events ++ took (StartFailed s) not_message ∷ []))
+      (λ j w c h. shared_quiet settings events (owed w.life.group) w.life.group w.life.start w.life.stage c (took (StartFailed s) not_message) refl (λ o k. refl) h) (idle_behind (events ++ took (StartFailed s) not_message ∷ []))

@@ -1,5 +1,5 @@
 -- What rows ask of an editor's group, and of the last start there, as the code has it.
-use Rattle.std.proofs.Common.{◌≡◌, ℕ, ◌+◌, ◌<◌, ◌≤◌, Bool, true, false, not, ◌&&◌, cond, List, [], ◌∷◌, map, length, get_or, refl, ap, ap₂, sym, subst, ◌∙◌, arith, nat_eq, nat_lt}
+use Rattle.std.proofs.Common.{◌≡◌, ℕ, ◌+◌, ◌<◌, ◌≤◌, Bool, true, false, not, ◌&&◌, cond, List, [], ◌∷◌, map, length, get_or, refl, ap, ap₂, sym, subst, ◌∙◌, ◌⊎◌, inl, inr, arith, nat_eq, nat_lt}
 use Rattle.std.specs.Prelude.{Option, Some, None, IfSome, option_map, filter, find, slice_get}
 use Rattle.std.specs.Option.{option_and_then}
 use Rattle.std.specs.List.{AllByRecursion}
@@ -26,9 +26,11 @@ use Rattle.id_rewrite.specs.Tables.{IsInOrder, RiseWithin}
 use Rattle.mux_tables.specs.Cancels.{is_uncancelled}
 use Rattle.mux_tables.specs.declared.tables.Start.{Start}
 use Rattle.mux_tables.specs.declared.tables.Tables.{Tables}
-use Rattle.mux_tables.specs.Stands.{ShownAt, Stands, forwarded_of, group_in, number_in, of_ids, of_life, of_shown, start_for}
+use Rattle.mux_tables.specs.Stands.{HasEnded, IsLost, Rise, ShownAt, Stands, forwarded_of, group_in, number_in, of_ids, of_life, of_shown, start_for}
 use Rattle.mux_tables.proofs.Frames.{itself}
 use Rattle.mux_tables.proofs.IdMoves.{filter_mapped, numbers_mapped}
+use Rattle.mux_tables.proofs.Lasts.{lost_ended}
+use Rattle.mux_tables.proofs.Placed.{KeptAt, kept_or_lost}
 use Rattle.mux_tables.proofs.Starts.{read_here, start_at_place}
 
 -- what holds of an answer, if there is one
@@ -44,32 +46,50 @@ module _ (settings : Settings) (t : Tables) (events : List Event) (e : ℕ) (st 
   pub home_here : (o : Option ℕ) → e < length t.editors → o ≡ (session_of t.editors e).group → home_of settings e events ≡ o
   home_here o l is = st.house.editors.home e ∙ (ap group_in (slice_get-get_or t.editors e absent l) ∙ sym is)
 
--- a group that has a start
-module _ (settings : Settings) (t : Tables) (events : List Event) (g : ℕ) (st : Stands settings t events) where
-  pub no_start : length t.lasts.items ≤ g → start_of g events ≡ None
-  no_start past = st.lasts.none g past
+  starts_from : (o : Option ℕ) → e < length t.editors → o ≡ (session_of t.editors e).group → start_for settings e events ≡ option_and_then (λ g. start_of g events) o
+  starts_from o l is = ap (option_and_then (λ g. start_of g events)) (home_here o l is)
 
-  pub start_seen : (s : ℕ) → g < length t.lasts.items → slice_get (map number_in t.lasts.items) g ≡ Some s → start_of g events ≡ Some s
-  start_seen s within at =
-      let z = item_at t.lasts.items g within in
-      (st.lasts.each g z.0 z.1).start ∙ ap (λ n. Some n) (start_at_place t.lasts.items g s z.0 z.1 at)
-
-  pub group_seen : (s : ℕ) → g < length t.lasts.items → slice_get (map number_in t.lasts.items) g ≡ Some s → group_of s events ≡ Some g
-  group_seen s within at =
-      let z = item_at t.lasts.items g within in
-      subst (λ n. group_of n events ≡ Some g) (start_at_place t.lasts.items g s z.0 z.1 at) (st.lasts.each g z.0 z.1).home
-
-  -- the next one is the number of those that have one
-  pub next_here : start_of g events ≡ None → ((h : ℕ) → h < g → start_of h events ≡ None → ⊥) → g ≡ length t.lasts.items
-  next_here none others = go (nat_lt g (length t.lasts.items)) (nat_lt (length t.lasts.items) g) refl refl
+  none_ended : start_for settings e events ≡ None → HasEnded (start_for settings e events) events
+  none_ended none s starts = absurd (clash (sym none ∙ starts))
     where
-      clash : (n : ℕ) → ◌≡◌ {A = Option ℕ} None (Some n) → ⊥
-      clash n h = cc
+      clash : ◌≡◌ {A = Option ℕ} None (Some s) → ⊥
+      clash h = cc
 
-      go : (a b : Bool) → nat_lt g (length t.lasts.items) ≡ a → nat_lt (length t.lasts.items) g ≡ b → g ≡ length t.lasts.items
-      go true b h k = let z = item_at t.lasts.items g (grind (arith, nat_tests)) in absurd (clash z.0.life.start (sym none ∙ (st.lasts.each g z.0 z.1).start))
-      go false true h k = absurd (others (length t.lasts.items) (grind (arith, nat_tests)) (st.lasts.none (length t.lasts.items) (omega arith)))
-      go false false h k = grind (arith, nat_tests)
+  pub past_ended : length t.editors ≤ e → HasEnded (start_for settings e events) events
+  past_ended past = none_ended (home_past past)
+
+  pub nowhere_ended : e < length t.editors → ◌≡◌ {A = Option ℕ} None (session_of t.editors e).group → HasEnded (start_for settings e events) events
+  nowhere_ended l is = none_ended (starts_from None l is)
+
+  pub home_ended : (g : ℕ) → e < length t.editors → Some g ≡ (session_of t.editors e).group → HasEnded (start_of g events) events → HasEnded (start_for settings e events) events
+  home_ended g l is ended s starts = ended s (sym (starts_from (Some g) l is) ∙ starts)
+
+  pub home_started : (g s : ℕ) → e < length t.editors → Some g ≡ (session_of t.editors e).group → start_of g events ≡ Some s → start_for settings e events ≡ Some s
+  home_started g s l is starts = starts_from (Some g) l is ∙ starts
+
+-- a group of which something is kept
+module _ (settings : Settings) (t : Tables) (events : List Event) (g : ℕ) (st : Stands settings t events) where
+  pub ended_here : (Rise 0 t.lasts.items → IsLost g t.lasts.items) → HasEnded (start_of g events) events
+  ended_here lost s starts = lost_ended t.requests g s events (st.lasts.lost g s (lost st.lasts.rise) starts)
+
+  pub start_seen : (p s : ℕ) → p < length t.lasts.items → ((x : Start) → slice_get t.lasts.items p ≡ Some x → x.life.group ≡ g) → slice_get (map number_in t.lasts.items) p ≡ Some s → start_of g events ≡ Some s
+  start_seen p s within own at =
+      let z = item_at t.lasts.items p within in
+      ap (λ n. start_of n events) (sym (own z.0 z.1)) ∙ ((st.lasts.each p z.0 z.1).start ∙ ap (λ n. Some n) (start_at_place t.lasts.items p s z.0 z.1 at))
+
+  -- of a group whose last start didn't end something is kept
+  pub kept_start : (s : ℕ) → start_of g events ≡ Some s → ((life_of s events).stage ≡ Ended → ⊥) → KeptAt g t.lasts.items
+  kept_start s starts runs = go (kept_or_lost g t.lasts.items)
+    where
+      go : KeptAt g t.lasts.items ⊎ IsLost g t.lasts.items → KeptAt g t.lasts.items
+      go (inl k) = k
+      go (inr lost) = absurd (runs (lost_ended t.requests g s events (st.lasts.lost g s lost starts)))
+
+-- the group of the last start in a place
+pub group_seen : (settings : Settings) (t : Tables) (events : List Event) (p s : ℕ) (x : Start) → Stands settings t events → slice_get t.lasts.items p ≡ Some x → slice_get (map number_in t.lasts.items) p ≡ Some s → (group_of s events ≡ Some x.life.group) × (start_of x.life.group events ≡ Some s)
+group_seen settings t events p s x st here at =
+    let own = start_at_place t.lasts.items p s x here at in
+    (subst (λ n. group_of n events ≡ Some x.life.group) own (st.lasts.each p x here).home, (st.lasts.each p x here).start ∙ ap (λ n. Some n) own)
 
 -- one that is ready gave a result
 ready_shown : (g : Stage) (shown given : Option (List ℕ)) → is_ready g ≡ true → ShownAt g shown given → (body : List ℕ) × (given ≡ Some body) × (shown ≡ Some (shown_of (result_bytes body)))

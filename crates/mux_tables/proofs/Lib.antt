@@ -46,3 +46,4 @@ pub mod DocumentNotes
 pub mod Homes
 pub mod Waits
 pub mod Live
+pub mod Placed

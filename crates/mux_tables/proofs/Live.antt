@@ -18,7 +18,7 @@ use Rattle.mux_tables.specs.declared.tables.Start.{Start}
 use Rattle.mux_tables.specs.declared.tables.Tables.{Tables}
 use Rattle.mux_tables.specs.Stands.{Stands, forwarded_of, number_in, of_ids, phase_in}
 use Rattle.mux_tables.proofs.Lists.{editors_so}
-use Rattle.mux_tables.proofs.Starts.{read_here, start_at_place}
+use Rattle.mux_tables.proofs.Starts.{read_here, read_same, start_at_place}
 
 pub there_inside : (xs : List Session) (e : ℕ) (b : Bool) → e < length xs → b ≡ is_there (session_of xs e).phase → b ≡ is_there (phase_in (slice_get xs e))
 there_inside xs e b l is = is ∙ ap (λ o. is_there (phase_in o)) (sym (slice_get-get_or xs e absent l))
@@ -42,6 +42,9 @@ number_at (x ∷ xs) (suc g) z h = number_at xs g z h
 
 pub number_here : (xs : List Start) (g n : ℕ) (z : Start) → g < length xs → z ≡ get_or xs g z → n ≡ z.life.start → slice_get (map number_in xs) g ≡ Some n
 number_here xs g n z l read is = number_at xs g z (read_here xs g z l read) ∙ ap Some (sym is)
+
+pub group_here : (xs : List Start) (g n : ℕ) (z : Start) → g < length xs → z ≡ get_or xs g z → n ≡ z.life.group → (x : Start) → slice_get xs g ≡ Some x → n ≡ x.life.group
+group_here xs g n z l read is x here = is ∙ ap (λ (w : Start). w.life.group) (read_same xs g z x l read here)
 
 -- the open requests by their editors
 counted : (p q : ℕ → Bool) → ((e : ℕ) → p e ≡ q e) → (rs : List Numbered) → length (filter q (editors_of rs)) ≡ length (filter (λ (f : Forwarded). p f.editor) (map forwarded_of rs))

@@ -1,6 +1,8 @@
 -- All tables, one event further.
 use Rattle.std.proofs.Common.{◌≡◌, ◌<◌, ◌^◌, ℕ, List, [], ◌∷◌, ◌++◌, refl, ap, sym, subst, ◌∙◌, false, nat_eq}
 use Rattle.std.specs.Prelude.{Some, slice_get, slice_set}
+use Rattle.std.specs.List.{remove}
+use Rattle.event_model.specs.declared.stage.Stage.TheVariants.{Ended}
 use Rattle.event_model.specs.Event.{Event}
 use Rattle.event_model.specs.Settings.{Settings}
 use Rattle.event_model.specs.Spawns.{start_behind, group_behind, group_of}
@@ -14,7 +16,7 @@ use Rattle.mux_tables.specs.declared.tables.Tables.{Tables}
 use Rattle.group_rows.specs.Asks.{asking_of}
 use Rattle.mux_tables.specs.Stands.{AsksStay, Part, PartStands, EditorsStand, GroupsStand, OriginsStand, LastStands, LastsStand, HouseStands, Stands}
 use Rattle.mux_tables.proofs.Frames.{asks_alone, names_start, names_editor, spawns, ticks, editors_stand, groups_stand, origins_stand, start_alone, group_alone, life_alone, time_alone}
-use Rattle.mux_tables.proofs.Lasts.{lasts_stand, one_last}
+use Rattle.mux_tables.proofs.Lasts.{last_forgotten, lasts_stand, one_last}
 use Rattle.mux_tables.proofs.Awaited.{StopsMove, stopping_more, stops_kept}
 
 module _ (settings : Settings) where
@@ -65,12 +67,12 @@ module _ (settings : Settings) where
   -- what moves is the last start of one group
   module _ (t u : Tables) (events : List Event) (ev : Event) (i : ℕ) (x : Start) (e : names_editor ev ≡ false) (g : GroupsStand settings t.groups events → GroupsStand settings u.groups (events ++ ev ∷ [])) (w : ticks ev ≡ false) (k : spawns ev ≡ false) (n : (m : ℕ) → names_start m ev ≡ nat_eq x.life.start m)
       (at : slice_get t.lasts.items i ≡ Some x) (es : u.editors ≡ t.editors) (now : u.time ≡ t.time) (os : u.origins.groups ≡ t.origins.groups) (sk : StopsMove t u events ev) (r : u.requests ≡ t.requests) where
-    last_moves : (y : Start) → u.lasts.items ≡ slice_set t.lasts.items i y → (LastStands t.requests events i x → LastStands t.requests (events ++ ev ∷ []) i y) → Stands settings t events → Stands settings u (events ++ ev ∷ [])
-    last_moves y is go s = record {
+    last_moves : (y : Start) → y.life.group ≡ x.life.group → u.lasts.items ≡ slice_set t.lasts.items i y → (LastStands t.requests events x.life.group x → LastStands t.requests (events ++ ev ∷ []) x.life.group y) → Stands settings t events → Stands settings u (events ++ ev ∷ [])
+    last_moves y group is go s = record {
       house = house_stands t u events ev e g w es now s.house;
       origins = subst (λ v. OriginsStand v.items (events ++ ev ∷ [])) (sym os) (origins_stand t.origins.groups.items events ev k s.origins);
       stopping = sk s.stopping;
-      lasts = subst (λ m. LastsStand m u.lasts.items (events ++ ev ∷ [])) (sym r) (one_last t.requests t.origins.groups.items t.lasts.items u.lasts.items events ev i x y n e k at is s.origins go s.lasts);
+      lasts = subst (λ m. LastsStand m u.lasts.items (events ++ ev ∷ [])) (sym r) (one_last t.requests t.origins.groups.items t.lasts.items u.lasts.items events ev i x y n e k at is group s.origins go s.lasts);
       requests = s.requests ∙ sym r;
       range = subst (λ n. n < 2 ^ 32) (sym r) s.range;
     }
@@ -78,9 +80,25 @@ module _ (settings : Settings) where
     -- its tables
     pub parts_move : (y : Start) → y.life.start ≡ x.life.start → y.life.group ≡ x.life.group → u.lasts.items ≡ slice_set t.lasts.items i y → ((p : Part) → PartStands p t.requests x events → PartStands p t.requests y (events ++ ev ∷ []))
         → Stands settings t events → Stands settings u (events ++ ev ∷ [])
-    parts_move y starts group is go s = last_moves y is (λ g. record {
-      start = one_more (start_behind i) _ _ events ev g.start ∙ (start_alone i _ ev k ∙ ap (λ m. Some m) (sym starts));
-      home = subst (λ m. group_of m (events ++ ev ∷ []) ≡ Some i) (sym starts) (one_more (group_behind x.life.start) _ _ events ev g.home ∙ group_alone x.life.start _ ev k);
+    parts_move y starts group is go s = last_moves y group is (λ g. record {
+      start = one_more (start_behind x.life.group) _ _ events ev g.start ∙ (start_alone x.life.group _ ev k ∙ ap (λ m. Some m) (sym starts));
+      home = subst (λ m. group_of m (events ++ ev ∷ []) ≡ Some x.life.group) (sym starts) (one_more (group_behind x.life.start) _ _ events ev g.home ∙ group_alone x.life.start _ ev k);
       own = group ∙ g.own;
       parts = λ p. go p (g.parts p);
     }) s
+
+-- what is kept of a group whose last start ended is forgotten
+pub forgotten : (settings : Settings) (t u : Tables) (events : List Event) (i : ℕ) (x : Start) → slice_get t.lasts.items i ≡ Some x → x.life.stage ≡ Ended → x.ids.requests ≡ [] → u.lasts.items ≡ remove t.lasts.items i → u.editors ≡ t.editors → u.groups ≡ t.groups → u.time ≡ t.time → u.origins ≡ t.origins → u.requests ≡ t.requests
+    → Stands settings t events → Stands settings u events
+forgotten settings t u events i x at ended answered ls es gs now os r s = record {
+  house = record {
+    editors = subst (λ xs. EditorsStand settings xs events) (sym es) s.house.editors;
+    groups = subst (λ xs. GroupsStand settings xs events) (sym gs) s.house.groups;
+    now = s.house.now ∙ sym now;
+  };
+  origins = subst (λ v. OriginsStand v.groups.items events) (sym os) s.origins;
+  stopping = s.stopping ∙ ap (λ v. v.stopping.items) (sym os);
+  lasts = subst (λ m. LastsStand m u.lasts.items events) (sym r) (last_forgotten t.requests t.lasts.items u.lasts.items events i x at ls ended answered s.lasts);
+  requests = s.requests ∙ sym r;
+  range = subst (λ n. n < 2 ^ 32) (sym r) s.range;
+}

@@ -1,28 +1,24 @@
 -- The starts whose programs are to be ended at a tick, as the code has them.
-use Rattle.std.proofs.Common.{◌≡◌, ℕ, ◌<◌, max, Bool, true, false, ◌&&◌, List, length, filter, nat_lt, inl, inr, refl, ap, sym, subst, ◌∙◌, arith}
-use Rattle.std.specs.Prelude.{Option, Some, None, slice_get, ◌⊎◌}
+use Rattle.std.proofs.Common.{◌≡◌, ℕ, max, map, Bool, true, false, ◌&&◌, List, filter, refl, ap, sym, subst, ◌∙◌}
+use Rattle.std.specs.Prelude.{Option, Some, None, IsSome, ◌↔◌, slice_get}
 use Rattle.std.specs.List.{range_with_len}
-use Rattle.std.specs.Option.{option_and_then}
-use Rattle.std.proofs.lemmas.Bool.Decides.{nat_tests}
 use Rattle.event_model.specs.declared.stage.Stage.{Stage}
-use Rattle.event_model.specs.declared.stage.Stage.TheVariants.{Ended, Stopping}
+use Rattle.event_model.specs.declared.stage.Stage.TheVariants.{Unspawned, Spawning, Initializing, Ready, Stopping, Ending, Ended}
 use Rattle.event_model.specs.Event.{Event}
 use Rattle.event_model.specs.Settings.{Settings}
-use Rattle.event_model.specs.Spawns.{start_of, starts_of}
+use Rattle.event_model.specs.Spawns.{starts_of}
 use Rattle.event_model.specs.Stages.{Life, life_of}
 use Rattle.event_model.proofs.Frames.{never}
-use Rattle.event_model.proofs.Places.{item_at}
 use Rattle.group_rows.specs.Ticks.{is_stopping, overdue_of, stop_of}
 use Rattle.group_words.specs.Houses.{time_of}
 use Rattle.group_words.specs.Placing.{is_since}
 use Rattle.group_rows.proofs.Stops.{filter_both, stopping_is}
 use Rattle.mux_tables.specs.declared.tables.Start.{Start}
 use Rattle.mux_tables.specs.declared.tables.Tables.{Tables}
-use Rattle.mux_tables.specs.Stands.{Stands, StopAt, is_over, moment_in, of_life, of_stop}
-use Rattle.mux_tables.specs.Stops.{stop_in}
+use Rattle.mux_tables.specs.Stands.{Stands, StopAt, is_over, moment_in, number_in, of_life, of_stop}
+use Rattle.mux_tables.proofs.Starts.{start_at_place}
+use Rattle.mux_tables.specs.Stops.{awaited_stop}
 use Rattle.mux_tables.proofs.Awaited.{filter_agree}
-use Rattle.mux_tables.proofs.Lasts.{same_place}
-use Rattle.mux_tables.proofs.Seen.{unspawned_over}
 
 -- two tests that agree where a third one holds
 filter_within : (p q test : ℕ → Bool) → ((n : ℕ) → test n ≡ true → p n ≡ q n) → (xs : List ℕ) → filter p (filter test xs) ≡ filter q (filter test xs)
@@ -32,41 +28,50 @@ filter_within p q test same xs = filter_both p test xs ∙ filter_agree (λ n. t
     go n true is = same n is
     go n false is = refl
 
-module _ (settings : Settings) (t : Tables) (before : List Event) (st : Stands settings t before) where
-  -- of one that is to stop the moment is kept at its group
-  stop_kept : (s : ℕ) → is_stopping (life_of s before).stage ≡ true → stop_in t s ≡ stop_of s before
-  stop_kept s stops = go (slice_get t.origins.groups.items s) refl
+-- what is awaited
+awaited_none : (s : ℕ) (before : List Event) → is_stopping (life_of s before).stage ≡ false → awaited_stop s before ≡ None
+awaited_none s before off = rw off refl
+
+over_settled : (stage : Stage) → is_over stage ≡ true → is_stopping stage ≡ false
+over_settled Unspawned h = refl
+over_settled Ended h = refl
+over_settled Spawning h = refl
+over_settled Initializing h = refl
+over_settled Ready h = refl
+over_settled Ending h = refl
+over_settled Stopping h = never (sym h)
+
+-- the start isn't the last one of a group of which something is kept
+pub unawaited : (settings : Settings) (t : Tables) (before : List Event) (s : ℕ) → is_over (life_of s before).stage ≡ true → None ≡ awaited_stop s before
+unawaited settings t before s over = sym (awaited_none s before (over_settled (life_of s before).stage over))
+
+module _ (settings : Settings) (t : Tables) (before : List Event) (p s : ℕ) (x : Start) (here : slice_get t.lasts.items p ≡ Some x) (at : slice_get (map number_in t.lasts.items) p ≡ Some s) (st : Stands settings t before) where
+  stage_is : (life_of s before).stage ≡ x.life.stage
+  stage_is = subst (λ n. (life_of n before).stage ≡ x.life.stage) (start_at_place t.lasts.items p s x here at) (ap (λ (l : Life). l.stage) ((st.lasts.each p x here).parts of_life))
+
+  -- it is, and its answer is awaited, or isn't
+  pub awaited_here : (o : Option (ℕ × ℕ)) → o ≡ x.life.stopping → IsSome o ↔ (x.life.stage ≡ Stopping) → moment_in o ≡ awaited_stop s before
+  awaited_here None is when = sym (awaited_none s before (off x.life.stage refl))
     where
-      at_stop : (life_of s before).stage ≡ Stopping
-      at_stop = stopping_is (life_of s before).stage stops
+      off : (stage : Stage) → x.life.stage ≡ stage → is_stopping (life_of s before).stage ≡ false
+      off Stopping e = absurd (when.1 e)
+      off Unspawned e = ap is_stopping (stage_is ∙ e)
+      off Spawning e = ap is_stopping (stage_is ∙ e)
+      off Initializing e = ap is_stopping (stage_is ∙ e)
+      off Ready e = ap is_stopping (stage_is ∙ e)
+      off Ending e = ap is_stopping (stage_is ∙ e)
+      off Ended e = ap is_stopping (stage_is ∙ e)
+  awaited_here (Some k) is when =
+      let stops : x.life.stage ≡ Stopping = when.0 tt in
+      let kept : moment_in x.life.stopping ≡ stop_of x.life.start before = subst (λ g. StopAt g x.life.stopping (stop_of x.life.start before)) stops ((st.lasts.each p x here).parts of_stop) in
+      ap moment_in is ∙ (kept ∙ (ap (λ n. stop_of n before) (start_at_place t.lasts.items p s x here at) ∙ sym (rw (ap is_stopping (stage_is ∙ stops)) refl)))
 
-      inside : (g : ℕ) → start_of g before ≡ Some s → g < length t.lasts.items
-      inside g starts = test (nat_lt g (length t.lasts.items)) refl
-        where
-          clash : ◌≡◌ {A = Option ℕ} None (Some s) → ⊥
-          clash h = cc
-
-          test : (b : Bool) → nat_lt g (length t.lasts.items) ≡ b → g < length t.lasts.items
-          test true h = grind (arith, nat_tests)
-          test false h = absurd (clash (sym (st.lasts.none g (grind (arith, nat_tests))) ∙ starts))
-
-      last : (g : ℕ) → slice_get t.origins.groups.items s ≡ Some g → (start_of g before ≡ Some s) ⊎ ((life_of s before).stage ≡ Ended) → stop_in t s ≡ stop_of s before
-      last g at (inr ended) = never (sym (sym (ap is_stopping ended) ∙ stops))
-      last g at (inl starts) =
-          let x = item_at t.lasts.items g (inside g starts) in
-          let l = st.lasts.each g x.0 x.1 in
-          let own : (x.0).life.start ≡ s = same_place (sym l.start ∙ starts) in
-          let stage : (x.0).life.stage ≡ Stopping = sym (ap (λ (w : Life). w.stage) (l.parts of_life)) ∙ (ap (λ n. (life_of n before).stage) own ∙ at_stop) in
-          let kept : moment_in (x.0).life.stopping ≡ stop_of (x.0).life.start before = subst (λ k. StopAt k (x.0).life.stopping (stop_of (x.0).life.start before)) stage (l.parts of_stop) in
-          ap (λ o. option_and_then (λ h. option_and_then (λ (y : Start). moment_in y.life.stopping) (slice_get t.lasts.items h)) o) at
-          ∙ ap (λ o. option_and_then (λ (y : Start). moment_in y.life.stopping) o) x.1 ∙ kept ∙ ap (λ n. stop_of n before) own
-
-      go : (o : Option ℕ) → slice_get t.origins.groups.items s ≡ o → stop_in t s ≡ stop_of s before
-      go None at = never (sym (sym (ap is_over at_stop) ∙ unspawned_over settings t before s st at))
-      go (Some g) at = last g at (st.lasts.old s g (st.origins.group s ∙ at))
-
-  pub overdue_kept : (now later grace : ℕ) → settings.limits.grace ≡ grace → later ≡ max t.time now → filter (λ s. is_since grace later (stop_in t s)) t.origins.stopping.items ≡ overdue_of settings before now
-  overdue_kept now later grace g l = ap (filter (λ s. is_since grace later (stop_in t s))) (sym st.stopping)
-      ∙ filter_within (λ s. is_since grace later (stop_in t s)) (λ s. is_since settings.limits.grace (max (time_of before) now) (stop_of s before)) (λ s. is_stopping (life_of s before).stage)
-      (λ s stops. ap (is_since grace later) (stop_kept s stops) ∙ ap (λ k. is_since k later (stop_of s before)) (sym g) ∙ ap (λ k. is_since settings.limits.grace k (stop_of s before)) (l ∙ ap (λ k. max k now) (sym st.house.now)))
+module _ (settings : Settings) (t : Tables) (before : List Event) (st : Stands settings t before) where
+  pub overdue_kept : (now later grace : ℕ) → settings.limits.grace ≡ grace → later ≡ max t.time now → filter (λ s. is_since grace later (awaited_stop s before)) t.origins.stopping.items ≡ overdue_of settings before now
+  overdue_kept now later grace g l = ap (filter (λ s. is_since grace later (awaited_stop s before))) (sym st.stopping)
+      ∙ filter_within (λ s. is_since grace later (awaited_stop s before)) (λ s. is_since settings.limits.grace (max (time_of before) now) (stop_of s before)) (λ s. is_stopping (life_of s before).stage)
+      (λ s stops. ap (is_since grace later) (awaited s stops) ∙ ap (λ k. is_since k later (stop_of s before)) (sym g) ∙ ap (λ k. is_since settings.limits.grace k (stop_of s before)) (l ∙ ap (λ k. max k now) (sym st.house.now)))
       (range_with_len 0 (starts_of before))
+    where
+      awaited : (s : ℕ) → is_stopping (life_of s before).stage ≡ true → awaited_stop s before ≡ stop_of s before
+      awaited s stops = rw stops refl

@@ -205,6 +205,7 @@ rest_same : (settings : Settings) (t : Tables) (events : List Event) → Rest se
 rest_same settings t events = record {
   texts = λ g l h. h;
   encoding = λ g l. refl;
+  founds = λ g h. h;
   starts = λ n h. h;
   sent = λ n l u. refl;
   moments = λ g x n p at there. refl;
@@ -222,7 +223,7 @@ module _ (settings : Settings) (owed : Owed) (t : Tables) (s : ℕ) where
       let aside : is_synced (message_of text) ≡ false = ap is_synced says in
       subst (λ es. DocumentsStand settings owed t es) (append_assoc events (said (ToServer s text) ∷ []) (map said (refusals s (map kept_ask qs))))
       (still_told qs (events ++ said (ToServer s text) ∷ []) h.1 (documents_all settings owed owed t t events (events ++ said (ToServer s text) ∷ []) (rest_notified settings t events s text (message_of text) silent aside) refl refl refl
-      (λ g x d at k. shared_notified settings events (owed g) g x.life.start x.life.stage d s text (message_of text) silent aside k) ds))
+      (λ g x d at k. shared_notified settings events (owed x.life.group) x.life.group x.life.start x.life.stage d s text (message_of text) silent aside k) ds))
 
 pub refused_documents : (settings : Settings) (owed : Owed) (t u : Tables) (base : List Event) (g e : ℕ) (x z : Start) (kept left : List route.Ask) (start : ℕ) (xs ys : List Out) → z ≡ x → slice_get t.lasts.items g ≡ Some x → x.life.stage ≡ Ready → left ≡ of_editor e z.asks → start ≡ z.life.start
     → u.lasts.items ≡ slice_set t.lasts.items g (record z { asks = kept }) → u.documents ≡ t.documents → u.versions ≡ t.versions → ys ≡ xs ++ refusals start left

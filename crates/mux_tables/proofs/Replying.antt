@@ -149,8 +149,8 @@ module _ (settings : Settings) (t u : Tables) (events : List Event) (g e : ℕ) 
   pub replied_moves : places (desk_of e events).phase (message_of body) ≡ false → stops events e (message_of body) ≡ false → is_first_open settings.servers events e (message_of body) ≡ false → (desk_of e (events ++ ev ∷ [])).phase ≡ p
       → Stands settings t events → Stands settings u (events ++ ev ∷ [])
   replied_moves stays goes off step st = house_and_lasts settings t u events ev (λ m. refl) refl os r
-      (λ origins lasts. asked_last t.requests t.origins.groups.items t.lasts.items u.lasts.items events ev g z y (λ m. refl) (λ m away. none_answered e m (message_of body) events (one m away)) refl at ls origins
-      (λ s. record { start = one_more (start_behind g) _ _ events ev s.start; home = one_more (group_behind z.life.start) _ _ events ev s.home; own = s.own; parts = λ q. part q (s.parts q) }) lasts)
+      (λ origins lasts. asked_last t.requests t.origins.groups.items t.lasts.items u.lasts.items events ev g z y (λ m. refl) (λ m away. none_answered e m (message_of body) events (one m away)) refl at ls refl origins
+      (λ s. record { start = one_more (start_behind z.life.group) _ _ events ev s.start; home = one_more (group_behind z.life.start) _ _ events ev s.home; own = s.own; parts = λ q. part q (s.parts q) }) lasts)
       (λ h.
       let k = set_house settings t (record u { lasts = t.lasts }) events e body p l set now refl os r stays step gs goes off h in
       record { editors = k.editors; groups = k.groups; now = k.now }) st

@@ -1,6 +1,6 @@
 -- What the tables tell of the events, as the code has it.
 use Rattle.std.proofs.Common.{◌≡◌, ℕ, zero, suc, ◌<◌, ◌≤◌, Bool, true, false, not, ◌&&◌, List, [], ◌∷◌, map, length, get_or, refl, ap, sym, subst, ◌∙◌, arith, inl, inr, ◌⊎◌}
-use Rattle.std.specs.Prelude.{Option, Some, None, slice_get}
+use Rattle.std.specs.Prelude.{IfNone, IfSome, MatchOption, Option, Some, None, slice_get}
 use Rattle.std.specs.Option.{option_and_then}
 use Rattle.std.proofs.lemmas.Option.{slice_get-get_or, slice_get_past}
 use Rattle.event_model.specs.declared.phase.Phase.{Phase}
@@ -19,8 +19,9 @@ use Rattle.mux_tables.specs.declared.tables.Start.{Start}
 use Rattle.mux_tables.specs.declared.tables.Tables.{Tables}
 use Rattle.group_rows.specs.Forwarded as forwarded
 use Rattle.group_rows.specs.Forwarded.{forwarding_of}
-use Rattle.mux_tables.specs.Stands.{Stands, group_in, is_over, meant_in, number_in, of_ids, of_life, phase_in, start_for}
+use Rattle.mux_tables.specs.Stands.{HasEnded, IsLost, Rise, Stands, group_in, is_over, meant_in, number_in, of_ids, of_life, phase_in, start_for}
 use Rattle.mux_tables.proofs.IdMoves.{numbers_mapped}
+use Rattle.mux_tables.proofs.Lasts.{lost_ended}
 use Rattle.mux_tables.proofs.Lists.{editors_for, runs_so}
 use Rattle.mux_tables.proofs.Starts.{read_here, start_at_place}
 
@@ -79,25 +80,28 @@ module _ (settings : Settings) (t : Tables) (events : List Event) (s : ℕ) (st 
         go (inl e) = absurd (not_it e)
         go (inr e) = ended (life_of s events) e
 
-    outside : (g : ℕ) → slice_get t.origins.groups.items s ≡ Some g → length t.lasts.items ≤ g → P (life_of s events)
-    outside g h past = old_start g h (λ e. none (sym (st.lasts.none g past) ∙ e))
+    outside : (g : ℕ) → slice_get t.origins.groups.items s ≡ Some g → (Rise 0 t.lasts.items → IsLost g t.lasts.items) → P (life_of s events)
+    outside g h lost = go (st.lasts.old s g (st.origins.group s ∙ h))
       where
-        none : ◌≡◌ {A = Option ℕ} None (Some s) → ⊥
-        none h = cc
+        go : (start_of g events ≡ Some s) ⊎ ((life_of s events).stage ≡ Ended) → P (life_of s events)
+        go (inl e) = ended (life_of s events) (lost_ended t.requests g s events (st.lasts.lost g s (lost st.lasts.rise) e))
+        go (inr e) = ended (life_of s events) e
 
-    other : (g : ℕ) (z : Start) → slice_get t.origins.groups.items s ≡ Some g → g < length t.lasts.items → z ≡ get_or t.lasts.items g z → (z.life.start ≡ s → ⊥) → P (life_of s events)
-    other g z h within read not_it = old_start g h (λ e. not_it (same_item (sym (st.lasts.each g z (read_here t.lasts.items g z within read)).start ∙ e)))
+    other : (g p : ℕ) (z : Start) → slice_get t.origins.groups.items s ≡ Some g → p < length t.lasts.items → z ≡ get_or t.lasts.items p z → ((x : Start) → slice_get t.lasts.items p ≡ Some x → x.life.group ≡ g) → (z.life.start ≡ s → ⊥) → P (life_of s events)
+    other g p z h within read own not_it =
+        let here = read_here t.lasts.items p z within read in
+        old_start g h (λ e. not_it (same_item (sym (ap (λ n. start_of n events) (sym (own z here)) ∙ (st.lasts.each p z here).start) ∙ e)))
 
-  pub outside_over : (g : ℕ) → slice_get t.origins.groups.items s ≡ Some g → length t.lasts.items ≤ g → is_over (life_of s events).stage ≡ true
+  pub outside_over : (g : ℕ) → slice_get t.origins.groups.items s ≡ Some g → (Rise 0 t.lasts.items → IsLost g t.lasts.items) → is_over (life_of s events).stage ≡ true
   outside_over = outside (λ life. is_over life.stage ≡ true) ended_over
 
-  pub outside_off : (g : ℕ) → slice_get t.origins.groups.items s ≡ Some g → length t.lasts.items ≤ g → IsOff (life_of s events)
+  pub outside_off : (g : ℕ) → slice_get t.origins.groups.items s ≡ Some g → (Rise 0 t.lasts.items → IsLost g t.lasts.items) → IsOff (life_of s events)
   outside_off = outside IsOff ended_off
 
-  pub other_over : (g : ℕ) (z : Start) → slice_get t.origins.groups.items s ≡ Some g → g < length t.lasts.items → z ≡ get_or t.lasts.items g z → (z.life.start ≡ s → ⊥) → is_over (life_of s events).stage ≡ true
+  pub other_over : (g p : ℕ) (z : Start) → slice_get t.origins.groups.items s ≡ Some g → p < length t.lasts.items → z ≡ get_or t.lasts.items p z → ((x : Start) → slice_get t.lasts.items p ≡ Some x → x.life.group ≡ g) → (z.life.start ≡ s → ⊥) → is_over (life_of s events).stage ≡ true
   other_over = other (λ life. is_over life.stage ≡ true) ended_over
 
-  pub other_off : (g : ℕ) (z : Start) → slice_get t.origins.groups.items s ≡ Some g → g < length t.lasts.items → z ≡ get_or t.lasts.items g z → (z.life.start ≡ s → ⊥) → IsOff (life_of s events)
+  pub other_off : (g p : ℕ) (z : Start) → slice_get t.origins.groups.items s ≡ Some g → p < length t.lasts.items → z ≡ get_or t.lasts.items p z → ((x : Start) → slice_get t.lasts.items p ≡ Some x → x.life.group ≡ g) → (z.life.start ≡ s → ⊥) → IsOff (life_of s events)
   other_off = other IsOff ended_off
 
 pub start_read : (xs : List Start) (g s start : ℕ) (z : Start) → g < length xs → z ≡ get_or xs g z → start ≡ z.life.start → start ≡ s → slice_get (map number_in xs) g ≡ Some s
@@ -109,14 +113,22 @@ start_read (x ∷ xs) (suc g) s start z h r e f = start_read xs g s start z (ome
 home_seen : (settings : Settings) (t : Tables) (events : List Event) (e : ℕ) (o : Option ℕ) → Stands settings t events → e < length t.editors → o ≡ (session_of t.editors e).group → start_for settings e events ≡ option_and_then (λ g. start_of g events) o
 home_seen settings t events e o s l is = ap (option_and_then (λ g. start_of g events)) (s.house.editors.home e ∙ (ap group_in (slice_get-get_or t.editors e absent l) ∙ sym is))
 
-pub placed_nowhere : (settings : Settings) (t : Tables) (events : List Event) (e : ℕ) → Stands settings t events → e < length t.editors → ◌≡◌ {A = Option ℕ} None (session_of t.editors e).group → start_for settings e events ≡ None
-placed_nowhere settings t events e s l is = home_seen settings t events e None s l is
+pub placed_nowhere : (settings : Settings) (t : Tables) (events : List Event) (e : ℕ) → Stands settings t events → e < length t.editors → ◌≡◌ {A = Option ℕ} None (session_of t.editors e).group → HasEnded (start_for settings e events) events
+placed_nowhere settings t events e s l is n starts = absurd (none_some (sym (home_seen settings t events e None s l is) ∙ starts))
+  where
+    none_some : ◌≡◌ {A = Option ℕ} None (Some n) → ⊥
+    none_some h = cc
 
-pub placed_past : (settings : Settings) (t : Tables) (events : List Event) (e g : ℕ) → Stands settings t events → e < length t.editors → Some g ≡ (session_of t.editors e).group → length t.lasts.items ≤ g → start_for settings e events ≡ None
-placed_past settings t events e g s l is past = home_seen settings t events e (Some g) s l is ∙ s.lasts.none g past
+pub placed_past : (settings : Settings) (t : Tables) (events : List Event) (e g : ℕ) → Stands settings t events → e < length t.editors → Some g ≡ (session_of t.editors e).group → (Rise 0 t.lasts.items → IsLost g t.lasts.items) → HasEnded (start_for settings e events) events
+placed_past settings t events e g s l is lost n starts = lost_ended t.requests g n events (s.lasts.lost g n (lost s.lasts.rise) (sym (home_seen settings t events e (Some g) s l is) ∙ starts))
 
-pub placed_here : (settings : Settings) (t : Tables) (events : List Event) (e g : ℕ) (x : Start) → Stands settings t events → e < length t.editors → Some g ≡ (session_of t.editors e).group → slice_get t.lasts.items g ≡ Some x → start_for settings e events ≡ Some x.life.start
-placed_here settings t events e g x s l is at = home_seen settings t events e (Some g) s l is ∙ (s.lasts.each g x at).start
+pub placed_here : (settings : Settings) (t : Tables) (events : List Event) (e g p : ℕ) (x : Start) → Stands settings t events → e < length t.editors → Some g ≡ (session_of t.editors e).group → slice_get t.lasts.items p ≡ Some x → x.life.group ≡ g → start_for settings e events ≡ Some x.life.start
+placed_here settings t events e g p x s l is at own = home_seen settings t events e (Some g) s l is ∙ (ap (λ n. start_of n events) (sym own) ∙ (s.lasts.each p x at).start)
+
+pub group_given : (settings : Settings) (t : Tables) (events : List Event) (e g : ℕ) → Stands settings t events → e < length t.editors → Some g ≡ (session_of t.editors e).group → (o : Option ℕ) → IfSome o (λ p. (x : Start) → slice_get t.lasts.items p ≡ Some x → x.life.group ≡ g)
+    → IfNone o (Rise 0 t.lasts.items → IsLost g t.lasts.items) → MatchOption o (HasEnded (start_for settings e events) events) (λ p. (x : Start) → slice_get t.lasts.items p ≡ Some x → start_for settings e events ≡ Some x.life.start)
+group_given settings t events e g st l is None number lost = placed_past settings t events e g st l is lost
+group_given settings t events e g st l is (Some p) number lost = λ x at. placed_here settings t events e g p x st l is at (number x at)
 
 -- where an editor stands
 pub phase_inside : (settings : Settings) (t : Tables) (events : List Event) (e : ℕ) (p : Phase) → Stands settings t events → e < length t.editors → p ≡ (session_of t.editors e).phase → p ≡ (desk_of e events).phase

@@ -223,11 +223,11 @@ found_of n k o rs is h = subst (λ (m : Option ℕ). MatchOption m (o ≡ None) 
 pub refusal_moves : (settings : Settings) (t u : Tables) (events : List Event) (g s : ℕ) (z : Start) (body : List ℕ) (n : Option ℕ) (ids : Table) → slice_get (map number_in t.lasts.items) g ≡ Some s → g < length t.lasts.items → z ≡ get_or t.lasts.items g z
     → z.life.stage ≡ Initializing → is_first_error (message_of body) ≡ true → NamesAt (answered_id (message_of body)) n
     → MatchOption n (ids.requests ≡ z.ids.requests) (λ k. ids.requests ≡ without k z.ids.requests) → ids.next ≡ z.ids.next → ids.limit ≡ z.ids.limit → (IsInOrder z.ids → IsInOrder ids)
-    → u.lasts.items ≡ slice_set t.lasts.items g (record z { ids = ids }) → u.editors ≡ t.editors → u.groups ≡ with_groups (changed g ended t.groups.groups) t.groups → u.time ≡ t.time → u.origins ≡ t.origins → u.requests ≡ t.requests
+    → u.lasts.items ≡ slice_set t.lasts.items g (record z { ids = ids }) → u.editors ≡ t.editors → u.groups ≡ with_groups (changed z.life.group ended t.groups.groups) t.groups → u.time ≡ t.time → u.origins ≡ t.origins → u.requests ≡ t.requests
     → Stands settings t events → Stands settings u (events ++ took (FromServer s body) (message_of body) ∷ [])
 refusal_moves settings t u events g s z body n ids at within read stage refuses named taken next limit order set es gs now os r st =
     start_moves settings t u events (λ k. took (FromServer k body) (message_of body)) g s z y at within read set refl refl es now (ap (λ v. v.groups) os) r (λ k. refl) (λ k. refl) (λ k. refl) (λ k m. refl)
-    (λ k e h. refused_groups settings events k g body (message_of body) t.groups u.groups refuses (ap is_initializing (stage_seen settings t events g k z st here (e ∙ sym is)) ∙ ap is_initializing stage) (subst (λ m. group_of m events ≡ Some g) (is ∙ sym e) (st.lasts.each g z here).home)
+    (λ k e h. refused_groups settings events k z.life.group body (message_of body) t.groups u.groups refuses (ap is_initializing (stage_seen settings t events g k z st here (e ∙ sym is)) ∙ ap is_initializing stage) (subst (λ m. group_of m events ≡ Some z.life.group) (is ∙ sym e) (st.lasts.each g z here).home)
     (ap (λ w. w.limit) gs) (ap (λ w. w.idle) gs) (ap (λ w. w.groups) gs) h) (λ k e. heard_stops t u events k body os) part st
   where
     y : Start
@@ -265,7 +265,7 @@ module _ (settings : Settings) (t u : Tables) (events : List Event) (g s : ℕ) 
   over_moves st =
       let own : x.start.life.start ≡ z.life.start = ap (λ (l : Standing). l.start) x.life in
       start_moves settings t u events ev g s z x.start at within (read_back t.lasts.items g z here) x.lasts own (ap (λ (l : Standing). l.group) x.life) x.editors x.time x.origins x.requests editor time spawn one
-      (λ n e h. lost_groups settings events (ev n) n g (loses n) (t.groups) u.groups t.editors (subst (λ m. group_of m events ≡ Some g) (start_at_place t.lasts.items g s z here at ∙ sym e) (st.lasts.each g z here).home) st.house.editors x.groups h)
+      (λ n e h. lost_groups settings events (ev n) n z.life.group (loses n) (t.groups) u.groups t.editors (subst (λ m. group_of m events ≡ Some z.life.group) (start_at_place t.lasts.items g s z here at ∙ sym e) (st.lasts.each g z here).home) st.house.editors x.groups h)
       (λ n e h. stopping_less events (ev n) n (spawn n) (one n) (ap (λ (l : Life). is_stopping l.stage) (over n (life_of n events))) ∙ ap (unstopped n) h
       ∙ ap (λ k. unstopped k t.origins.stopping.items) (e ∙ sym (start_at_place t.lasts.items g s z here at)) ∙ sym x.stopping) (part own) st
     where

@@ -1,8 +1,8 @@
 -- A start is spawned: for a new group, or for one whose last start ended.
 use Rattle.std.proofs.Common.{◌≡◌, ℕ, ◌+◌, ◌<◌, ◌≤◌, List, [], ◌∷◌, ◌++◌, map, length, refl, ap, sym, subst, ◌∙◌, arith, nat_eq, false, inl, inr, if◌then◌else◌}
 use Rattle.std.specs.Prelude.{Option, Some, None, slice_get, slice_set}
-use Rattle.std.proofs.lemmas.Bool.{ne_eqb}
-use Rattle.std.proofs.lemmas.List.{length-set, length-append}
+use Rattle.std.proofs.lemmas.Bool.{cases_lt, ne_eqb}
+use Rattle.std.proofs.lemmas.List.{length-append}
 use Rattle.std.proofs.lemmas.Option.{slice_get_within}
 use Rattle.mux_history.specs.declared.out.Out.{Out}
 use Rattle.mux_history.specs.declared.out.Out.TheVariants.{Spawn}
@@ -16,7 +16,7 @@ use Rattle.event_model.specs.Settings.{Settings}
 use Rattle.event_model.specs.Spawns.{starts_behind, starts_of, start_behind, start_of, group_behind, group_of}
 use Rattle.event_model.specs.Stages.{Life, life_behind, life_of}
 use Rattle.event_model.proofs.Frames.{one_more}
-use Rattle.event_model.proofs.Places.{Same, same, other, compare, get_push_same, get_push_other, each_set, each_push}
+use Rattle.event_model.proofs.Places.{Same, same, other, compare, get_push_same, get_push_other, get_set_same, each_set, each_push}
 use Rattle.event_model.proofs.Turns.{does_look}
 use Rattle.group_words.specs.Rows.{result_behind, result_of, spawn}
 use Rattle.id_rewrite.specs.Tables.{IsInOrder}
@@ -25,12 +25,13 @@ use Rattle.mux_tables.specs.declared.tables.Start.{Start}
 use Rattle.mux_tables.specs.declared.tables.Tables.{Tables}
 use Rattle.group_rows.specs.Forwarded.{forwarding_behind}
 use Rattle.group_rows.specs.Ticks.{is_stopping}
-use Rattle.group_rows.specs.Asks.{Ask, asking_of, asks_of}
-use Rattle.mux_tables.specs.Stands.{AsksAt, OriginsStand, IdsAt, IdsStand, Part, of_life, of_ids, of_shown, of_stop, of_asks, PartStands, ShownAt, blank, LastStands, LastsStand, Stands}
+use Rattle.group_rows.specs.Asks.{Ask, asks_of}
+use Rattle.mux_tables.specs.Stands.{AsksAt, IsLost, IsNew, Lost, OriginsStand, Rise, IdsAt, IdsStand, Part, of_life, of_ids, of_shown, of_stop, of_asks, PartStands, ShownAt, blank, LastStands, LastsStand, Stands}
 use Rattle.mux_tables.proofs.Asking.{asks_more}
-use Rattle.mux_tables.proofs.Frames.{asks_alone, groups_stand, itself, last_stands, life_alone, part_apart}
+use Rattle.mux_tables.proofs.Frames.{groups_stand, itself, last_stands, life_alone, part_apart}
 use Rattle.mux_tables.proofs.Lasts.{Last, known, same_place}
 use Rattle.mux_tables.proofs.Moves.{house_stands}
+use Rattle.mux_tables.proofs.Placed.{groups_apart, lost_push, lost_set, rise_push, rise_set}
 use Rattle.mux_tables.proofs.Said.{does_send}
 use Rattle.mux_tables.proofs.Starts.{groups_kept, no_stop}
 use Rattle.mux_tables.proofs.Awaited.{stopping_spawned}
@@ -89,10 +90,11 @@ module _ (limit : ℕ) (origins : List ℕ) (lasts after : List Start) (events :
   abbrev ev : Event
   ev = did (Spawn n g) not_message
 
-  spawned_lasts : length lasts ≤ length after → g < length after → Each (LastStands limit (events ++ ev ∷ [])) after → ((m : ℕ) → start_of g events ≡ Some m → (life_of m events).stage ≡ Ended) → LastsStand limit after (events ++ ev ∷ [])
-  spawned_lasts long inside all ended = record {
-    none = λ j l. one_more (start_behind j) _ _ events ev (s.none j (omega (arith, long, l))) ∙ rw (ne_eqb g j (λ q. absurd (omega (arith, inside, l, q)))) refl;
+  spawned_lasts : Rise 0 after → (IsLost g after → ⊥) → ((j : ℕ) → IsLost j after → IsLost j lasts) → Each (λ place x. LastStands limit (events ++ ev ∷ []) x.life.group x) after → ((m : ℕ) → start_of g events ≡ Some m → (life_of m events).stage ≡ Ended) → LastsStand limit after (events ++ ev ∷ [])
+  spawned_lasts rise inside older all ended = record {
+    rise = rise;
     each = all;
+    lost = λ j m none w. lost_before j m (compare g j) none w;
     fresh = λ m l p.
         let e : starts_of (events ++ ev ∷ []) ≡ n + 1 = one_more starts_behind _ _ events ev (st.count ∙ sym last) in
         let c : starts_of events ≡ n = st.count ∙ sym last in
@@ -100,6 +102,12 @@ module _ (limit : ℕ) (origins : List ℕ) (lasts after : List Start) (events :
     old = λ m h w. go m h (compare n m) w;
   }
     where
+      lost_before : (j m : ℕ) → Same g j → IsLost j after → start_of j (events ++ ev ∷ []) ≡ Some m → Lost limit j m (events ++ ev ∷ [])
+      lost_before _ m same none w = absurd (inside none)
+      lost_before j m (other d) none w =
+          let was = s.lost j m (older j none) (sym (one_more (start_behind j) _ _ events ev refl ∙ rw (ne_eqb g j (λ q. d (sym q))) refl) ∙ w) in
+          record { last = was.last; stands = untouched limit origins events n g j was.last last st d was.stands; number = was.number; ended = was.ended; answered = was.answered }
+
       before : (m h : ℕ) → (m ≡ n → ⊥) → group_of m (events ++ ev ∷ []) ≡ Some h → group_of m events ≡ Some h
       before m h d w = sym (one_more (group_behind m) _ _ events ev refl ∙ rw (ne_eqb n m (λ q. d (sym q))) refl) ∙ w
 
@@ -132,27 +140,43 @@ module _ (settings : Settings) (t u : Tables) (events : List Event) (n g : ℕ) 
   }
 
   -- for a new group
-  found_moves : g ≡ length t.lasts.items → u.lasts.items ≡ t.lasts.items ++ y ∷ [] → Stands settings t events → Stands settings u (events ++ did (Spawn n g) not_message ∷ [])
-  found_moves place ls s =
+  found_moves : IsNew g events → u.lasts.items ≡ t.lasts.items ++ y ∷ [] → Stands settings t events → Stands settings u (events ++ did (Spawn n g) not_message ∷ [])
+  found_moves unfounded ls s =
       let here = spawned_last t.requests events n g y (fresh_parts s) new in
-      let long : length u.lasts.items ≡ length t.lasts.items + 1 = ap length ls ∙ length-append t.lasts.items (y ∷ []) in
-      all_stand (spawned_lasts t.requests t.origins.groups.items t.lasts.items u.lasts.items events n g last s.origins s.lasts (omega (arith, long)) (omega (arith, long, place))
-      (each_push (LastStands t.requests events) (LastStands t.requests (events ++ did (Spawn n g) not_message ∷ [])) t.lasts.items u.lasts.items y ls s.lasts.each (subst (λ k. LastStands t.requests (events ++ did (Spawn n g) not_message ∷ []) k y) place here)
-      (λ j z w q. untouched t.requests t.origins.groups.items events n g j z last s.origins (λ e. absurd (omega (arith, w, e, place))) q))
-      (λ m e. absurd (clash (sym (s.lasts.none g (omega (arith, place))) ∙ e)))) s
+      all_stand (spawned_lasts t.requests t.origins.groups.items t.lasts.items u.lasts.items events n g last s.origins s.lasts
+      (subst (Rise 0) (sym ls) (rise_push 0 t.lasts.items y (omega arith) (λ p x at. subst (λ k. x.life.group < k) (sym own) (below s p x at)) s.lasts.rise))
+      (λ lost. lost (length t.lasts.items) y (ap (λ xs. slice_get xs (length t.lasts.items)) ls ∙ get_push_same t.lasts.items y) own)
+      (λ j lost. lost_push j t.lasts.items y (subst (IsLost j) ls lost))
+      (each_push (λ place x. LastStands t.requests events x.life.group x) (λ place x. LastStands t.requests (events ++ did (Spawn n g) not_message ∷ []) x.life.group x) t.lasts.items u.lasts.items y ls s.lasts.each (subst (λ k. LastStands t.requests (events ++ did (Spawn n g) not_message ∷ []) k y) (sym own) here)
+      (λ j z w q. untouched t.requests t.origins.groups.items events n g z.life.group z last s.origins (λ e. clash (sym (unfounded g (omega arith)) ∙ (ap (λ k. start_of k events) (sym e) ∙ q.start))) q))
+      (λ m e. absurd (clash (sym (unfounded g (omega arith)) ∙ e)))) s
     where
       clash : {m : ℕ} → ◌≡◌ {A = Option ℕ} None (Some m) → ⊥
       clash e = cc
 
+      own : y.life.group ≡ g
+      own = ap (λ (l : Standing). l.group) new.0
+
+      below : Stands settings t events → (p : ℕ) (x : Start) → slice_get t.lasts.items p ≡ Some x → x.life.group < g
+      below s p x at = elim (cases_lt x.life.group g) [
+        | inl l ↦ l
+        | inr l ↦ absurd (clash (sym (unfounded x.life.group l) ∙ (s.lasts.each p x at).start))
+      ]
+
   -- for a group whose last start ended
-  respawn_moves : (x : Start) → slice_get t.lasts.items g ≡ Some x → x.life.stage ≡ Ended → u.lasts.items ≡ slice_set t.lasts.items g y → Stands settings t events → Stands settings u (events ++ did (Spawn n g) not_message ∷ [])
-  respawn_moves x at ended ls s =
+  respawn_moves : (i : ℕ) (x : Start) → slice_get t.lasts.items i ≡ Some x → x.life.group ≡ g → x.life.stage ≡ Ended → u.lasts.items ≡ slice_set t.lasts.items i y → Stands settings t events → Stands settings u (events ++ did (Spawn n g) not_message ∷ [])
+  respawn_moves i x at mine ended ls s =
       let here = spawned_last t.requests events n g y (fresh_parts s) new in
-      let was = s.lasts.each g x at in
-      let within = slice_get_within t.lasts.items g x at in
-      let long : length u.lasts.items ≡ length t.lasts.items = ap length ls ∙ length-set t.lasts.items g y in
-      all_stand (spawned_lasts t.requests t.origins.groups.items t.lasts.items u.lasts.items events n g last s.origins s.lasts (omega (arith, long)) (omega (arith, long, within))
-      (each_set (LastStands t.requests events) (LastStands t.requests (events ++ did (Spawn n g) not_message ∷ [])) t.lasts.items u.lasts.items g x y at ls s.lasts.each (λ _. here) (λ j z w _ q. untouched t.requests t.origins.groups.items events n g j z last s.origins w q))
+      let was : LastStands t.requests events g x = subst (λ k. LastStands t.requests events k x) mine (s.lasts.each i x at) in
+      let own : y.life.group ≡ g = ap (λ (l : Standing). l.group) new.0 in
+      let same : y.life.group ≡ x.life.group = own ∙ sym mine in
+      all_stand (spawned_lasts t.requests t.origins.groups.items t.lasts.items u.lasts.items events n g last s.origins s.lasts
+      (subst (Rise 0) (sym ls) (rise_set 0 t.lasts.items i x y at same s.lasts.rise))
+      (λ lost. lost i y (ap (λ xs. slice_get xs i) ls ∙ get_set_same t.lasts.items i y (slice_get_within t.lasts.items i x at)) own)
+      (λ j lost. lost_set j i t.lasts.items x y at same (subst (IsLost j) ls lost))
+      (each_set (λ j z. (slice_get t.lasts.items j ≡ Some z) × LastStands t.requests events z.life.group z) (λ j z. LastStands t.requests (events ++ did (Spawn n g) not_message ∷ []) z.life.group z) t.lasts.items u.lasts.items i x y at ls (λ j z there. (there, s.lasts.each j z there))
+      (λ _. subst (λ k. LastStands t.requests (events ++ did (Spawn n g) not_message ∷ []) k y) (sym own) here)
+      (λ j z w _ q. untouched t.requests t.origins.groups.items events n g z.life.group z last s.origins (λ e. groups_apart t.lasts.items i j x z s.lasts.rise at q.0 w (e ∙ sym mine)) q.1))
       (λ m e. subst (λ k. (life_of k events).stage ≡ Ended) (same_place (sym was.start ∙ e)) (ap (λ (l : Life). l.stage) (was.parts of_life) ∙ ended))) s
 
 -- the number is the next one
@@ -160,12 +184,12 @@ spawn_does : (settings : Settings) (t u : Tables) (xs ys : List Out) (base : Lis
 spawn_does settings t u xs ys base n g last is go =
     does_look {Stands = λ t events. Stands settings t events} {f = λ events. send (Spawn (starts_of events) g)} (λ s. ap (λ k. send (Spawn k g)) (s.origins.count ∙ sym last)) (does_send settings (Spawn n g) base t u xs ys is go)
 
-pub found_gives : (settings : Settings) (t u : Tables) (xs ys : List Out) (base : List Event) (n g : ℕ) (y : Start) → n ≡ length t.origins.groups.items → g ≡ length t.lasts.items → u.editors ≡ t.editors → u.groups ≡ t.groups → u.time ≡ t.time → u.origins.groups.items ≡ t.origins.groups.items ++ g ∷ [] → u.origins.stopping ≡ t.origins.stopping → u.lasts.items ≡ t.lasts.items ++ y ∷ [] → u.requests ≡ t.requests
-    → y.life ≡ spawned n g → y.started ≡ false → y.ids.requests ≡ [] → y.ids.next ≡ 2 → y.ids.limit ≡ t.requests → IsInOrder y.ids → y.shown ≡ None → y.asks ≡ [] → ys ≡ xs ++ Spawn n g ∷ [] → Does (λ t events. Stands settings t events) (spawn (length t.lasts.items)) base t xs u ys
-found_gives settings t u xs ys base n g y last place es gs now os sk ls r life started requests next ends order blank_shown blank_asks is = subst (λ h. Does (λ t events. Stands settings t events) (spawn h) base t xs u ys) place
-    (spawn_does settings t u xs ys base n g last is (found_moves settings t u (behind base xs) n g y last es gs now os sk r (life, started, requests, next, ends, order, blank_shown, blank_asks) place ls))
-
-pub respawn_gives : (settings : Settings) (t u : Tables) (xs ys : List Out) (base : List Event) (n g : ℕ) (x y : Start) → n ≡ length t.origins.groups.items → slice_get t.lasts.items g ≡ Some x → x.life.stage ≡ Ended → u.editors ≡ t.editors → u.groups ≡ t.groups → u.time ≡ t.time → u.origins.groups.items ≡ t.origins.groups.items ++ g ∷ [] → u.origins.stopping ≡ t.origins.stopping → u.lasts.items ≡ slice_set t.lasts.items g y → u.requests ≡ t.requests
+pub found_gives : (settings : Settings) (t u : Tables) (xs ys : List Out) (base : List Event) (n g : ℕ) (y : Start) → n ≡ length t.origins.groups.items → IsNew g (behind base xs) → u.editors ≡ t.editors → u.groups ≡ t.groups → u.time ≡ t.time → u.origins.groups.items ≡ t.origins.groups.items ++ g ∷ [] → u.origins.stopping ≡ t.origins.stopping → u.lasts.items ≡ t.lasts.items ++ y ∷ [] → u.requests ≡ t.requests
     → y.life ≡ spawned n g → y.started ≡ false → y.ids.requests ≡ [] → y.ids.next ≡ 2 → y.ids.limit ≡ t.requests → IsInOrder y.ids → y.shown ≡ None → y.asks ≡ [] → ys ≡ xs ++ Spawn n g ∷ [] → Does (λ t events. Stands settings t events) (spawn g) base t xs u ys
-respawn_gives settings t u xs ys base n g x y last at ended es gs now os sk ls r life started requests next ends order blank_shown blank_asks is =
-    spawn_does settings t u xs ys base n g last is (respawn_moves settings t u (behind base xs) n g y last es gs now os sk r (life, started, requests, next, ends, order, blank_shown, blank_asks) x at ended ls)
+found_gives settings t u xs ys base n g y last unfounded es gs now os sk ls r life started requests next ends order blank_shown blank_asks is =
+    spawn_does settings t u xs ys base n g last is (found_moves settings t u (behind base xs) n g y last es gs now os sk r (life, started, requests, next, ends, order, blank_shown, blank_asks) unfounded ls)
+
+pub respawn_gives : (settings : Settings) (t u : Tables) (xs ys : List Out) (base : List Event) (n g i : ℕ) (x y : Start) → n ≡ length t.origins.groups.items → slice_get t.lasts.items i ≡ Some x → x.life.group ≡ g → x.life.stage ≡ Ended → u.editors ≡ t.editors → u.groups ≡ t.groups → u.time ≡ t.time → u.origins.groups.items ≡ t.origins.groups.items ++ g ∷ [] → u.origins.stopping ≡ t.origins.stopping → u.lasts.items ≡ slice_set t.lasts.items i y → u.requests ≡ t.requests
+    → y.life ≡ spawned n g → y.started ≡ false → y.ids.requests ≡ [] → y.ids.next ≡ 2 → y.ids.limit ≡ t.requests → IsInOrder y.ids → y.shown ≡ None → y.asks ≡ [] → ys ≡ xs ++ Spawn n g ∷ [] → Does (λ t events. Stands settings t events) (spawn x.life.group) base t xs u ys
+respawn_gives settings t u xs ys base n g i x y last at mine ended es gs now os sk ls r life started requests next ends order blank_shown blank_asks is =
+    subst (λ k. Does (λ t events. Stands settings t events) (spawn k) base t xs u ys) (sym mine) (spawn_does settings t u xs ys base n g last is (respawn_moves settings t u (behind base xs) n g y last es gs now os sk r (life, started, requests, next, ends, order, blank_shown, blank_asks) i x at mine ended ls))

@@ -23,7 +23,7 @@ use Rattle.group_rows.specs.Ticks.{is_stopping, stop_of}
 use Rattle.ask_route.specs.declared.ask.Ask as route
 use Rattle.group_rows.specs.Asks.{Ask, asks_of}
 use Rattle.mux_tables.specs.Refusals.{asks_in}
-use Rattle.mux_tables.specs.Stands.{AsksAt, GroupsStand, IdsAt, IdsStand, Part, of_life, of_ids, of_shown, of_stop, of_asks, PartStands, ShownAt, StopAt, Stands, number_in, stage_in}
+use Rattle.mux_tables.specs.Stands.{AsksAt, GroupsStand, IdsAt, IdsStand, Part, of_life, of_ids, of_shown, of_stop, of_asks, PartStands, ShownAt, StopAt, Stands, house_in, number_in, stage_in}
 use Rattle.mux_tables.proofs.Frames.{names_start, names_editor, spawns, ticks, touches, part_quiet}
 use Rattle.mux_tables.proofs.IdMoves.{ids_more}
 use Rattle.mux_tables.proofs.Moves.{parts_move}
@@ -67,6 +67,11 @@ pub asks_kept : (xs : List Start) (g : ℕ) (z y : Start) → g < length xs → 
 asks_kept [] g z y h e k = absurd (omega arith)
 asks_kept (x ∷ xs) zero z y h e k = ap (λ n. n ∷ map asks_in xs) (k ∙ ap asks_in e)
 asks_kept (x ∷ xs) (suc g) z y h e k = ap (λ ns. x.asks ∷ ns) (asks_kept xs g z y (omega arith) e k)
+
+pub houses_stay : (xs : List Start) (g : ℕ) (z y : Start) → g < length xs → z ≡ get_or xs g z → y.life.group ≡ z.life.group → map house_in (slice_set xs g y) ≡ map house_in xs
+houses_stay [] g z y h e k = absurd (omega arith)
+houses_stay (x ∷ xs) zero z y h e k = ap (λ n. n ∷ map house_in xs) (k ∙ ap house_in e)
+houses_stay (x ∷ xs) (suc g) z y h e k = ap (λ ns. x.life.group ∷ ns) (houses_stay xs g z y (omega arith) e k)
 
 -- its stage goes on
 pub part_life : (limit : ℕ) (events : List Event) (ev : Event) (x y : Start) → y.life.start ≡ x.life.start → life_behind x.life.start (record { stage = x.life.stage; started = x.started }) ev ≡ record { stage = y.life.stage; started = y.started }

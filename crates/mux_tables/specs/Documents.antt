@@ -14,7 +14,7 @@ use Rattle.event_model.specs.declared.stage.Stage.TheVariants.{Spawning, Initial
 use Rattle.event_model.specs.Event.{Event, behind, requests}
 use Rattle.event_model.specs.Phases.{desk_of, is_served}
 use Rattle.event_model.specs.Settings.{Settings}
-use Rattle.event_model.specs.Spawns.{starts_of}
+use Rattle.event_model.specs.Spawns.{start_of, starts_of}
 use Rattle.event_model.specs.Stages.{is_ready, life_of}
 use Rattle.focus_switch.specs.Documents.{Documents}
 use Rattle.focus_switch.specs.Rows.{Step}
@@ -76,8 +76,8 @@ pub record SharedStands (settings : Settings) (events : List Event) (owed : List
 
 pub record DocumentsStand (settings : Settings) (owed : Owed) (t : Tables) (events : List Event) : Type 0 where
   pub count : length t.documents.items ≡ length t.lasts.items
-  pub each : (g : ℕ) (x : Start) (d : Documents) → slice_get t.lasts.items g ≡ Some x → slice_get t.documents.items g ≡ Some d → SharedStands settings events (owed g) g x.life.start x.life.stage d
-  pub none : (g : ℕ) → length t.lasts.items ≤ g → (texts_of settings g events ≡ no_texts) × (encoding_of g events ≡ None)
+  pub each : (g : ℕ) (x : Start) (d : Documents) → slice_get t.lasts.items g ≡ Some x → slice_get t.documents.items g ≡ Some d → SharedStands settings events (owed x.life.group) x.life.group x.life.start x.life.stage d
+  pub none : (g : ℕ) → start_of g events ≡ None → (texts_of settings g events ≡ no_texts) × (encoding_of g events ≡ None)
   pub fresh : (s : ℕ) → starts_of events ≤ s → Untold s events
   pub notes : (g : ℕ) (x : Start) → slice_get t.lasts.items g ≡ Some x → NotesStand settings x.life.start x.ids.requests events
   pub versions : settings.limits.versions ≡ t.versions
@@ -100,7 +100,7 @@ abbrev pub Leaves : Settings → List Event → ℕ → Option ℕ → Option �
 Leaves settings before e (Some g) (Some s) outs u later = (outs ≡ to s (leaving settings before g s e)) × DocumentsStand settings (owes g (leaving settings before g s e)) u later
 Leaves settings before e home start outs u later = (outs ≡ []) × DocumentsStand settings nothing_owed u later
 
--- the documents of the groups behind a step of one, where there is one of this number, and what it gives
+-- the documents of the groups behind a step of the one in this place, where there is one, and what it gives
 abbrev pub StepAt : (Documents → Step) → ℕ → Option Documents → List Documents → List Out → List Documents → Type 0
 StepAt row g None old outs new = (outs ≡ []) × (new ≡ old)
 StepAt row g (Some d) old outs new = (outs ≡ (row d).outs) × (new ≡ slice_set old g (row d).after)

@@ -2,7 +2,7 @@
 use Rattle.std.specs.Prelude.{◌≡◌, ℕ, ◌<◌, ◌≤◌, ◌^◌, nat_eq, not, ◌⊎◌, Bool, true, false, ◌&&◌, List, [], ◌∷◌, ◌++◌, map, length, nat_lt, is_some}
 use Rattle.std.specs.List.{AllByRecursion, filter, range_with_len}
 use Rattle.std.specs.Option.{option_and_then}
-use Rattle.std.specs.Prelude.{Option, Some, None, slice_get, slice_set}
+use Rattle.std.specs.Prelude.{Option, Some, None, slice_get, slice_set, ◌+◌}
 use Rattle.ask_route.specs.declared.ask.Ask as route
 use Rattle.ask_route.specs.Tables as asks
 use Rattle.rpc_message.specs.Message.{Id, Message, message_of, request, result_bytes, same_id}
@@ -160,7 +160,7 @@ PartStands of_shown limit x events = ShownAt x.life.stage x.shown (result_of x.l
 PartStands of_stop limit x events = StopAt x.life.stage x.life.stopping (stop_of x.life.start events)
 PartStands of_asks limit x events = AsksAt x.life.stage events (asks_of x.life.start events) x.asks
 
--- what is kept of one group's last start stands for what the events say of it
+-- what is kept of the last start of group g stands for what the events say of it
 pub record LastStands (limit : ℕ) (events : List Event) (g : ℕ) (x : Start) : Type 0 where
   pub start : start_of g events ≡ Some x.life.start
   pub home : group_of x.life.start events ≡ Some g
@@ -179,9 +179,36 @@ number_in x = x.life.start
 abbrev pub stage_in : Start → Stage
 stage_in x = x.life.stage
 
+-- the number of its group
+abbrev pub house_in : Start → ℕ
+house_in x = x.life.group
+
+-- the groups of these rise, from one number on
+abbrev pub Rise : ℕ → List Start → Type 0
+Rise from [] = Unit {0}
+Rise from (x ∷ xs) = (from ≤ x.life.group) × Rise (x.life.group + 1) xs
+
+-- nothing is kept of group g
+abbrev pub IsLost : ℕ → List Start → Type 0
+IsLost g lasts = (place : ℕ) (x : Start) → slice_get lasts place ≡ Some x → x.life.group ≡ g → ⊥
+
+-- what needn't be kept of group g, whose last start is s: it ended, and has nothing to answer
+pub record Lost (limit g s : ℕ) (events : List Event) : Type 0 where
+  pub last : Start
+  pub stands : LastStands limit events g last
+  pub number : last.life.start ≡ s
+  pub ended : last.life.stage ≡ Ended
+  pub answered : last.ids.requests ≡ []
+
+-- this start ended, where there is one
+abbrev pub HasEnded : Option ℕ → List Event → Type 0
+HasEnded start events = (s : ℕ) → start ≡ Some s → (life_of s events).stage ≡ Ended
+
+-- the last starts of the groups, but for some whose last one ended
 pub record LastsStand (limit : ℕ) (lasts : List Start) (events : List Event) : Type 0 where
-  pub none : (g : ℕ) → length lasts ≤ g → start_of g events ≡ None
-  pub each : Each (LastStands limit events) lasts
+  pub rise : Rise 0 lasts
+  pub each : Each (λ place x. LastStands limit events x.life.group x) lasts
+  pub lost : (g s : ℕ) → IsLost g lasts → start_of g events ≡ Some s → Lost limit g s events
   pub fresh : (s : ℕ) → starts_of events ≤ s → (p : Part) → PartStands p limit (blank limit s) events
   pub old : (s g : ℕ) → group_of s events ≡ Some g → (start_of g events ≡ Some s) ⊎ ((life_of s events).stage ≡ Ended)
 
@@ -253,13 +280,13 @@ AsksStay s events event = (asking_next s events (asking_of s events) event).asks
 abbrev pub AnswersNone : ℕ → Message → List Event → Type 0
 AnswersNone e m events = (s : ℕ) → AllByRecursion (λ (a : Ask). is_seated e (answered_id m) a ≡ false) (asks_of s events)
 
--- this body leaves the editor in its phase, and asks it nothing
+-- this body leaves the editor in its phase, and the asks of each start
 abbrev pub Keeps : ℕ → List ℕ → List Event → Type 0
-Keeps e body events = ((desk_of e (events ++ said (ToEditor e body) ∷ [])).phase ≡ (desk_of e events).phase) × (is_request (message_of body) ≡ false)
+Keeps e body events = ((desk_of e (events ++ said (ToEditor e body) ∷ [])).phase ≡ (desk_of e events).phase) × ((s : ℕ) → AsksStay s events (said (ToEditor e body)))
 
--- this body answers its `initialize`
+-- this body answers its `initialize`, and leaves the asks of each start
 abbrev pub Welcomes : ℕ → List ℕ → List Event → Type 0
-Welcomes e body events = ((desk_of e (events ++ said (ToEditor e body) ∷ [])).phase ≡ Answered) × (is_request (message_of body) ≡ false)
+Welcomes e body events = ((desk_of e (events ++ said (ToEditor e body) ∷ [])).phase ≡ Answered) × ((s : ℕ) → AsksStay s events (said (ToEditor e body)))
 
 -- e's request under this id is at work, and goes to start s
 abbrev pub Sends : ℕ → ℕ → List ℕ → List Event → Type 0
@@ -269,9 +296,10 @@ Sends s e id events = (forwarding_of s events).sender ≡ Some (record { editor 
 abbrev pub unstopped : ℕ → List ℕ → List ℕ
 unstopped s starts = filter (λ n. not (nat_eq s n)) starts
 
--- the last start of a group ended: it is over and has nothing to answer, and the group counts an exit, or ends
+-- the last start of a group, which is z and has this place, ended: it is over and has nothing to answer, and the group counts an exit, or
+-- ends
 pub record Exits (restarts : ℕ) (t : Tables) (g : ℕ) (z : Start) (u : Tables) : Type 0 where
-  pub groups : u.groups ≡ group_tables.with_groups (changed g (exit_of restarts (any_in needs_server t.editors g)) t.groups.groups) t.groups
+  pub groups : u.groups ≡ group_tables.with_groups (changed z.life.group (exit_of restarts (any_in needs_server t.editors z.life.group)) t.groups.groups) t.groups
   pub start : Start
   pub lasts : u.lasts.items ≡ slice_set t.lasts.items g start
   pub life : start.life ≡ moved Ended z.life
@@ -285,6 +313,15 @@ pub record Exits (restarts : ℕ) (t : Tables) (g : ℕ) (z : Start) (u : Tables
   pub origins : u.origins.groups ≡ t.origins.groups
   pub stopping : u.origins.stopping.items ≡ unstopped z.life.start t.origins.stopping.items
   pub requests : u.requests ≡ t.requests
+
+-- its place among those that are kept; where there is none, nothing is kept of the group
+abbrev pub IsPlace : List Start → Option ℕ → Option ℕ → Type 0
+IsPlace lasts home None = (g : ℕ) → home ≡ Some g → Rise 0 lasts → IsLost g lasts
+IsPlace lasts home (Some place) = (place < length lasts) × ((x : Start) → slice_get lasts place ≡ Some x → home ≡ Some x.life.group)
+
+-- no group from this number on has a start
+abbrev pub IsNew : ℕ → List Event → Type 0
+IsNew g events = (h : ℕ) → g ≤ h → start_of h events ≡ None
 
 -- no such start was spawned, or its program ended or couldn't be run
 abbrev pub is_over : Stage → Bool

@@ -1,11 +1,10 @@
--- What is kept of a start that was sent `shutdown`.
-use Rattle.std.specs.Prelude.{ℕ}
-use Rattle.std.specs.Prelude.{Option, slice_get}
-use Rattle.std.specs.Option.{option_and_then}
-use Rattle.mux_tables.specs.declared.tables.Start.{Start}
-use Rattle.mux_tables.specs.declared.tables.Tables.{Tables}
-use Rattle.mux_tables.specs.Stands.{moment_in}
+-- Of a start that was sent `shutdown`.
+use Rattle.std.specs.Prelude.{ℕ, List, if◌then◌else◌}
+use Rattle.std.specs.Prelude.{Option, None}
+use Rattle.event_model.specs.Event.{Event}
+use Rattle.event_model.specs.Stages.{life_of}
+use Rattle.group_rows.specs.Ticks.{is_stopping, stop_of}
 
--- the moment at which the last start of its group was sent `shutdown`
-abbrev pub stop_in : Tables → ℕ → Option ℕ
-stop_in t s = option_and_then (λ g. option_and_then (λ (x : Start). moment_in x.life.stopping) (slice_get t.lasts.items g)) (slice_get t.origins.groups.items s)
+-- the moment at which it was, as long as the answer is awaited
+abbrev pub awaited_stop : ℕ → List Event → Option ℕ
+awaited_stop s events = if is_stopping (life_of s events).stage then stop_of s events else None

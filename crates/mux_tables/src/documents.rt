@@ -1,5 +1,6 @@
-// The documents of the groups, by their numbers.
-ghost use Rattle.std.specs.Prelude.{◌≡◌, ℕ, List, Some, IfOk, slice_get, slice_set};
+// The documents of the groups, by their places.
+ghost use Rattle.std.specs.Prelude.{◌≡◌, ◌<◌, ℕ, List, Some, IfOk, length, slice_get, slice_set};
+ghost use Rattle.std.specs.List.{remove};
 ghost use Rattle.document_model.specs.Sayings.{saying_of};
 ghost use Rattle.focus_switch.specs.Documents.{Documents};
 ghost use Rattle.focus_switch.specs.Rows.{leave_row, ready_row, sync_row, unready_row};
@@ -27,6 +28,15 @@ pub fn unready(documents: &mut Vec<Shared<PieceText>>, g: usize)
     documents[g].unready();
 }
 
+// Those of the group of this place are forgotten.
+pub fn remove(documents: &mut Vec<Shared<PieceText>>, g: usize)
+    ensures { g < length documents.old.items → documents.new.items ≡ remove documents.old.items g }
+{
+    if g < documents.len() {
+        documents.remove(g);
+    }
+}
+
 // A start of the group is ready, and counts positions in this encoding: what it is owed.
 pub fn ready(
     alloc: Global,
@@ -44,7 +54,7 @@ pub fn ready(
     Ok(owed)
 }
 
-// An editor leaves this group: what the group's start is owed.
+// An editor leaves the group of this place: what the group's start is owed.
 fn leave_at(
     alloc: Global,
     documents: &mut Vec<Shared<PieceText>>,
@@ -60,19 +70,19 @@ fn leave_at(
     Ok(owed)
 }
 
-// The same of a group that it may have been placed in.
+// The same where it may be in none.
 pub fn leave(
     alloc: Global,
     documents: &mut Vec<Shared<PieceText>>,
-    home: Option<u64>,
+    place: Option<usize>,
     e: u64,
 ) -> Result<Outs, Memory>
-    ensures { IfOk result (λ outs. StepFrom (leave_row e) home documents.old.items outs documents.new.items) }
+    ensures { IfOk result (λ outs. StepFrom (leave_row e) place documents.old.items outs documents.new.items) }
 {
-    let Some(g) = home else {
+    let Some(g) = place else {
         return Ok(Outs::new(alloc))
     };
-    let owed = leave_at(alloc, documents, g as usize, e)?;
+    let owed = leave_at(alloc, documents, g, e)?;
     Ok(owed)
 }
 
@@ -99,7 +109,7 @@ fn note_in(
     }
 }
 
-// The same of the group of this number.
+// The same of the group of this place.
 fn note_at(
     alloc: Global,
     documents: &mut Vec<Shared<PieceText>>,
@@ -118,22 +128,22 @@ fn note_at(
     Ok(owed)
 }
 
-// The same of a group that the editor may have been placed in.
+// The same where the editor may be in none.
 pub fn note(
     alloc: Global,
     documents: &mut Vec<Shared<PieceText>>,
-    home: Option<u64>,
+    place: Option<usize>,
     e: u64,
     message: &Message,
 ) -> Result<Outs, Memory>
     ensures { (body : List ℕ) → IsRead message.now body
         → IfOk result (λ outs. StepFrom (λ d. document_step e body
-        (saying_of (message_of body)) d) home documents.old.items outs documents.new.items) }
+        (saying_of (message_of body)) d) place documents.old.items outs documents.new.items) }
 {
-    let Some(g) = home else {
+    let Some(g) = place else {
         return Ok(Outs::new(alloc))
     };
-    let owed = note_at(alloc, documents, g as usize, e, message)?;
+    let owed = note_at(alloc, documents, g, e, message)?;
     Ok(owed)
 }
 

@@ -181,7 +181,8 @@ impl Tables {
         let home = self.editors.group(e);
         self.editors.leave(e);
         self.empty(home, phase.is_begun())?;
-        let owed = leave(alloc, &mut self.documents, home, e)?;
+        let place = self.place_in(home);
+        let owed = leave(alloc, &mut self.documents, place, e)?;
         Ok(owed)
     }
 
@@ -204,7 +205,8 @@ impl Tables {
     {
         let home = self.editors.group(e);
         self.editors.set(e, Phase::Down);
-        let owed = leave(alloc, &mut self.documents, home, e)?;
+        let place = self.place_in(home);
+        let owed = leave(alloc, &mut self.documents, place, e)?;
         Ok(owed)
     }
 
@@ -239,7 +241,8 @@ impl Tables {
     {
         let home = self.editors.group(e);
         self.editors.set(e, phase);
-        let owed = note(alloc, &mut self.documents, home, e, message)?;
+        let place = self.place_in(home);
+        let owed = note(alloc, &mut self.documents, place, e, message)?;
         Ok(owed)
     }
 

@@ -10,7 +10,7 @@ ghost use Rattle.group_words.specs.Houses.{editors_in, home_of, meant_of, server
 ghost use Rattle.mux_tables.specs.declared.tables.Start.{Start};
 ghost use Rattle.group_rows.specs.Forwarded.{forwarding_of, numbers_of};
 ghost use Rattle.mux_tables.specs.Names.{id_in};
-ghost use Rattle.mux_tables.specs.Stands.{Stands, is_over, number_in, start_for};
+ghost use Rattle.mux_tables.specs.Stands.{HasEnded, Stands, is_over, number_in, start_for};
 
 use crate::tables::{Start, Tables};
 use event_model::Phase;
@@ -33,8 +33,8 @@ impl Tables {
         self.origins.groups.get(s as usize).copied()
     }
 
-    /// The place of the group whose last start this is; where there is none, no such start was spawned, or its program ended or
-    /// couldn't be run.
+    /// The place of the group whose last start this is, by a bisection; where there is none, no such start was spawned, or its program
+    /// ended or couldn't be run.
     #[tactic(auto, using(crate::proofs::Seen::unspawned_over, crate::proofs::Seen::unspawned_halted, crate::proofs::Seen::unspawned_settled))]
     pub fn last(&self, s: u64) -> Option<usize>
         ensures inside { IfSome result (λ g. g < length self.now.lasts.items) }
@@ -43,27 +43,23 @@ impl Tables {
         ensures halted { IfNone result ((settings : Settings) (events : List Event) → Stands settings self.now events → runs (life_of s events) ≡ false) }
         ensures settled { IfNone result ((settings : Settings) (events : List Event) → Stands settings self.now events → may_start (life_of s events) ≡ false) }
     {
-        let g = self.origin(s)? as usize;
-        if g >= self.lasts.len() {
+        let place = self.place_of(self.origin(s)?)?;
+        if self.lasts[place].life.start() != s {
             return None;
         }
-        if self.lasts[g].life.start() != s {
-            return None;
-        }
-        Some(g)
+        Some(place)
     }
 
-    /// The place of an editor's group, where it has a start.
+    /// The place of an editor's group; where there is none, it is in no group, or the group has no start, or one that ended.
     #[tactic(auto, using(crate::proofs::Seen::placed_nowhere))]
     pub fn group(&self, e: u64) -> Option<usize>
         requires { e < length self.now.editors }
         ensures inside { IfSome result (λ g. g < length self.now.lasts.items) }
         ensures start { (settings : Settings) (events : List Event) → Stands settings self.now events
-            → MatchOption result (start_for settings e events ≡ None) (λ g. (x : Start) → slice_get self.now.lasts.items g ≡ Some x
+            → MatchOption result (HasEnded (start_for settings e events) events) (λ g. (x : Start) → slice_get self.now.lasts.items g ≡ Some x
             → start_for settings e events ≡ Some x.life.start) }
     {
-        let g = self.editors.group(e)? as usize;
-        if g < self.lasts.len() { Some(g) } else { None }
+        self.place_of(self.editors.group(e)?)
     }
 
     /// Where the editor stands; one past the end never joined.

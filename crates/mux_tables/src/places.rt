@@ -13,7 +13,7 @@ ghost use Rattle.id_rewrite.specs.Tables.{IsInOrder, pending_of};
 ghost use Rattle.rpc_message.specs.Message.{result_bytes};
 ghost use Rattle.mux_tables.specs.declared.tables.Start.{Start};
 ghost use Rattle.mux_tables.specs.Cancels.{is_uncancelled};
-ghost use Rattle.mux_tables.specs.Stands.{Stands, forwarded_of, number_in, start_for};
+ghost use Rattle.mux_tables.specs.Stands.{HasEnded, IsLost, IsPlace, Rise, Stands, forwarded_of, number_in, start_for};
 
 use crate::tables::Tables;
 use event_model::Stage;
@@ -41,13 +41,17 @@ fn uncancelled_of(ids: &IdTable, e: u64) -> Result<Vec<u32>, Memory>
 }
 
 impl Tables {
-    /// The place of the group in which an editor is, where that group has a start. One past the end is in none.
+    /// The place of the group in which an editor is. Where there is none, it is in no group, or the group has no start, or one that ended;
+    /// an editor past the end is in none.
     pub fn place(&self, e: u64) -> Option<usize>
         ensures inside { IfSome result (λ g. g < length self.now.lasts.items) }
-        ensures none { IfNone result ((settings : Settings) (events : List Event) → Stands settings self.now events → start_for settings e events ≡ None) }
-        ensures home { IfSome result (λ g. (settings : Settings) (events : List Event) → Stands settings self.now events → home_of settings e events ≡ Some g) }
+        ensures none { IfNone result ((settings : Settings) (events : List Event) → Stands settings self.now events
+            → HasEnded (start_for settings e events) events) }
+        ensures home { IfSome result (λ g. (settings : Settings) (events : List Event) (x : Start) → slice_get self.now.lasts.items g ≡ Some x
+            → Stands settings self.now events → home_of settings e events ≡ Some x.life.group) }
         ensures start { IfSome result (λ g. (settings : Settings) (events : List Event) (s : ℕ)
-            → slice_get (map number_in self.now.lasts.items) g ≡ Some s → Stands settings self.now events → start_of g events ≡ Some s) }
+            → slice_get (map number_in self.now.lasts.items) g ≡ Some s → Stands settings self.now events
+            → start_for settings e events ≡ Some s) }
     {
         if e >= self.editors.count() {
             return None;
@@ -55,20 +59,31 @@ impl Tables {
         self.place_of(self.editors.group(e)?)
     }
 
-    /// The place of the group of a number, where it has a start.
+    /// The place of the group of a number, by a bisection. Where there is none, it has no start, or one that ended.
     pub fn place_of(&self, g: u64) -> Option<usize>
         ensures inside { IfSome result (λ place. place < length self.now.lasts.items) }
-        ensures number { IfSome result (λ place. place ≡ g) }
-        ensures none { IfNone result ((settings : Settings) (events : List Event) → Stands settings self.now events → start_of g events ≡ None) }
+        ensures number { IfSome result (λ place. (x : Start) → slice_get self.now.lasts.items place ≡ Some x → x.life.group ≡ g) }
+        ensures lost { IfNone result (Rise 0 self.now.lasts.items → IsLost g self.now.lasts.items) }
+        ensures none { IfNone result ((settings : Settings) (events : List Event) → Stands settings self.now events
+            → HasEnded (start_of g events) events) }
         ensures start { IfSome result (λ place. (settings : Settings) (events : List Event) (s : ℕ)
             → slice_get (map number_in self.now.lasts.items) place ≡ Some s → Stands settings self.now events → start_of g events ≡ Some s) }
     {
-        let place = g as usize;
-        if place < self.lasts.len() {
-            Some(place)
-        } else {
-            None
+        let place = self.lasts.partition_point(|last| last.life.group() < g);
+        if place >= self.lasts.len() {
+            return None;
         }
+        if self.lasts[place].life.group() != g {
+            return None;
+        }
+        Some(place)
+    }
+
+    // The place of a group that an editor may have been placed in.
+    pub fn place_in(&self, home: Option<u64>) -> Option<usize>
+        ensures { IsPlace self.now.lasts.items home result }
+    {
+        self.place_of(home?)
     }
 
     /// Where the group's last start stands.

@@ -25,7 +25,7 @@ ghost use Rattle.group_rows.specs.Texts.{is_synced, worker_of};
 ghost use Rattle.mux_tables.specs.Documents.{AllStand, DocumentsStand, Leaves, Owed, nothing_owed, owes, syncing, to};
 ghost use Rattle.mux_tables.specs.Names.{id_in};
 ghost use Rattle.mux_tables.specs.Refusals.{asks_in};
-ghost use Rattle.mux_tables.specs.Stands.{Keeps, Sends, Stands, Welcomes, is_answer, number_in, stage_in, start_for};
+ghost use Rattle.mux_tables.specs.Stands.{IsNew, Keeps, Sends, Stands, Welcomes, house_in, is_answer, number_in, stage_in, start_for};
 
 use crate::documents::{leave, sync, unready};
 use crate::notes::noted;
@@ -52,7 +52,7 @@ fn closed(phase: Phase) -> Phase
 }
 
 impl Tables {
-    /// A body that is no request goes to an editor, which it leaves in its phase.
+    /// A body goes to an editor, which it leaves in its phase, and the asks of each start as they are.
     #[tactic(auto, using(crate::proofs::Said::told_does))]
     pub fn tell(&self, outs: &mut Outs, e: u64, body: Body) -> Result<(), Memory>
         ensures outs { OnOk result (outs.new ≡ outs.old ++ ToEditor e body ∷ []) }
@@ -107,7 +107,8 @@ impl Tables {
         let home = self.editors.group(e);
         self.editors.set(e, closed(phase));
         self.empty(home, phase.is_begun())?;
-        let owed = leave(alloc, &mut self.documents, home, e)?;
+        let place = self.place_in(home);
+        let owed = leave(alloc, &mut self.documents, place, e)?;
         outs.push(Out::CloseEditor(e))?;
         Ok(owed)
     }
@@ -118,7 +119,7 @@ impl Tables {
         ensures does { (settings : Settings) (base : List Event) (g : ℕ) (x : Start) (bodies : List (List ℕ))
             → slice_get self.now.lasts.items g ≡ Some x → x.life.stage ≡ Ready → owed ≡ to x.life.start bodies
             → OnOk result (Does (λ k events. AllStand settings k events)
-            (to_start x.life.start bodies) base (self.now, owes g bodies) outs.old (self.now, nothing_owed) outs.new) }
+            (to_start x.life.start bodies) base (self.now, owes x.life.group bodies) outs.old (self.now, nothing_owed) outs.new) }
     {
         outs.append(owed)?;
         Ok(())
@@ -209,8 +210,8 @@ impl Tables {
         ensures does { (settings : Settings) (base : List Event) (s : ℕ) (name : Id) (method : List ℕ) (ps : Option Json)
             → slice_get (map number_in self.old.lasts.items) g ≡ Some s → message_of text ≡ message.request name method ps → is_own method ≡ false
             → Sends s e id (behind base outs.old) → worker_of (behind base outs.old) ≡ Some e
-            → OnOk result (Does (λ k events. AllStand settings k events)
-            (look (λ now. to_start s (syncing settings now g s e) ⨾ send (ToServer s text))) base
+            → (x : Start) → slice_get self.old.lasts.items g ≡ Some x → OnOk result (Does (λ k events. AllStand settings k events)
+            (look (λ now. to_start s (syncing settings now x.life.group s e) ⨾ send (ToServer s text))) base
             (self.old, nothing_owed) outs.old (self.new, nothing_owed) outs.new) }
     {
         let told = sync(alloc, &mut self.documents, g, e)?;
@@ -248,8 +249,8 @@ impl Tables {
         ensures does { (settings : Settings) (base : List Event) (s : ℕ) (method : List ℕ) (ps : Option Json)
             → slice_get (map number_in self.old.lasts.items) g ≡ Some s → message_of text ≡ message.notification method ps
             → is_synced (message_of text) ≡ true → worker_of (behind base outs.old) ≡ Some e
-            → OnOk result (Does (λ k events. AllStand settings k events)
-            (look (λ now. to_start s (syncing settings now g s e) ⨾ send (ToServer s text))) base
+            → (x : Start) → slice_get self.old.lasts.items g ≡ Some x → OnOk result (Does (λ k events. AllStand settings k events)
+            (look (λ now. to_start s (syncing settings now x.life.group s e) ⨾ send (ToServer s text))) base
             (self.old, nothing_owed) outs.old (self.new, nothing_owed) outs.new) }
     {
         let told = sync(alloc, &mut self.documents, g, e)?;
@@ -266,6 +267,7 @@ impl Tables {
         ensures starts { OnOk result (map number_in self.new.lasts.items ≡ map number_in self.old.lasts.items) }
         ensures stages { OnOk result (map stage_in self.new.lasts.items ≡ map stage_in self.old.lasts.items) }
         ensures asks { OnOk result (map asks_in self.new.lasts.items ≡ map asks_in self.old.lasts.items) }
+        ensures groups { OnOk result (map house_in self.new.lasts.items ≡ map house_in self.old.lasts.items) }
         ensures does { (settings : Settings) (base : List Event) (s : ℕ) (method : List ℕ) (ps : Option Json)
             → slice_get (map number_in self.old.lasts.items) g ≡ Some s → message_of text ≡ message.notification method ps
             → bytes_eq method (codes "$/cancelRequest") ≡ true
@@ -328,21 +330,19 @@ impl Tables {
         Ok(())
     }
 
-    /// A start is spawned for a new group: the next one.
-    pub fn found(&mut self, alloc: Global, outs: &mut Outs) -> Result<(), Memory>
+    /// A start is spawned for a new group, whose number is above that of each that has a start.
+    pub fn found(&mut self, alloc: Global, outs: &mut Outs, g: u64) -> Result<(), Memory>
         requires limit { 2 ≤ self.old.requests }
         requires versions { 1 ≤ self.old.versions }
         ensures requests { self.new.requests ≡ self.old.requests }
         ensures versions { self.new.versions ≡ self.old.versions }
-        ensures does { (settings : Settings) (base : List Event)
-            → OnOk result (Does (λ t events. Stands settings t events)
-            (spawn (length self.old.lasts.items)) base self.old outs.old self.new outs.new) }
-        ensures documents { (settings : Settings) (owed : Owed) (base : List Event) → Stands settings self.old (behind base outs.old)
-            → DocumentsStand settings owed self.old (behind base outs.old)
+        ensures does { (settings : Settings) (base : List Event) → IsNew g (behind base outs.old)
+            → OnOk result (Does (λ t events. Stands settings t events) (spawn g) base self.old outs.old self.new outs.new) }
+        ensures documents { (settings : Settings) (owed : Owed) (base : List Event) → IsNew g (behind base outs.old)
+            → Stands settings self.old (behind base outs.old) → DocumentsStand settings owed self.old (behind base outs.old)
             → OnOk result (DocumentsStand settings owed self.new (behind base outs.new)) }
     {
         let s = self.origins.groups.len() as u64;
-        let g = self.lasts.len() as u64;
         let life = Life::new(s, g);
         let ids = IdTable::new(alloc, self.requests);
         let asks = Asks::new(alloc);
@@ -365,17 +365,18 @@ impl Tables {
         requires limit { 2 ≤ self.old.requests }
         requires group { g < length self.old.lasts.items }
         requires ended { (x : Start) → slice_get self.old.lasts.items g ≡ Some x → x.life.stage ≡ Ended }
-        ensures does { (settings : Settings) (base : List Event)
-            → OnOk result (Does (λ t events. Stands settings t events) (spawn g) base self.old outs.old self.new outs.new) }
+        ensures does { (settings : Settings) (base : List Event) (x : Start) → slice_get self.old.lasts.items g ≡ Some x
+            → OnOk result (Does (λ t events. Stands settings t events) (spawn x.life.group) base self.old outs.old self.new outs.new) }
         ensures documents { (settings : Settings) (owed : Owed) (base : List Event) → Stands settings self.old (behind base outs.old)
             → DocumentsStand settings owed self.old (behind base outs.old)
             → OnOk result (DocumentsStand settings owed self.new (behind base outs.new)) }
     {
         let s = self.origins.groups.len() as u64;
-        let life = Life::new(s, g as u64);
+        let group = self.lasts[g].life.group();
+        let life = Life::new(s, group);
         let ids = IdTable::new(alloc, self.requests);
         let asks = Asks::new(alloc);
-        self.origins.groups.push(g as u64)?;
+        self.origins.groups.push(group)?;
         self.lasts[g] = Start {
             life,
             started: false,
@@ -383,7 +384,7 @@ impl Tables {
             shown: None,
             asks,
         };
-        outs.push(Out::Spawn(s, g as u64))?;
+        outs.push(Out::Spawn(s, group))?;
         Ok(())
     }
 }

@@ -1,5 +1,5 @@
 // What each cause about a start does to the tables.
-ghost use Rattle.std.specs.Prelude.{◌≡◌, ◌≢◌, ◌<◌, ◌≤◌, ◌^◌, IfOk, OnOk, ◌++◌, ◌∷◌, [], ℕ, List, map, Some, false, true, length, nat_lt, option_map, slice_get, slice_set, find, MatchOption, ◌&&◌};
+ghost use Rattle.std.specs.Prelude.{◌≡◌, ◌≢◌, ◌+◌, ◌<◌, ◌≤◌, ◌^◌, IfOk, OnOk, ◌++◌, ◌∷◌, [], ℕ, List, map, Some, false, true, length, nat_lt, option_map, slice_get, slice_set, find, MatchOption, ◌&&◌};
 ghost use Rattle.event_model.specs.declared.stage.Stage.TheVariants.{Ended, Initializing, Ready, Spawning};
 ghost use Rattle.event_model.specs.Event.{Event, heard};
 ghost use Rattle.event_model.specs.Phases.{needs_server};
@@ -19,7 +19,7 @@ ghost use Rattle.mux_tables.specs.Documents.{DocumentsStand, Owed, nothing_owed,
 ghost use Rattle.group_rows.specs.Forwarded.{forwarding_of, is_under};
 ghost use Rattle.mux_tables.specs.Stands.{Exits, NamesAt, Stands, any_in, begun_at, forwarded_as, is_early, number_in, stage_in};
 
-use crate::documents::{ready, unready};
+use crate::documents::{ready, remove, unready};
 use crate::requests::{answer, forget};
 use crate::seats::lose;
 use crate::stops::end_stop;
@@ -91,8 +91,8 @@ impl Tables {
         ensures documents { (settings : Settings) (events : List Event) (s : ℕ) (body : List ℕ)
             → slice_get (map number_in self.old.lasts.items) g ≡ Some s → encoding_by (message_of body) ≡ Some encoding
             → Stands settings self.old events → DocumentsStand settings nothing_owed self.old events
-            → IfOk result (λ owed. (owed ≡ to s (replaying settings events g))
-            × DocumentsStand settings (owes g (replaying settings events g)) self.new (events ++ heard (FromServer s body) ∷ [])) }
+            → (x : Start) → slice_get self.old.lasts.items g ≡ Some x → IfOk result (λ owed. (owed ≡ to s (replaying settings events x.life.group))
+            × DocumentsStand settings (owes x.life.group (replaying settings events x.life.group)) self.new (events ++ heard (FromServer s body) ∷ [])) }
     {
         let last = &mut self.lasts[g];
         last.life.result();
@@ -120,7 +120,8 @@ impl Tables {
             → Stands settings self.old events → DocumentsStand settings owed self.old events
             → DocumentsStand settings owed self.new (events ++ heard (FromServer s body) ∷ []) }
     {
-        self.groups.end(g as u64);
+        let group = self.lasts[g].life.group();
+        self.groups.end(group);
         let last = &mut self.lasts[g];
         forget(&mut last.ids, n);
     }
@@ -138,14 +139,16 @@ impl Tables {
         requires limit { 2 ≤ self.old.requests }
         requires group { g < length self.old.lasts.items }
         requires runs { (x : Start) → slice_get self.old.lasts.items g ≡ Some x → x.life.stage ≢ Ended }
-        requires room { (x : Kept) → slice_get self.old.groups.groups g ≡ Some x → x.exits < 2 ^ 63 }
+        requires room { (z : Start) (x : Kept) → slice_get self.old.lasts.items g ≡ Some z → slice_get self.old.groups.groups z.life.group ≡ Some x
+            → x.exits < 2 ^ 63 }
         ensures exits { (z : Start) → slice_get self.old.lasts.items g ≡ Some z → OnOk result (Exits restarts self.old g z self.new) }
         ensures documents { (d : Documents) → slice_get self.old.documents.items g ≡ Some d
             → OnOk result (self.new.documents.items ≡ slice_set self.old.documents.items g (unready_row d)) }
         ensures versions { self.new.versions ≡ self.old.versions }
     {
-        let wanted = self.needs_server(g as u64)?;
-        lose(&mut self.groups, g as u64, wanted, restarts);
+        let group = self.lasts[g].life.group();
+        let wanted = self.needs_server(group)?;
+        lose(&mut self.groups, group, wanted, restarts);
         unready(&mut self.documents, g);
         let ids = IdTable::new(alloc, self.requests);
         let asks = Asks::new(alloc);
@@ -165,7 +168,8 @@ impl Tables {
         requires limit { 2 ≤ self.old.requests }
         requires group { g < length self.old.lasts.items }
         requires runs { (x : Start) → slice_get self.old.lasts.items g ≡ Some x → x.life.stage ≢ Ended }
-        requires room { (x : Kept) → slice_get self.old.groups.groups g ≡ Some x → x.exits < 2 ^ 63 }
+        requires room { (z : Start) (x : Kept) → slice_get self.old.lasts.items g ≡ Some z → slice_get self.old.groups.groups z.life.group ≡ Some x
+            → x.exits < 2 ^ 63 }
         ensures stands { (settings : Settings) (events : List Event) (s : ℕ) → settings.limits.restarts ≡ restarts
             → slice_get (map number_in self.old.lasts.items) g ≡ Some s → Stands settings self.old events
             → OnOk result (Stands settings self.new (events ++ heard (ServerGone s) ∷ [])) }
@@ -181,7 +185,8 @@ impl Tables {
         requires limit { 2 ≤ self.old.requests }
         requires group { g < length self.old.lasts.items }
         requires runs { (x : Start) → slice_get self.old.lasts.items g ≡ Some x → x.life.stage ≢ Ended }
-        requires room { (x : Kept) → slice_get self.old.groups.groups g ≡ Some x → x.exits < 2 ^ 63 }
+        requires room { (z : Start) (x : Kept) → slice_get self.old.lasts.items g ≡ Some z → slice_get self.old.groups.groups z.life.group ≡ Some x
+            → x.exits < 2 ^ 63 }
         ensures stands { (settings : Settings) (events : List Event) (s : ℕ) → settings.limits.restarts ≡ restarts
             → slice_get (map number_in self.old.lasts.items) g ≡ Some s → Stands settings self.old events
             → OnOk result (Stands settings self.new (events ++ heard (StartFailed s) ∷ [])) }
@@ -192,25 +197,28 @@ impl Tables {
         Ok(())
     }
 
-    /// X1 to X3 of a group that lives no more: the program of its last start ended, or couldn't be run. Its open requests are gone,
-    /// and the group stays as it is.
-    pub fn hear_left(&mut self, alloc: Global, g: usize)
+    // X1 to X3 of a group that lives no more: the program of its last start ended, or couldn't be run. Its open requests are gone,
+    // and the group stays as it is.
+    fn end_last(&mut self, alloc: Global, g: usize)
         requires limit { 2 ≤ self.old.requests }
         requires group { g < length self.old.lasts.items }
         requires runs { (x : Start) → slice_get self.old.lasts.items g ≡ Some x → x.life.stage ≢ Ended }
         ensures requests { self.new.requests ≡ self.old.requests }
         ensures versions { self.new.versions ≡ self.old.versions }
+        ensures count { length self.new.lasts.items ≡ length self.old.lasts.items }
+        ensures over { (x : Start) → slice_get self.new.lasts.items g ≡ Some x → (x.life.stage ≡ Ended) × (x.ids.requests ≡ []) }
         ensures exit { (settings : Settings) (events : List Event) (s : ℕ) → slice_get (map number_in self.old.lasts.items) g ≡ Some s
-            → ((x : Kept) → slice_get self.old.groups.groups g ≡ Some x → x.live ≡ false)
+            → ((z : Start) (x : Kept) → slice_get self.old.lasts.items g ≡ Some z → slice_get self.old.groups.groups z.life.group ≡ Some x → x.live ≡ false)
             → Stands settings self.old events → Stands settings self.new (events ++ heard (ServerGone s) ∷ []) }
         ensures failure { (settings : Settings) (events : List Event) (s : ℕ) → slice_get (map number_in self.old.lasts.items) g ≡ Some s
-            → ((x : Kept) → slice_get self.old.groups.groups g ≡ Some x → x.live ≡ false)
+            → ((z : Start) (x : Kept) → slice_get self.old.lasts.items g ≡ Some z → slice_get self.old.groups.groups z.life.group ≡ Some x → x.live ≡ false)
             → Stands settings self.old events → Stands settings self.new (events ++ heard (StartFailed s) ∷ []) }
         ensures exit_documents { (settings : Settings) (owed : Owed) (events : List Event) (s : ℕ) → DocumentsStand settings owed self.old events
-            → ((x : Kept) → slice_get self.old.groups.groups g ≡ Some x → x.live ≡ false)
+            → ((z : Start) (x : Kept) → slice_get self.old.lasts.items g ≡ Some z → slice_get self.old.groups.groups z.life.group ≡ Some x → x.live ≡ false)
             → DocumentsStand settings owed self.new (events ++ heard (ServerGone s) ∷ []) }
         ensures failure_documents { (settings : Settings) (owed : Owed) (events : List Event) (s : ℕ)
-            → DocumentsStand settings owed self.old events → ((x : Kept) → slice_get self.old.groups.groups g ≡ Some x → x.live ≡ false)
+            → DocumentsStand settings owed self.old events
+            → ((z : Start) (x : Kept) → slice_get self.old.lasts.items g ≡ Some z → slice_get self.old.groups.groups z.life.group ≡ Some x → x.live ≡ false)
             → DocumentsStand settings owed self.new (events ++ heard (StartFailed s) ∷ []) }
     {
         unready(&mut self.documents, g);
@@ -222,6 +230,48 @@ impl Tables {
         last.ids = ids;
         last.asks = asks;
         end_stop(&mut self.origins.stopping, last.life.start());
+    }
+
+    // Nothing is kept any more of a group whose last start ended and has nothing to answer. The groups that were founded later move by one place.
+    fn forget(&mut self, g: usize)
+        requires { g < length self.old.lasts.items }
+        ensures fewer { length self.new.lasts.items + 1 ≡ length self.old.lasts.items }
+        ensures requests { self.new.requests ≡ self.old.requests }
+        ensures versions { self.new.versions ≡ self.old.versions }
+        ensures stands { (settings : Settings) (events : List Event) (x : Start) → slice_get self.old.lasts.items g ≡ Some x
+            → (x.life.stage ≡ Ended) × (x.ids.requests ≡ []) → Stands settings self.old events → Stands settings self.new events }
+        ensures documents { (settings : Settings) (owed : Owed) (events : List Event) → DocumentsStand settings owed self.old events
+            → DocumentsStand settings owed self.new events }
+    {
+        self.lasts.remove(g);
+        remove(&mut self.documents, g);
+    }
+
+    /// X1 to X3 of a group that lives no more: the program of its last start ended, or couldn't be run. Nothing is kept of the group from
+    /// now on: those that were founded later move by one place.
+    pub fn hear_left(&mut self, alloc: Global, g: usize)
+        requires limit { 2 ≤ self.old.requests }
+        requires group { g < length self.old.lasts.items }
+        requires runs { (x : Start) → slice_get self.old.lasts.items g ≡ Some x → x.life.stage ≢ Ended }
+        ensures fewer { length self.new.lasts.items + 1 ≡ length self.old.lasts.items }
+        ensures requests { self.new.requests ≡ self.old.requests }
+        ensures versions { self.new.versions ≡ self.old.versions }
+        ensures exit { (settings : Settings) (events : List Event) (s : ℕ) → slice_get (map number_in self.old.lasts.items) g ≡ Some s
+            → ((z : Start) (x : Kept) → slice_get self.old.lasts.items g ≡ Some z → slice_get self.old.groups.groups z.life.group ≡ Some x → x.live ≡ false)
+            → Stands settings self.old events → Stands settings self.new (events ++ heard (ServerGone s) ∷ []) }
+        ensures failure { (settings : Settings) (events : List Event) (s : ℕ) → slice_get (map number_in self.old.lasts.items) g ≡ Some s
+            → ((z : Start) (x : Kept) → slice_get self.old.lasts.items g ≡ Some z → slice_get self.old.groups.groups z.life.group ≡ Some x → x.live ≡ false)
+            → Stands settings self.old events → Stands settings self.new (events ++ heard (StartFailed s) ∷ []) }
+        ensures exit_documents { (settings : Settings) (owed : Owed) (events : List Event) (s : ℕ) → DocumentsStand settings owed self.old events
+            → ((z : Start) (x : Kept) → slice_get self.old.lasts.items g ≡ Some z → slice_get self.old.groups.groups z.life.group ≡ Some x → x.live ≡ false)
+            → DocumentsStand settings owed self.new (events ++ heard (ServerGone s) ∷ []) }
+        ensures failure_documents { (settings : Settings) (owed : Owed) (events : List Event) (s : ℕ)
+            → DocumentsStand settings owed self.old events
+            → ((z : Start) (x : Kept) → slice_get self.old.lasts.items g ≡ Some z → slice_get self.old.groups.groups z.life.group ≡ Some x → x.live ≡ false)
+            → DocumentsStand settings owed self.new (events ++ heard (StartFailed s) ∷ []) }
+    {
+        self.end_last(alloc, g);
+        self.forget(g);
     }
 
     /// A message came from the group's last start that doesn't answer its `initialize`: what was kept of the request that it

@@ -7,6 +7,7 @@ ghost use Rattle.event_model.specs.Settings.{Settings};
 ghost use Rattle.group_rows.specs.Status.{asked_at};
 ghost use Rattle.group_words.specs.Houses.{editors_in, groups_of, home_of};
 ghost use Rattle.group_words.specs.Placing.{all_from, is_live};
+ghost use Rattle.mux_tables.specs.declared.tables.Start.{Start};
 ghost use Rattle.mux_tables.specs.Stands.{Stands, number_in, phase_in};
 
 use crate::tables::Tables;
@@ -52,6 +53,15 @@ impl Tables {
     {
         let numbers = self.editors.of_group(g)?;
         Ok(numbers)
+    }
+
+    /// The number of the group.
+    #[tactic(auto, using(crate::proofs::Live::group_here))]
+    pub fn group_number(&self, g: usize) -> u64
+        requires { g < length self.now.lasts.items }
+        ensures { (x : Start) → slice_get self.now.lasts.items g ≡ Some x → result ≡ x.life.group }
+    {
+        self.lasts[g].life.group()
     }
 
     /// The number of the group's last start.

@@ -6,7 +6,7 @@ ghost use Rattle.event_model.specs.Settings.{Settings};
 ghost use Rattle.group_rows.specs.Ticks.{overdue_of};
 ghost use Rattle.group_words.specs.Placing.{is_since};
 ghost use Rattle.mux_tables.specs.Stands.{Stands, unstopped};
-ghost use Rattle.mux_tables.specs.Stops.{stop_in};
+ghost use Rattle.mux_tables.specs.Stops.{awaited_stop};
 
 use crate::seats::later;
 use crate::tables::Tables;
@@ -41,13 +41,12 @@ fn is_since(limit: u64, now: u64, moment: Option<u64>) -> bool
 }
 
 impl Tables {
-    // The moment at which the last start of this start's group was sent `shutdown`, as long as the answer is awaited.
+    // The moment at which this start was sent `shutdown`, as long as the answer is awaited.
     fn stop(&self, s: u64) -> Option<u64>
-        ensures { result ≡ stop_in self.now s }
+        ensures { (settings : Settings) (events : List Event) → Stands settings self.now events → result ≡ awaited_stop s events }
     {
-        let group = self.origin(s)?;
-        let last = self.lasts.get(group as usize)?;
-        let (_, moment) = last.life.stopping()?;
+        let place = self.last(s)?;
+        let (_, moment) = self.lasts[place].life.stopping()?;
         Some(moment)
     }
 

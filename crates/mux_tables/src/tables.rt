@@ -26,7 +26,7 @@ pub struct Start {
     pub asks: Asks,
 }
 
-/// What is kept of the starts, beside the last one of each group.
+/// What is kept of the starts, beside the last ones of groups.
 #[derive(Drop)]
 pub struct Origins {
     /// The group of each start, by the start's number.
@@ -44,11 +44,11 @@ pub struct Tables {
     pub groups: Groups,
     /// The greatest tick so far, in seconds.
     pub time: u64,
-    /// The last start of each group, by the group's number.
+    /// The last starts of the groups, by rising numbers of these: of each group that lives, and of each whose last start isn't over.
     pub lasts: Vec<Start>,
     /// The starts.
     pub origins: Origins,
-    /// The documents of each group, by the group's number; they stay where a start is followed by another.
+    /// The documents of each of these groups, in the same places; they stay where a start is followed by another.
     pub documents: Vec<Shared<PieceText>>,
     /// The number at which requests end.
     pub requests: u32,

@@ -11,16 +11,18 @@ use Rattle.rpc_message.proofs.Ids.{request_id_bytes}
 use Rattle.event_model.specs.declared.phase.Phase.{Phase}
 use Rattle.event_model.specs.declared.phase.Phase.TheVariants.{Absent, New, Waiting, Answered, Running, Down, Closed, Gone}
 use Rattle.event_model.specs.Event.{Event}
-use Rattle.event_model.specs.Phases.{desk_of, has_id, needs_server}
+use Rattle.event_model.specs.Phases.{desk_of, has_id, is_begun, needs_server}
+use Rattle.event_model.specs.Stages.{life_of}
 use Rattle.event_model.specs.Requests.{is_open, open_of}
 use Rattle.event_model.specs.Settings.{Settings}
 use Rattle.event_model.specs.Spawns.{start_of}
 use Rattle.event_model.proofs.Places.{same_item}
 use Rattle.group_facts.specs.Built.{doubles}
-use Rattle.group_facts.specs.Facts.{AllForwarded, IsForwarded}
+use Rattle.group_facts.specs.Facts.{AllForwarded, IsForwarded, is_up}
+use Rattle.group_facts.proofs.LiveGroups.{lives_busy}
 use Rattle.group_facts.specs.Settled.{Settled, is_answered}
 use Rattle.group_rows.specs.Forwarded.{Forwarded, forwarding_of}
-use Rattle.group_words.specs.Houses.{home_of}
+use Rattle.group_words.specs.Houses.{groups_of, home_of}
 use Rattle.id_rewrite.specs.declared.pending.Numbered.{Numbered}
 use Rattle.id_rewrite.specs.Forms.{same_form}
 use Rattle.id_rewrite.specs.Tables.{is_under, number_under}
@@ -29,7 +31,7 @@ use Rattle.mux_facts.proofs.Words.{id_same, same_id_itself}
 use Rattle.mux_tables.specs.declared.tables.Start.{Start}
 use Rattle.mux_tables.specs.declared.tables.Tables.{Tables}
 use Rattle.mux_tables.specs.Names.{id_in}
-use Rattle.mux_tables.specs.Stands.{Stands, forwarded_of, of_ids, start_for}
+use Rattle.mux_tables.specs.Stands.{HasEnded, Stands, forwarded_of, of_ids, start_for}
 use Rattle.mux_tables.proofs.Frames.{itself}
 use Rattle.mux_tables.proofs.Seen.{phase_past}
 
@@ -81,12 +83,28 @@ module _ (settings : Settings) (t : Tables) (before : List Event) (e : ℕ) (i :
 
 -- of one that got its result
 module _ (settings : Settings) (t : Tables) (before : List Event) (e : ℕ) (i : Id) (known : Settled settings before) (served : is_answered (desk_of e before).phase ≡ true) where
-  pub sent_nowhere : start_for settings e before ≡ None → false ≡ is_open i (open_of e before)
-  sent_nowhere none = go (is_open i (open_of e before)) refl
+  begun : (p : Phase) → is_answered p ≡ true → is_begun p ≡ true
+  begun Answered h = refl
+  begun Running h = refl
+  begun Down h = refl
+  begun Absent h = absurd (cc)
+  begun New h = absurd (cc)
+  begun Waiting h = absurd (cc)
+  begun Closed h = absurd (cc)
+  begun Gone h = absurd (cc)
+
+  pub sent_nowhere : HasEnded (start_for settings e before) before → false ≡ is_open i (open_of e before)
+  sent_nowhere ended = go (is_open i (open_of e before)) refl
     where
+      clash : true ≡ false → ⊥
+      clash q = cc
+
       go : (b : Bool) → is_open i (open_of e before) ≡ b → false ≡ b
       go false h = refl
-      go true h = let x = known.sent e i served h in absurd (nothing_some (sym none ∙ (ap (option_and_then (λ g. start_of g before)) x.home ∙ x.last)))
+      go true h =
+          let x = known.sent e i served h in
+          let live = lives_busy x.group (groups_of settings before) (known.lively.busy e x.group (begun (desk_of e before).phase served) x.home) in
+          absurd (clash (sym (known.lively.up x.group x.start live x.last) ∙ ap is_up (ended x.start (ap (option_and_then (λ g. start_of g before)) x.home ∙ x.last))))
 
   module _ (w : List ℕ) (text : IsIdText i w) where
     found_open : (rs : List Numbered) → AllByRecursion (IsForwarded before) (map forwarded_of rs) → is_some (number_under e w rs) ≡ true → is_open i (open_of e before) ≡ true
@@ -119,9 +137,10 @@ module _ (settings : Settings) (t : Tables) (before : List Event) (e : ℕ) (i :
         go true rest = refl
         go false rest = rest
 
-    pub sent_here : (g : ℕ) (z : Start) (b : Bool) → AllForwarded before → Stands settings t before → home_of settings e before ≡ Some g → slice_get t.lasts.items g ≡ Some z → b ≡ is_some (number_under e w z.ids.requests) → b ≡ is_open i (open_of e before)
-    sent_here g z b asked st home here is =
-        let last = st.lasts.each g z here in
+    pub sent_here : (p : ℕ) (z : Start) (b : Bool) → AllForwarded before → Stands settings t before → home_of settings e before ≡ Some z.life.group → slice_get t.lasts.items p ≡ Some z → b ≡ is_some (number_under e w z.ids.requests) → b ≡ is_open i (open_of e before)
+    sent_here p z b asked st home here is =
+        let g = z.life.group in
+        let last = st.lasts.each p z here in
         let opened = (last.parts of_ids).open_requests in
         is ∙ agree (is_some (number_under e w z.ids.requests)) (is_open i (open_of e before))
         (found_open z.ids.requests (subst (AllByRecursion (IsForwarded before)) opened (asked z.life.start)))

@@ -34,14 +34,17 @@ use Rattle.mux_tables.proofs.Starts.{start_at_place}
 use Rattle.mux_turns.proofs.Classes.{Serves}
 use Rattle.mux_turns.proofs.Synced.{at_work, here_first, same_sync}
 
-module _ (settings : Settings) (t : Tables) (before : List Event) (body method : List ℕ) (id : Id) (params : Option Json) (e g s n : ℕ) (x : Start) (xs : List Out) (first : xs ≡ [])
-    (at : slice_get t.lasts.items g ≡ Some x) (number : slice_get (map number_in t.lasts.items) g ≡ Some s) (ready : x.life.stage ≡ Ready) (next : n ≡ x.ids.next) (left : x.ids.next < x.ids.limit)
+module _ (settings : Settings) (t : Tables) (before : List Event) (body method : List ℕ) (id : Id) (params : Option Json) (e i s n : ℕ) (x : Start) (xs : List Out) (first : xs ≡ [])
+    (at : slice_get t.lasts.items i ≡ Some x) (number : slice_get (map number_in t.lasts.items) i ≡ Some s) (ready : x.life.stage ≡ Ready) (next : n ≡ x.ids.next) (left : x.ids.next < x.ids.limit)
     (says : message_of body ≡ request id method params) (serves : Serves method) (passed : is_own method ≡ false) where
   abbrev base : List Event
   base = with_cause before (FromEditor e body)
 
   abbrev now : List Event
   now = behind base xs
+
+  abbrev g : ℕ
+  g = x.life.group
 
   here : now ≡ base
   here = here_first settings before body e xs first
@@ -61,11 +64,11 @@ module _ (settings : Settings) (t : Tables) (before : List Event) (body method :
   same_bodies = same_sync settings before body e xs first g s (ap (requests (codes "shutdown")) says ∙ serves.stays) (ap saying_of says)
 
   own : x.life.start ≡ s
-  own = start_at_place t.lasts.items g s x at number
+  own = start_at_place t.lasts.items i s x at number
 
   bound : Stands settings t now → n < 2 ^ 32
   bound st =
-      let ends = ((st.lasts.each g x at).parts of_ids).ends in
+      let ends = ((st.lasts.each i x at).parts of_ids).ends in
       let range = st.range in
       omega (arith, next, left, ends, range)
 
@@ -76,14 +79,14 @@ module _ (settings : Settings) (t : Tables) (before : List Event) (body method :
     -- the number is still the next one behind the sync
     next_told : AllStand settings (t, nothing_owed) now → (forwarding_of s (behind now (to s bodies))).next ≡ n
     next_told k =
-        let d = documents_at settings nothing_owed t now g x at k.1 in
+        let d = documents_at settings nothing_owed t now i x at k.1 in
         let goes = text_says (bound k.0) in
         let silent : saying_of (message_of text) ≡ nothing = ap saying_of goes in
         let goes_behind : is_synced (message_of text) ≡ true = ap is_synced goes ∙ ap not passed in
-        let row = row_bodies settings t now g e x d.0 text at d.1 ready silent goes_behind works k.0 k.1 in
-        let speak : AllTell (syncing settings now g x.life.start e) = subst AllTell (sym row) (tell settings t now g e x d.0 text at d.1 ready silent goes_behind works k.0 k.1) in
-        let st = stands_told settings t g x at (syncing settings now g x.life.start e) now speak k.0 in
-        let told : (forwarding_of s (behind now (to s (syncing settings now g s e)))).next ≡ x.ids.next = subst (λ m. (forwarding_of m (behind now (to m (syncing settings now g m e)))).next ≡ x.ids.next) own ((st.lasts.each g x at).parts of_ids).next in
+        let row = row_bodies settings t now i e x d.0 text at d.1 ready silent goes_behind works k.0 k.1 in
+        let speak : AllTell (syncing settings now g x.life.start e) = subst AllTell (sym row) (tell settings t now i e x d.0 text at d.1 ready silent goes_behind works k.0 k.1) in
+        let st = stands_told settings t i x at (syncing settings now g x.life.start e) now speak k.0 in
+        let told : (forwarding_of s (behind now (to s (syncing settings now g s e)))).next ≡ x.ids.next = subst (λ m. (forwarding_of m (behind now (to m (syncing settings now g m e)))).next ≡ x.ids.next) own ((st.lasts.each i x at).parts of_ids).next in
         ap (λ bs. (forwarding_of s (behind now (to s bs))).next) (sym same_bodies) ∙ (told ∙ sym next)
 
     same_outs : AllStand settings (t, nothing_owed) now → outs (look (λ es. to_start s (syncing settings es g s e) ⨾ send (ToServer s text))) now ≡ outs (sync_row settings before g s e ⨾ forward s body) now

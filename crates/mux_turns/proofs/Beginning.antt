@@ -23,8 +23,7 @@ use Rattle.group_words.specs.Houses.{groups_of}
 use Rattle.group_words.specs.Rows.{initialize_of, placed_row, spawn, welcomed}
 use Rattle.group_words.proofs.Frames.{groups_stay}
 use Rattle.mux_tables.specs.declared.tables.Tables.{Tables}
-use Rattle.mux_tables.specs.Stands.{Stands, is_answer}
-use Rattle.mux_tables.proofs.Homes.{next_here}
+use Rattle.mux_tables.specs.Stands.{HasEnded, Stands, is_answer}
 use Rattle.mux_turns.specs.Founding.{IsNext}
 use Rattle.document_model.specs.Sayings.{saying_of}
 use Rattle.document_model.specs.Sayings.{nothing as no_saying}
@@ -95,11 +94,12 @@ opens settings before g known settled x at =
 
 -- E7
 module _ (before : List Event) (e : ℕ) (body : List ℕ) (g : ℕ) where
-  pub joins_none : start_of g before ≡ None → Alike (placed_row e body before (Joins g)) nothing
-  joins_none h = alike (ap (λ o. on o nothing (welcomed e body before)) h)
+  pub joins_ended : HasEnded (start_of g before) before → Alike (placed_row e body before (Joins g)) nothing
+  joins_ended ended = go (start_of g before) refl
+    where
+      go : (o : Option ℕ) → start_of g before ≡ o → Alike (on o nothing (welcomed e body before)) nothing
+      go None h = alike refl
+      go (Some s) h = is_second refl (ap is_ready (ended s h))
 
   pub joins_unready : (s : ℕ) (stage : Stage) → start_of g before ≡ Some s → stage ≡ (life_of s before).stage → is_ready stage ≡ false → Alike (placed_row e body before (Joins g)) nothing
   joins_unready s stage h at r = is_second (ap (λ o. on o nothing (welcomed e body before)) h) (ap is_ready (sym at) ∙ r)
-
-pub founds : (settings : Settings) (t u : Tables) (base : List Event) (xs ys : List Out) (n : ℕ) → IsNext n (behind base xs) → Does (λ t events. Stands settings t events) (spawn (length t.lasts.items)) base t xs u ys → Does (λ t events. Stands settings t events) (spawn n) base t xs u ys
-founds settings t u base xs ys n next d = does_knowing (λ st. subst (λ m. Does (λ t events. Stands settings t events) (spawn m) base t xs u ys) (sym (next_here settings t (behind base xs) n st next.none next.others)) d)

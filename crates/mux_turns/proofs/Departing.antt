@@ -29,12 +29,12 @@ use Rattle.mux_tables.specs.declared.tables.Start.{Start}
 use Rattle.mux_tables.specs.declared.tables.Tables.{Tables}
 use Rattle.group_facts.proofs.Begun.{start_took}
 use Rattle.mux_tables.specs.Documents.{AllStand, DocumentsStand, Leaves, Owed, changes_documents, leaving, nothing_owed, owes, to}
-use Rattle.mux_tables.specs.Stands.{Stands, number_in, of_life, stage_in, start_for}
+use Rattle.mux_tables.specs.Stands.{Stands, house_in, number_in, of_life, stage_in, start_for}
 use Rattle.mux_tables.proofs.DocumentEvents.{heard_texts}
 use Rattle.mux_tables.proofs.DocumentFrames.{sent_stays}
 use Rattle.mux_tables.proofs.DocumentOwed.{owes_nothing}
 use Rattle.mux_tables.proofs.Frames.{itself}
-use Rattle.mux_turns.proofs.Ready.{has_start, is_that_ready}
+use Rattle.mux_turns.proofs.Ready.{has_start, is_that_ready, ready_runs}
 use Rattle.mux_turns.proofs.Rows.{is_first, is_second}
 use Rattle.mux_turns.specs.Leavings.{Pays, PaysAt}
 
@@ -93,18 +93,19 @@ module _ (settings : Settings) (before base : List Event) (e : ℕ) (t : Tables)
       let all : ys ≡ xs ++ [] = sent ∙ ap (λ zs. xs ++ zs) p.0 in
       record { done = λ k. record { outs = all; stands = subst (λ zs. AllStand settings (t, nothing_owed) (behind base zs)) (sym (all ∙ append-nil xs)) (subst (λ w. AllStand settings (t, w) (behind base xs)) p.1 k) } }
 
-  module _ (pays : (g : ℕ) (z : Start) (bodies : List (List ℕ)) → slice_get t.lasts.items g ≡ Some z → z.life.stage ≡ Ready → owed ≡ to z.life.start bodies → AllDo (to_start z.life.start bodies) (owes g bodies)) where
+  module _ (pays : (g : ℕ) (z : Start) (bodies : List (List ℕ)) → slice_get t.lasts.items g ≡ Some z → z.life.stage ≡ Ready → owed ≡ to z.life.start bodies → AllDo (to_start z.life.start bodies) (owes z.life.group bodies)) where
     module _ (g s : ℕ) where
       abbrev bodies : List (List ℕ)
       bodies = leave_bodies settings.limits.versions (λ u. held_at s u before) e (texts_of settings g before).opens (texts_of settings g before).opens
 
-      by_ready : (b : Bool) → is_ready (life_of s before).stage ≡ b → PaysAt settings before e (map number_in t.lasts.items) (map stage_in t.lasts.items) (Some g) (Some s) owed owing → AllDo (closings settings before g s e) owing
+      by_ready : (b : Bool) → is_ready (life_of s before).stage ≡ b → PaysAt settings before e (map number_in t.lasts.items) (map stage_in t.lasts.items) (map house_in t.lasts.items) (Some g) (Some s) owed owing → AllDo (closings settings before g s e) owing
       by_ready true h p =
           let is : leaving settings before g s e ≡ bodies = ap (λ c. if c then bodies else []) h in
           let q = p.2 h in
-          let z = mapped_at number_in t.lasts.items g s q.0 in
-          let ready : z.0.life.stage ≡ Ready = mapped_is stage_in t.lasts.items g z.0 Ready z.1.0 q.1 in
-          let paid = pays g z.0 bodies z.1.0 ready (p.0 ∙ (ap (to s) is ∙ ap (λ n. to n bodies) (sym z.1.1))) in
+          let z = mapped_at number_in t.lasts.items q.0 s q.1 in
+          let ready : z.0.life.stage ≡ Ready = mapped_is stage_in t.lasts.items q.0 z.0 Ready z.1.0 q.2 in
+          let mine : z.0.life.group ≡ g = mapped_is house_in t.lasts.items q.0 z.0 g z.1.0 q.3 in
+          let paid = subst (λ n. AllDo (to_start z.0.life.start bodies) (owes n bodies)) mine (pays q.0 z.0 bodies z.1.0 ready (p.0 ∙ (ap (to s) is ∙ ap (λ n. to n bodies) (sym z.1.1)))) in
           does_alike (λ _. is_first refl h) (subst (λ w. AllDo (to_start s bodies) w) (sym (p.1 ∙ ap (owes g) is)) (subst (λ n. AllDo (to_start n bodies) (owes g bodies)) z.1.1 paid))
       by_ready false h p =
           let none : leaving settings before g s e ≡ [] = ap (λ c. if c then bodies else []) h in
@@ -117,11 +118,11 @@ module _ (settings : Settings) (before base : List Event) (e : ℕ) (t : Tables)
             };
           })
 
-    at_start : (g : ℕ) (o : Option ℕ) → PaysAt settings before e (map number_in t.lasts.items) (map stage_in t.lasts.items) (Some g) o owed owing → AllDo (on o nothing (λ s. closings settings before g s e)) owing
+    at_start : (g : ℕ) (o : Option ℕ) → PaysAt settings before e (map number_in t.lasts.items) (map stage_in t.lasts.items) (map house_in t.lasts.items) (Some g) o owed owing → AllDo (on o nothing (λ s. closings settings before g s e)) owing
     at_start g None p = silent p
     at_start g (Some s) p = by_ready g s (is_ready (life_of s before).stage) refl p
 
-    at_home : (home : Option ℕ) → PaysAt settings before e (map number_in t.lasts.items) (map stage_in t.lasts.items) home (option_and_then (λ g. start_of g before) home) owed owing → AllDo (closings_row settings before e home) owing
+    at_home : (home : Option ℕ) → PaysAt settings before e (map number_in t.lasts.items) (map stage_in t.lasts.items) (map house_in t.lasts.items) home (option_and_then (λ g. start_of g before) home) owed owing → AllDo (closings_row settings before e home) owing
     at_home None p = silent p
     at_home (Some g) p = at_start g (start_of g before) p
 
@@ -129,24 +130,27 @@ module _ (settings : Settings) (before base : List Event) (e : ℕ) (t : Tables)
     closings_paid p = at_home (home_of settings e before) p
 
 -- the same behind what leaves the numbers and stages of the last starts
-pub pays_later : (settings : Settings) (before : List Event) (e : ℕ) (t u : Tables) (owed : List Out) (owing : Owed) → map number_in u.lasts.items ≡ map number_in t.lasts.items → map stage_in u.lasts.items ≡ map stage_in t.lasts.items → Pays settings before e t owed owing → Pays settings before e u owed owing
-pays_later settings before e t u owed owing numbers stages p = subst (λ ns. PaysAt settings before e ns (map stage_in u.lasts.items) (home_of settings e before) (start_for settings e before) owed owing) (sym numbers)
-    (subst (λ ss. PaysAt settings before e (map number_in t.lasts.items) ss (home_of settings e before) (start_for settings e before) owed owing) (sym stages) p)
+pub pays_later : (settings : Settings) (before : List Event) (e : ℕ) (t u : Tables) (owed : List Out) (owing : Owed) → map number_in u.lasts.items ≡ map number_in t.lasts.items → map stage_in u.lasts.items ≡ map stage_in t.lasts.items → map house_in u.lasts.items ≡ map house_in t.lasts.items → Pays settings before e t owed owing → Pays settings before e u owed owing
+pays_later settings before e t u owed owing numbers stages groups p = subst (λ ns. PaysAt settings before e ns (map stage_in u.lasts.items) (map house_in u.lasts.items) (home_of settings e before) (start_for settings e before) owed owing) (sym numbers)
+    (subst (λ ss. PaysAt settings before e (map number_in t.lasts.items) ss (map house_in u.lasts.items) (home_of settings e before) (start_for settings e before) owed owing) (sym stages)
+    (subst (λ hs. PaysAt settings before e (map number_in t.lasts.items) (map stage_in t.lasts.items) hs (home_of settings e before) (start_for settings e before) owed owing) (sym groups) p))
 
 -- What is owed behind its leaving
 
 module _ (settings : Settings) (before : List Event) (e : ℕ) (t : Tables) (st : Stands settings t before) where
-  stands_there : (g s : ℕ) → start_of g before ≡ Some s → is_ready (life_of s before).stage ≡ true → (slice_get (map number_in t.lasts.items) g ≡ Some s) × (slice_get (map stage_in t.lasts.items) g ≡ Some Ready)
+  stands_there : (g s : ℕ) → start_of g before ≡ Some s → is_ready (life_of s before).stage ≡ true → (place : ℕ) × (slice_get (map number_in t.lasts.items) place ≡ Some s) × (slice_get (map stage_in t.lasts.items) place ≡ Some Ready) × (slice_get (map house_in t.lasts.items) place ≡ Some g)
   stands_there g s starts ready =
-      let x = has_start settings t before g s st starts in
-      let own : x.0.life.start ≡ s = same_item (sym (st.lasts.each g x.0 x.1).start ∙ starts) in
-      let stage : (life_of s before).stage ≡ x.0.life.stage = subst (λ n. (life_of n before).stage ≡ x.0.life.stage) own (ap (λ (l : Life). l.stage) ((st.lasts.each g x.0 x.1).parts of_life)) in
-      (mapped_on number_in t.lasts.items g x.0 x.1 ∙ ap Some own, mapped_on stage_in t.lasts.items g x.0 x.1 ∙ ap Some (is_that_ready x.0.life.stage (ap is_ready (sym stage) ∙ ready)))
+      let k = has_start settings t before g s st starts (ready_runs (life_of s before).stage ready) in
+      let last = st.lasts.each k.place k.last k.at in
+      let own : k.last.life.start ≡ s = same_item (sym last.start ∙ (ap (λ n. start_of n before) k.group ∙ starts)) in
+      let stage : (life_of s before).stage ≡ k.last.life.stage = subst (λ n. (life_of n before).stage ≡ k.last.life.stage) own (ap (λ (l : Life). l.stage) (last.parts of_life)) in
+      (k.place, mapped_on number_in t.lasts.items k.place k.last k.at ∙ ap Some own, mapped_on stage_in t.lasts.items k.place k.last k.at ∙ ap Some (is_that_ready k.last.life.stage (ap is_ready (sym stage) ∙ ready)),
+        mapped_on house_in t.lasts.items k.place k.last k.at ∙ ap Some k.group)
 
   module _ (u : Tables) (later : List Event) (owed : List Out) where
     -- with what is owed, the documents stand
     abbrev pub Owing : Option ℕ → Option ℕ → Type 0
-    Owing home start = (owing : Owed) × (PaysAt settings before e (map number_in t.lasts.items) (map stage_in t.lasts.items) home start owed owing × DocumentsStand settings owing u later)
+    Owing home start = (owing : Owed) × (PaysAt settings before e (map number_in t.lasts.items) (map stage_in t.lasts.items) (map house_in t.lasts.items) home start owed owing × DocumentsStand settings owing u later)
 
     owing_start : (g : ℕ) (o : Option ℕ) → start_of g before ≡ o → Leaves settings before e (Some g) o owed u later → Owing (Some g) o
     owing_start g None is left = (nothing_owed, ((left.0, refl), left.1))

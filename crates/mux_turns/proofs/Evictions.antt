@@ -29,7 +29,7 @@ use Rattle.id_rewrite.specs.Tables.{IsInOrder}
 use Rattle.mux_tables.specs.declared.tables.Start.{Start}
 use Rattle.mux_tables.specs.declared.tables.Tables.{Tables}
 use Rattle.mux_tables.specs.Documents.{AllStand, DocumentsStand, nothing_owed}
-use Rattle.mux_tables.specs.Stands.{Stands, number_in, of_ids, of_life}
+use Rattle.mux_tables.specs.Stands.{HasEnded, Stands, number_in, of_ids, of_life}
 use Rattle.mux_tables.proofs.DocumentOwed.{all_does}
 use Rattle.mux_tables.proofs.Starts.{start_at_place}
 use Rattle.mux_turns.specs.Founding.{IsNext}
@@ -105,8 +105,12 @@ ends_never settings t base xs g s x at number ready starting = does_look (λ k. 
 
 -- the group's last start, where it has one
 module _ (settings : Settings) (t u : Tables) (base : List Event) (xs ys : List Out) (g : ℕ) where
-  pub evicts_none : (Stands settings t (behind base xs) → start_of g (behind base xs) ≡ None) → Does (λ k events. AllStand settings k events) (end_group g) base (t, nothing_owed) xs (t, nothing_owed) xs
-  evicts_none none = does_look (λ k. ap (λ o. on o nothing (λ s. end_start s (life_of s (behind base xs)).stage)) (none k.0)) does_nothing
+  pub evicts_none : (Stands settings t (behind base xs) → HasEnded (start_of g (behind base xs)) (behind base xs)) → Does (λ k events. AllStand settings k events) (end_group g) base (t, nothing_owed) xs (t, nothing_owed) xs
+  evicts_none none = does_knowing (λ k. by_start (start_of g (behind base xs)) refl (none k.0))
+    where
+      by_start : (o : Option ℕ) → start_of g (behind base xs) ≡ o → HasEnded (start_of g (behind base xs)) (behind base xs) → Does (λ k events. AllStand settings k events) (end_group g) base (t, nothing_owed) xs (t, nothing_owed) xs
+      by_start None is ended = does_look (λ _. ap (λ o. on o nothing (λ s. end_start s (life_of s (behind base xs)).stage)) is) does_nothing
+      by_start (Some s) is ended = does_look (λ _. ap (λ o. on o nothing (λ n. end_start n (life_of n (behind base xs)).stage)) is ∙ ap (end_start s) (ended s is)) does_nothing
 
   pub evicts_some : (s : ℕ) → (Stands settings t (behind base xs) → start_of g (behind base xs) ≡ Some s) → Does (λ k events. AllStand settings k events) (look (λ events. end_start s (life_of s events).stage)) base (t, nothing_owed) xs (u, nothing_owed) ys
       → Does (λ k events. AllStand settings k events) (end_group g) base (t, nothing_owed) xs (u, nothing_owed) ys
@@ -128,15 +132,15 @@ evict_spawns h None events = ap (start_of h) (append-nil events)
 evict_spawns h (Some s) events = end_spawns h s (life_of s events).stage events
 
 pub next_by : (n : ℕ) (events later : List Event) → ((h : ℕ) → start_of h later ≡ start_of h events) → IsNext n events → IsNext n later
-next_by n events later same k = record { none = same n ∙ k.none; others = λ h l none. k.others h l (sym (same h) ∙ none) }
+next_by n events later same k = record { none = λ h l. same h ∙ k.none h l }
 
 pub replaces : (settings : Settings) (t u v : Tables) (before base : List Event) (e g n : ℕ) (body : List ℕ) (xs ys zs : List Out) → IsNext n (behind base xs) → Does (λ k events. AllStand settings k events) (end_group g) base (t, nothing_owed) xs (u, nothing_owed) ys
-    → (IsNext n (behind base ys) → Does (λ t events. Stands settings t events) (spawn n) base u ys v zs) → (Stands settings u (behind base ys) → DocumentsStand settings nothing_owed u (behind base ys) → DocumentsStand settings nothing_owed v (behind base zs))
+    → (IsNext n (behind base ys) → Does (λ t events. Stands settings t events) (spawn n) base u ys v zs) → (IsNext n (behind base ys) → Stands settings u (behind base ys) → DocumentsStand settings nothing_owed u (behind base ys) → DocumentsStand settings nothing_owed v (behind base zs))
     → Does (λ k events. AllStand settings k events) (placed_row e body before (Evicts g n)) base (t, nothing_owed) xs (v, nothing_owed) zs
 replaces settings t u v before base e g n body xs ys zs next d spawns docs = does_knowing (λ k.
     let later : behind base ys ≡ behind (behind base xs) (outs (end_group g) (behind base xs)) = ap (behind base) (d.done k).outs ∙ behind_more base xs (outs (end_group g) (behind base xs)) in
     let still = next_by n (behind base xs) (behind base ys) (λ h. ap (start_of h) later ∙ evict_spawns h (start_of g (behind base xs)) (behind base xs)) next in
-    does_then d (all_does settings u v nothing_owed nothing_owed base ys zs (spawns still) docs))
+    does_then d (all_does settings u v nothing_owed nothing_owed base ys zs (spawns still) (docs still)))
 
 -- a cause that no start's numbers speak of leaves them alone
 numbered_quiet : (before : List Event) (event : Event) → ((s : ℕ) (l : Life) → life_behind s l event ≡ l) → ((s n : ℕ) → number_behind s n event ≡ n) → ((s : ℕ) (f : Forwarding) → (forwarding_behind s f event).next ≡ f.next) → Numbered before → Numbered (before ++ event ∷ [])

@@ -35,7 +35,7 @@ use Rattle.capability_meet.specs.MeetTree.{whole_text}
 use Rattle.group_facts.specs.Facts.{Numbered, Plain, is_up}
 use Rattle.group_facts.specs.Settled.{Settled}
 use Rattle.group_facts.proofs.Waiting.{new_is}
-use Rattle.mux_turns.proofs.Ready.{is_that_ready}
+use Rattle.mux_turns.proofs.Ready.{has_start, is_that_ready, ready_runs}
 use Rattle.group_rows.specs.Leaves.{leave_bodies, left}
 use Rattle.group_rows.specs.Rows.{answer_error}
 use Rattle.group_rows.specs.Texts.{texts_of}
@@ -51,9 +51,9 @@ use Rattle.group_words.specs.Rows.{answer_with, initialize_row, placed_row, resu
 use Rattle.mux_model.specs.Documents.{held_at}
 use Rattle.mux_tables.specs.declared.tables.Start.{Start}
 use Rattle.mux_tables.specs.declared.tables.Tables.{Tables}
-use Rattle.mux_tables.specs.Documents.{AllStand, DocumentsStand, IsOwned, Leaves, leaving, nothing_owed, owes}
+use Rattle.mux_tables.specs.Documents.{AllStand, DocumentsStand, IsOwned, Leaves, SharedStands, leaving, nothing_owed, owes}
 use Rattle.mux_tables.specs.Stands.{Stands, phase_in, start_for}
-use Rattle.mux_tables.proofs.DocumentLeft.{get_past}
+use Rattle.mux_tables.proofs.Placed.{KeptAt}
 use Rattle.mux_tables.proofs.DocumentMoves.{documents_at}
 use Rattle.mux_tables.proofs.DocumentOwed.{owes_nothing}
 use Rattle.mux_tables.proofs.Frames.{itself}
@@ -165,15 +165,14 @@ module _ (settings : Settings) (before : List Event) (e : ℕ) (body : List ℕ)
 
   next_before : IsNext (length (groups_of settings before)) before
   next_before = record {
-    none = (settled.begun (length (groups_of settings before))).1 (omega arith);
-    others = λ g l none. (let k = (settled.begun g).0 none in omega (arith, l, k));
+    none = λ h l. (settled.begun h).1 l;
   }
 
   -- behind the message
   next_now : (n : ℕ) (xs : List Out) → xs ≡ [] → n ≡ length (groups_of settings before) → IsNext n (behind base xs)
   next_now n xs first is =
       let here : (g : ℕ) → start_of g (behind base xs) ≡ start_of g before = λ g. ap (λ ys. start_of g (behind base ys)) first ∙ (ap (start_of g) (append-nil base) ∙ start_same g) in
-      subst (λ m. IsNext m (behind base xs)) (sym is) (record { none = here (length (groups_of settings before)) ∙ next_before.none; others = λ g l none. next_before.others g l (sym (here g) ∙ none) })
+      subst (λ m. IsNext m (behind base xs)) (sym is) (record { none = λ h l. here h ∙ next_before.none h l })
 
   pub founds_next : (n : ℕ) (xs : List Out) → xs ≡ [] → Founds n ≡ placed_for settings before e body (groups_of settings before) → IsNext n (behind base xs)
   founds_next n xs first is = next_now n xs first (subst (Founded (length (groups_of settings before))) (sym is) (placed_next settings.limits.groups (key_for settings before e body) (declared_for settings before e body) (groups_of settings before)))
@@ -217,23 +216,19 @@ unowned settings events e g (o ∷ os) off h = go (nat_eq o.editor e) refl (unow
 
 module _ (settings : Settings) (t u : Tables) (events later : List Event) (e : ℕ) (outs : List Out) (st : Stands settings t events) (ds : DocumentsStand settings nothing_owed t events) (off : is_served (desk_of e events).phase ≡ false) where
   silent : (g s : ℕ) → start_of g events ≡ Some s → leaving settings events g s e ≡ []
-  silent g s at = go (is_ready (life_of s events).stage) (slice_get t.lasts.items g) refl
+  silent g s at = go (is_ready (life_of s events).stage) refl
     where
-      clash : (s : ℕ) → ◌≡◌ {A = Option ℕ} None (Some s) → ⊥
-      clash s h = cc
-
-      none : (x : Start) → slice_get t.lasts.items g ≡ Some x → leave_bodies settings.limits.versions (λ u. held_at s u events) e (texts_of settings g events).opens (texts_of settings g events).opens ≡ []
-      none x there =
-          let d = documents_at settings nothing_owed t events g x there ds in
-          let shared = ds.each g x d.0 there d.1 in
+      none : (k : KeptAt g t.lasts.items) → leave_bodies settings.limits.versions (λ u. held_at s u events) e (texts_of settings g events).opens (texts_of settings g events).opens ≡ []
+      none k =
+          let d = documents_at settings nothing_owed t events k.place k.last k.at ds in
+          let shared = subst (λ n. SharedStands settings events [] n k.last.life.start k.last.life.stage d.0) k.group (ds.each k.place k.last d.0 k.at d.1) in
           let opens : (texts_of settings g events).opens ≡ d.0.opens = ap (λ (k : Texts). k.opens) shared.texts.texts in
           ap (λ os. flat_map (λ (o : Open). left settings.limits.versions e (texts_of settings g events).opens (held_at s o.uri events) o) os)
           (ap (filter (λ (o : Open). nat_eq o.editor e)) opens ∙ unowned settings events e g d.0.opens off shared.owned)
 
-      go : (b : Bool) (o : Option Start) → slice_get t.lasts.items g ≡ o → (if b then leave_bodies settings.limits.versions (λ u. held_at s u events) e (texts_of settings g events).opens (texts_of settings g events).opens else []) ≡ []
-      go false o there = refl
-      go true (Some x) there = none x there
-      go true None there = absurd (clash s (sym (st.lasts.none g (get_past t.lasts.items g there)) ∙ at))
+      go : (b : Bool) → is_ready (life_of s events).stage ≡ b → (if b then leave_bodies settings.limits.versions (λ u. held_at s u events) e (texts_of settings g events).opens (texts_of settings g events).opens else []) ≡ []
+      go false h = refl
+      go true h = none (has_start settings t events g s st at (ready_runs (life_of s events).stage h))
 
   left_nothing : (home : Option ℕ) (start : ℕ → Option ℕ) → ((g s : ℕ) → start g ≡ Some s → leaving settings events g s e ≡ []) → Leaves settings events e home (option_and_then start home) outs u later → DocumentsStand settings nothing_owed u later
   left_nothing None start quiet h = h.1

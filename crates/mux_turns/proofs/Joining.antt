@@ -22,6 +22,7 @@ use Rattle.event_model.proofs.Turns.{alike, alike_then, does_alike}
 use Rattle.group_words.specs.declared.placed.Placed.TheVariants.{Joins}
 use Rattle.group_words.specs.Houses.{places}
 use Rattle.group_words.specs.Rows.{answer_with, placed_row, result_behind, result_of, shown_of, welcomed}
+use Rattle.mux_tables.specs.declared.tables.Start.{Start}
 use Rattle.mux_tables.specs.declared.tables.Tables.{Tables}
 use Rattle.mux_tables.specs.Documents.{AllStand, DocumentsStand, nothing_owed}
 use Rattle.mux_tables.specs.Stands.{Stands, Welcomes, number_in}
@@ -58,13 +59,13 @@ module _ (settings : Settings) (t u : Tables) (before : List Event) (e g s : ℕ
   stays : {A : Type 0} (f : A → Event → A) (z : A) → ((x : A) → f x (heard (FromEditor e body)) ≡ x) → fold f z (behind base xs) ≡ fold f z before
   stays f z still = ap (fold f z) (ap (behind base) first ∙ append-nil base) ∙ (one_more f z _ before (heard (FromEditor e body)) refl ∙ still (fold f z before))
 
-  pub was_shown : (o : Option (List ℕ)) → g < length t.lasts.items
-      → ((n : ℕ) → slice_get (map number_in t.lasts.items) g ≡ Some n → is_ready (life_of n (behind base xs)).stage ≡ true → (given : List ℕ) × (result_of n (behind base xs) ≡ Some given) × (o ≡ Some (shown_of (result_bytes given))))
+  pub was_shown : (o : Option (List ℕ)) (i : ℕ) → i < length t.lasts.items → ((x : Start) → slice_get t.lasts.items i ≡ Some x → x.life.group ≡ g)
+      → ((n : ℕ) → slice_get (map number_in t.lasts.items) i ≡ Some n → is_ready (life_of n (behind base xs)).stage ≡ true → (given : List ℕ) × (result_of n (behind base xs) ≡ Some given) × (o ≡ Some (shown_of (result_bytes given))))
       → Stands settings t (behind base xs) → (given : List ℕ) × (result_of s before ≡ Some given) × (o ≡ Some (shown_of (result_bytes given)))
-  was_shown o within gives st =
-      let there = start_there t.lasts.items g within in
-      let x = item_at t.lasts.items g within in
-      let number : there.0 ≡ s = sym (start_at_place t.lasts.items g there.0 x.0 x.1 there.1) ∙ same_item (sym (st.lasts.each g x.0 x.1).start ∙ (stays (start_behind g) None (λ o. refl) ∙ starts)) in
+  was_shown o i within mine gives st =
+      let there = start_there t.lasts.items i within in
+      let x = item_at t.lasts.items i within in
+      let number : there.0 ≡ s = sym (start_at_place t.lasts.items i there.0 x.0 x.1 there.1) ∙ same_item (sym (st.lasts.each i x.0 x.1).start ∙ (ap (λ n. start_of n (behind base xs)) (mine x.0 x.1) ∙ (stays (start_behind g) None (λ o. refl) ∙ starts))) in
       let kept = gives s (there.1 ∙ ap (λ n. Some n) number) (ap (λ (l : Life). is_ready l.stage) (stays (life_behind s) no_life (λ l. refl)) ∙ ready) in
       (kept.0, sym (stays (result_behind s) None still) ∙ kept.1, kept.2)
     where

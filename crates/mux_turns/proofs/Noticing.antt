@@ -23,7 +23,7 @@ use Rattle.mux_tables.specs.declared.tables.Tables.{Tables}
 use Rattle.mux_tables.specs.Documents.{AllStand, DocumentsStand, nothing_owed, noticing, owes, to}
 use Rattle.mux_tables.specs.Stands.{Stands, of_life}
 use Rattle.mux_tables.proofs.DocumentOwed.{owes_nothing}
-use Rattle.mux_turns.proofs.Ready.{has_start, is_that_ready}
+use Rattle.mux_turns.proofs.Ready.{has_start, is_that_ready, ready_runs}
 use Rattle.mux_turns.proofs.Rows.{is_first, is_second, some_start}
 
 module _ (settings : Settings) (old t : Tables) (before : List Event) (e g s : ℕ) (body : List ℕ) (what : Saying) (xs ys owed : List Out) (same : t.lasts ≡ old.lasts) (st : Stands settings old before)
@@ -37,23 +37,19 @@ module _ (settings : Settings) (old t : Tables) (before : List Event) (e g s : �
   row_is : document_row settings before e body what ≡ choose (is_ready (life_of s before).stage) (to_start s told) nothing
   row_is = some_start (home_of settings e before) (λ h. start_of h before) nothing (document_at settings before e body what) g s home starts
 
-  x : (x : Start) × (slice_get old.lasts.items g ≡ Some x)
-  x = has_start settings old before g s st starts
-
-  own : x.0.life.start ≡ s
-  own = same_item (sym (st.lasts.each g x.0 x.1).start ∙ starts)
-
-  stage : (life_of s before).stage ≡ x.0.life.stage
-  stage = subst (λ n. (life_of n before).stage ≡ x.0.life.stage) own (ap (λ (l : Life). l.stage) ((st.lasts.each g x.0 x.1).parts of_life))
-
-  pub noticed : ((z : Start) (bodies : List (List ℕ)) → slice_get t.lasts.items g ≡ Some z → z.life.stage ≡ Ready → owed ≡ to z.life.start bodies → Does (λ k events. AllStand settings k events) (to_start z.life.start bodies) base (t, owes g bodies) xs (t, nothing_owed) ys)
+  pub noticed : ((p : ℕ) (z : Start) (bodies : List (List ℕ)) → slice_get t.lasts.items p ≡ Some z → z.life.stage ≡ Ready → owed ≡ to z.life.start bodies → Does (λ k events. AllStand settings k events) (to_start z.life.start bodies) base (t, owes z.life.group bodies) xs (t, nothing_owed) ys)
       → Does (λ k events. AllStand settings k events) (document_row settings before e body what) base (t, owes g (noticing settings before g s e body what)) xs (t, nothing_owed) ys
   noticed pays = go (is_ready (life_of s before).stage) refl
     where
       go : (b : Bool) → is_ready (life_of s before).stage ≡ b → Does (λ k events. AllStand settings k events) (document_row settings before e body what) base (t, owes g (noticing settings before g s e body what)) xs (t, nothing_owed) ys
       go true h =
           let is : noticing settings before g s e body what ≡ told = ap (λ c. if c then told else []) h in
-          let paid = pays x.0 told (ap (λ ls. slice_get ls.items g) same ∙ x.1) (is_that_ready x.0.life.stage (ap is_ready (sym stage) ∙ h)) (are ∙ (ap (to s) is ∙ ap (λ n. to n told) (sym own))) in
+          let k = has_start settings old before g s st starts (ready_runs (life_of s before).stage h) in
+          let last = st.lasts.each k.place k.last k.at in
+          let own : k.last.life.start ≡ s = same_item (sym last.start ∙ (ap (λ n. start_of n before) k.group ∙ starts)) in
+          let stage : (life_of s before).stage ≡ k.last.life.stage = subst (λ n. (life_of n before).stage ≡ k.last.life.stage) own (ap (λ (l : Life). l.stage) (last.parts of_life)) in
+          let paid = subst (λ n. Does (λ k events. AllStand settings k events) (to_start k.last.life.start told) base (t, owes n told) xs (t, nothing_owed) ys) k.group
+              (pays k.place k.last told (ap (λ ls. slice_get ls.items k.place) same ∙ k.at) (is_that_ready k.last.life.stage (ap is_ready (sym stage) ∙ h)) (are ∙ (ap (to s) is ∙ ap (λ n. to n told) (sym own)))) in
           does_alike (λ _. is_first row_is h) (subst (λ bs. Does (λ k events. AllStand settings k events) (to_start s told) base (t, owes g bs) xs (t, nothing_owed) ys) (sym is)
           (subst (λ n. Does (λ k events. AllStand settings k events) (to_start n told) base (t, owes g told) xs (t, nothing_owed) ys) own paid))
       go false h =

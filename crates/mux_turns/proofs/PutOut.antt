@@ -12,6 +12,7 @@ use Rattle.rpc_message.specs.Message.{Message, request, notification, result, er
 use Rattle.rpc_message.specs.Texts.{with_id_text}
 use Rattle.rpc_message.proofs.Fixed.{id_as_response}
 use Rattle.rpc_message.proofs.Ids.{error_with_id, request_id_bytes}
+use Rattle.event_model.specs.declared.stage.Stage.TheVariants.{Initializing}
 use Rattle.event_model.specs.Does.{Does, Done}
 use Rattle.event_model.specs.Event.{Event, behind, said, with_cause}
 use Rattle.event_model.specs.Phases.{Desk, desk_behind, desk_of, editors_of, is_begun, is_waiting}
@@ -20,7 +21,7 @@ use Rattle.event_model.specs.Settings.{Settings}
 use Rattle.event_model.specs.Spawns.{group_of, start_of}
 use Rattle.event_model.specs.Stages.{Life, is_ready, life_of}
 use Rattle.event_model.proofs.Frames.{one_more}
-use Rattle.event_model.proofs.Places.{same_item}
+use Rattle.event_model.proofs.Places.{Same, same, other, compare, same_item}
 use Rattle.event_model.proofs.Turns.{alike, behind_more, does_alike, does_look, does_then}
 use Rattle.mux_facts.proofs.Table.{waiting_is}
 use Rattle.editor_session.specs.declared.session.Session.{Session}
@@ -35,29 +36,42 @@ use Rattle.mux_tables.specs.declared.tables.Start.{Start}
 use Rattle.mux_tables.specs.declared.tables.Tables.{Tables}
 use Rattle.mux_tables.specs.Documents.{AllStand, DocumentsStand, Leaves, leaving, nothing_owed, owes}
 use Rattle.mux_tables.specs.Names.{NamesStand, id_in}
-use Rattle.mux_tables.specs.Stands.{Keeps, Stands, of_life, stage_in, start_for}
+use Rattle.mux_tables.specs.Stands.{Keeps, Rise, Stands, of_life, stage_in, start_for}
 use Rattle.mux_tables.proofs.DocumentOwed.{all_does, owes_nothing}
+use Rattle.mux_tables.proofs.Placed.{groups_apart}
 use Rattle.mux_turns.specs.Refusing.{Adds, IsUnready}
 use Rattle.mux_turns.specs.Welcomes.{AllAsking, IsAsking}
 use Rattle.mux_turns.proofs.Departing.{mapped_is, mapped_on}
 use Rattle.mux_turns.proofs.Keeping.{keeps_error}
 use Rattle.mux_turns.proofs.Matched.{whole_entry}
-use Rattle.mux_turns.proofs.Ready.{has_start}
+use Rattle.mux_turns.proofs.Ready.{has_start, ready_runs}
 use Rattle.mux_turns.proofs.Welcoming.{home_there}
 
 -- Its start is owed nothing
 
 -- stages that stay
-pub unready_kept : (g : ℕ) (ts us : List Start) (z : Start) → slice_get ts g ≡ Some z → map stage_in us ≡ map stage_in ts → IsUnready g ts → IsUnready g us
-unready_kept g ts us z at stages h x here = sym (mapped_is stage_in ts g z x.life.stage at (sym (ap (λ ns. slice_get ns g) stages) ∙ mapped_on stage_in us g x here)) ∙ h z at
+pub stage_kept : (g : ℕ) (ts us : List Start) (z : Start) → slice_get ts g ≡ Some z → map stage_in us ≡ map stage_in ts → z.life.stage ≡ Initializing → (x : Start) → slice_get us g ≡ Some x → x.life.stage ≡ Initializing
+stage_kept g ts us z at stages h x here = sym (mapped_is stage_in ts g z x.life.stage at (sym (ap (λ ns. slice_get ns g) stages) ∙ mapped_on stage_in us g x here)) ∙ h
+
+-- its group is in no other place
+pub unready_at : (i : ℕ) (ls : List Start) (w : Start) → Rise 0 ls → slice_get ls i ≡ Some w → w.life.stage ≡ Initializing → IsUnready w.life.group ls
+unready_at i ls w rise at h p x here own = go p (compare i p) here
+  where
+    go : (p : ℕ) → Same i p → slice_get ls p ≡ Some x → x.life.stage ≡ Initializing
+    go _ same here = ap (λ (y : Start). y.life.stage) (same_item (sym here ∙ at)) ∙ h
+    go p (other d) here = absurd (groups_apart ls i p w x rise at here d own)
 
 module _ (settings : Settings) (t u : Tables) (events later : List Event) (e g : ℕ) (owed : List Out) (unready : IsUnready g t.lasts.items) (home : home_of settings e events ≡ Some g) (st : Stands settings t events) where
   none_ready : (s : ℕ) → start_of g events ≡ Some s → is_ready (life_of s events).stage ≡ false
-  none_ready s at =
-      let x = has_start settings t events g s st at in
-      let own = st.lasts.each g x.0 x.1 in
-      let same : x.0.life.start ≡ s = same_item (sym own.start ∙ at) in
-      ap (λ n. is_ready (life_of n events).stage) (sym same) ∙ (ap (λ (l : Life). is_ready l.stage) (own.parts of_life) ∙ ap is_ready (unready x.0 x.1))
+  none_ready s at = go (is_ready (life_of s events).stage) refl
+    where
+      go : (b : Bool) → is_ready (life_of s events).stage ≡ b → is_ready (life_of s events).stage ≡ false
+      go false h = h
+      go true h =
+          let k = has_start settings t events g s st at (ready_runs (life_of s events).stage h) in
+          let own = st.lasts.each k.place k.last k.at in
+          let same : k.last.life.start ≡ s = same_item (sym own.start ∙ (ap (λ n. start_of n events) k.group ∙ at)) in
+          ap (λ n. is_ready (life_of n events).stage) (sym same) ∙ (ap (λ (l : Life). is_ready l.stage) (own.parts of_life) ∙ ap is_ready (unready k.place k.last k.at k.group))
 
   by_start : (o : Option ℕ) → start_of g events ≡ o → Leaves settings events e (Some g) o owed u later → DocumentsStand settings nothing_owed u later
   by_start None none h = h.1

@@ -7,22 +7,23 @@ use Rattle.event_model.specs.declared.stage.Stage.TheVariants.{Unspawned, Spawni
 use Rattle.event_model.specs.Event.{Event}
 use Rattle.event_model.specs.Settings.{Settings}
 use Rattle.event_model.specs.Spawns.{start_of}
-use Rattle.event_model.specs.Stages.{is_ready}
+use Rattle.event_model.specs.Stages.{is_ready, life_of}
 use Rattle.event_model.proofs.Places.{item_at}
 use Rattle.mux_tables.specs.declared.tables.Start.{Start}
 use Rattle.mux_tables.specs.declared.tables.Tables.{Tables}
 use Rattle.mux_tables.specs.Stands.{Stands, number_in}
+use Rattle.mux_tables.proofs.Homes.{kept_start}
+use Rattle.mux_tables.proofs.Placed.{KeptAt}
 
--- a group that has one
-pub has_start : (settings : Settings) (t : Tables) (before : List Event) (g s : ℕ) → Stands settings t before → start_of g before ≡ Some s → (x : Start) × (slice_get t.lasts.items g ≡ Some x)
-has_start settings t before g s st starts = item_at t.lasts.items g (go (nat_lt g (length t.lasts.items)) refl)
+-- a group that has one that didn't end
+pub has_start : (settings : Settings) (t : Tables) (before : List Event) (g s : ℕ) → Stands settings t before → start_of g before ≡ Some s → ((life_of s before).stage ≡ Ended → ⊥) → KeptAt g t.lasts.items
+has_start settings t before g s st starts runs = kept_start settings t before g st s starts runs
+
+pub ready_runs : (stage : Stage) → is_ready stage ≡ true → stage ≡ Ended → ⊥
+ready_runs stage h e = absurd (clash (sym h ∙ ap is_ready e))
   where
-    clash : ◌≡◌ {A = Option ℕ} None (Some s) → ⊥
-    clash h = cc
-
-    go : (b : Bool) → nat_lt g (length t.lasts.items) ≡ b → g < length t.lasts.items
-    go true h = grind (arith, nat_tests)
-    go false h = absurd (clash (sym (st.lasts.none g (grind (arith, nat_tests))) ∙ starts))
+    clash : true ≡ false → ⊥
+    clash k = cc
 
 pub is_that_ready : (stage : Stage) → is_ready stage ≡ true → stage ≡ Ready
 is_that_ready Ready h = refl

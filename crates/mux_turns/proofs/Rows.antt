@@ -1,5 +1,5 @@
 -- Rows of an editor's group, and of a group's start.
-use Rattle.std.proofs.Common.{◌≡◌, ℕ, Bool, true, false, cond, List, [], ◌∷◌, filter, map, nat_eq, refl, ap, ap₂, sym, ◌∙◌}
+use Rattle.std.proofs.Common.{◌≡◌, ℕ, Bool, true, false, ◌&&◌, nat_lt, cond, List, [], ◌∷◌, filter, map, nat_eq, refl, ap, ap₂, sym, ◌∙◌}
 use Rattle.std.specs.Prelude.{Option, Some, None}
 use Rattle.std.specs.Option.{option_and_then}
 use Rattle.mux_history.specs.declared.out.Out.TheVariants.{ToServer}
@@ -19,12 +19,16 @@ use Rattle.group_rows.specs.Leaves.{cancel, cancels, cancels_row, refusals, refu
 use Rattle.group_rows.specs.Rows.{answer_error, can_ask, forward, notice_at, notice_row, request_at, request_row, sync_row}
 use Rattle.group_words.specs.Houses.{home_of}
 use Rattle.mux_tables.specs.Refusals.{of_editor, refusal}
-use Rattle.mux_tables.specs.Stands.{kept_ask, start_for}
+use Rattle.mux_tables.specs.Stands.{HasEnded, kept_ask, start_for}
 
--- where the group has no start, and where it has one
-no_start : (home : Option ℕ) (start : ℕ → Option ℕ) (p : Row) (f : ℕ → ℕ → Row) → option_and_then start home ≡ None → on home p (λ g. on (start g) p (f g)) ≡ p
-no_start None start p f h = refl
-no_start (Some g) start p f h = ap (λ o. on o p (f g)) h
+-- where the group has no start, or one that ended, and where it has another
+ended_start : (home : Option ℕ) (start : ℕ → Option ℕ) (p : Row) (f : ℕ → ℕ → Row) → ((g s : ℕ) → option_and_then start home ≡ Some s → Alike (f g s) p) → Alike (on home p (λ g. on (start g) p (f g))) p
+ended_start None start p f h = alike refl
+ended_start (Some g) start p f h = go (start g) refl
+  where
+    go : (o : Option ℕ) → start g ≡ o → Alike (on o p (f g)) p
+    go None e = alike refl
+    go (Some s) e = h g s e
 
 pub some_start : (home : Option ℕ) (start : ℕ → Option ℕ) (p : Row) (f : ℕ → ℕ → Row) (g s : ℕ) → home ≡ Some g → start g ≡ Some s → on home p (λ g. on (start g) p (f g)) ≡ f g s
 some_start home start p f g s h k = ap (λ o. on o p (λ g. on (start g) p (f g))) h ∙ ap (λ o. on o p (f g)) k
@@ -38,14 +42,18 @@ is_second {r} {p} {q} e h = alike_then (alike (e ∙ ap (λ c. choose c p q) h))
 
 module _ (settings : Settings) (before : List Event) (e : ℕ) where
   -- L1
-  pub none_left : start_for settings e before ≡ None → Alike (cancels_row settings before e) nothing
-  none_left h = alike (no_start (home_of settings e before) (λ g. start_of g before) nothing (λ g s. cancels before s e ⨾ refusals before s e) h)
+  abbrev by_ready : ℕ → Bool → Row
+  by_ready s b = choose b (each (cancel s) (uncancelled_of e (forwarding_of s before).open_requests)) nothing ⨾ choose b (each (refuse s) (filter (is_with e) (asks_of s before))) nothing
+
+  -- where it isn't ready
+  unready_both : (s : ℕ) → is_ready (life_of s before).stage ≡ false → Alike (cancels before s e ⨾ refusals before s e) nothing
+  unready_both s h = alike_then (alike (ap (by_ready s) h)) (record { sends = λ events. refl })
+
+  pub ended_left : HasEnded (start_for settings e before) before → Alike (cancels_row settings before e) nothing
+  ended_left h = ended_start (home_of settings e before) (λ g. start_of g before) nothing (λ g s. cancels before s e ⨾ refusals before s e) (λ g s at. unready_both s (ap is_ready (h s at)))
 
   left_at : (g s : ℕ) → home_of settings e before ≡ Some g → start_of g before ≡ Some s → cancels_row settings before e ≡ (cancels before s e ⨾ refusals before s e)
   left_at g s h k = some_start (home_of settings e before) (λ g. start_of g before) nothing (λ g s. cancels before s e ⨾ refusals before s e) g s h k
-
-  abbrev by_ready : ℕ → Bool → Row
-  by_ready s b = choose b (each (cancel s) (uncancelled_of e (forwarding_of s before).open_requests)) nothing ⨾ choose b (each (refuse s) (filter (is_with e) (asks_of s before))) nothing
 
   pub unready_left : (g s : ℕ) (stage : Stage) → home_of settings e before ≡ Some g → start_of g before ≡ Some s → stage ≡ (life_of s before).stage → is_ready stage ≡ false → Alike (cancels_row settings before e) nothing
   unready_left g s stage h k at r = alike_then (alike (left_at g s h k ∙ ap (by_ready s) (ap is_ready (sym at) ∙ r))) (record { sends = λ events. refl })
@@ -67,8 +75,8 @@ module _ (settings : Settings) (before : List Event) (e : ℕ) where
 
   -- E16 and E17
   module _ (body : List ℕ) where
-    pub none_noted : start_for settings e before ≡ None → Alike (notice_row settings before e body) nothing
-    none_noted h = alike (no_start (home_of settings e before) (λ g. start_of g before) nothing (notice_at settings before e body) h)
+    pub ended_noted : HasEnded (start_for settings e before) before → Alike (notice_row settings before e body) nothing
+    ended_noted h = ended_start (home_of settings e before) (λ g. start_of g before) nothing (notice_at settings before e body) (λ g s at. is_second refl (ap is_ready (h s at)))
 
     noted : (g s : ℕ) → home_of settings e before ≡ Some g → start_of g before ≡ Some s → notice_row settings before e body ≡ notice_at settings before e body g s
     noted g s h k = some_start (home_of settings e before) (λ g. start_of g before) nothing (notice_at settings before e body) g s h k
@@ -81,8 +89,9 @@ module _ (settings : Settings) (before : List Event) (e : ℕ) where
 
   -- E10
   module _ (body : List ℕ) where
-    pub none_asked : start_for settings e before ≡ None → Alike (request_row settings before e body) (answer_error e body request_failed)
-    none_asked h = alike (no_start (home_of settings e before) (λ g. start_of g before) (answer_error e body request_failed) (request_at settings before e body) h)
+    pub ended_asked : HasEnded (start_for settings e before) before → Alike (request_row settings before e body) (answer_error e body request_failed)
+    ended_asked h = ended_start (home_of settings e before) (λ g. start_of g before) (answer_error e body request_failed) (request_at settings before e body)
+        (λ g s at. is_second refl (ap (λ k. is_ready k && nat_lt (forwarding_of s before).next settings.limits.requests) (h s at)))
 
     asked : (g s : ℕ) → home_of settings e before ≡ Some g → start_of g before ≡ Some s → request_row settings before e body ≡ request_at settings before e body g s
     asked g s h k = some_start (home_of settings e before) (λ g. start_of g before) (answer_error e body request_failed) (request_at settings before e body) g s h k

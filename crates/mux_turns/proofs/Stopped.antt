@@ -84,9 +84,9 @@ ended_unbegun life stage started is over may = never (sym may ∙ ap may_start i
     go other a h = never (sym h)
 
 -- its group lives no more
-pub left_dead : (settings : Settings) (t : Tables) (before : List Event) (g s : ℕ) → Stands settings t before → g < length t.lasts.items → slice_get (map number_in t.lasts.items) g ≡ Some s → is_left settings before s ≡ true → (x : Kept) → slice_get t.groups.groups g ≡ Some x → x.live ≡ false
-left_dead settings t before g s st within at left x here =
-    ap lives (sym (ap (λ gs. slice_get gs g) st.house.groups.groups ∙ here)) ∙ left_over settings before s left g (group_seen settings t before g st s within at)
+pub left_dead : (settings : Settings) (t : Tables) (before : List Event) (g s : ℕ) → Stands settings t before → g < length t.lasts.items → slice_get (map number_in t.lasts.items) g ≡ Some s → is_left settings before s ≡ true → (z : Start) (x : Kept) → slice_get t.lasts.items g ≡ Some z → slice_get t.groups.groups z.life.group ≡ Some x → x.live ≡ false
+left_dead settings t before g s st within at left z x there here =
+    ap lives (sym (ap (λ gs. slice_get gs z.life.group) st.house.groups.groups ∙ here)) ∙ left_over settings before s left z.life.group (group_seen settings t before g s z st there at).0
 
 -- the bodies that it is sent
 pub exits_by : (settings : Settings) (t u : Tables) (base : List Event) (xs ys zs : List Out) (s : ℕ) (text : List ℕ) → text ≡ exit_text

@@ -1,6 +1,18 @@
 -- E5: what `lspmux/status` is answered with.
 use Rattle.std.proofs.Common.{◌≡◌, ℕ, zero, suc, ◌+◌, ◌^◌, ◌<◌, ◌≤◌, Bool, true, false, ◌&&◌, ◌||◌, List, [], ◌∷◌, ◌++◌, length, map, flat_map, drop, get_or, nat_lt, codes, decimal, bytes_eq, if◌then◌else◌, IsUtf8, encode_utf8_all, refl, sym, ap, ap₂, subst, ◌∙◌, append_assoc, append-nil, arith}
-use Rattle.std.specs.Prelude.{Option, Some, None}
+use Rattle.std.specs.Prelude.{Option, Some, None, slice_get}
+use Rattle.std.specs.List.{AllByRecursion}
+use Rattle.std.proofs.lemmas.List.{length-append}
+use Rattle.event_model.specs.declared.stage.Stage.{Stage}
+use Rattle.event_model.specs.declared.stage.Stage.TheVariants.{Ended}
+use Rattle.event_model.specs.Stages.{life_of}
+use Rattle.group_facts.specs.Facts.{is_up}
+use Rattle.group_facts.specs.Lively.{lives, lives_at}
+use Rattle.group_words.specs.declared.kept.Kept.{Kept}
+use Rattle.group_words.specs.Houses.{groups_of}
+use Rattle.group_words.specs.Placing.{all_from, is_live}
+use Rattle.mux_tables.specs.Stands.{HasEnded}
+use Rattle.mux_turns.specs.Tellings.{Runs}
 use Rattle.std.specs.Option.{option_map_or}
 use Rattle.std.specs.Str.{all_scalars, chars}
 use Rattle.std.proofs.lemmas.Bool.{and_from, and_parts, lt-ltb}
@@ -90,8 +102,12 @@ map_both f [] ys = refl
 map_both f (x ∷ xs) ys = ap (λ zs. f x ∷ zs) (map_both f xs ys)
 
 module _ (settings : Settings) (before : List Event) where
-  pub none_told : (g : ℕ) (xs : List (List ℕ)) → start_of g before ≡ None → xs ≡ xs ++ map item_text (item_in settings before g)
-  none_told g xs none = sym (append-nil xs) ∙ ap (λ o. xs ++ map item_text (option_map_or (λ s. item_at settings before g s ∷ []) o [])) (sym none)
+  pub none_told : (g : ℕ) (xs : List (List ℕ)) → Runs g before → HasEnded (start_of g before) before → xs ≡ xs ++ map item_text (item_in settings before g)
+  none_told g xs runs ended = sym (append-nil xs) ∙ ap (λ o. xs ++ map item_text (option_map_or (λ s. item_at settings before g s ∷ []) o [])) (sym (none (start_of g before) refl))
+    where
+      none : (o : Option ℕ) → start_of g before ≡ o → o ≡ None
+      none None is = refl
+      none (Some s) is = absurd (runs s is (ended s is))
 
   pub one_told : (g s : ℕ) (xs new : List (List ℕ)) (body : List ℕ) → start_of g before ≡ Some s → new ≡ xs ++ body ∷ [] → body ≡ item_text (item_at settings before g s) → new ≡ xs ++ map item_text (item_in settings before g)
   one_told g s xs new body start is text = is ∙ ap (λ w. xs ++ w ∷ []) text ∙ ap (λ o. xs ++ map item_text (option_map_or (λ s. item_at settings before g s ∷ []) o [])) (sym start)
@@ -112,3 +128,35 @@ none_left (x ∷ xs) (suc i) h = none_left xs i (omega arith)
 
 pub left_none : (text new : List ℕ) (started : Bool) (i : ℕ) (parts : List (List ℕ)) → length parts ≤ i → new ≡ text ++ 93 ∷ [] → Left text started i parts → new ≡ bracketed parts
 left_none text new started i parts h e left = e ∙ (ap (λ ps. text ++ (listed started ps ++ 93 ∷ [])) (sym (none_left parts i h)) ∙ left)
+
+-- the groups that live
+
+module _ (settings : Settings) (before : List Event) (settled : Settled settings before) where
+  up_runs : (stage : Stage) → is_up stage ≡ true → stage ≡ Ended → ⊥
+  up_runs stage h e = absurd (clash (sym h ∙ ap is_up e))
+    where
+      clash : true ≡ false → ⊥
+      clash k = cc
+
+  live_from : (i : ℕ) (ps ys : List Kept) → i ≡ length ps → groups_of settings before ≡ ps ++ ys → AllByRecursion (λ g. Runs g before) (all_from i is_live ys)
+  live_from i ps [] e is = tt
+  live_from i ps (y ∷ ys) e is = by_test y.live refl (live_from (i + 1) (ps ++ y ∷ []) ys (ap (λ n. n + 1) e ∙ sym (length-append ps (y ∷ []))) (is ∙ sym (append_assoc ps (y ∷ []) ys)))
+    where
+      here : lives_at i (groups_of settings before) ≡ y.live
+      here = ap₂ lives_at e is ∙ ap lives (middle ps)
+        where
+          middle : (ps : List Kept) → slice_get (ps ++ y ∷ ys) (length ps) ≡ Some y
+          middle [] = refl
+          middle (p ∷ ps) = middle ps
+
+      by_test : (b : Bool) → y.live ≡ b → AllByRecursion (λ g. Runs g before) (all_from (i + 1) is_live ys) → AllByRecursion (λ g. Runs g before) (if b then i ∷ all_from (i + 1) is_live ys else all_from (i + 1) is_live ys)
+      by_test true live rest = (λ s starts. up_runs (life_of s before).stage (settled.lively.up i s (here ∙ live) starts), rest)
+      by_test false live rest = rest
+
+  pub live_run : AllByRecursion (λ g. Runs g before) (all_from 0 is_live (groups_of settings before))
+  live_run = live_from 0 [] (groups_of settings before) refl refl
+
+pub run_at : (before : List Event) (gs : List ℕ) (i d : ℕ) → AllByRecursion (λ g. Runs g before) gs → i < length gs → Runs (get_or gs i d) before
+run_at before [] i d all l = absurd (omega (arith, l))
+run_at before (g ∷ gs) zero d all l = all.0
+run_at before (g ∷ gs) (suc i) d all l = run_at before gs i d all.1 (omega (arith, l))

@@ -73,13 +73,16 @@ module _ (events : List Event) (k : Numbered events) where
       the : {v w : ℕ} → ◌≡◌ {A = Option ℕ} (Some v) (Some w) → v ≡ w
       the e = cc
 
+      clash : Ready ≡ Ended → ⊥
+      clash e = cc
+
       low : (s : ℕ) → start_of g events ≡ Some s → (life_of s events).stage ≡ Ready → next_number s events < 2 ^ 128
       low s at ready =
-          let x = has_start settings t events g s st at in
-          let last = st.lasts.each g x.0 x.1 in
-          let own : (x.0).life.start ≡ s = the (sym last.start ∙ at) in
+          let x = has_start settings t events g s st at (λ e. clash (sym ready ∙ e)) in
+          let last = st.lasts.each x.place x.last x.at in
+          let own : x.last.life.start ≡ s = the (sym last.start ∙ (ap (λ n. start_of n events) x.group ∙ at)) in
           let ids = last.parts of_ids in
-          let next : next_number s events ≡ ((x.0).ids).next = k s ready ∙ (ap (λ n. (forwarding_of n events).next) (sym own) ∙ ids.next) in
+          let next : next_number s events ≡ ((x.last).ids).next = k s ready ∙ (ap (λ n. (forwarding_of n events).next) (sym own) ∙ ids.next) in
           let within = (ids.order).within in
           let ends = ids.ends in
           let range = st.range in

@@ -8,3 +8,4 @@ pub mod Replies
 pub mod Welcomes
 pub mod Stops
 pub mod Handing
+pub mod Tellings

@@ -111,17 +111,23 @@ pub fn evict(tables: &mut Tables, alloc: Global, outs: &mut Outs, g: u64) -> Res
 }
 
 /// E7: this group ends, and a start is spawned for the new group, which has the next number.
-pub fn replace(tables: &mut Tables, alloc: Global, outs: &mut Outs, g: u64) -> Result<(), Memory>
+pub fn replace(
+    tables: &mut Tables,
+    alloc: Global,
+    outs: &mut Outs,
+    g: u64,
+    new: u64,
+) -> Result<(), Memory>
     requires limit { 2 ≤ tables.old.requests }
     requires versions { 1 ≤ tables.old.versions }
     ensures requests { tables.new.requests ≡ tables.old.requests }
     ensures versions { tables.new.versions ≡ tables.old.versions }
-    ensures does { (settings : Settings) (before base : List Event) (e n : ℕ) (body : List ℕ) → IsNext n (behind base outs.old)
+    ensures does { (settings : Settings) (before base : List Event) (e : ℕ) (body : List ℕ) → IsNext new (behind base outs.old)
         → Numbered (behind base outs.old)
         → OnOk result (Does (λ k events. AllStand settings k events)
-        (placed_row e body before (Evicts g n)) base (tables.old, nothing_owed) outs.old (tables.new, nothing_owed) outs.new) }
+        (placed_row e body before (Evicts g new)) base (tables.old, nothing_owed) outs.old (tables.new, nothing_owed) outs.new) }
 {
     evict(tables, alloc, outs, g)?;
-    found(tables, alloc, outs)?;
+    found(tables, alloc, outs, new)?;
     Ok(())
 }

@@ -136,12 +136,12 @@ pub fn take_initialize(
             join(tables, alloc, outs, e, message, g)?;
             Ok(())
         }
-        Placed::New(_) => {
-            found(tables, alloc, outs)?;
+        Placed::New(n) => {
+            found(tables, alloc, outs, n)?;
             Ok(())
         }
-        Placed::Evicts(idle, _) => {
-            replace(tables, alloc, outs, idle)?;
+        Placed::Evicts(idle, n) => {
+            replace(tables, alloc, outs, idle, n)?;
             Ok(())
         }
         Placed::TooMany => {

@@ -7,7 +7,7 @@ ghost use Rattle.event_model.specs.Settings.{Settings};
 ghost use Rattle.group_rows.specs.Leaves.{cancel, cancel_text, cancels_row, leave_row};
 ghost use Rattle.mux_tables.specs.Documents.{AllStand, DocumentsStand, Owed, nothing_owed};
 ghost use Rattle.mux_tables.specs.Refusals.{asks_in};
-ghost use Rattle.mux_tables.specs.Stands.{Stands, number_in, stage_in};
+ghost use Rattle.mux_tables.specs.Stands.{Stands, house_in, number_in, stage_in};
 ghost use Rattle.mux_turns.specs.Leavings.{Leaves, Pays};
 
 use itoa::Buffer;
@@ -54,6 +54,7 @@ fn cancel_all(
     ensures starts { OnOk result (map number_in tables.new.lasts.items ≡ map number_in tables.old.lasts.items) }
     ensures stages { OnOk result (map stage_in tables.new.lasts.items ≡ map stage_in tables.old.lasts.items) }
     ensures asks { OnOk result (map asks_in tables.new.lasts.items ≡ map asks_in tables.old.lasts.items) }
+    ensures groups { OnOk result (map house_in tables.new.lasts.items ≡ map house_in tables.old.lasts.items) }
     ensures does { (settings : Settings) (base : List Event) (s : ℕ) → slice_get (map number_in tables.old.lasts.items) g ≡ Some s
         → OnOk result (Does (λ t events. Stands settings t events) (each (cancel s) numbers.now) base tables.old outs.old tables.new outs.new) }
     ensures documents { (settings : Settings) (owed : Owed) (base : List Event) → DocumentsStand settings owed tables.old (behind base outs.old)
@@ -98,6 +99,7 @@ fn leave(
     ensures versions { tables.new.versions ≡ tables.old.versions }
     ensures starts { OnOk result (map number_in tables.new.lasts.items ≡ map number_in tables.old.lasts.items) }
     ensures stages { OnOk result (map stage_in tables.new.lasts.items ≡ map stage_in tables.old.lasts.items) }
+    ensures groups { OnOk result (map house_in tables.new.lasts.items ≡ map house_in tables.old.lasts.items) }
     ensures does { (settings : Settings) (before base : List Event) (e : ℕ)
         → Leaves settings before e tables.old.lasts.items leaving.now
         → OnOk result (Does (λ t events. Stands settings t events) (cancels_row settings before e) base tables.old outs.old tables.new outs.new) }

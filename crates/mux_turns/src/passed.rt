@@ -34,9 +34,10 @@ fn ready_at(tables: &Tables, e: u64) -> Option<usize>
     ensures ready { IfSome result (λ g. (x : Start) → slice_get tables.now.lasts.items g ≡ Some x → x.life.stage ≡ Ready) }
     ensures silent { IfNone result ((settings : Settings) (before : List Event) (body : List ℕ) → Stands settings tables.now before
         → Alike (notice_row settings before e body) nothing) }
-    ensures goes { IfSome result (λ g. (settings : Settings) (before : List Event) (body : List ℕ) (s : ℕ)
-        → slice_get (map number_in tables.now.lasts.items) g ≡ Some s → Stands settings tables.now before
-        → Alike (notice_row settings before e body) (sync_row settings before g s e ⨾ send (ToServer s body))) }
+    ensures goes { IfSome result (λ g. (settings : Settings) (before : List Event) (body : List ℕ) (s : ℕ) (x : Start)
+        → slice_get tables.now.lasts.items g ≡ Some x → slice_get (map number_in tables.now.lasts.items) g ≡ Some s
+        → Stands settings tables.now before
+        → Alike (notice_row settings before e body) (sync_row settings before x.life.group s e ⨾ send (ToServer s body))) }
 {
     let g = tables.place(e)?;
     if stage_at(tables, g).is_ready() {
@@ -61,8 +62,8 @@ fn go_on(
     ensures versions { tables.new.versions ≡ tables.old.versions }
     ensures does { (settings : Settings) (before : List Event) (body method : List ℕ) (params : Option Json) (s : ℕ) → IsRead message.now body
         → message_of body ≡ notification method params → goes_on (class_of method Editor true) ≡ true → outs.old ≡ []
-        → slice_get (map number_in tables.old.lasts.items) g ≡ Some s
-        → OnOk result (Does (λ k events. AllStand settings k events) (sync_row settings before g s e ⨾ send (ToServer s body)) (with_cause before (FromEditor e body))
+        → slice_get (map number_in tables.old.lasts.items) g ≡ Some s → (x : Start) → slice_get tables.old.lasts.items g ≡ Some x
+        → OnOk result (Does (λ k events. AllStand settings k events) (sync_row settings before x.life.group s e ⨾ send (ToServer s body)) (with_cause before (FromEditor e body))
         (tables.old, nothing_owed) outs.old (tables.new, nothing_owed) outs.new) }
 {
     let text = Body::new(Vec::from_slice(alloc, message.bytes())?);

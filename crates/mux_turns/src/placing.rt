@@ -1,5 +1,5 @@
 //! E7: an editor's `initialize`, by the group in which it is placed (LSP 3.17, Initialize Request).
-ghost use Rattle.std.specs.Prelude.{◌≡◌, ◌<◌, ◌≤◌, ℕ, List, [], Option, Some, length, OnOk, false, true};
+ghost use Rattle.std.specs.Prelude.{◌≡◌, ◌<◌, ◌≤◌, ℕ, List, [], Option, Some, length, slice_get, OnOk, false, true};
 ghost use Rattle.event_model.specs.Does.{Alike, Does};
 ghost use Rattle.event_model.specs.Event.{Event, behind, with_cause};
 ghost use Rattle.event_model.specs.Phases.{desk_of, is_served};
@@ -13,6 +13,7 @@ ghost use Rattle.group_words.specs.Rows.{placed_row, result_of};
 ghost use Rattle.json_text.specs.Json.{Json};
 ghost use Rattle.mux_history.specs.declared.cause.Cause.TheVariants.{FromEditor};
 ghost use Rattle.mux_tables.specs.Documents.{AllStand, DocumentsStand, Owed, nothing_owed};
+ghost use Rattle.mux_tables.specs.declared.tables.Start.{Start};
 ghost use Rattle.mux_tables.specs.Stands.{Stands};
 ghost use Rattle.mux_turns.specs.Founding.{IsNext};
 ghost use Rattle.mux_turns.specs.Welcomes.{IsShown};
@@ -54,11 +55,11 @@ pub fn welcome(
     requires group { g < length tables.old.lasts.items }
     ensures requests { tables.new.requests ≡ tables.old.requests }
     ensures versions { tables.new.versions ≡ tables.old.versions }
-    ensures does { (settings : Settings) (before : List Event) (body method : List ℕ) (id : Id) (params : Option Json) (s : ℕ)
+    ensures does { (settings : Settings) (before : List Event) (body method : List ℕ) (id : Id) (params : Option Json) (h s : ℕ)
         → IsRead message.now body → message_of body ≡ request id method params → places (desk_of e before).phase (message_of body) ≡ true
-        → start_of g before ≡ Some s → is_ready (life_of s before).stage ≡ true
+        → ((x : Start) → slice_get tables.old.lasts.items g ≡ Some x → x.life.group ≡ h) → start_of h before ≡ Some s → is_ready (life_of s before).stage ≡ true
         → ((given : List ℕ) → result_of s before ≡ Some given → IsShown given) → outs.old ≡ []
-        → OnOk result (Does (λ k events. AllStand settings k events) (placed_row e body before (Joins g)) (with_cause before (FromEditor e body))
+        → OnOk result (Does (λ k events. AllStand settings k events) (placed_row e body before (Joins h)) (with_cause before (FromEditor e body))
         (tables.old, nothing_owed) outs.old (tables.new, nothing_owed) outs.new) }
 {
     match tables.shown(g) {
@@ -72,18 +73,18 @@ pub fn welcome(
 }
 
 /// E7: a start is spawned for the new group, which has the next number.
-pub fn found(tables: &mut Tables, alloc: Global, outs: &mut Outs) -> Result<(), Memory>
+pub fn found(tables: &mut Tables, alloc: Global, outs: &mut Outs, g: u64) -> Result<(), Memory>
     requires limit { 2 ≤ tables.old.requests }
     requires versions { 1 ≤ tables.old.versions }
     ensures requests { tables.new.requests ≡ tables.old.requests }
     ensures versions { tables.new.versions ≡ tables.old.versions }
-    ensures does { (settings : Settings) (before base : List Event) (e n : ℕ) (body : List ℕ) → IsNext n (behind base outs.old)
-        → OnOk result (Does (λ t events. Stands settings t events) (placed_row e body before (New n)) base tables.old outs.old tables.new outs.new) }
-    ensures documents { (settings : Settings) (owed : Owed) (base : List Event) → Stands settings tables.old (behind base outs.old)
-        → DocumentsStand settings owed tables.old (behind base outs.old)
+    ensures does { (settings : Settings) (before base : List Event) (e : ℕ) (body : List ℕ) → IsNext g (behind base outs.old)
+        → OnOk result (Does (λ t events. Stands settings t events) (placed_row e body before (New g)) base tables.old outs.old tables.new outs.new) }
+    ensures documents { (settings : Settings) (owed : Owed) (base : List Event) → IsNext g (behind base outs.old)
+        → Stands settings tables.old (behind base outs.old) → DocumentsStand settings owed tables.old (behind base outs.old)
         → OnOk result (DocumentsStand settings owed tables.new (behind base outs.new)) }
 {
-    tables.found(alloc, outs)?;
+    tables.found(alloc, outs, g)?;
     Ok(())
 }
 

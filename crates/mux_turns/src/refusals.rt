@@ -147,15 +147,16 @@ pub fn refuse_early(
 }
 
 /// E10: the place of the group whose last start takes the editor's request, as it stands before the request; none where the editor
-/// is in no group, or the group has no start, or that start isn't ready or has no number left: then it is to be refused.
+/// is in no group, or the group has no start, or that start ended, isn't ready or has no number left: then it is to be refused.
 pub fn asked_at(tables: &Tables, e: u64) -> Option<usize>
     ensures inside { IfSome result (λ g. g < length tables.now.lasts.items) }
     ensures takes { IfSome result (λ g. (x : Start) → slice_get tables.now.lasts.items g ≡ Some x → (x.life.stage ≡ Ready) × (x.ids.next < x.ids.limit)) }
     ensures refused { IfNone result ((settings : Settings) (before : List Event) (body : List ℕ) → Stands settings tables.now before
         → Alike (request_row settings before e body) (answer_error e body request_failed)) }
-    ensures goes { IfSome result (λ g. (settings : Settings) (before : List Event) (body : List ℕ) (s : ℕ)
-        → slice_get (map number_in tables.now.lasts.items) g ≡ Some s → Stands settings tables.now before
-        → Alike (request_row settings before e body) (sync_row settings before g s e ⨾ forward s body)) }
+    ensures goes { IfSome result (λ g. (settings : Settings) (before : List Event) (body : List ℕ) (s : ℕ) (x : Start)
+        → slice_get tables.now.lasts.items g ≡ Some x → slice_get (map number_in tables.now.lasts.items) g ≡ Some s
+        → Stands settings tables.now before
+        → Alike (request_row settings before e body) (sync_row settings before x.life.group s e ⨾ forward s body)) }
 {
     let g = tables.place(e)?;
     if tables.can_ask(g) { Some(g) } else { None }

@@ -135,9 +135,10 @@ pub fn take_refused(
         → OnOk result (Done (λ k events. AllStand settings k events) (refused_row settings before s body)
         (with_cause before (FromServer s body)) [] (tables.new, nothing_owed) outs.new) }
 {
+    let group = tables.group_number(g);
     tables.hear_refusal(g, answered_number(message));
-    refuse_all(tables, alloc, outs, g as u64, message)?;
-    close_all(tables, alloc, outs, g as u64)?;
+    refuse_all(tables, alloc, outs, group, message)?;
+    close_all(tables, alloc, outs, group)?;
     tables.end(outs, g)?;
     Ok(())
 }

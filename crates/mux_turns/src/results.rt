@@ -114,6 +114,7 @@ pub fn take_result(
         → OnOk result (Done (λ k events. AllStand settings k events) (first_result settings before s body)
         (with_cause before (FromServer s body)) [] (tables.new, nothing_owed) outs.new) }
 {
+    let group = tables.group_number(g);
     let n = answered_number(message);
     let told = shown_of(alloc, message.result_bytes())?;
     let kept = told.copy(alloc)?;
@@ -121,6 +122,6 @@ pub fn take_result(
     let text = initialized(alloc)?;
     tables.notify(outs, g, text)?;
     tables.pay(outs, owed)?;
-    greet_all(tables, alloc, outs, g as u64, told.bytes())?;
+    greet_all(tables, alloc, outs, group, told.bytes())?;
     Ok(())
 }

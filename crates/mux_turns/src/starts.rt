@@ -10,6 +10,7 @@ ghost use Rattle.group_words.specs.declared.kept.Kept.{Kept};
 ghost use Rattle.group_words.specs.Houses.{groups_of};
 ghost use Rattle.mux_history.specs.declared.cause.Cause.TheVariants.{Started};
 ghost use Rattle.mux_model.specs.Fits.{fits_behind};
+ghost use Rattle.mux_tables.specs.declared.tables.Start.{Start};
 ghost use Rattle.mux_tables.specs.Documents.{AllStand, DocumentsStand, Owed, nothing_owed};
 ghost use Rattle.mux_tables.specs.Stands.{Stands, number_in};
 ghost use Rattle.mux_turns.specs.Openings.{IsOpening, is_spawning};
@@ -32,16 +33,16 @@ fn is_spawning(stage: Stage) -> bool
 fn begin(tables: &Tables, alloc: Global, outs: &mut Outs, g: usize) -> Result<(), Memory>
     requires { g < length tables.now.lasts.items }
     ensures does { (settings : Settings) (before : List Event) (s : ℕ) → slice_get (map number_in tables.now.lasts.items) g ≡ Some s → outs.old ≡ []
-        → ((x : Kept) → slice_get (groups_of settings before) g ≡ Some x → IsOpening x)
-        → OnOk result (Does (λ t events. Stands settings t events) (begin_in settings before s g)
+        → (z : Start) → slice_get tables.now.lasts.items g ≡ Some z → ((x : Kept) → slice_get (groups_of settings before) z.life.group ≡ Some x → IsOpening x)
+        → OnOk result (Does (λ t events. Stands settings t events) (begin_in settings before s z.life.group)
         (with_cause before (Started s)) tables.now outs.old tables.now outs.new) }
     ensures documents { (settings : Settings) (owed : Owed) (before : List Event) (s : ℕ) → outs.old ≡ []
-        → ((x : Kept) → slice_get (groups_of settings before) g ≡ Some x → IsOpening x)
+        → (z : Start) → slice_get tables.now.lasts.items g ≡ Some z → ((x : Kept) → slice_get (groups_of settings before) z.life.group ≡ Some x → IsOpening x)
         → Stands settings tables.now (behind (with_cause before (Started s)) outs.old)
         → DocumentsStand settings owed tables.now (behind (with_cause before (Started s)) outs.old)
         → OnOk result (DocumentsStand settings owed tables.now (behind (with_cause before (Started s)) outs.new)) }
 {
-    match tables.kept(g as u64) {
+    match tables.kept(tables.group_number(g)) {
         None => Ok(()),
         Some(kept) => {
             let text = opening(alloc, kept)?;

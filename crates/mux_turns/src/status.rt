@@ -1,5 +1,6 @@
 //! E5: what `lspmux/status` is answered with.
 ghost use Rattle.std.specs.Prelude.{◌≡◌, ◌<◌, ◌++◌, ◌&&◌, ℕ, List, [], Some, false, true, codes, flat_map, length, map, slice_get, IfOk, OnOk};
+ghost use Rattle.std.specs.List.{AllByRecursion};
 ghost use Rattle.capability_meet.specs.Parts.{bracketed};
 ghost use Rattle.event_model.specs.Does.{Done};
 ghost use Rattle.event_model.specs.Event.{Event, requests, with_cause};
@@ -12,6 +13,7 @@ ghost use Rattle.group_words.specs.Houses.{is_doubled};
 ghost use Rattle.mux_history.specs.declared.cause.Cause.TheVariants.{FromEditor};
 ghost use Rattle.mux_tables.specs.Documents.{AllStand, DocumentsStand, nothing_owed};
 ghost use Rattle.mux_tables.specs.Stands.{Stands, number_in};
+ghost use Rattle.mux_turns.specs.Tellings.{Runs};
 ghost use Rattle.rpc_message.specs.Message.{message_of};
 ghost use Rattle.rpc_message.specs.Parsed.{IsRead};
 
@@ -146,8 +148,7 @@ fn item(
     place: usize,
 ) -> Result<Body, Memory>
     requires { place < length tables.now.lasts.items }
-    ensures { (settings : Settings) (before : List Event) (s : ℕ) → settings.servers ≡ servers.now → place ≡ g
-        → slice_get (map number_in tables.now.lasts.items) place ≡ Some s → Stands settings tables.now before
+    ensures { (settings : Settings) (before : List Event) (s : ℕ) → settings.servers ≡ servers.now → slice_get (map number_in tables.now.lasts.items) place ≡ Some s → Stands settings tables.now before
         → IfOk result (λ body. body ≡ item_text (item_at settings before g s)) }
 {
     let editors = tables.members(g)?;
@@ -163,7 +164,7 @@ fn item(
     )
 }
 
-// What is told of the group of this number, where it has a start.
+// What is told of the group of this number, where it has a start; that of one that lives didn't end.
 fn add_item(
     alloc: Global,
     tables: &Tables,
@@ -171,7 +172,7 @@ fn add_item(
     items: &mut Vec<Body>,
     g: u64,
 ) -> Result<(), Memory>
-    ensures { (settings : Settings) (before : List Event) → settings.servers ≡ servers.now → Stands settings tables.now before
+    ensures { (settings : Settings) (before : List Event) → settings.servers ≡ servers.now → Runs g before → Stands settings tables.now before
         → OnOk result (items.new.items ≡ items.old.items ++ map item_text (item_in settings before g)) }
 {
     match tables.place_of(g) {
@@ -190,8 +191,8 @@ fn items(
     servers: &[Server],
     groups: &[u64],
 ) -> Result<Vec<Body>, Memory>
-    ensures { (settings : Settings) (before : List Event) → settings.servers ≡ servers.now → Stands settings tables.now before
-        → IfOk result (λ items. items.items ≡ map item_text (flat_map (item_in settings before) groups.now)) }
+    ensures { (settings : Settings) (before : List Event) → settings.servers ≡ servers.now → AllByRecursion (λ g. Runs g before) groups.now
+        → Stands settings tables.now before → IfOk result (λ items. items.items ≡ map item_text (flat_map (item_in settings before) groups.now)) }
 {
     let mut items = Vec::new(alloc);
     for g in groups {
@@ -202,8 +203,8 @@ fn items(
 
 // What is told of all live groups.
 fn status_text(alloc: Global, tables: &Tables, servers: &[Server]) -> Result<Body, Memory>
-    ensures { (settings : Settings) (before : List Event) → settings.servers ≡ servers.now → Stands settings tables.now before
-        → IfOk result (λ body. body ≡ status_text (items_of settings before)) }
+    ensures { (settings : Settings) (before : List Event) → settings.servers ≡ servers.now → Settled settings before
+        → Stands settings tables.now before → IfOk result (λ body. body ≡ status_text (items_of settings before)) }
 {
     let groups = tables.live_groups()?;
     let items = items(alloc, tables, servers, groups.as_slice())?;

@@ -9,14 +9,14 @@ use Rattle.group_words.specs.Rows.{placed_row}
 use Rattle.mux_tables.specs.Documents.{AllStand, nothing_owed}
 use Rattle.mux_history.specs.declared.cause.Cause.TheVariants.{FromEditor}
 use Rattle.mux_tables.proofs.Starts.{start_there}
-use Rattle.mux_turns.proofs.Beginning.{joins_none, joins_unready}
+use Rattle.mux_turns.proofs.Beginning.{joins_ended, joins_unready}
 use Rattle.mux_turns.proofs.Initializing.{joins_waits, life_heard, shown_by, starts_heard}
 use Rattle.mux_turns.proofs.initializes.join.Goals as goal
 
 pub returns-in-None-clause-does : goal.returns-in-None-clause-does
 returns-in-None-clause-does c = λ settings before body method id params read says new plain first st.
     let base = with_cause before (FromEditor c.args.e body) in
-    joins_waits settings c.args.tables.now before c.args.e body c.args.g c.args.outs.now first (λ k. joins_none base c.args.e body c.args.g (c.in-None.ensures.none settings base k))
+    joins_waits settings c.args.tables.now before c.args.e body c.args.g c.args.outs.now first (λ k. joins_ended base c.args.e body c.args.g (c.in-None.ensures.none settings base k))
 
 pub returns-then-not-is_ready-clause-does : goal.returns-then-not-is_ready-clause-does
 returns-then-not-is_ready-clause-does c = λ settings before body method id params read says new plain first st.
@@ -33,5 +33,4 @@ returns-in_ok-welcome-in-Some-clause-does c = λ settings before body method id 
     let s = start_there t.lasts.items c.in-Some.place c.in-Some.ensures.inside in
     let starts = sym (starts_heard before e body c.args.g) ∙ c.in-Some.ensures.start settings base s.0 s.1 st.0 in
     let ready = ap (λ (l : Life). is_ready l.stage) (sym (life_heard before e body s.0)) ∙ (ap is_ready (sym (c.stage.ensures settings base s.0 s.1 st.0)) ∙ (sym c.is_ready.ensures ∙ c.if-not-is_ready.false)) in
-    subst (λ g. Does (λ k events. AllStand settings k events) (placed_row e body before (Joins g)) base (t, nothing_owed) c.args.outs.now (c.welcome.new.tables, nothing_owed) c.welcome.new.outs) c.in-Some.ensures.number
-    (c.in_ok-welcome-in-Some.ensures.does settings before body method id params s.0 read says new (ap (λ g. start_of g before) c.in-Some.ensures.number ∙ starts) ready (λ given. shown_by before plain s.0 given ready) first)
+    (c.in_ok-welcome-in-Some.ensures.does settings before body method id params c.args.g s.0 read says new c.in-Some.ensures.number starts ready (λ given. shown_by before plain s.0 given ready) first)

@@ -15,6 +15,7 @@ loop-n-preserved c = record {
   starts = c.in_ok-cancel.ensures.starts ∙ c.loop-n.invariant.starts;
   stages = c.in_ok-cancel.ensures.stages ∙ c.loop-n.invariant.stages;
   asks = c.in_ok-cancel.ensures.asks ∙ c.loop-n.invariant.asks;
+  groups = c.in_ok-cancel.ensures.groups ∙ c.loop-n.invariant.groups;
   does = λ settings base s at.
       let n = get_or c.args.numbers.now c.loop-n.n-index 0 in
       let low = c.type_inv.numbers c.loop-n.n-index in

@@ -26,4 +26,4 @@ returns-clause-does c = λ settings before body method params g s read says stay
     (stands_so before e body (notification method params) Running says (λ q i h. notice_runs method params stays body q i h) served) in
     let owed = c.in_ok-owed.ensures.documents settings before body method params g s read says served home starts st ds in
     whole_entry (λ k events. AllStand settings k events) (document_row settings before e body what) base (u, owes g (noticing settings before g s e body what)) (u, nothing_owed) c.args.outs.now c.pay.new.outs first (heard, owed.1)
-    (noticed settings c.args.tables.now u before e g s body what c.args.outs.now c.pay.new.outs c.in_ok-owed.owed c.hear_notice.ensures.lasts st home starts owed.0 c.in_ok-pay.ensures.outs (λ z bodies at ready are. c.in_ok-pay.ensures.does settings base g z bodies at ready are))
+    (noticed settings c.args.tables.now u before e g s body what c.args.outs.now c.pay.new.outs c.in_ok-owed.owed c.hear_notice.ensures.lasts st home starts owed.0 c.in_ok-pay.ensures.outs (λ p z bodies at ready are. c.in_ok-pay.ensures.does settings base p z bodies at ready are))

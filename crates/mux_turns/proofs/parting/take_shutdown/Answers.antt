@@ -10,7 +10,7 @@ use Rattle.mux_history.specs.declared.cause.Cause.TheVariants.{FromEditor}
 use Rattle.rpc_message.specs.Message.{id_bytes, message_of, request}
 use Rattle.rpc_message.specs.Texts.{ok_text}
 use Rattle.mux_tables.specs.Documents.{AllStand, nothing_owed}
-use Rattle.mux_tables.specs.Stands.{Keeps, number_in, stage_in}
+use Rattle.mux_tables.specs.Stands.{Keeps, house_in, number_in, stage_in}
 use Rattle.mux_tables.proofs.DocumentOwed.{all_does}
 use Rattle.mux_turns.specs.Leavings.{Leaves}
 use Rattle.mux_turns.proofs.Departing.{behind_first, owing_of, pays_later}
@@ -30,7 +30,7 @@ returns-clause-does c = λ settings before body method id params read says asks 
     let heard = c.in_ok-owed.ensures.stands settings before body served down st in
     let lasts = c.hear_shutdown.ensures.lasts in
     let o = owing_of settings before e t st u base c.in_ok-owed.owed (c.in_ok-owed.ensures.documents settings before body served down st ds) in
-    let pays = pays_later settings before e t u c.in_ok-owed.owed o.0 (ap (λ ls. map number_in ls.items) lasts) (ap (λ ls. map stage_in ls.items) lasts) o.1.0 in
+    let pays = pays_later settings before e t u c.in_ok-owed.owed o.0 (ap (λ ls. map number_in ls.items) lasts) (ap (λ ls. map stage_in ls.items) lasts) (ap (λ ls. map house_in ls.items) lasts) o.1.0 in
     let leaves = subst (λ ns. Leaves settings before e ns c.in_ok-left.left) (sym (ap (λ ls. ls.items) lasts)) (c.in_ok-left.ensures.leaves settings before st) in
     let is : c.in_ok-text.text ≡ ok_text (id_bytes body) (codes "null") = c.in_ok-text.ensures ∙ ap (λ w. ok_text w (codes "null")) (c.id_bytes.ensures body read) in
     let at = stands_so before e body (request id method params) Down says (λ q i h. shutdown_downs method id params asks body q i h) served in

@@ -17,6 +17,7 @@ use Rattle.mux_turns.proofs.Asides.{old_unopened}
 use Rattle.mux_turns.proofs.Matched.{whole_entry}
 use Rattle.mux_turns.proofs.Passing.{passed_keeps}
 use Rattle.mux_turns.proofs.Serving.{not_new, notice_runs, notice_stops, stands_so, unplaced}
+use Rattle.event_model.proofs.Places.{item_at}
 use Rattle.mux_turns.proofs.passed.take_passed.Goals as goal
 
 pub returns-in-None-clause-does : goal.returns-in-None-clause-does
@@ -37,10 +38,11 @@ returns-in_ok-go_on-in-Some-clause-does c = λ settings before body method param
     let base = with_cause before (FromEditor e body) in
     let g = c.in-Some.g in
     let s = start_there c.args.tables.now.lasts.items g c.in-Some.ensures.inside in
+    let x = item_at c.args.tables.now.lasts.items g c.in-Some.ensures.inside in
     let heard = c.hear_editor.ensures.stands settings before body st (answers_none e (message_of body) before (ap is_answer says)) (unplaced (desk_of e before).phase (message_of body) served) (notice_stops before e (message_of body) method params says)
     (old_unopened settings.servers before e (message_of body) (not_new (desk_of e before).phase served))
     (stands_so before e body (notification method params) Running says (λ q i h. notice_runs method params (no_exit method going) body q i h) served) in
     let docs = c.hear_editor.ensures.documents settings nothing_owed before body (passed_keeps method params going before e body says) ds in
     whole_entry (λ k events. AllStand settings k events) (notice_row settings before e body) base (c.hear_editor.new.self, nothing_owed) (c.go_on.new.tables, nothing_owed) c.args.outs.now c.go_on.new.outs first (heard, docs)
-    (does_alike (λ _. c.in-Some.ensures.goes settings before body s.0 s.1 st)
-    (c.in_ok-go_on-in-Some.ensures.does settings before body method params s.0 read says going first (ap (λ ls. slice_get (map number_in ls.items) g) c.hear_editor.ensures.lasts ∙ s.1)))
+    (does_alike (λ _. c.in-Some.ensures.goes settings before body s.0 x.0 x.1 s.1 st)
+    (c.in_ok-go_on-in-Some.ensures.does settings before body method params s.0 read says going first (ap (λ ls. slice_get (map number_in ls.items) g) c.hear_editor.ensures.lasts ∙ s.1) x.0 (ap (λ ls. slice_get ls.items g) c.hear_editor.ensures.lasts ∙ x.1)))

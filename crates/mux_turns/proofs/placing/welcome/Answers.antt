@@ -11,18 +11,18 @@ use Rattle.mux_turns.proofs.Welcoming.{kept_none}
 use Rattle.mux_turns.proofs.placing.welcome.Goals as goal
 
 pub returns-in-None-clause-does : goal.returns-in-None-clause-does
-returns-in-None-clause-does c = λ settings before body method id params s read says new starts ready whole first.
+returns-in-None-clause-does c = λ settings before body method id params h s read says new mine starts ready whole first.
     let base = with_cause before (FromEditor c.args.e body) in
-    does_knowing (λ k. kept_none (was_shown settings c.args.tables.now c.args.tables.now before c.args.e c.args.g s body method id params c.args.outs.now c.args.outs.now first says new starts ready _ c.requires.group
+    does_knowing (λ k. kept_none (was_shown settings c.args.tables.now c.args.tables.now before c.args.e h s body method id params c.args.outs.now c.args.outs.now first says new starts ready _ c.args.g c.requires.group mine
     (λ n at r. c.in-None.ensures settings (behind base c.args.outs.now) n at k.0 r) k.0).2)
 
 pub returns-in_ok-welcome-in-Some-clause-does : goal.returns-in_ok-welcome-in-Some-clause-does
-returns-in_ok-welcome-in-Some-clause-does c = λ settings before body method id params s read says new starts ready whole first.
+returns-in_ok-welcome-in-Some-clause-does c = λ settings before body method id params h s read says new mine starts ready whole first.
     let base = with_cause before (FromEditor c.args.e body) in
     let text = c.in_ok-text-in-Some.text in
     does_knowing (λ k.
-    let was = was_shown settings c.args.tables.now c.welcome.new.self before c.args.e c.args.g s body method id params c.args.outs.now c.welcome.new.outs first says new starts ready _ c.requires.group
+    let was = was_shown settings c.args.tables.now c.welcome.new.self before c.args.e h s body method id params c.args.outs.now c.welcome.new.outs first says new starts ready _ c.args.g c.requires.group mine
     (λ n at r. c.in-Some.ensures settings (behind base c.args.outs.now) n at k.0 r) k.0 in
-    joins_ready settings c.args.tables.now c.welcome.new.self before c.args.e c.args.g s body method id params c.args.outs.now c.welcome.new.outs first says new starts ready was.0 text c.bytes.result.now was.1 (whole was.0 was.1)
+    joins_ready settings c.args.tables.now c.welcome.new.self before c.args.e h s body method id params c.args.outs.now c.welcome.new.outs first says new starts ready was.0 text c.bytes.result.now was.1 (whole was.0 was.1)
     (c.in_ok-text-in-Some.ensures ∙ ap (λ w. ok_text w c.bytes.result.now) (c.id_bytes.ensures body read)) (c.bytes.ensures ∙ same_item was.2)
     (λ w. c.in_ok-welcome-in-Some.ensures.does settings base w) (λ ds. c.in_ok-welcome-in-Some.ensures.documents settings nothing_owed base ds))

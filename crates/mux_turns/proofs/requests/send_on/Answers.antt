@@ -1,22 +1,20 @@
 -- A request goes on behind a sync.
 use Rattle.std.proofs.Common.{◌∙◌}
 use Rattle.event_model.specs.Event.{with_cause}
-use Rattle.event_model.proofs.Places.{item_at}
 use Rattle.mux_history.specs.declared.cause.Cause.TheVariants.{FromEditor}
 use Rattle.mux_turns.proofs.Asking.{goes_on, sends, works}
 use Rattle.mux_turns.proofs.Classes.{not_own, passes, serves}
 use Rattle.mux_turns.proofs.requests.send_on.Goals as goal
 
 pub returns-clause-does : goal.returns-clause-does
-returns-clause-does c = λ settings before body method id params s read says other first at.
+returns-clause-does c = λ settings before body method id params s read says other first at z here.
     let t = c.args.tables.now in
     let n = c.next_number-n.result in
-    let x = item_at t.lasts.items c.args.g c.requires.group in
-    let takes = c.requires.takes x.0 x.1 in
-    let next = c.next_number-n.ensures x.0 x.1 in
+    let takes = c.requires.takes z here in
+    let next = c.next_number-n.ensures z here in
     let serve = serves method (not_own method other) in
     let passed = passes method (not_own method other) in
-    goes_on settings t before body method id params c.args.e c.args.g s n x.0 c.args.outs.now first x.1 at takes.0 next takes.1 says serve passed c.ask.new.self c.in_ok-text.text c.ask.new.outs (c.in_ok-text.ensures body read)
+    goes_on settings t before body method id params c.args.e c.args.g s n z c.args.outs.now first here at takes.0 next takes.1 says serve passed c.ask.new.self c.in_ok-text.text c.ask.new.outs (c.in_ok-text.ensures body read)
     (λ name goes. c.in_ok-ask.ensures.does settings (with_cause before (FromEditor c.args.e body)) s name method params at goes passed
-    (sends settings t before body method id params c.args.e c.args.g s n x.0 c.args.outs.now first x.1 at takes.0 next takes.1 says serve passed c.new-id.result (c.new-id.ensures ∙ (c.in_ok-from_slice.ensures.items ∙ c.id_bytes.ensures body read)))
-    (works settings t before body method id params c.args.e c.args.g s n x.0 c.args.outs.now first x.1 at takes.0 next takes.1 says serve passed))
+    (sends settings t before body method id params c.args.e c.args.g s n z c.args.outs.now first here at takes.0 next takes.1 says serve passed c.new-id.result (c.new-id.ensures ∙ (c.in_ok-from_slice.ensures.items ∙ c.id_bytes.ensures body read)))
+    (works settings t before body method id params c.args.e c.args.g s n z c.args.outs.now first here at takes.0 next takes.1 says serve passed) z here)

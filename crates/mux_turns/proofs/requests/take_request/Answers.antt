@@ -17,6 +17,7 @@ use Rattle.mux_turns.proofs.Asides.{old_unopened}
 use Rattle.mux_turns.proofs.Classes.{not_own, serves}
 use Rattle.mux_turns.proofs.Matched.{whole_entry}
 use Rattle.mux_turns.proofs.Serving.{not_new, request_keeps, request_runs, request_stops, stands_so, unplaced}
+use Rattle.event_model.proofs.Places.{item_at}
 use Rattle.mux_turns.proofs.requests.take_request.Goals as goal
 
 pub returns-in_ok-refuse_request-in-None-clause-does : goal.returns-in_ok-refuse_request-in-None-clause-does
@@ -39,11 +40,12 @@ returns-in_ok-send_on-in-Some-clause-does c = λ settings before body method id 
     let base = with_cause before (FromEditor e body) in
     let g = c.in-Some.g in
     let s = start_there c.args.tables.now.lasts.items g c.in-Some.ensures.inside in
+    let x = item_at c.args.tables.now.lasts.items g c.in-Some.ensures.inside in
     let serve = serves method (not_own method other) in
     let heard = c.hear_editor.ensures.stands settings before body st (answers_none e (message_of body) before (ap is_answer says)) (unplaced (desk_of e before).phase (message_of body) served) (request_stops method id params serve before e (message_of body) says)
     (old_unopened settings.servers before e (message_of body) (not_new (desk_of e before).phase served))
     (stands_so before e body (request id method params) Running says (λ q i h. request_runs method id params serve body q i h) served) in
     let docs = c.hear_editor.ensures.documents settings nothing_owed before body (request_keeps method id params serve before e (message_of body) says) ds in
     whole_entry (λ k events. AllStand settings k events) (request_row settings before e body) base (c.hear_editor.new.self, nothing_owed) (c.send_on.new.tables, nothing_owed) c.args.outs.now c.send_on.new.outs first (heard, docs)
-    (does_alike (λ _. c.in-Some.ensures.goes settings before body s.0 s.1 st)
-    (c.in_ok-send_on-in-Some.ensures.does settings before body method id params s.0 read says other first (ap (λ ls. slice_get (map number_in ls.items) g) c.hear_editor.ensures.lasts ∙ s.1)))
+    (does_alike (λ _. c.in-Some.ensures.goes settings before body s.0 x.0 x.1 s.1 st)
+    (c.in_ok-send_on-in-Some.ensures.does settings before body method id params s.0 read says other first (ap (λ ls. slice_get (map number_in ls.items) g) c.hear_editor.ensures.lasts ∙ s.1) x.0 (ap (λ ls. slice_get ls.items g) c.hear_editor.ensures.lasts ∙ x.1)))

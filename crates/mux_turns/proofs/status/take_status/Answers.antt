@@ -33,7 +33,7 @@ returns-clause-does c = λ settings before body read asks single servers first k
     (own_stays before e body own ∙ sym (c.phase_of-phase.ensures.stands settings before st)) in
     let docs = c.hear_editor.ensures.documents settings nothing_owed before body (own_keeps before e body own) ds in
     let told = ok_text (id_bytes body) (status_text (items_of settings before)) in
-    let is = c.in_ok-text.ensures ∙ (ap (λ w. ok_text w c.bytes.result.now) (c.id_bytes.ensures body read) ∙ ap (λ r. ok_text (id_bytes body) r) (c.bytes.ensures ∙ c.in_ok-told.ensures settings before servers st)) in
+    let is = c.in_ok-text.ensures ∙ (ap (λ w. ok_text w c.bytes.result.now) (c.id_bytes.ensures body read) ∙ ap (λ r. ok_text (id_bytes body) r) (c.bytes.ensures ∙ c.in_ok-told.ensures settings before servers known st)) in
     let says = ap message_of is ∙ status_said settings before body k.id _ k.params k.is in
     let keeps = keeps_reply e c.in_ok-text.text base k.id (told_tree (items_of settings before)) says (own_others before e body own settings single known) in
     let does = told_as settings base u u xs c.tell.new.outs e c.in_ok-text.text told is (c.in_ok-tell.ensures.does settings base (subst (λ es. Keeps e c.in_ok-text.text es) (sym (behind_first base xs first)) keeps)) in

@@ -1,12 +1,15 @@
 -- A request is cancelled.
 use Rattle.std.proofs.Common.{refl}
-use Rattle.mux_tables.proofs.Starts.{asks_kept, stages_stay, starts_stay}
+use Rattle.mux_tables.proofs.Starts.{asks_kept, houses_stay, stages_stay, starts_stay}
 use Rattle.mux_tables.proofs.Sent.{cancel_does}
 use Rattle.mux_tables.proofs.DocumentSaid.{cancel_documents}
 use Rattle.mux_tables.proofs.tables.Tables.cancel.Goals as goal
 
 pub returns-clause-starts : goal.returns-clause-starts
 returns-clause-starts c = starts_stay c.args.self.now.lasts.items c.args.g c.index_mut-last.result.now (record c.index_mut-last.result.now { ids = c.mark.new.ids }) c.requires c.index_mut-last.ensures.value refl
+
+pub returns-clause-groups : goal.returns-clause-groups
+returns-clause-groups c = houses_stay c.args.self.now.lasts.items c.args.g c.index_mut-last.result.now (record c.index_mut-last.result.now { ids = c.mark.new.ids }) c.requires c.index_mut-last.ensures.value refl
 
 pub returns-clause-stages : goal.returns-clause-stages
 returns-clause-stages c = stages_stay c.args.self.now.lasts.items c.args.g c.index_mut-last.result.now (record c.index_mut-last.result.now { ids = c.mark.new.ids }) c.requires c.index_mut-last.ensures.value refl

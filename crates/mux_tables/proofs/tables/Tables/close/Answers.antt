@@ -4,7 +4,9 @@ use Rattle.std.specs.Prelude.{slice_get}
 use Rattle.std.proofs.lemmas.List.{length-set}
 use Rattle.focus_switch.specs.Documents.{Documents}
 use Rattle.focus_switch.specs.Rows.{leave_row}
+use Rattle.mux_tables.specs.declared.tables.Start.{Start}
 use Rattle.mux_tables.specs.Documents.{StepFrom}
+use Rattle.mux_tables.specs.Stands.{IsPlace}
 use Rattle.mux_tables.specs.Names.{id_in}
 use Rattle.event_model.specs.Phases.{phase_closed}
 use Rattle.mux_tables.proofs.Phased.{closed_id}
@@ -27,10 +29,10 @@ returns-clause-does c = λ settings base.
 
 pub returns-clause-documents : goal.returns-clause-documents
 returns-clause-documents c = λ settings base st ds.
-    closed_documents settings c.args.self.now _ base c.args.outs.now c.push.new.self c.args.e c.group-home.result c.in_ok-owed.owed c.requires c.group-home.ensures c.in_ok-empty.ensures.lasts c.in_ok-empty.ensures.versions
-    (subst (λ (v : List Documents). StepFrom (leave_row c.args.e) c.group-home.result v c.in_ok-owed.owed c.leave.new.documents.items) (ap (λ v. v.items) c.in_ok-empty.ensures.documents) c.in_ok-owed.ensures) c.in_ok-push.ensures.ok st ds
+    closed_documents settings c.args.self.now _ base c.args.outs.now c.push.new.self c.args.e c.group-home.result c.place_in-place.result c.in_ok-owed.owed c.requires c.group-home.ensures (subst (λ (v : List Start). IsPlace v c.group-home.result c.place_in-place.result) (ap (λ v. v.items) c.in_ok-empty.ensures.lasts) c.place_in-place.ensures) c.in_ok-empty.ensures.lasts c.in_ok-empty.ensures.versions
+    (subst (λ (v : List Documents). StepFrom (leave_row c.args.e) c.place_in-place.result v c.in_ok-owed.owed c.leave.new.documents.items) (ap (λ v. v.items) c.in_ok-empty.ensures.documents) c.in_ok-owed.ensures) c.in_ok-push.ensures.ok st ds
 
 pub returns-clause-unserved : goal.returns-clause-unserved
 returns-clause-unserved c = λ settings owing base st unserved ds.
-    closed_unserved settings owing c.args.self.now _ base c.args.outs.now c.push.new.self c.args.e c.group-home.result c.in_ok-owed.owed c.requires c.group-home.ensures c.in_ok-empty.ensures.lasts c.in_ok-empty.ensures.versions
-    (subst (λ (v : List Documents). StepFrom (leave_row c.args.e) c.group-home.result v c.in_ok-owed.owed c.leave.new.documents.items) (ap (λ v. v.items) c.in_ok-empty.ensures.documents) c.in_ok-owed.ensures) c.in_ok-push.ensures.ok st unserved ds
+    closed_unserved settings owing c.args.self.now _ base c.args.outs.now c.push.new.self c.args.e c.group-home.result c.place_in-place.result c.in_ok-owed.owed c.requires c.group-home.ensures c.in_ok-empty.ensures.lasts c.in_ok-empty.ensures.versions
+    (subst (λ (v : List Documents). StepFrom (leave_row c.args.e) c.place_in-place.result v c.in_ok-owed.owed c.leave.new.documents.items) (ap (λ v. v.items) c.in_ok-empty.ensures.documents) c.in_ok-owed.ensures) c.in_ok-push.ensures.ok st unserved ds

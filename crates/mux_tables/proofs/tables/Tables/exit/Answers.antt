@@ -6,7 +6,9 @@ use Rattle.group_table.specs.Tables.{with_groups}
 use Rattle.restart_replay.specs.Standings.{moved}
 use Rattle.event_model.specs.declared.stage.Stage.TheVariants.{Ended}
 use Rattle.restart_replay.specs.Standings.{Standing}
-use Rattle.mux_tables.specs.Stands.{number_in, unstopped}
+use Rattle.event_model.specs.Phases.{needs_server}
+use Rattle.mux_tables.specs.declared.tables.Start.{Start}
+use Rattle.mux_tables.specs.Stands.{any_in, number_in, unstopped}
 use Rattle.mux_tables.proofs.Starts.{read_here, read_same}
 use Rattle.mux_tables.proofs.tables.Tables.exit.Goals as goal
 
@@ -17,7 +19,8 @@ pub returns-clause-exits : goal.returns-clause-exits
 returns-clause-exits c = λ z at.
     let e = read_same c.args.self.now.lasts.items c.args.g c.index_mut-last.result.now z c.requires.group c.index_mut-last.ensures.value at in
     record {
-      groups = c.lose.ensures ∙ ap (λ b. with_groups (changed c.args.g (exit_of c.args.restarts b) c.args.self.now.groups.groups) c.args.self.now.groups) c.in_ok-wanted.ensures;
+      groups = c.lose.ensures ∙ (ap (λ b. with_groups (changed c.group-group.result (exit_of c.args.restarts b) c.args.self.now.groups.groups) c.args.self.now.groups) c.in_ok-wanted.ensures
+          ∙ ap (λ n. with_groups (changed n (exit_of c.args.restarts (any_in needs_server c.args.self.now.editors n)) c.args.self.now.groups.groups) c.args.self.now.groups) (c.group-group.ensures ∙ ap (λ (w : Start). w.life.group) (read_same c.args.self.now.lasts.items c.args.g c.index.result.now z c.requires.group c.index.ensures at)));
       start = record { life = c.over.new.self; started = c.index_mut-last.result.now.started; ids = c.new-ids.result; shown = None; asks = c.new-asks.result };
       lasts = refl;
       life = c.over.ensures ∙ ap (λ w. moved Ended w.life) e;

@@ -2,7 +2,9 @@
 use Rattle.std.proofs.Common.{List, ap, subst}
 use Rattle.focus_switch.specs.Documents.{Documents}
 use Rattle.focus_switch.specs.Rows.{leave_row}
+use Rattle.mux_tables.specs.declared.tables.Start.{Start}
 use Rattle.mux_tables.specs.Documents.{StepFrom}
+use Rattle.mux_tables.specs.Stands.{IsPlace}
 use Rattle.mux_tables.proofs.Heard.{gone_heard}
 use Rattle.mux_tables.proofs.DocumentLeft.{gone_documents, gone_unserved}
 use Rattle.mux_tables.proofs.tables.Tables.hear_gone.Goals as goal
@@ -14,10 +16,10 @@ returns-clause-stands c = λ settings events why st.
 
 pub returns-clause-documents : goal.returns-clause-documents
 returns-clause-documents c = λ settings events why st ds.
-    gone_documents settings c.args.self.now _ events c.args.e why c.group-home.result c.in_ok-owed.owed c.requires c.group-home.ensures c.in_ok-empty.ensures.lasts c.in_ok-empty.ensures.versions
-    (subst (λ (v : List Documents). StepFrom (leave_row c.args.e) c.group-home.result v c.in_ok-owed.owed c.leave-2.new.documents.items) (ap (λ v. v.items) c.in_ok-empty.ensures.documents) c.in_ok-owed.ensures) st ds
+    gone_documents settings c.args.self.now _ events c.args.e why c.group-home.result c.place_in-place.result c.in_ok-owed.owed c.requires c.group-home.ensures (subst (λ (v : List Start). IsPlace v c.group-home.result c.place_in-place.result) (ap (λ v. v.items) c.in_ok-empty.ensures.lasts) c.place_in-place.ensures) c.in_ok-empty.ensures.lasts c.in_ok-empty.ensures.versions
+    (subst (λ (v : List Documents). StepFrom (leave_row c.args.e) c.place_in-place.result v c.in_ok-owed.owed c.leave-2.new.documents.items) (ap (λ v. v.items) c.in_ok-empty.ensures.documents) c.in_ok-owed.ensures) st ds
 
 pub returns-clause-unserved : goal.returns-clause-unserved
 returns-clause-unserved c = λ settings events why st unserved ds.
-    gone_unserved settings c.args.self.now _ events c.args.e why c.group-home.result c.in_ok-owed.owed c.requires c.group-home.ensures c.in_ok-empty.ensures.lasts c.in_ok-empty.ensures.versions
-    (subst (λ (v : List Documents). StepFrom (leave_row c.args.e) c.group-home.result v c.in_ok-owed.owed c.leave-2.new.documents.items) (ap (λ v. v.items) c.in_ok-empty.ensures.documents) c.in_ok-owed.ensures) st unserved ds
+    gone_unserved settings c.args.self.now _ events c.args.e why c.group-home.result c.place_in-place.result c.in_ok-owed.owed c.requires c.group-home.ensures c.in_ok-empty.ensures.lasts c.in_ok-empty.ensures.versions
+    (subst (λ (v : List Documents). StepFrom (leave_row c.args.e) c.place_in-place.result v c.in_ok-owed.owed c.leave-2.new.documents.items) (ap (λ v. v.items) c.in_ok-empty.ensures.documents) c.in_ok-owed.ensures) st unserved ds

@@ -1,41 +1,19 @@
 -- The program of a start whose group lives no more ended, or couldn't be run.
-use Rattle.std.proofs.Common.{refl, ap, ◌∙◌, None}
-use Rattle.restart_replay.specs.Standings.{moved}
-use Rattle.event_model.specs.declared.stage.Stage.TheVariants.{Ended}
+use Rattle.std.proofs.Common.{◌<◌, ◌∙◌, subst, sym}
 use Rattle.event_model.proofs.Places.{item_at}
-use Rattle.mux_tables.proofs.Exits.{left_exits}
-use Rattle.mux_tables.proofs.Served.{exit_heard, failure_heard}
-use Rattle.mux_tables.proofs.DocumentSaid.{exit_documents, failure_documents}
-use Rattle.restart_replay.specs.Standings.{Standing}
-use Rattle.mux_tables.specs.Stands.{number_in, unstopped}
-use Rattle.mux_tables.proofs.Starts.{read_here, read_same}
 use Rattle.mux_tables.proofs.tables.Tables.hear_left.Goals as goal
 
-pub over-requires : goal.over-requires
-over-requires c = c.requires.runs c.index_mut-last.result.now (read_here c.args.self.now.lasts.items c.args.g c.index_mut-last.result.now c.requires.group c.index_mut-last.ensures.value)
-
 pub returns-clause-exit : goal.returns-clause-exit
-returns-clause-exit c = λ settings events s at dead st. exit_heard settings c.args.self.now _ events c.args.g s settings.limits.restarts refl at c.requires.group (λ z here.
-    let e = read_same c.args.self.now.lasts.items c.args.g c.index_mut-last.result.now z c.requires.group c.index_mut-last.ensures.value here in
-    left_exits settings.limits.restarts c.args.self.now _ c.args.g z (record { life = c.over.new.self; started = c.index_mut-last.result.now.started; ids = c.new-ids.result; shown = None; asks = c.new-asks.result }) dead refl refl (c.over.ensures ∙ ap (λ w. moved Ended w.life) e) (ap (λ w. w.started) e)
-    c.new-ids.ensures.requests c.new-ids.ensures.next c.new-ids.ensures.limit c.new-ids.ensures.order refl refl refl (c.end_stop.ensures ∙ ap (λ n. unstopped n c.args.self.now.origins.stopping.items) (c.start.ensures ∙ ap (λ (l : Standing). l.start) c.over.ensures ∙ ap number_in e)) refl) st
+returns-clause-exit c = λ settings events s at dead st. let x = item_at c.end_last.new.self.lasts.items c.args.g (subst (λ n. c.args.g < n) (sym c.end_last.ensures.count) c.requires.group) in c.forget.ensures.stands settings _ x.0 x.1 (c.end_last.ensures.over x.0 x.1) (c.end_last.ensures.exit settings events s at dead st)
 
 pub returns-clause-failure : goal.returns-clause-failure
-returns-clause-failure c = λ settings events s at dead st. failure_heard settings c.args.self.now _ events c.args.g s settings.limits.restarts refl at c.requires.group (λ z here.
-    let e = read_same c.args.self.now.lasts.items c.args.g c.index_mut-last.result.now z c.requires.group c.index_mut-last.ensures.value here in
-    left_exits settings.limits.restarts c.args.self.now _ c.args.g z (record { life = c.over.new.self; started = c.index_mut-last.result.now.started; ids = c.new-ids.result; shown = None; asks = c.new-asks.result }) dead refl refl (c.over.ensures ∙ ap (λ w. moved Ended w.life) e) (ap (λ w. w.started) e)
-    c.new-ids.ensures.requests c.new-ids.ensures.next c.new-ids.ensures.limit c.new-ids.ensures.order refl refl refl (c.end_stop.ensures ∙ ap (λ n. unstopped n c.args.self.now.origins.stopping.items) (c.start.ensures ∙ ap (λ (l : Standing). l.start) c.over.ensures ∙ ap number_in e)) refl) st
+returns-clause-failure c = λ settings events s at dead st. let x = item_at c.end_last.new.self.lasts.items c.args.g (subst (λ n. c.args.g < n) (sym c.end_last.ensures.count) c.requires.group) in c.forget.ensures.stands settings _ x.0 x.1 (c.end_last.ensures.over x.0 x.1) (c.end_last.ensures.failure settings events s at dead st)
 
 pub returns-clause-exit_documents : goal.returns-clause-exit_documents
-returns-clause-exit_documents c = λ settings owed events s ds dead.
-    let z = item_at c.args.self.now.lasts.items c.args.g c.requires.group in
-    let e = read_same c.args.self.now.lasts.items c.args.g c.index_mut-last.result.now z.0 c.requires.group c.index_mut-last.ensures.value z.1 in
-    exit_documents settings owed settings.limits.restarts c.args.self.now _ events c.args.g s z.0 z.1 (left_exits settings.limits.restarts c.args.self.now _ c.args.g z.0 (record { life = c.over.new.self; started = c.index_mut-last.result.now.started; ids = c.new-ids.result; shown = None; asks = c.new-asks.result }) dead refl refl (c.over.ensures ∙ ap (λ w. moved Ended w.life) e) (ap (λ w. w.started) e)
-    c.new-ids.ensures.requests c.new-ids.ensures.next c.new-ids.ensures.limit c.new-ids.ensures.order refl refl refl (c.end_stop.ensures ∙ ap (λ n. unstopped n c.args.self.now.origins.stopping.items) (c.start.ensures ∙ ap (λ (l : Standing). l.start) c.over.ensures ∙ ap number_in e)) refl) refl c.unready.ensures ds
+returns-clause-exit_documents c = λ settings owed events s ds dead. c.forget.ensures.documents settings owed _ (c.end_last.ensures.exit_documents settings owed events s ds dead)
 
 pub returns-clause-failure_documents : goal.returns-clause-failure_documents
-returns-clause-failure_documents c = λ settings owed events s ds dead.
-    let z = item_at c.args.self.now.lasts.items c.args.g c.requires.group in
-    let e = read_same c.args.self.now.lasts.items c.args.g c.index_mut-last.result.now z.0 c.requires.group c.index_mut-last.ensures.value z.1 in
-    failure_documents settings owed settings.limits.restarts c.args.self.now _ events c.args.g s z.0 z.1 (left_exits settings.limits.restarts c.args.self.now _ c.args.g z.0 (record { life = c.over.new.self; started = c.index_mut-last.result.now.started; ids = c.new-ids.result; shown = None; asks = c.new-asks.result }) dead refl refl (c.over.ensures ∙ ap (λ w. moved Ended w.life) e) (ap (λ w. w.started) e)
-    c.new-ids.ensures.requests c.new-ids.ensures.next c.new-ids.ensures.limit c.new-ids.ensures.order refl refl refl (c.end_stop.ensures ∙ ap (λ n. unstopped n c.args.self.now.origins.stopping.items) (c.start.ensures ∙ ap (λ (l : Standing). l.start) c.over.ensures ∙ ap number_in e)) refl) refl c.unready.ensures ds
+returns-clause-failure_documents c = λ settings owed events s ds dead. c.forget.ensures.documents settings owed _ (c.end_last.ensures.failure_documents settings owed events s ds dead)
+
+pub returns-clause-fewer : goal.returns-clause-fewer
+returns-clause-fewer c = c.forget.ensures.fewer ∙ c.end_last.ensures.count

@@ -1,10 +1,8 @@
 -- An editor says something of a document.
-use Rattle.std.proofs.Common.{refl, sym, ◌∙◌}
-use Rattle.document_model.specs.Sayings.{saying_of}
-use Rattle.group_laws.specs.Steps.{document_step}
-use Rattle.rpc_message.specs.Message.{message_of}
+use Rattle.std.proofs.Common.{refl, subst, sym, ◌∙◌}
+use Rattle.mux_tables.specs.Stands.{IsPlace}
 use Rattle.mux_tables.proofs.DocumentLeft.{home_seen}
-use Rattle.mux_tables.proofs.DocumentNoticed.{noticed_from, noticed_documents}
+use Rattle.mux_tables.proofs.DocumentNoticed.{noticed_documents}
 use Rattle.mux_tables.proofs.Heard.{set_moves}
 use Rattle.mux_tables.proofs.tables.Tables.hear_notice.Goals as goal
 
@@ -13,6 +11,6 @@ returns-clause-stands c = λ settings events body st silent stays goes off step.
 
 pub returns-clause-documents : goal.returns-clause-documents
 returns-clause-documents c = λ settings events body method params g s read reads served home starts st ds.
-    noticed_documents settings events g s c.args.e body method params reads home served c.args.self.now _ c.in_ok-owed.owed starts refl refl
-    (noticed_from (λ d. document_step c.args.e body (saying_of (message_of body)) d) c.group-home.result g c.args.self.now.documents.items c.in_ok-owed.owed c.note.new.documents.items
-    (sym (home_seen settings c.args.self.now events c.args.e c.group-home.result c.requires.editor c.group-home.ensures st) ∙ home) (c.in_ok-owed.ensures body read)) st ds
+    noticed_documents settings events g s c.args.e body method params reads home served c.args.self.now _ c.in_ok-owed.owed c.place_in-place.result
+    (subst (λ o. IsPlace c.args.self.now.lasts.items o c.place_in-place.result) (sym (home_seen settings c.args.self.now events c.args.e c.group-home.result c.requires.editor c.group-home.ensures st) ∙ home) c.place_in-place.ensures)
+    starts refl refl (c.in_ok-owed.ensures body read) st ds

@@ -1,6 +1,9 @@
 -- `initialize` is refused.
-use Rattle.std.proofs.Common.{refl}
-use Rattle.mux_tables.proofs.Starts.{read_here, stages_stay, starts_stay}
+use Rattle.std.proofs.Common.{refl, ap, ◌∙◌}
+use Rattle.group_table.specs.Tables.{with_groups}
+use Rattle.group_words.specs.Placing.{changed, ended}
+use Rattle.mux_tables.specs.declared.tables.Start.{Start}
+use Rattle.mux_tables.proofs.Starts.{read_here, read_same, stages_stay, starts_stay}
 use Rattle.mux_tables.proofs.Served.{refusal_moves}
 use Rattle.mux_tables.proofs.DocumentHeard.{answer_documents, error_only, initializing_runs}
 use Rattle.event_model.specs.Stages.{is_initializing}
@@ -16,7 +19,7 @@ returns-clause-stages c = stages_stay c.args.self.now.lasts.items c.args.g c.ind
 pub returns-clause-stands : goal.returns-clause-stands
 returns-clause-stands c = λ settings events s body at first named st.
     refusal_moves settings c.args.self.now _ events c.args.g s c.index_mut-last.result.now body c.args.n c.forget.new.ids at c.requires.group c.index_mut-last.ensures.value (c.requires.stage c.index_mut-last.result.now (read_here c.args.self.now.lasts.items c.args.g c.index_mut-last.result.now c.requires.group c.index_mut-last.ensures.value)) first named
-    c.forget.ensures.requests c.forget.ensures.next c.forget.ensures.limit c.forget.ensures.order refl refl c.end.ensures refl refl refl st
+    c.forget.ensures.requests c.forget.ensures.next c.forget.ensures.limit c.forget.ensures.order refl refl (c.end.ensures ∙ ap (λ n. with_groups (changed n ended c.args.self.now.groups.groups) c.args.self.now.groups) (c.group-group.ensures ∙ ap (λ (w : Start). w.life.group) (read_same c.args.self.now.lasts.items c.args.g c.index.result.now c.index_mut-last.result.now c.requires.group c.index.ensures (read_here c.args.self.now.lasts.items c.args.g c.index_mut-last.result.now c.requires.group c.index_mut-last.ensures.value)))) refl refl refl st
 
 pub returns-clause-documents : goal.returns-clause-documents
 returns-clause-documents c = λ settings owed events s body at first st ds.

@@ -10,4 +10,4 @@ returns-clause-stands c = λ settings events body served asks st. shutdown_moves
 
 pub returns-clause-documents : goal.returns-clause-documents
 returns-clause-documents c = λ settings events body served asks st ds.
-    shutdown_documents settings c.args.self.now _ events c.args.e body (message_of body) c.group-home.result c.in_ok-owed.owed served asks (home_seen settings c.args.self.now events c.args.e c.group-home.result c.requires c.group-home.ensures st) refl refl st c.in_ok-owed.ensures ds
+    shutdown_documents settings c.args.self.now _ events c.args.e body (message_of body) c.group-home.result c.in_ok-owed.owed served asks (home_seen settings c.args.self.now events c.args.e c.group-home.result c.requires c.group-home.ensures st) refl refl st c.place_in-place.result c.place_in-place.ensures c.in_ok-owed.ensures ds
