@@ -59,7 +59,8 @@ pub fn take_broadcast(
         → OnOk result (Done (λ k events. AllStand settings k events) (broadcast_row settings before s body)
         (with_cause before (FromServer s body)) [] (tables.new, nothing_owed) outs.new) }
 {
-    let numbers = tables.running(g as u64)?;
+    let group = tables.group_number(g);
+    let numbers = tables.running(group)?;
     tables.hear_answer(g, None);
     spread(tables, alloc, outs, &numbers, message.bytes())?;
     Ok(())

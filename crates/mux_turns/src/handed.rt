@@ -1,11 +1,13 @@
 //! E19: what an editor answers of what its group's start asked.
 ghost use Rattle.std.specs.Prelude.{◌≡◌, ◌<◌, ℕ, List, [], Option, Some, IfSome, length, map, option_map, true, OnOk, slice_get};
+ghost use Rattle.event_model.specs.declared.stage.Stage.TheVariants.{Ended};
 ghost use Rattle.event_model.specs.Does.{Does, Done};
 ghost use Rattle.event_model.specs.Event.{Event, behind, with_cause};
 ghost use Rattle.event_model.specs.Phases.{desk_of, is_served};
 ghost use Rattle.event_model.specs.Row.{nothing, on};
 ghost use Rattle.event_model.specs.Settings.{Settings};
 ghost use Rattle.event_model.specs.Spawns.{start_of};
+ghost use Rattle.event_model.specs.Stages.{life_of};
 ghost use Rattle.group_rows.specs.AskRows.{hand_back, response_row};
 ghost use Rattle.group_rows.specs.Asks.{Ask, asks_of};
 ghost use Rattle.group_words.specs.Houses.{home_of};
@@ -68,12 +70,14 @@ pub fn take_reply(
     ensures versions { tables.new.versions ≡ tables.old.versions }
     ensures does { (settings : Settings) (before : List Event) (body : List ℕ) (g s : ℕ) → IsRead message.now body
         → is_response (message_of body) ≡ true → is_served (desk_of e before).phase ≡ true → home_of settings e before ≡ Some g
-        → start_of g before ≡ Some s → AnswersOne s e (message_of body) before → outs.old ≡ []
+        → start_of g before ≡ Some s → AnswersOne s e (message_of body) before
+        → ((life_of s before).stage ≡ Ended → asks_of s before ≡ []) → outs.old ≡ []
         → Stands settings tables.old before → DocumentsStand settings nothing_owed tables.old before
         → OnOk result (Done (λ k events. AllStand settings k events) (response_row settings before e body (message_of body))
         (with_cause before (FromEditor e body)) [] (tables.new, nothing_owed) outs.new) }
 {
     let Some(g) = tables.place(e) else {
+        tables.hear_editor(e, Phase::Running);
         return Ok(());
     };
     let ready = stage_at(tables, g).is_ready();

@@ -26,12 +26,12 @@ returns-clause-does c = λ settings before body method params s x read says firs
     let xs = c.args.outs.now in
     let ys = c.spread.new.outs in
     let is = c.bytes.ensures.bytes ∙ read.bytes_are in
-    let those = c.deref.ensures.value ∙ c.in_ok-numbers.ensures settings before st in
+    let those = c.deref.ensures.value ∙ (c.in_ok-numbers.ensures settings before st ∙ ap (λ h. running_in settings h before) (c.group_number-group.ensures x here)) in
     let named = noticed_named m method params says in
     let moved = c.hear_answer.ensures.moves settings before s body x here at (not_early (is_first_result m) x.life.stage ready) (not_first (is_first_error m) x.life.stage ready) named st in
     let docs = c.hear_answer.ensures.documents settings nothing_owed before s body x here at (not_first (is_first_result m) x.life.stage ready) (λ e. not_spawning x.life.stage ready e) st ds in
-    let sent = subst (λ w. Does (λ k events. AllStand settings k events) (each (broadcast w) (running_in settings g before)) base (u, nothing_owed) xs (u, nothing_owed) ys) is
+    let sent = subst (λ w. Does (λ k events. AllStand settings k events) (each (broadcast w) (running_in settings x.life.group before)) base (u, nothing_owed) xs (u, nothing_owed) ys) is
     (subst (λ ns. Does (λ k events. AllStand settings k events) (each (broadcast c.bytes.result.now) ns) base (u, nothing_owed) xs (u, nothing_owed) ys) those
     (all_does settings u u nothing_owed nothing_owed base xs ys (c.in_ok-spread.ensures.does settings base method params (ap message_of is ∙ says)) (λ _ d. c.in_ok-spread.ensures.documents settings nothing_owed base d))) in
     whole_entry (λ k events. AllStand settings k events) (broadcast_row settings before s body) base (u, nothing_owed) (u, nothing_owed) xs ys first (moved, docs)
-    (does_alike (λ _. alike (ap (λ o. on o nothing (λ h. each (broadcast body) (running_in settings h before))) (group_seen settings c.args.tables.now before g st s c.requires at))) sent)
+    (does_alike (λ _. alike (ap (λ o. on o nothing (λ h. each (broadcast body) (running_in settings h before))) (group_seen settings c.args.tables.now before g s x st here at).0)) sent)
