@@ -1,12 +1,17 @@
 -- The answer of a start, passed on.
-use Rattle.std.proofs.Common.{◌≡◌, ℕ, ◌<◌, Bool, true, false, List, [], ◌∷◌, ◌++◌, find, length, map, refl, ap, ap₂, sym, subst, ◌∙◌, append-nil}
+use Rattle.std.proofs.Common.{◌≡◌, ℕ, ◌<◌, Bool, true, false, List, [], ◌∷◌, ◌++◌, find, length, map, refl, ap, ap₂, sym, subst, ◌∙◌, append-nil, nat_eq, if◌then◌else◌}
 use Rattle.std.specs.Prelude.{Option, Some, None, Result, Ok, Err, IfOk, OnOk, MatchOption, option_copied, option_map, slice_get}
 use Rattle.std.specs.Option.{option_and_then}
 use Rattle.std.specs.Borrow.{Bor}
 use Rattle.mux_history.specs.declared.cause.Cause.TheVariants.{FromServer}
 use Rattle.mux_history.specs.declared.out.Out.{Out}
 use Rattle.mux_history.specs.declared.out.Out.TheVariants.{ToEditor}
-use Rattle.rpc_message.specs.Message.{Message, Id, message_of, result}
+use Rattle.rpc_message.specs.Message.{Message, Id, message_of, error, not_json, not_message, notification, request, result}
+use Rattle.mux_facts.specs.Allowed.{is_response}
+use Rattle.group_facts.proofs.AnswerRows.{answers_only}
+use Rattle.group_rows.specs.Asks.{Asking, asker_of, asking_of}
+use Rattle.mux_tables.proofs.Asking.{asking_more}
+use Rattle.mux_tables.proofs.Said.{idle_stay}
 use Rattle.id_rewrite.specs.declared.pending.Pending.{Pending}
 use Rattle.event_model.specs.declared.phase.Phase.{Phase}
 use Rattle.event_model.specs.declared.phase.Phase.TheVariants.{Absent, New, Waiting, Answered, Running, Down, Closed, Gone}
@@ -14,7 +19,7 @@ use Rattle.event_model.specs.Does.{Alike, Does}
 use Rattle.event_model.specs.Event.{Event, behind, heard, said, with_cause}
 use Rattle.event_model.specs.Phases.{Desk, desk_behind, desk_of, is_there, phase_told}
 use Rattle.event_model.specs.Requests.{answered_id}
-use Rattle.event_model.specs.Row.{on, choose, nothing, send}
+use Rattle.event_model.specs.Row.{on, choose, nothing, outs, send}
 use Rattle.event_model.specs.Settings.{Settings}
 use Rattle.event_model.proofs.Frames.{one_more}
 use Rattle.event_model.proofs.Turns.{alike, does_alike, does_nothing}
@@ -28,7 +33,7 @@ use Rattle.mux_tables.specs.declared.tables.Tables.{Tables}
 use Rattle.mux_tables.specs.Notes.{IsNoted, has_left}
 use Rattle.mux_tables.specs.Stands.{Keeps, Stands, forwarded_as}
 use Rattle.mux_tables.proofs.Frames.{itself}
-use Rattle.mux_turns.specs.Answers.{IsAsked}
+use Rattle.mux_turns.specs.Answers.{Idle, IsAsked}
 use Rattle.mux_turns.specs.Replies.{reply_row}
 use Rattle.mux_turns.specs.declared.answers.Reply.{Reply}
 use Rattle.mux_turns.proofs.Rows.{is_first, is_second}
@@ -65,8 +70,8 @@ told_late Down i m h = refl
 told_late Closed i m h = refl
 told_late Gone i m h = refl
 
-pub keeps_late : (e : ℕ) (text : List ℕ) (events : List Event) → ((desk_of e events).phase ≡ Waiting → ⊥) → Keeps e text events
-keeps_late e text events h = ap (λ (d : Desk). d.phase) (one_more (desk_behind e) _ _ events (said (ToEditor e text)) refl) ∙ rw (itself e) (told_late (desk_of e events).phase (desk_of e events).initialize (message_of text) h)
+pub keeps_late : (e : ℕ) (text : List ℕ) (events : List Event) → ((desk_of e events).phase ≡ Waiting → ⊥) → Idle events → Keeps e text events
+keeps_late e text events h idle = (ap (λ (d : Desk). d.phase) (one_more (desk_behind e) _ _ events (said (ToEditor e text)) refl) ∙ rw (itself e) (told_late (desk_of e events).phase (desk_of e events).initialize (message_of text) h), λ s. idle_stay s e events text (idle s))
 
 -- a start's message touches no desk
 pub desk_still : (before : List Event) (s : ℕ) (body : List ℕ) (xs : List Out) (e : ℕ) → xs ≡ [] → (desk_of e (behind (with_cause before (FromServer s body)) xs)).phase ≡ (desk_of e before).phase
@@ -83,6 +88,31 @@ waits_still before s body xs (Some x) first h = λ q. h (sym (desk_still before 
 pub waits_of : (before : List Event) (e : ℕ) (r : Option Reply) → ((desk_of e before).phase ≡ Waiting → ⊥) → MatchOption r (Unit {0}) (λ x. x.editor ≡ e) → Waits before r
 waits_of before e None h k = tt
 waits_of before e (Some x) h k = λ q. h (ap (λ n. (desk_of n before).phase) (sym k) ∙ q)
+
+-- where a start answers, none asks
+response_asks : (body : List ℕ) (m : Message) → is_response m ≡ true → asker_of body m ≡ None
+response_asks body (result id r) h = refl
+response_asks body (error id x) h = refl
+response_asks body (request id method ps) h = absurd (cc)
+response_asks body (notification method ps) h = absurd (cc)
+response_asks body not_json h = absurd (cc)
+response_asks body not_message h = absurd (cc)
+
+idle_entry : (before : List Event) (s : ℕ) (body : List ℕ) (xs : List Out) → xs ≡ [] → asker_of body (message_of body) ≡ None → Idle (behind (with_cause before (FromServer s body)) xs)
+idle_entry before s body xs first none n = ap (λ ys. (asking_of n (behind (with_cause before (FromServer s body)) ys)).asker) first
+    ∙ (ap (λ es. (asking_of n es).asker) (append-nil (with_cause before (FromServer s body))) ∙ (ap (λ (x : Asking). x.asker) (asking_more n before (heard (FromServer s body))) ∙ go (nat_eq s n)))
+  where
+    go : (b : Bool) → (if b then asker_of body (message_of body) else None) ≡ None
+    go true = none
+    go false = refl
+
+pub idle_reply : (settings : Settings) (before : List Event) (s : ℕ) (body : List ℕ) (xs : List Out) (r : Option Reply) → xs ≡ [] → Alike (answer_row settings s before body (message_of body)) (reply_row r) → MatchOption r (Unit {0}) (λ y. Idle (behind (with_cause before (FromServer s body)) xs))
+idle_reply settings before s body xs None first a = tt
+idle_reply settings before s body xs (Some x) first a = go (find (answered_by (answered_id (message_of body))) (forwarding_of s before).open_requests) refl
+  where
+    go : (o : Option Forwarded) → find (answered_by (answered_id (message_of body))) (forwarding_of s before).open_requests ≡ o → Idle (behind (with_cause before (FromServer s body)) xs)
+    go None e = let none : ◌≡◌ {A = List Out} [] (ToEditor x.editor x.body ∷ []) = sym (ap (λ o. outs (on o nothing (hand_on settings before s body)) before) e) ∙ a.sends before in absurd (cc)
+    go (Some f) e = idle_entry before s body xs first (response_asks body (message_of body) (answers_only (message_of body) f (forwarding_of s before).open_requests e))
 
 -- the reply to a request
 module _ (settings : Settings) (before : List Event) (body : List ℕ) (s n : ℕ) (p : Pending) where
@@ -113,9 +143,10 @@ module _ (settings : Settings) (before : List Event) (body : List ℕ) (s : ℕ)
 pub handed_none : (settings : Settings) (t : Tables) (base : List Event) (xs : List Out) (r : Option Reply) → r ≡ None → Does (λ t events. Stands settings t events) (reply_row r) base t xs t xs
 handed_none settings t base xs r is = subst (λ o. Does (λ t events. Stands settings t events) (reply_row o) base t xs t xs) (sym is) does_nothing
 
-pub handed_some : {A E : Type 0} (settings : Settings) (t : Tables) (base : List Event) (xs ys : List Out) (result : Result A E) (r : Option Reply) (x : Reply) → r ≡ Some x → Waits (behind base xs) r
+pub handed_some : {A E : Type 0} (settings : Settings) (t : Tables) (base : List Event) (xs ys : List Out) (result : Result A E) (r : Option Reply) (x : Reply) → r ≡ Some x → Waits (behind base xs) r → MatchOption r (Unit {0}) (λ y. Idle (behind base xs))
     → (Keeps x.editor x.body (behind base xs) → OnOk result (Does (λ t events. Stands settings t events) (send (ToEditor x.editor x.body)) base t xs t ys)) → OnOk result (Does (λ t events. Stands settings t events) (reply_row r) base t xs t ys)
-handed_some settings t base xs ys (Ok done) r x is h go =
+handed_some settings t base xs ys (Ok done) r x is h idle go =
     let late : Waits (behind base xs) (Some x) = subst (Waits (behind base xs)) is h in
-    subst (λ o. Does (λ t events. Stands settings t events) (reply_row o) base t xs t ys) (sym is) (go (keeps_late x.editor x.body (behind base xs) late))
-handed_some settings t base xs ys (Err e) r x is h go = tt
+    let rests : Idle (behind base xs) = subst (λ (o : Option Reply). MatchOption o (Unit {0}) (λ y. Idle (behind base xs))) is idle in
+    subst (λ o. Does (λ t events. Stands settings t events) (reply_row o) base t xs t ys) (sym is) (go (keeps_late x.editor x.body (behind base xs) late rests))
+handed_some settings t base xs ys (Err e) r x is h idle go = tt
