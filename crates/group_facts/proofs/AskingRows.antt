@@ -41,13 +41,14 @@ use Rattle.mux_facts.proofs.Words.{number_same, open_last, same_number}
 use Rattle.group_words.specs.Houses.{home_of, is_home}
 use Rattle.group_rows.specs.AskRows.{ask, asking_row, broadcast, broadcast_row, cancelled_row, else_first, first_in, hand_back, in_focus, is_among, last_among, notified_row, question_row, response_at, response_row, running_in}
 use Rattle.group_rows.specs.Asks.{Ask, Asking, asker_of, asking_next, asking_of, asks_of, goes_to_one, has_number, is_seated, is_single, is_under, next_ask}
-use Rattle.group_rows.specs.Forwarded.{Forwarded, names}
+use Rattle.group_rows.specs.Forwarded.{Forwarded, forwarding_of, names}
 use Rattle.group_rows.specs.Leaves.{cancel_text}
 use Rattle.group_rows.proofs.Cancels.{cancel_says, params_tree}
 use Rattle.group_facts.specs.Built.{built_asking, built_telling}
 use Rattle.group_facts.specs.Facts.{Asks, IsAsked, asked_by}
 use Rattle.group_facts.specs.Why.{IsRecall, Why, asks, denied, granted, handed_back, moves, recalls, resolves, spreads}
 use Rattle.group_facts.proofs.Asks.{asked_by_more, asked_of_more, asking_more}
+use Rattle.group_facts.proofs.Forwards.{zip_all}
 use Rattle.group_facts.proofs.Nulls.{null_said}
 use Rattle.group_facts.proofs.Tellings.{cancel_names}
 
@@ -96,7 +97,7 @@ module _ (settings : Settings) (before : List Event) where
   abbrev AllRun : List Event → List ℕ → Type 0
   AllRun events es = AllByRecursion (λ e. (desk_of e events).phase ≡ Running) es
 
-  running_is : (phase : Phase) → is_running phase ≡ true → phase ≡ Running
+  pub running_is : (phase : Phase) → is_running phase ≡ true → phase ≡ Running
   running_is Running h = refl
   running_is Absent h = never (sym h)
   running_is New h = never (sym h)
@@ -106,20 +107,34 @@ module _ (settings : Settings) (before : List Event) where
   running_is Closed h = never (sym h)
   running_is Gone h = never (sym h)
 
+  all_units : (es : List ℕ) → AllByRecursion (λ (e : ℕ). Unit {0}) es
+  all_units [] = tt
+  all_units (e ∷ es) = (tt, all_units es)
+
   all_run : (g : ℕ) → AllRun before (running_in settings g before)
   all_run g = all_filtered (λ e. Unit {0}) (λ e. (desk_of e before).phase ≡ Running) (λ e. is_running (desk_of e before).phase && is_home g (home_of settings e before))
       (λ e t k. running_is (desk_of e before).phase (and_parts (is_running (desk_of e before).phase) (is_home g (home_of settings e before)) t).0) (range_with_len 0 (editors_of before)) (all_units (range_with_len 0 (editors_of before)))
-    where
-      all_units : (es : List ℕ) → AllByRecursion (λ (e : ℕ). Unit {0}) es
-      all_units [] = tt
-      all_units (e ∷ es) = (tt, all_units es)
+
+  -- they are in the group
+  record IsIn (g e : ℕ) : Type 0 where
+    ran : (desk_of e before).phase ≡ Running
+    home : home_of settings e before ≡ Some g
+
+  home_is : (g : ℕ) (o : Option ℕ) → is_home g o ≡ true → o ≡ Some g
+  home_is g (Some n) h = ap (λ k. Some k) (number_same n g h)
+  home_is g None h = never (sym h)
+
+  all_in : (g : ℕ) → AllByRecursion (IsIn g) (running_in settings g before)
+  all_in g = all_filtered (λ e. Unit {0}) (IsIn g) (λ e. is_running (desk_of e before).phase && is_home g (home_of settings e before))
+      (λ e t k. let both = and_parts (is_running (desk_of e before).phase) (is_home g (home_of settings e before)) t in record { ran = running_is (desk_of e before).phase both.0; home = home_is g (home_of settings e before) both.1 })
+      (range_with_len 0 (editors_of before)) (all_units (range_with_len 0 (editors_of before)))
 
 -- A body that is no response leaves each editor where it stands, and the request at work
 
 runs_told : (phase : Phase) (initialize : List ℕ) (m : Message) → phase ≡ Running → phase_told phase initialize m ≡ Running
 runs_told phase initialize m at = ap (λ p. phase_told p initialize m) at
 
-still_runs : (events : List Event) (n : ℕ) (body : List ℕ) (e : ℕ) → (desk_of e events).phase ≡ Running → (desk_of e (events ++ said (ToEditor n body) ∷ [])).phase ≡ Running
+pub still_runs : (events : List Event) (n : ℕ) (body : List ℕ) (e : ℕ) → (desk_of e events).phase ≡ Running → (desk_of e (events ++ said (ToEditor n body) ∷ [])).phase ≡ Running
 still_runs events n body e at = ap (λ (d : Desk). d.phase) (desk_more e events (said (ToEditor n body))) ∙ go (nat_eq n e)
   where
     go : (b : Bool) → (if b then record { phase = phase_told (desk_of e events).phase (desk_of e events).initialize (message_of body); initialize = (desk_of e events).initialize } else desk_of e events).phase ≡ Running
@@ -280,12 +295,12 @@ module _ (settings : Settings) (before : List Event) (s : ℕ) (body : List ℕ)
 
   -- requests
 
-  module _ (id : Id) (method : List ℕ) (params : Option Json) (says : message_of body ≡ request id method params) (fresh : list_any (is_under (Some id)) (asks_of s before) ≡ false) where
+  module _ (id : Id) (method : List ℕ) (params : Option Json) (says : message_of body ≡ request id method params) (fresh : list_any (is_under (Some id)) (asks_of s before) ≡ false) (g : ℕ) (at_home : group_of s before ≡ Some g) where
     ask_says : (e : ℕ) (events : List Event) → has_number e events ≡ true → message_of (with_id_text body (decimal (next_ask e events))) ≡ request (integer (decimal (next_ask e events))) method params
     ask_says e events room = request_with_id body (decimal (next_ask e events)) id (integer (decimal (next_ask e events))) method params says (decimal_law (next_ask e events) (ltb-true (next_ask e events) (2 ^ 64) room))
 
-    asked_why : (e : ℕ) (events : List Event) → AskerIs events → (is_single method ≡ true → events ≡ now) → (desk_of e events).phase ≡ Running → Because R events (ask body e)
-    asked_why e events asker first running = by_look (by_choose
+    asked_why : (e : ℕ) (events : List Event) → IsIn settings before g e → AskerIs events → (is_single method ≡ true → events ≡ now) → (desk_of e events).phase ≡ Running → Because R events (ask body e)
+    asked_why e events seat asker first running = by_look (by_choose
         (λ room. by_send (asks (record {
           start = s;
           asked = body;
@@ -294,6 +309,10 @@ module _ (settings : Settings) (before : List Event) (s : ℕ) (body : List ℕ)
           params = params;
           source = record { from = refl; ready = stage; running = running };
           asks = says;
+          group = g;
+          kept = at_home;
+          home = seat.home;
+          ran = seat.ran;
           fresh = fresh;
           first = first;
           asker = asker;
@@ -311,20 +330,20 @@ module _ (settings : Settings) (before : List Event) (s : ℕ) (body : List ℕ)
         go true = f (with_id_text body (decimal (next_ask e events))) h
         go false = subst P (sym (append-nil events)) h
 
-    all_asked : (es : List ℕ) (events : List Event) → is_single method ≡ false → AskerIs events → AllRun settings before events es → Because R events (each (ask body) es)
-    all_asked [] events many asker run = by_nothing
-    all_asked (e ∷ es) events many asker run = by_then (asked_why e events asker (λ single. never (sym single ∙ many)) run.0)
-        (all_asked es (behind events (outs (ask body e) events)) many
+    all_asked : (es : List ℕ) (events : List Event) → AllByRecursion (IsIn settings before g) es → is_single method ≡ false → AskerIs events → AllRun settings before events es → Because R events (each (ask body) es)
+    all_asked [] events seats many asker run = by_nothing
+    all_asked (e ∷ es) events seats many asker run = by_then (asked_why e events seats.0 asker (λ single. never (sym single ∙ many)) run.0)
+        (all_asked es (behind events (outs (ask body e) events)) seats.1 many
         (behind_ask AskerIs e events (λ text h. asker_behind events e text h) asker)
         (behind_ask (λ z. AllRun settings before z es) e events (λ text h. all_still settings before events e text es h) run.1))
 
     waits_now : is_open id (asked_by s now) ≡ true
     waits_now = ap (is_open id) (asked_by_more s before (heard (FromServer s body)) ∙ ap (λ b. if b then with_request (message_of body) (asked_by s before) else asked_by s before) (same_number s) ∙ ap (λ m. with_request m (asked_by s before)) says) ∙ open_last id (asked_by s before)
 
-    refresh_why : (g : ℕ) → class_of method Server false ≡ Refresh → Because R now (asking_row settings before g s body Refresh)
-    refresh_why g class = by_then
+    refresh_why : class_of method Server false ≡ Refresh → Because R now (asking_row settings before g s body Refresh)
+    refresh_why class = by_then
         (by_send (resolves (record { id = id; resolution = granted body method params refl says class refl; ready = still_ready; stays = rests; response = ap is_response said_null; answers = ap answered_id said_null; waits = waits_now })))
-        (all_asked (running_in settings g before) (now ++ said (ToServer s answer) ∷ []) (ap goes_to_one class) (asker_answered now s answer asker_now)
+        (all_asked (running_in settings g before) (now ++ said (ToServer s answer) ∷ []) (all_in settings before g) (ap goes_to_one class) (asker_answered now s answer asker_now)
         (all_of (λ e. (desk_of e now).phase ≡ Running) (λ e. (desk_of e (now ++ said (ToServer s answer) ∷ [])).phase ≡ Running) (λ e at. ap (λ (d : Desk). d.phase) (desk_more e now (said (ToServer s answer))) ∙ at) (running_in settings g before) (run_now g)))
       where
         answer : List ℕ
@@ -333,17 +352,24 @@ module _ (settings : Settings) (before : List Event) (s : ℕ) (body : List ℕ)
         said_null : message_of (ok_text (id_bytes body) (codes "null")) ≡ result (Some id) (word (record { from = 0; to = 0 }) Null)
         said_null = null_said body id method params says
 
-    asking_why : (g : ℕ) (c : Class) → class_of method Server false ≡ c → built_asking settings before s method c ≡ true → Because R now (asking_row settings before g s body c)
-    asking_why g Refresh class built = refresh_why g class
-    asking_why g Focused class built = by_on
+    -- of those that run one has this
+    abbrev Here : ℕ → Type 0
+    Here e = ((desk_of e now).phase ≡ Running) × IsIn settings before g e
+
+    all_here : AllByRecursion Here (running_in settings g before)
+    all_here = zip_all (λ e. (desk_of e now).phase ≡ Running) (IsIn settings before g) Here (λ e a b. (a, b)) (running_in settings g before) (run_now g) (all_in settings before g)
+
+    asking_why : (c : Class) → class_of method Server false ≡ c → built_asking settings before s method c ≡ true → Because R now (asking_row settings before g s body c)
+    asking_why Refresh class built = refresh_why class
+    asking_why Focused class built = by_on
         (λ none. let is = refusal_says body id method params request_failed says in
         by_send (resolves (record { id = id; resolution = denied body method params refl says class refl; ready = still_ready; stays = rests; response = ap is_response is; answers = ap answered_id is; waits = waits_now })))
-        (λ e found. asked_why e now asker_now (λ single. refl) (focus_is (λ e. (desk_of e now).phase ≡ Running) (running_in settings g before) _ e (run_now g) found))
-    asking_why g Lowest class built = by_on (λ none. by_nothing) (λ e found. asked_why e now asker_now (λ single. refl) (first_is (λ e. (desk_of e now).phase ≡ Running) (running_in settings g before) e (run_now g) found))
-    asking_why g Folders class built = never (sym built)
-    asking_why g _ class built = by_nothing
+        (λ e found. let k : Here e = focus_is Here (running_in settings g before) (forwarding_of s before).open_requests e all_here found in asked_why e now k.1 asker_now (λ single. refl) k.0)
+    asking_why Lowest class built = by_on (λ none. by_nothing) (λ e found. let k : Here e = first_is Here (running_in settings g before) e all_here found in asked_why e now k.1 asker_now (λ single. refl) k.0)
+    asking_why Folders class built = never (sym built)
+    asking_why _ class built = by_nothing
 
   pub question_why : (id : Id) (method : List ℕ) (params : Option Json) → message_of body ≡ request id method params
       → (list_any (is_under (Some id)) (asks_of s before) || built_asking settings before s method (class_of method Server false)) ≡ true → Because R now (question_row settings s before body id method)
-  question_why id method params says built = by_choose (λ twice. by_nothing) (λ fresh. by_on (λ none. by_nothing) (λ g home. asking_why id method params says fresh g (class_of method Server false) refl
+  question_why id method params says built = by_choose (λ twice. by_nothing) (λ fresh. by_on (λ none. by_nothing) (λ g home. asking_why id method params says fresh g home (class_of method Server false) refl
       (ap (λ b. b || built_asking settings before s method (class_of method Server false)) (sym fresh) ∙ built)))

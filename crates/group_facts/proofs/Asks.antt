@@ -44,7 +44,7 @@ differ_filtered test (a ∷ xs) h = go (test a) (differ_filtered test xs h.1)
     go true k = (all_filtered (λ (b : Ask). same_id a.id b.id ≡ false) (λ (b : Ask). same_id a.id b.id ≡ false) test (λ b t d. d) xs h.0, k)
     go false k = k
 
-id_apart : (i k : Id) → same_id i k ≡ false → same_id k i ≡ false
+pub id_apart : (i k : Id) → same_id i k ≡ false → same_id k i ≡ false
 id_apart i k h = go (same_id k i) refl
   where
     go : (b : Bool) → same_id k i ≡ b → b ≡ false
@@ -71,7 +71,7 @@ other_open : (o : Option Id) (a : Ask) (ids : List Id) → is_under o a ≡ fals
 other_open None a ids h k = k
 other_open (Some id) a ids h k = still_open id a.id ids k h
 
-unless_not : (b : Bool) → not b ≡ true → b ≡ false
+pub unless_not : (b : Bool) → not b ≡ true → b ≡ false
 unless_not true h = never (sym h)
 unless_not false h = refl
 
@@ -153,11 +153,11 @@ asks_ended events n h s = stay s events (said (EndServer n)) (h s) (λ a k. aske
 
 -- A body to an editor
 
-abbrev is_question : Message → Bool
+abbrev pub is_question : Message → Bool
 is_question (request id method ps) = true
 is_question _ = false
 
-unasked : (s e : ℕ) (events : List Event) (x : Asking) (body : List ℕ) (m : Message) → is_question m ≡ false → (asking_next s events x (did (ToEditor e body) m)).asks ≡ x.asks
+pub unasked : (s e : ℕ) (events : List Event) (x : Asking) (body : List ℕ) (m : Message) → is_question m ≡ false → (asking_next s events x (did (ToEditor e body) m)).asks ≡ x.asks
 unasked s e events x body (request id method ps) h = never h
 unasked s e events x body (notification method ps) h = refl
 unasked s e events x body (result id r) h = refl
@@ -165,7 +165,7 @@ unasked s e events x body (error id r) h = refl
 unasked s e events x body not_json h = refl
 unasked s e events x body not_message h = refl
 
-response_asks_none : (m : Message) → is_response m ≡ true → is_question m ≡ false
+pub response_asks_none : (m : Message) → is_response m ≡ true → is_question m ≡ false
 response_asks_none (request id method ps) h = never (sym h)
 response_asks_none (notification method ps) h = refl
 response_asks_none (result id r) h = refl
@@ -187,7 +187,7 @@ module _ (events : List Event) (e : ℕ) (body : List ℕ) where
     abbrev number : ℕ
     number = next_ask e events
 
-    listed : (s : ℕ) → (asking_next s events (asking_of s events) (said (ToEditor e body))).asks ≡ asks_of s events ++ put (if nat_eq k.start s then asker_of k.asked (message_of k.asked) else None) e number
+    pub listed : (s : ℕ) → (asking_next s events (asking_of s events) (said (ToEditor e body))).asks ≡ asks_of s events ++ put (if nat_eq k.start s then asker_of k.asked (message_of k.asked) else None) e number
     listed s = ap (λ m. (asking_next s events (asking_of s events) (did (ToEditor e body) m)).asks) k.says ∙ ap (λ o. asks_of s events ++ put o e number) (k.asker s)
 
     -- no new ask

@@ -120,7 +120,7 @@ other_waits n k low high less (f ∷ fs) h = go (is_uncancelled k f) refl (λ e.
     go false t more e = or_second (is_uncancelled k (cancelled_by (Some (number nowhere (decimal n))) f)) (list_any (is_uncancelled k) (map (cancelled_by (Some (number nowhere (decimal n)))) fs)) (more e)
 
 -- the row of cancels sends these bodies
-cancels_outs : (s : ℕ) (ns : List ℕ) (events : List Event) → outs (each (cancel s) ns) events ≡ map (λ b. ToServer s b) (map cancel_text ns)
+pub cancels_outs : (s : ℕ) (ns : List ℕ) (events : List Event) → outs (each (cancel s) ns) events ≡ map (λ b. ToServer s b) (map cancel_text ns)
 cancels_outs s [] events = refl
 cancels_outs s (n ∷ ns) events = ap (λ xs. ToServer s (cancel_text n) ∷ xs) (cancels_outs s ns (behind events (ToServer s (cancel_text n) ∷ [])))
 
@@ -129,7 +129,7 @@ cancels_outs s (n ∷ ns) events = ap (λ xs. ToServer s (cancel_text n) ∷ xs)
 abbrev pub refusal_of : Ask → List ℕ
 refusal_of a = error_text a.bytes request_failed
 
-refusals_outs : (s : ℕ) (xs : List Ask) (events : List Event) → outs (each (refuse s) xs) events ≡ map (λ b. ToServer s b) (map refusal_of xs)
+pub refusals_outs : (s : ℕ) (xs : List Ask) (events : List Event) → outs (each (refuse s) xs) events ≡ map (λ b. ToServer s b) (map refusal_of xs)
 refusals_outs s [] events = refl
 refusals_outs s (a ∷ xs) events = ap (λ ys. ToServer s (refusal_of a) ∷ ys) (refusals_outs s xs (behind events (ToServer s (refusal_of a) ∷ [])))
 
@@ -138,7 +138,7 @@ record IsListed (all : List Ask) (a : Ask) : Type 0 where
   text : IsIdText a.id a.bytes
   listed : list_any (is_under (Some a.id)) all ≡ true
 
-each_listed : (xs : List Ask) → AllByRecursion (λ (a : Ask). list_any (is_under (Some a.id)) xs ≡ true) xs
+pub each_listed : (xs : List Ask) → AllByRecursion (λ (a : Ask). list_any (is_under (Some a.id)) xs ≡ true) xs
 each_listed [] = tt
 each_listed (a ∷ xs) = (
   or_first (same_id a.id a.id) (list_any (is_under (Some a.id)) xs) (same_id_itself a.id),

@@ -25,14 +25,14 @@ use Rattle.event_model.specs.Parts.{server_part}
 use Rattle.event_model.specs.Phases.{desk_of, has_id, is_there, is_malformed, is_served}
 use Rattle.event_model.specs.Requests.{next_number, answered_id, open_of, is_open, is_own}
 use Rattle.event_model.specs.Settings.{Settings}
-use Rattle.event_model.specs.Spawns.{start_of, starts_of}
+use Rattle.event_model.specs.Spawns.{group_of, start_of, starts_of}
 use Rattle.event_model.specs.Stages.{is_first_result, is_initializing, is_ready, is_spawning, life_of}
 use Rattle.response_route.specs.Answers.{answer_text}
 use Rattle.mux_facts.specs.Allowed.{AllowsSaying, is_response}
 use Rattle.mux_model.specs.Documents.{held_at}
 use Rattle.mux_model.specs.Methods.{goes_on}
 use Rattle.document_model.specs.Helds.{HeldText}
-use Rattle.group_words.specs.Houses.{groups_of}
+use Rattle.group_words.specs.Houses.{groups_of, home_of}
 use Rattle.group_rows.specs.Answers.{own_version}
 use Rattle.group_rows.specs.Asks.{Ask, asker_of, asking_of, asks_of, has_number, is_seated, is_single, is_under, next_ask}
 use Rattle.group_rows.specs.Ends.{answers_shutdown}
@@ -294,6 +294,10 @@ pub record IsAsk (settings : Settings) (before : List Event) (cause : Cause) (ev
   pub params : Option Json
   pub source : IsFromStart settings before cause events e start asked
   pub asks : message_of asked ≡ request id method params
+  pub group : ℕ
+  pub kept : group_of start before ≡ Some group
+  pub home : home_of settings e before ≡ Some group
+  pub ran : (desk_of e before).phase ≡ Running
   pub fresh : list_any (is_under (Some id)) (asks_of start before) ≡ false
   pub first : is_single method ≡ true → events ≡ with_cause before cause
   pub asker : (t : ℕ) → (asking_of t events).asker ≡ (if nat_eq start t then asker_of asked (message_of asked) else None)

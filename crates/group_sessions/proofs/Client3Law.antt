@@ -1,10 +1,10 @@
 -- An editor hears nothing but responses before its session is open, and one `initialize` of it gets a result.
-use Rattle.std.proofs.Common.{◌≡◌, ℕ, Bool, true, false, not, ◌&&◌, ◌||◌, cond, List, [], ◌∷◌, ◌++◌, nat_eq, codes, if◌then◌else◌, Option, None, Some, refl, sym, ◌∙◌, ap, subst, subst₂}
+use Rattle.std.proofs.Common.{◌≡◌, ℕ, Bool, true, false, not, ◌&&◌, ◌||◌, cond, List, [], ◌∷◌, ◌++◌, nat_eq, codes, decimal, if◌then◌else◌, Option, None, Some, refl, sym, ◌∙◌, ap, subst, subst₂}
 use Rattle.json_text.specs.Json.{Json}
 use Rattle.mux_history.specs.declared.cause.Cause.{Cause}
 use Rattle.mux_history.specs.declared.entry.Entry.{Entry}
 use Rattle.mux_history.specs.declared.out.Out.TheVariants.{ToEditor, ToServer, CloseEditor, EndServer, Spawn}
-use Rattle.rpc_message.specs.Message.{Message, request, result, error, Id, message_of}
+use Rattle.rpc_message.specs.Message.{Message, request, notification, result, error, integer, not_json, not_message, Id, message_of}
 use Rattle.event_model.specs.declared.phase.Phase.{Phase}
 use Rattle.event_model.specs.declared.phase.Phase.TheVariants.{Absent, New, Waiting, Answered, Running, Down, Closed, Gone}
 use Rattle.event_model.specs.Event.{Event, behind, said, same_id, with_cause}
@@ -30,6 +30,8 @@ use Rattle.group_facts.specs.Legal.{Legal}
 use Rattle.group_facts.specs.Why.{IsBeside, WhyToEditor, rejects, refuses, answers, turns_away, welcomes, passes, asks, recalls, spreads}
 use Rattle.group_facts.proofs.RestLaws.{RestLaw, rest_holds}
 use Rattle.group_sessions.proofs.Again.{again_rests}
+use Rattle.session_laws.proofs.Client2Law.{is_own_word}
+use Rattle.group_rows.specs.Asks.{next_ask}
 use Rattle.group_sessions.proofs.Client2Law.{response_to}
 
 -- Ids that were answered
@@ -209,10 +211,10 @@ module _ (events : List Event) (n : ℕ) (body : List ℕ) where
 
   welcome_told : (id : Id) (params : Option Json) (r : Json) → (desk_of n events).phase ≡ Waiting → message_of (desk_of n events).initialize ≡ request id (codes "initialize") params → is_open id (open_of n events) ≡ true → message_of body ≡ result (Some id) r
       → Here n events → Heard
-  welcome_told id params r at asks waits says h =
+  welcome_told id params r at names waits says h =
       let w : Expects (desk_of n events).initialize (opening n events) = subst (λ z. Link z (desk_of n events).initialize (opening n events)) at
-      (h.link (subst (λ z. WaitsIf z (desk_of n events).initialize (open_of n events)) (sym at) (record { id = id; params = params; asks = asks; waits = waits }))) in
-      let result_is : message_of body ≡ result (Some w.id) r = says ∙ ap (λ z. result (Some z) r) (same_request (sym asks ∙ w.asks)) in
+      (h.link (subst (λ z. WaitsIf z (desk_of n events).initialize (open_of n events)) (sym at) (record { id = id; params = params; asks = names; waits = waits }))) in
+      let result_is : message_of body ≡ result (Some w.id) r = says ∙ ap (λ z. result (Some z) r) (same_request (sym names ∙ w.asks)) in
       record {
         may = may_welcome (desk_of n events).initialize (opening n events) w (message_of body) r result_is;
         link = λ left. subst (λ z. Link (phase_told z (desk_of n events).initialize (message_of body)) (desk_of n events).initialize (opening_told (opening n events) (message_of body))) (sym at)
@@ -261,7 +263,7 @@ module _ (events : List Event) (n : ℕ) (body : List ℕ) where
   -- a request or a notification, to an editor that runs
   asked_told : (m : Message) → (desk_of n events).phase ≡ Running → message_of body ≡ m → is_own_word m ≡ true → Here n events → Heard
   asked_told m running says own h =
-      let link : (opening n events).initializes ≡ [] × ((opening n events).spoke ≡ true) = subst (λ z. Link z (desk_of n events).initialize (opening n events)) running
+      let link : ((opening n events).initializes ≡ []) × ((opening n events).spoke ≡ true) = subst (λ z. Link z (desk_of n events).initialize (opening n events)) running
       (h.link (late_waits (desk_of n events).phase (desk_of n events).initialize (open_of n events) (ap is_early running))) in
       record {
         may = ap (may_hear (opening n events)) says ∙ any_time m own ∙ link.1;

@@ -14,7 +14,7 @@ use Rattle.rpc_message.specs.Message.{Message, request, notification, integer, m
 use Rattle.rpc_message.specs.Texts.{initialized_text}
 use Rattle.event_model.specs.declared.stage.Stage.{Stage}
 use Rattle.event_model.specs.declared.stage.Stage.TheVariants.{Unspawned, Spawning, Initializing, Ready, Stopping, Ending, Ended}
-use Rattle.event_model.specs.Event.{Event, did, heard, said, behind, with_cause, requests}
+use Rattle.event_model.specs.Event.{Event, did, heard, said, behind, with_cause, notifies, requests}
 use Rattle.event_model.specs.Parts.{server_part, is_of_server}
 use Rattle.event_model.specs.Settings.{Settings}
 use Rattle.event_model.specs.Row.{outs}
@@ -24,6 +24,7 @@ use Rattle.event_model.proofs.Places.{item_at}
 use Rattle.mux_facts.specs.Ranges.{InRange}
 use Rattle.mux_facts.proofs.Folds.{life_more}
 use Rattle.mux_facts.proofs.Starts.{Starts}
+use Rattle.mux_facts.specs.Allowed.{is_response}
 use Rattle.mux_facts.proofs.Why as single
 use Rattle.mux_facts.proofs.Words.{number_same, pick, same_number}
 use Rattle.session_laws.specs.ServerRules.{Handshake, KeepsServer2, ServerRule2, allows, answered, asked, handshake_behind, handshake_of, open_to_all, silent}

@@ -19,7 +19,7 @@ use Rattle.group_facts.proofs.RestLaws.{Inside}
 use Rattle.group_sessions.proofs.PartLaws.{ServerRule, no_law, server_history}
 use Rattle.mux_facts.specs.Allowed.{is_response}
 
-response_numbered : (n : ℕ) (m : Message) → is_response m ≡ true → HasNumber n m
+pub response_numbered : (n : ℕ) (m : Message) → is_response m ≡ true → HasNumber n m
 response_numbered n (result id r) h = tt
 response_numbered n (error id e) h = tt
 response_numbered n (request id method params) h = absurd (cc)

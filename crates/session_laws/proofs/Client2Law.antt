@@ -3,7 +3,7 @@ use Rattle.std.proofs.Common.{◌≡◌, ℕ, ◌+◌, ◌<◌, ◌≤◌, Bool,
 use Rattle.mux_history.specs.declared.cause.Cause.TheVariants.{Joined, FromEditor, EditorGone, Started, StartFailed, FromServer, ServerGone, Drained, Tick}
 use Rattle.mux_history.specs.declared.out.Out.TheVariants.{ToEditor, ToServer, Spawn, CloseEditor, EndServer}
 use Rattle.json_text.specs.Json.{Json}
-use Rattle.rpc_message.specs.Message.{Message, error, Id, message_of}
+use Rattle.rpc_message.specs.Message.{Message, request, notification, result, error, not_json, not_message, Id, message_of}
 use Rattle.event_model.specs.Event.{Event, took, did, said, heard, with_cause}
 use Rattle.event_model.specs.Phases.{is_malformed}
 use Rattle.event_model.specs.Requests.{answered_id, open_of, open_behind, is_open, with_request, without}

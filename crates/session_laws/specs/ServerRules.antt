@@ -220,7 +220,7 @@ abbrev pub KeepsServer4 : List Entry → Type 0
 KeepsServer4 history = KeepsServer ServerRule4 history
 
 abbrev pub KeepsServer5 : List Entry → Type 0
-KeepsServer5 history = (s : ℕ) → Always ServerRule5 (server_part s (events_of history))
+KeepsServer5 history = KeepsServer ServerRule5 history
 
 abbrev pub KeepsServer6 : List Entry → Type 0
 KeepsServer6 history = KeepsServer ServerRule6 history

@@ -39,4 +39,4 @@ returns-in_ok-take_reply-in-Result-clause-does c = λ settings before body read 
     let well = read_well c.args.message.now body read in
     let seat = settled.seated e (served_needs (desk_of e before).phase serves) in
     done_alike (λ k events. AllStand settings k events) (answered settings before e body unasked unnoted serves well single none)
-    (c.in_ok-take_reply-in-Result.ensures.does settings before body seat.group seat.start read (is_answer m unasked unnoted well) serves seat.home seat.last (asked_by_one settings c.args.tables.now before e seat.group seat.start m settled st seat.home seat.last) first st ds)
+    (c.in_ok-take_reply-in-Result.ensures.does settings before body seat.group seat.start read (is_answer m unasked unnoted well) serves seat.home seat.last (asked_by_one settings before e seat.group seat.start m settled seat.home seat.last) first st ds)
