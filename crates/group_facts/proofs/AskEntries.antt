@@ -1,61 +1,45 @@
 -- Behind every entry each editor that a start asked runs, in the group whose last start it is; and that start is ready.
-use Rattle.std.proofs.Common.{◌≡◌, ℕ, Bool, true, false, not, cond, ◌&&◌, ◌||◌, List, [], ◌∷◌, ◌++◌, filter, map, nat_eq, codes, bytes_eq, if◌then◌else◌, Option, Some, None, ◌⊎◌, inl, inr, refl, sym, ◌∙◌, ap, ap₂, subst, arith, append-nil, append_assoc}
+use Rattle.std.proofs.Common.{◌≡◌, ℕ, Bool, true, false, ◌&&◌, ◌||◌, List, [], ◌∷◌, ◌++◌, nat_eq, codes, if◌then◌else◌, Option, Some, None, ◌⊎◌, inl, inr, refl, sym, ◌∙◌, ap, subst, arith}
 use Rattle.std.specs.List.{AllByRecursion}
-use Rattle.std.specs.Option.{option_map_or}
-use Rattle.std.proofs.lemmas.Bool.{and_parts}
-use Rattle.std.proofs.lemmas.Slice.Eq.{bytes_eq-Decides}
-use Rattle.json_text.specs.Json.{Json}
-use Rattle.lsp_method.specs.Class.{editor_request, goes_nowhere, own_notification, own_request}
 use Rattle.mux_history.specs.declared.cause.Cause.{Cause}
 use Rattle.mux_history.specs.declared.cause.Why as link
 use Rattle.mux_history.specs.declared.cause.Cause.TheVariants.{Joined, FromEditor, EditorGone, Started, StartFailed, FromServer, ServerGone, Drained, Tick}
 use Rattle.mux_history.specs.declared.out.Out.{Out}
 use Rattle.mux_history.specs.declared.out.Out.TheVariants.{ToEditor, ToServer, Spawn, CloseEditor, EndServer}
-use Rattle.rpc_message.specs.Message.{Message, request, notification, result, error, integer, not_json, not_message, Id, id_bytes, message_of}
-use Rattle.rpc_message.specs.Texts.{ok_text}
+use Rattle.rpc_message.specs.Message.{Message, message_of}
 use Rattle.event_model.specs.declared.phase.Phase.{Phase}
-use Rattle.event_model.specs.declared.phase.Phase.TheVariants.{Absent, New, Waiting, Answered, Running, Down, Closed, Gone}
+use Rattle.event_model.specs.declared.phase.Phase.TheVariants.{Absent, New, Running, Down, Gone}
 use Rattle.event_model.specs.declared.stage.Stage.{Stage}
 use Rattle.event_model.specs.declared.stage.Stage.TheVariants.{Unspawned, Spawning, Initializing, Ready, Stopping, Ending, Ended}
-use Rattle.event_model.specs.Event.{Event, behind, heard, requests, notifies, said, with_cause}
-use Rattle.event_model.specs.Phases.{Desk, desk_hears, desk_of, editors_of, is_begun, is_new, is_running, phase_closed}
-use Rattle.event_model.specs.Requests.{is_open, open_of}
-use Rattle.event_model.specs.Row.{Row, choose, outs}
+use Rattle.event_model.specs.Event.{Event, behind, heard, requests, said, with_cause}
+use Rattle.event_model.specs.Phases.{Desk, desk_hears, desk_of, editors_of, is_new, phase_closed}
 use Rattle.event_model.specs.Settings.{Settings}
-use Rattle.event_model.specs.Spawns.{group_of, start_of, starts_of}
-use Rattle.event_model.specs.Stages.{Life, is_initializing, life_of}
+use Rattle.event_model.specs.Stages.{Life, life_of}
 use Rattle.event_model.proofs.Frames.{never}
 use Rattle.mux_model.specs.Fits.{fits_behind}
 use Rattle.mux_facts.specs.Ranges.{InRange}
 use Rattle.mux_facts.proofs.Editors.{Editors}
 use Rattle.mux_facts.proofs.Starts.{Starts}
 use Rattle.mux_facts.proofs.Folds.{desk_more, life_more}
-use Rattle.mux_facts.proofs.Lists.{all_join, all_of}
+use Rattle.mux_facts.proofs.Lists.{all_join}
 use Rattle.mux_facts.proofs.Reasons.{reasons_keep}
-use Rattle.mux_facts.proofs.Words.{number_same, same_number}
-use Rattle.group_words.specs.Houses.{groups_of, home_of, is_doubled, is_home, placed_for, places}
+use Rattle.mux_facts.proofs.Words.{number_same}
+use Rattle.group_words.specs.Houses.{home_of, places}
 use Rattle.group_words.proofs.Frames.{home_more, home_stays}
-use Rattle.group_rows.specs.Asks.{Ask, Asker, asker_of, asks_of, is_with, next_ask, put}
-use Rattle.group_rows.specs.Leaves.{leave_row}
-use Rattle.group_rows.specs.Rows.{closing_row, from_editor, gone_row, message_row, outs_of, shutdown_row}
+use Rattle.group_rows.specs.Asks.{Ask, Asker, asker_of, asks_of, next_ask, put}
+use Rattle.group_rows.specs.Rows.{outs_of}
 use Rattle.group_facts.specs.Built.{built_behind}
-use Rattle.group_facts.specs.Facts.{ends_link, is_in, is_parting, is_put_out, is_refusing, is_too_many, is_unready, is_up, turned_away}
-use Rattle.group_facts.specs.Lively.{Lively}
-use Rattle.group_facts.specs.Settled.{HasSeat, is_answered}
+use Rattle.group_facts.specs.Facts.{ends_link, is_unready, is_up}
+use Rattle.group_facts.specs.Settled.{HasSeat}
 use Rattle.group_facts.specs.Why.{IsAsk, Why, WhyToEditor, answers, asks, passes, recalls, refuses, rejects, spreads, turns_away, welcomes}
 use Rattle.group_facts.proofs.Asks.{is_question, listed, response_asks_none}
-use Rattle.group_facts.proofs.AskRest.{all_pending, leave_clean, none_with}
-use Rattle.group_facts.proofs.AskSeats.{Away, Pending, Unsaid, asks_more, did_all, took_all}
-use Rattle.group_facts.proofs.AskingRows.{running_is, still_runs}
-use Rattle.group_facts.proofs.Begun.{Begun}
+use Rattle.group_facts.proofs.AskSeats.{asks_more, did_all, took_all}
+use Rattle.group_facts.proofs.AskingRows.{still_runs}
 use Rattle.group_facts.proofs.Facts.{Facts}
 use Rattle.group_facts.proofs.Known.{Here, here_did, here_took}
 use Rattle.group_facts.proofs.Levels.{Fresh, falls_back, unready_falls}
-use Rattle.group_facts.proofs.Lively.{up_of}
-use Rattle.group_facts.proofs.Nulls.{null_said}
 use Rattle.group_facts.proofs.Numbers.{spawn_fresh}
-use Rattle.group_facts.proofs.OneStart.{OneStart, start_kept}
-use Rattle.group_facts.proofs.PutOut.{homes_stay}
+use Rattle.group_facts.proofs.OneStart.{OneStart}
 use Rattle.group_facts.proofs.Table.{reasons}
 
 abbrev pub AllSeats : Settings → List Event → Type 0

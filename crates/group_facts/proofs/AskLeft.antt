@@ -1,5 +1,5 @@
 -- An editor that leaves was asked nothing any more; so behind every entry each editor that a start asked has its seat.
-use Rattle.std.proofs.Common.{◌≡◌, ℕ, Bool, true, false, not, ◌&&◌, ◌||◌, List, [], ◌∷◌, ◌++◌, filter, map, nat_eq, codes, bytes_eq, if◌then◌else◌, Option, Some, None, ◌⊎◌, inl, inr, refl, sym, ◌∙◌, ap, subst, append_assoc}
+use Rattle.std.proofs.Common.{◌≡◌, ℕ, Bool, true, false, ◌&&◌, List, [], ◌∷◌, ◌++◌, filter, map, nat_eq, codes, bytes_eq, Option, Some, None, ◌⊎◌, inl, inr, refl, sym, ◌∙◌, ap, subst, append_assoc}
 use Rattle.std.specs.List.{AllByRecursion}
 use Rattle.std.specs.Option.{option_map_or}
 use Rattle.std.proofs.lemmas.Bool.{and_parts}
@@ -13,9 +13,8 @@ use Rattle.mux_history.specs.declared.out.Out.{Out}
 use Rattle.mux_history.specs.declared.out.Out.TheVariants.{ToEditor, CloseEditor}
 use Rattle.rpc_message.specs.Message.{Message, request, notification, result, error, not_json, not_message, Id, id_bytes, message_of}
 use Rattle.rpc_message.specs.Texts.{ok_text}
-use Rattle.event_model.specs.declared.phase.Phase.{Phase}
 use Rattle.event_model.specs.declared.phase.Phase.TheVariants.{Running}
-use Rattle.event_model.specs.Event.{Event, behind, heard, requests, notifies, said, with_cause}
+use Rattle.event_model.specs.Event.{Event, behind, requests, notifies, said, with_cause}
 use Rattle.event_model.specs.Phases.{desk_of, is_begun, is_new, is_running}
 use Rattle.event_model.specs.Requests.{is_open, open_of}
 use Rattle.event_model.specs.Row.{outs}

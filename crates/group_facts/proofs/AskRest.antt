@@ -1,68 +1,32 @@
 -- Behind every entry each editor that a start asked runs, in the group whose last start it is.
-use Rattle.std.proofs.Common.{◌≡◌, ℕ, Bool, true, false, not, cond, ◌&&◌, ◌||◌, List, [], ◌∷◌, ◌++◌, filter, map, nat_eq, codes, bytes_eq, if◌then◌else◌, Option, Some, None, refl, sym, ◌∙◌, ap, ap₂, subst, arith, append-nil, append_assoc}
+use Rattle.std.proofs.Common.{◌≡◌, ℕ, Bool, true, false, cond, ◌||◌, List, [], ◌∷◌, ◌++◌, filter, map, nat_eq, Option, Some, None, refl, sym, ◌∙◌, ap, ap₂, subst, append-nil}
 use Rattle.std.specs.List.{AllByRecursion, list_any}
-use Rattle.std.specs.Option.{option_map_or}
-use Rattle.std.proofs.lemmas.Bool.{and_parts}
-use Rattle.std.proofs.lemmas.List.{map-append}
-use Rattle.std.proofs.lemmas.Slice.Eq.{bytes_eq-Decides}
-use Rattle.json_text.specs.Json.{Json}
-use Rattle.lsp_method.specs.Class.{editor_request, own_notification, own_request, goes_nowhere}
-use Rattle.mux_history.specs.declared.cause.Cause.{Cause}
 use Rattle.mux_history.specs.declared.cause.Why as link
-use Rattle.mux_history.specs.declared.cause.Cause.TheVariants.{Joined, FromEditor, EditorGone, Started, StartFailed, FromServer, ServerGone, Drained, Tick}
 use Rattle.mux_history.specs.declared.out.Out.{Out}
-use Rattle.mux_history.specs.declared.out.Out.TheVariants.{ToEditor, ToServer, Spawn, CloseEditor, EndServer}
-use Rattle.rpc_message.specs.Message.{Message, request, notification, result, error, not_json, not_message, Id, id_bytes, message_of, same_id}
-use Rattle.rpc_message.specs.Texts.{ok_text}
+use Rattle.mux_history.specs.declared.out.Out.TheVariants.{ToServer}
+use Rattle.rpc_message.specs.Message.{same_id}
 use Rattle.rpc_message.specs.ValueTexts.{IsIdText}
-use Rattle.event_model.specs.declared.phase.Phase.{Phase}
-use Rattle.event_model.specs.declared.phase.Phase.TheVariants.{Running, Waiting}
-use Rattle.event_model.specs.declared.stage.Stage.{Stage}
-use Rattle.event_model.specs.declared.stage.Stage.TheVariants.{Unspawned, Spawning, Initializing, Ready, Stopping, Ending, Ended}
-use Rattle.event_model.specs.Event.{Event, behind, heard, requests, notifies, said, with_cause}
-use Rattle.event_model.specs.Phases.{Desk, desk_hears, desk_of, editors_of, is_new, is_running, is_waiting, phase_closed}
-use Rattle.event_model.specs.Requests.{is_open, open_of}
-use Rattle.event_model.specs.Row.{Row, choose, each, nothing, on, outs, send, ◌⨾◌}
+use Rattle.event_model.specs.Event.{Event, behind}
+use Rattle.event_model.specs.Row.{choose, each, nothing, on, outs, ◌⨾◌}
 use Rattle.event_model.specs.Settings.{Settings}
-use Rattle.event_model.specs.Spawns.{group_of, start_of}
-use Rattle.event_model.specs.Stages.{Life, is_initializing, is_ready, life_of}
+use Rattle.event_model.specs.Spawns.{start_of}
+use Rattle.event_model.specs.Stages.{is_ready, life_of}
 use Rattle.event_model.proofs.Frames.{never}
 use Rattle.mux_model.specs.Documents.{held_at}
-use Rattle.mux_model.specs.Fits.{fits_behind}
 use Rattle.mux_model.specs.Rows.{to_start}
 use Rattle.mux_model.proofs.DocumentFolds.{outs_to_start}
-use Rattle.mux_facts.specs.Ranges.{InRange}
-use Rattle.mux_facts.proofs.Folds.{desk_more, life_more}
 use Rattle.mux_facts.proofs.Keeps.{behind_both}
-use Rattle.mux_facts.proofs.Lists.{all_filtered, all_join, all_of}
-use Rattle.mux_facts.proofs.Reasons.{reasons_keep}
+use Rattle.mux_facts.proofs.Lists.{all_filtered, all_of}
 use Rattle.mux_facts.proofs.Words.{number_same, same_id_itself, same_number}
-use Rattle.group_words.specs.Houses.{groups_of, home_of, is_doubled, is_home, placed_for, places}
-use Rattle.group_words.proofs.Frames.{home_more, home_stays}
-use Rattle.group_rows.specs.Asks.{Ask, Asker, asker_of, asks_of, is_under, is_with, next_ask, put}
+use Rattle.group_words.specs.Houses.{home_of}
+use Rattle.group_rows.specs.Asks.{Ask, asks_of, is_under, is_with}
 use Rattle.group_rows.specs.Forwarded.{forwarding_of}
 use Rattle.group_rows.specs.Leaves.{cancel, cancel_text, cancels, closings, leave_bodies, leave_row, refusals, refuse, uncancelled_of}
-use Rattle.group_rows.specs.Rows.{closing_row, from_editor, gone_row, outs_of, shutdown_row}
 use Rattle.group_rows.specs.Texts.{texts_of}
-use Rattle.group_facts.specs.Built.{built_behind}
-use Rattle.group_facts.specs.Facts.{Asks, IsAsked, ends_link, is_parting, is_put_out, is_refusing, is_too_many, is_unready, is_up, turned_away}
-use Rattle.group_facts.specs.Lively.{Lively}
-use Rattle.group_facts.specs.Settled.{HasSeat, is_answered}
-use Rattle.group_facts.specs.Why.{IsAsk, Why, WhyToEditor, answers, asks, passes, recalls, refuses, rejects, spreads, turns_away, welcomes}
-use Rattle.group_facts.proofs.Asks.{is_question, listed, response_asks_none}
-use Rattle.group_facts.proofs.AskSeats.{Away, Pending, Unsaid, asks_more, bodies_all, did_all, refused_all, took_all}
-use Rattle.group_facts.proofs.AskingRows.{still_runs}
-use Rattle.group_facts.proofs.Begun.{Begun}
-use Rattle.group_facts.proofs.Facts.{Facts}
-use Rattle.group_facts.proofs.Known.{Here, here_did, here_took}
-use Rattle.group_facts.proofs.Levels.{Fresh, falls_back, unready_falls}
+use Rattle.group_facts.specs.Facts.{Asks, IsAsked}
+use Rattle.group_facts.specs.Settled.{HasSeat}
+use Rattle.group_facts.proofs.AskSeats.{Away, Pending, bodies_all, refused_all}
 use Rattle.group_facts.proofs.LeaveRows.{cancels_outs, refusal_of, refusals_outs}
-use Rattle.group_facts.proofs.Lively.{up_of}
-use Rattle.group_facts.proofs.Nulls.{null_said}
-use Rattle.group_facts.proofs.Numbers.{spawn_fresh}
-use Rattle.group_facts.proofs.OneStart.{OneStart, start_kept}
-use Rattle.group_facts.proofs.PutOut.{homes_stay}
-use Rattle.group_facts.proofs.Table.{reasons}
 
 the : {v w : ℕ} → ◌≡◌ {A = Option ℕ} (Some v) (Some w) → v ≡ w
 the e = cc
@@ -105,7 +69,6 @@ module _ (settings : Settings) (before : List Event) where
   seat_home s a k e same = ap (λ n. home_of settings n before) (sym same) ∙ (k.home ∙ k.kept)
 
   module _ (facts : Asks before) (e : ℕ) (place : List Event) (seated : (s : ℕ) → AllByRecursion (Seat s) (asks_of s place)) (pending : (s : ℕ) → AllByRecursion (Pending e (filter (is_with e) (asks_of s before))) (asks_of s place)) (s : ℕ) where
-
     at_place : AllByRecursion (Away e) (asks_of s place) → AllByRecursion (Away e) (asks_of s (behind place []))
     at_place h = subst (λ z. AllByRecursion (Away e) (asks_of s z)) (sym (append-nil place)) h
 

@@ -1,43 +1,23 @@
 -- The editors that a start asked run, in the group whose last start it is: an entry in which one leaves refuses what it was asked (L1).
-use Rattle.std.proofs.Common.{◌≡◌, ℕ, ◌≤◌, Bool, true, false, not, cond, ◌&&◌, ◌||◌, List, [], ◌∷◌, ◌++◌, filter, map, nat_eq, codes, bytes_eq, if◌then◌else◌, Option, Some, None, ◌⊎◌, inl, inr, refl, sym, ◌∙◌, ap, ap₂, subst, arith, append-nil, append_assoc}
+use Rattle.std.proofs.Common.{◌≡◌, ℕ, Bool, true, false, not, ◌||◌, List, [], ◌∷◌, ◌++◌, filter, map, nat_eq, if◌then◌else◌, Some, None, refl, sym, ◌∙◌, ap, ap₂, subst, append-nil, append_assoc}
 use Rattle.std.specs.List.{AllByRecursion, list_any}
-use Rattle.std.proofs.lemmas.Bool.{and_parts}
-use Rattle.std.proofs.lemmas.Slice.Eq.{bytes_eq-Decides}
 use Rattle.mux_history.specs.declared.cause.Cause.{Cause}
 use Rattle.mux_history.specs.declared.cause.Cause.TheVariants.{Joined, FromEditor, EditorGone, Started, StartFailed, FromServer, ServerGone, Drained, Tick}
 use Rattle.mux_history.specs.declared.out.Out.{Out}
 use Rattle.mux_history.specs.declared.out.Out.TheVariants.{ToEditor, ToServer, Spawn, CloseEditor, EndServer}
-use Rattle.rpc_message.specs.Message.{Message, request, notification, result, error, not_json, not_message, Id, message_of, same_id}
-use Rattle.rpc_message.specs.Texts.{error_text, request_failed}
+use Rattle.rpc_message.specs.Message.{message_of, same_id}
+use Rattle.rpc_message.specs.Texts.{request_failed}
 use Rattle.rpc_message.specs.ValueTexts.{IsIdText}
 use Rattle.rpc_message.proofs.Fixed.{error_law, id_as_response}
-use Rattle.event_model.specs.declared.phase.Phase.{Phase}
-use Rattle.event_model.specs.declared.phase.Phase.TheVariants.{Absent, New, Waiting, Answered, Running, Down, Closed, Gone}
-use Rattle.event_model.specs.declared.stage.Stage.{Stage}
-use Rattle.event_model.specs.declared.stage.Stage.TheVariants.{Unspawned, Spawning, Initializing, Ready, Stopping, Ending, Ended}
-use Rattle.event_model.specs.Event.{Event, behind, did, heard, requests, notifies, said, with_cause}
-use Rattle.event_model.specs.Phases.{Desk, desk_hears, desk_of, editors_of, is_running, phase_closed}
+use Rattle.event_model.specs.Event.{Event, behind, heard, said, with_cause}
 use Rattle.event_model.specs.Requests.{answered_id}
-use Rattle.event_model.specs.Row.{each, outs, send, ◌⨾◌}
-use Rattle.event_model.specs.Settings.{Settings}
-use Rattle.event_model.specs.Spawns.{group_of, start_of}
-use Rattle.event_model.specs.Stages.{Life, is_initializing, is_ready, life_behind, life_of}
 use Rattle.event_model.proofs.Frames.{never}
-use Rattle.mux_model.specs.Fits.{fits_behind}
-use Rattle.mux_facts.proofs.Folds.{desk_more, life_more}
-use Rattle.mux_facts.proofs.Lists.{all_filtered, all_join, all_of}
-use Rattle.mux_facts.proofs.Editors.{Editors}
-use Rattle.mux_facts.proofs.Starts.{Starts}
-use Rattle.mux_facts.proofs.Words.{number_same, same_number}
-use Rattle.group_rows.specs.Asks.{Ask, Asker, Asking, asker_of, asking_next, asking_of, asks_of, is_seated, is_under, is_with, next_ask, no_asking, put}
-use Rattle.group_facts.specs.Facts.{Asks, IsAsked, ends_link, is_unready}
-use Rattle.group_facts.specs.Settled.{HasSeat}
-use Rattle.group_facts.specs.Why.{IsAsk, WhyToEditor, answers, asks, passes, recalls, refuses, rejects, spreads, turns_away, welcomes}
-use Rattle.group_facts.proofs.Asks.{asking_more, is_question, id_apart, listed, response_asks_none, unasked, unless_not}
-use Rattle.group_facts.proofs.AskingRows.{still_runs}
-use Rattle.group_facts.proofs.Levels.{Fresh, falls_back, unready_falls}
+use Rattle.mux_facts.proofs.Lists.{all_filtered, all_of}
+use Rattle.mux_facts.proofs.Words.{same_number}
+use Rattle.group_rows.specs.Asks.{Ask, Asking, asking_next, asking_of, asks_of, is_seated, is_under, no_asking}
+use Rattle.group_facts.specs.Why.{asks}
+use Rattle.group_facts.proofs.Asks.{asking_more, is_question, id_apart, unasked, unless_not}
 use Rattle.group_facts.proofs.LeaveRows.{refusal_of}
-use Rattle.group_facts.proofs.OneStart.{OneStart}
 
 -- What holds of asks, behind events that ask nothing more
 

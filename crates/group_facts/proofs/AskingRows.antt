@@ -1,5 +1,5 @@
 -- S9, S11, S12, S14 and what goes to each editor: why a ready start's requests and notifications are answered and go on; E19: why an editor's response does.
-use Rattle.std.proofs.Common.{◌≡◌, ℕ, ◌^◌, ◌<◌, Bool, true, false, ◌&&◌, ◌||◌, not, cond, List, [], ◌∷◌, ◌++◌, append-nil, filter, find, codes, decimal, nat_eq, nat_lt, if◌then◌else◌, Option, Some, None, refl, sym, ◌∙◌, ap, subst, ltb-true, arith}
+use Rattle.std.proofs.Common.{◌≡◌, ℕ, ◌^◌, ◌<◌, Bool, true, false, ◌&&◌, ◌||◌, not, cond, List, [], ◌∷◌, ◌++◌, append-nil, filter, find, codes, decimal, nat_eq, if◌then◌else◌, Option, Some, None, refl, sym, ◌∙◌, ap, subst, ltb-true, arith}
 use Rattle.std.specs.List.{AllByRecursion, last_or, list_any, range_with_len}
 use Rattle.std.specs.Option.{option_and_then, option_map}
 use Rattle.std.proofs.lemmas.Bool.{and_parts}
@@ -15,7 +15,7 @@ use Rattle.lsp_method.specs.declared.variants.Class.TheVariants.{Broadcast, Canc
 use Rattle.lsp_method.specs.declared.variants.Origin.TheVariants.{Server}
 use Rattle.rpc_message.specs.Message.{Message, request, notification, result, error, not_json, not_message, Id, id_bytes, id_of, integer, integer_if, message_of}
 use Rattle.rpc_message.specs.ValueTexts.{IsIdText}
-use Rattle.rpc_message.specs.Texts.{error_text, ok_text, request_failed, with_id_text}
+use Rattle.rpc_message.specs.Texts.{ok_text, request_failed, with_id_text}
 use Rattle.rpc_message.proofs.Decimals.{decimal_integer, decimal_law}
 use Rattle.rpc_message.proofs.Fixed.{id_as_response}
 use Rattle.rpc_message.proofs.Ids.{error_with_id, request_with_id, result_with_id}
@@ -39,12 +39,12 @@ use Rattle.mux_facts.proofs.Lists.{all_filtered, all_of, found_is}
 use Rattle.mux_facts.proofs.Reasons.{Because, by_choose, by_look, by_nothing, by_on, by_send, by_then}
 use Rattle.mux_facts.proofs.Words.{number_same, open_last, same_number}
 use Rattle.group_words.specs.Houses.{home_of, is_home}
-use Rattle.group_rows.specs.AskRows.{ask, asking_row, broadcast, broadcast_row, cancelled_row, else_first, first_in, hand_back, in_focus, is_among, last_among, notified_row, question_row, response_at, response_row, running_in}
+use Rattle.group_rows.specs.AskRows.{ask, asking_row, broadcast, cancelled_row, else_first, first_in, hand_back, in_focus, is_among, notified_row, question_row, response_at, response_row, running_in}
 use Rattle.group_rows.specs.Asks.{Ask, Asking, asker_of, asking_next, asking_of, asks_of, goes_to_one, has_number, is_seated, is_single, is_under, next_ask}
 use Rattle.group_rows.specs.Forwarded.{Forwarded, forwarding_of, names}
 use Rattle.group_rows.specs.Leaves.{cancel_text}
 use Rattle.group_rows.proofs.Cancels.{cancel_says, params_tree}
-use Rattle.group_facts.specs.Built.{built_asking, built_telling}
+use Rattle.group_facts.specs.Built.{built_asking}
 use Rattle.group_facts.specs.Facts.{Asks, IsAsked, asked_by}
 use Rattle.group_facts.specs.Why.{IsRecall, Why, asks, denied, granted, handed_back, moves, recalls, resolves, spreads}
 use Rattle.group_facts.proofs.Asks.{asked_by_more, asked_of_more, asking_more}
@@ -266,24 +266,24 @@ module _ (settings : Settings) (before : List Event) (s : ℕ) (body : List ℕ)
         recall : (a : Ask) → find (is_under (option_and_then id_of (named_of (codes "id") params))) (asks_of s before) ≡ Some a → is_running (desk_of a.editor before).phase ≡ true → IsRecall settings before (FromServer s body) now a.editor (cancel_text a.number)
         recall a found runs = let k : IsAsked s before a = found_is (IsAsked s before) (is_under (option_and_then id_of (named_of (codes "id") params))) a (asks_of s before) (all s).asked found in
             let small : a.number < 2 ^ 64 = k.small in record {
-          start = s;
-          asked = body;
-          method = method;
-          given = params;
-          ask = a;
-          params = params_tree a.number;
-          value = number nowhere (decimal a.number);
-          source = record { from = refl; ready = stage; running = ap (λ (d : Desk). d.phase) (desk_more a.editor before (heard (FromServer s body))) ∙ running_is settings before (desk_of a.editor before).phase runs };
-          asks = says;
-          class = class;
-          found = found;
-          editor = refl;
-          open_there = ap (is_open (integer (decimal a.number))) (asked_of_more a.editor before (heard (FromServer s body))) ∙ k.unanswered;
-          bytes = refl;
-          named = cancel_names a.number;
-          id = ap (λ b. integer_if b (decimal a.number)) (decimal_integer a.number (omega (arith, small)));
-          says = cancel_says a.number k.small;
-        }
+              start = s;
+              asked = body;
+              method = method;
+              given = params;
+              ask = a;
+              params = params_tree a.number;
+              value = number nowhere (decimal a.number);
+              source = record { from = refl; ready = stage; running = ap (λ (d : Desk). d.phase) (desk_more a.editor before (heard (FromServer s body))) ∙ running_is settings before (desk_of a.editor before).phase runs };
+              asks = says;
+              class = class;
+              found = found;
+              editor = refl;
+              open_there = ap (is_open (integer (decimal a.number))) (asked_of_more a.editor before (heard (FromServer s body))) ∙ k.unanswered;
+              bytes = refl;
+              named = cancel_names a.number;
+              id = ap (λ b. integer_if b (decimal a.number)) (decimal_integer a.number (omega (arith, small)));
+              says = cancel_says a.number k.small;
+            }
 
     pub notified_why : (method : List ℕ) (params : Option Json) → message_of body ≡ notification method params → Because R now (notified_row settings s before body params (class_of method Server true))
     notified_why method params says = go (class_of method Server true) refl

@@ -1,13 +1,11 @@
 -- What a start asks of editors: behind every event its asks are open, under ids that differ.
-use Rattle.std.proofs.Common.{◌≡◌, ℕ, ◌^◌, ◌<◌, Bool, true, false, not, cond, ◌&&◌, ◌||◌, List, [], ◌∷◌, ◌++◌, filter, nat_eq, nat_lt, codes, decimal, append-nil, if◌then◌else◌, Option, Some, None, refl, sym, ◌∙◌, ap, subst, ltb-true}
+use Rattle.std.proofs.Common.{◌≡◌, ℕ, ◌^◌, Bool, true, false, not, cond, ◌&&◌, ◌||◌, List, [], ◌∷◌, ◌++◌, filter, nat_eq, codes, decimal, append-nil, if◌then◌else◌, Option, Some, None, refl, sym, ◌∙◌, ap, subst, ltb-true}
 use Rattle.std.specs.List.{AllByRecursion, list_any}
 use Rattle.std.proofs.lemmas.List.Sums.{fold-append}
 use Rattle.mux_history.specs.declared.cause.Cause.{Cause}
 use Rattle.mux_history.specs.declared.cause.Cause.TheVariants.{Joined, FromEditor, EditorGone, Started, StartFailed, FromServer, ServerGone, Drained, Tick}
-use Rattle.mux_history.specs.declared.out.Out.{Out}
 use Rattle.mux_history.specs.declared.out.Out.TheVariants.{ToEditor, ToServer, Spawn, CloseEditor, EndServer}
 use Rattle.rpc_message.specs.Message.{Message, request, notification, result, error, not_json, not_message, Id, id_bytes, integer, message_of, same_id, text}
-use Rattle.rpc_message.specs.ValueTexts.{IsIdText}
 use Rattle.rpc_message.proofs.Ids.{request_id_bytes}
 use Rattle.event_model.specs.Event.{Event, did, heard, said, with_cause}
 use Rattle.event_model.specs.Requests.{answered_id, is_open, with_request, without}
@@ -18,7 +16,7 @@ use Rattle.mux_facts.proofs.Asked.{hears_open}
 use Rattle.mux_facts.proofs.Lists.{all_filtered, all_join, all_of}
 use Rattle.mux_facts.proofs.Words.{id_same, number_same, open_last, same_id_itself, same_number, still_open}
 use Rattle.group_words.proofs.Frames.{past_more}
-use Rattle.group_rows.specs.Asks.{Ask, Asker, Asking, asker_of, asking_next, asking_of, asks_of, is_seated, is_single, is_under, next_ask, no_asking, put}
+use Rattle.group_rows.specs.Asks.{Ask, Asking, asker_of, asking_next, asking_of, asks_of, is_seated, is_single, is_under, next_ask, no_asking, put}
 use Rattle.group_rows.specs.Forwarded.{names}
 use Rattle.group_facts.specs.Facts.{AllDiffer, AreAsks, Asks, IsAsked, asked_by, asked_of, editor_behind, server_behind}
 use Rattle.group_facts.specs.Why.{IsAsk, WhyToEditor, answers, asks, passes, recalls, refuses, rejects, spreads, turns_away, welcomes}

@@ -254,7 +254,6 @@ module _ (settings : Settings) (range : InRange settings) (before : List Event) 
               (subst (λ z. is_open id (open_of e (behind now (outs z now))) ≡ true) (row_of (message_of body) is) still)
           go false other = none_answered id (none_of (message_of body) other) k
 
-
       -- what isn't a response answers nothing
       malformed_none : (m : Message) → is_malformed m ≡ true → answered_id m ≡ None
       malformed_none not_json h = refl

@@ -215,7 +215,7 @@ module _ (settings : Settings) where
         editors = editors.to_server events n body (h.steady).editors;
         asked = asked_sent settings before cause events n body why (h.steady).asked;
         apart = apart_sent settings before cause events n body why (h.steady).apart;
-          asks = asks_sent events n body (h.steady).asks;
+        asks = asks_sent events n body (h.steady).asks;
         housed = housed_did settings events (ToServer n body) refl (λ s. refl) (h.steady).housed;
       };
       tied = tied_sent settings cause events n body before why h.tied;

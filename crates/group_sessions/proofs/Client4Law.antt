@@ -1,9 +1,9 @@
 -- The requests to an editor are numbered from 1.
-use Rattle.std.proofs.Common.{◌≡◌, ℕ, ◌+◌, Bool, true, false, cond, List, decimal, nat_eq, if◌then◌else◌, refl, sym, ◌∙◌, ap, subst}
+use Rattle.std.proofs.Common.{◌≡◌, ℕ, ◌+◌, cond, List, decimal, nat_eq, refl, sym, ◌∙◌, ap, subst}
 use Rattle.mux_history.specs.declared.cause.Cause.{Cause}
-use Rattle.mux_history.specs.declared.cause.Cause.TheVariants.{FromEditor, EditorGone, Joined}
+use Rattle.mux_history.specs.declared.cause.Cause.TheVariants.{FromEditor, EditorGone}
 use Rattle.mux_history.specs.declared.entry.Entry.{Entry}
-use Rattle.mux_history.specs.declared.out.Out.TheVariants.{CloseEditor, ToEditor, ToServer}
+use Rattle.mux_history.specs.declared.out.Out.TheVariants.{CloseEditor, ToEditor}
 use Rattle.rpc_message.specs.Message.{Message, request, notification, result, error, not_json, not_message, integer, message_of}
 use Rattle.event_model.specs.Event.{Event, did, took}
 use Rattle.event_model.specs.Parts.{editor_part, is_of_editor}

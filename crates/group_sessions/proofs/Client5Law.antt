@@ -1,10 +1,10 @@
 -- A cancel to an editor names a request that it didn't answer.
-use Rattle.std.proofs.Common.{◌≡◌, ℕ, Bool, true, false, not, cond, List, [], ◌||◌, bytes_eq, codes, decimal, nat_eq, if◌then◌else◌, Some, IsTrue, refl, sym, ◌∙◌, ap, subst}
+use Rattle.std.proofs.Common.{◌≡◌, ℕ, not, cond, List, [], ◌||◌, decimal, nat_eq, IsTrue, refl, sym, ◌∙◌, ap, subst}
 use Rattle.mux_history.specs.declared.cause.Cause.{Cause}
-use Rattle.mux_history.specs.declared.cause.Cause.TheVariants.{FromEditor, EditorGone, Joined}
+use Rattle.mux_history.specs.declared.cause.Cause.TheVariants.{FromEditor, EditorGone}
 use Rattle.mux_history.specs.declared.entry.Entry.{Entry}
-use Rattle.mux_history.specs.declared.out.Out.TheVariants.{CloseEditor, ToEditor, ToServer}
-use Rattle.rpc_message.specs.Message.{Id, Message, request, notification, result, error, not_json, not_message, integer, message_of}
+use Rattle.mux_history.specs.declared.out.Out.TheVariants.{CloseEditor, ToEditor}
+use Rattle.rpc_message.specs.Message.{Id, Message, integer, message_of}
 use Rattle.event_model.specs.Event.{Event, did, took}
 use Rattle.event_model.specs.Parts.{editor_part, is_of_editor}
 use Rattle.event_model.specs.Requests.{answered_id, is_open, with_request, without}

@@ -260,8 +260,10 @@ module _ (settings : Settings) (range : InRange settings) (before : List Event) 
         allowed = ap (λ w. allows w (message_of body)) asking ∙ k.response;
         next = λ still. subst (λ z. Link (stage_told z (message_of body)) (handshake_behind (hand s events) (said (ToServer s body)))) (sym k.waiting) (ap (λ w. handshake_behind w (said (ToServer s body))) asking);
       }
-  step (resolves k) h m = ready_step k.ready k.stays m (λ o. (ap (λ w. allows w (message_of body)) o ∙ response_open (message_of body) k.response,
-      still_open (requests (codes "shutdown") (message_of body)) (handshake_behind (hand s events) (said (ToServer s body))) (ap (λ z. handshake_behind z (said (ToServer s body))) o)))
+  step (resolves k) h m = ready_step k.ready k.stays m (λ o. (
+    ap (λ w. allows w (message_of body)) o ∙ response_open (message_of body) k.response,
+    still_open (requests (codes "shutdown") (message_of body)) (handshake_behind (hand s events) (said (ToServer s body))) (ap (λ z. handshake_behind z (said (ToServer s body))) o),
+  ))
   step (shuts k) h m = ready_step k.ready k.stays m (λ o. asked_on (hand s events) s body (message_of body) _ (codes "shutdown") None k.says o)
   step (exits k) h m =
       let still : moves before cause s ≡ false = ap (λ c. moves before c s) k.from ∙ ap₂ (λ a z. a && (is_initializing z && is_first_result (message_of k.answer))) (same_number s) k.stage in

@@ -1,8 +1,8 @@
 -- A response to a start has the id of a request of it that has no response yet.
-use Rattle.std.proofs.Common.{◌≡◌, ℕ, true, cond, List, [], codes, nat_eq, IsTrue, refl, sym, ◌∙◌, ap, subst}
+use Rattle.std.proofs.Common.{◌≡◌, ℕ, cond, List, [], nat_eq, IsTrue, refl, sym, ◌∙◌, ap, subst}
 use Rattle.document_model.proofs.Written.{Spoken, spoken}
 use Rattle.mux_history.specs.declared.cause.Cause.{Cause}
-use Rattle.mux_history.specs.declared.cause.Cause.TheVariants.{FromServer, Joined, ServerGone, StartFailed, Started}
+use Rattle.mux_history.specs.declared.cause.Cause.TheVariants.{FromServer, ServerGone, StartFailed, Started}
 use Rattle.mux_history.specs.declared.entry.Entry.{Entry}
 use Rattle.mux_history.specs.declared.out.Out.TheVariants.{EndServer, ToServer}
 use Rattle.rpc_message.specs.Message.{Id, Message, message_of}

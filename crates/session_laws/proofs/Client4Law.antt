@@ -2,7 +2,7 @@
 use Rattle.std.proofs.Common.{◌≡◌, ℕ, ◌+◌, Bool, true, false, List, [], ◌∷◌, fold, refl, ◌∙◌, ap}
 use Rattle.mux_history.specs.declared.out.Out.TheVariants.{ToEditor, ToServer, Spawn, CloseEditor, EndServer}
 use Rattle.event_model.specs.Event.{Event, took, did}
-use Rattle.rpc_message.specs.Message.{Message, request, notification, result, error, not_json, not_message}
+use Rattle.rpc_message.specs.Message.{request, notification, result, error, not_json, not_message}
 use Rattle.session_laws.specs.ClientRules.{ClientRule4, ClientRule5, asks_behind}
 
 abbrev pub is_told : Event → Bool

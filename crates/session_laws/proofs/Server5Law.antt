@@ -1,10 +1,9 @@
 -- A response to a start has the id of a request of it that has no response yet.
-use Rattle.std.proofs.Common.{◌≡◌, Bool, true, false, List, Some, refl, ap, sym, ◌∙◌}
+use Rattle.std.proofs.Common.{◌≡◌, true, false, List, Some, refl, ap, ◌∙◌}
 use Rattle.mux_history.specs.declared.out.Out.TheVariants.{ToEditor, ToServer, Spawn, CloseEditor, EndServer}
 use Rattle.rpc_message.specs.Message.{Message, request, notification, result, error, not_json, not_message, Id}
 use Rattle.event_model.specs.Event.{Event, took, did}
 use Rattle.event_model.specs.Requests.{answered_id, is_open}
-use Rattle.mux_facts.specs.Allowed.{is_response}
 use Rattle.session_laws.specs.ServerRules.{ServerRule5, answers_one, is_among}
 use Rattle.session_laws.proofs.PartLaws.{is_to_server}
 
