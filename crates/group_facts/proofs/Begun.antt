@@ -5,6 +5,7 @@ use Rattle.std.specs.List.{AllByRecursion}
 use Rattle.std.proofs.lemmas.Bool.{and_parts}
 use Rattle.std.proofs.lemmas.List.{length-append}
 use Rattle.std.proofs.lemmas.List.Sums.{fold-append}
+use Rattle.json_text.specs.Json.{Json}
 use Rattle.mux_history.specs.declared.cause.Cause.{Cause}
 use Rattle.mux_history.specs.declared.cause.Cause.TheVariants.{Joined, FromEditor, EditorGone, Started, StartFailed, FromServer, ServerGone, Drained, Tick}
 use Rattle.mux_history.specs.declared.out.Out.{Out}
@@ -40,6 +41,7 @@ use Rattle.group_words.specs.Houses.{at_group, declared_for, emptied, groups_hea
 use Rattle.group_words.specs.Placing.{busy, changed, end_where, ended, founded, is_live, with_editor, is_due}
 use Rattle.group_words.specs.Rows.{end_group, end_start, initialize_row, placed_row}
 use Rattle.group_words.proofs.Frames.{changed_length, groups_more, groups_stay, touches_groups}
+use Rattle.group_rows.specs.Cancelling.{cancelling_at, cancelling_row}
 use Rattle.group_rows.specs.Forwarded.{Forwarded, forwarding_of}
 use Rattle.group_rows.specs.Leaves.{cancel, cancel_text, cancels, closings, leave_bodies, leave_row, refusals, refuse, uncancelled_of}
 use Rattle.group_rows.specs.AskRows.{ask, asking_row, broadcast, notified_row, response_at, response_row, running_in}
@@ -172,6 +174,15 @@ module _ (settings : Settings) (before : List Event) where
   quiet_notice : (e : ℕ) (body : List ℕ) (events : List Event) → Quiet events (notice_row settings before e body)
   quiet_notice e body events = by_on (λ none. by_nothing) (λ g home. quiet_notices e body events g)
 
+  quiet_cancel : (e : ℕ) (body : List ℕ) (params : Option Json) (events : List Event) (s : ℕ) → Quiet events (cancelling_at before e body params s)
+  quiet_cancel e body params events s = by_choose (λ ready. by_on (λ none. by_nothing) (λ n is. by_send tt)) (λ off. by_nothing)
+
+  quiet_cancels : (e : ℕ) (body : List ℕ) (params : Option Json) (events : List Event) (g : ℕ) → Quiet events (on (start_of g before) nothing (cancelling_at before e body params))
+  quiet_cancels e body params events g = by_on (λ none. by_nothing) (λ s start. quiet_cancel e body params events s)
+
+  quiet_cancelling : (e : ℕ) (body : List ℕ) (params : Option Json) (events : List Event) → Quiet events (cancelling_row settings before e body params)
+  quiet_cancelling e body params events = by_on (λ none. by_nothing) (λ g home. quiet_cancels e body params events g)
+
   quiet_told : (e : ℕ) (body : List ℕ) (x : Saying) (events : List Event) (g s : ℕ) → Quiet events (document_at settings before e body x g s)
   quiet_told e body x events g s = by_choose (λ ready. quiet_bodies s (document_bodies settings.limits.versions (encoding_of g before) (texts_of settings g before) (λ u. held_at s u before) e body x) events) (λ off. by_nothing)
 
@@ -219,7 +230,7 @@ module _ (settings : Settings) (before : List Event) where
 
   quiet_served : (e : ℕ) (body : List ℕ) (m : Message) (events : List Event) → Quiet events (served_row settings before e body m)
   quiet_served e body (request id method params) events = quiet_asked e body method events
-  quiet_served e body (notification method params) events = by_choose (λ yes. quiet_closing e events) (λ no. by_choose (λ going. quiet_notice e body events) (λ off. quiet_document e body (saying_by method params) events))
+  quiet_served e body (notification method params) events = by_choose (λ yes. quiet_closing e events) (λ no. by_choose (λ going. quiet_notice e body events) (λ off. by_choose (λ cancels. quiet_cancelling e body params events) (λ other. quiet_document e body (saying_by method params) events)))
   quiet_served e body (result id r) events = quiet_handed e body (result id r) events
   quiet_served e body (error id x) events = quiet_handed e body (error id x) events
   quiet_served e body not_json events = quiet_handed e body not_json events

@@ -43,12 +43,22 @@ use Rattle.group_facts.proofs.Tellings.{Calm, Tells, cancel_names, cancel_told, 
 
 -- The numbers of open requests are small
 
-abbrev IsSmall : ℕ → Type 0
+abbrev pub IsSmall : ℕ → Type 0
 IsSmall n = n < 2 ^ 64
 
 all_small : (low next : ℕ) (fs : List Forwarded) → next < 2 ^ 64 → Rising low next fs → AllByRecursion (λ (f : Forwarded). IsSmall f.number) fs
 all_small low next [] bound h = tt
 all_small low next (f ∷ fs) bound h = (let le : f.number + 1 ≤ next = below_next (f.number + 1) next fs h.1 in omega (arith, le, bound), all_small (f.number + 1) next fs bound h.1)
+
+-- those of a start that is ready
+pub numbers_small : (settings : Settings) → InRange settings → (before : List Event) → Bounded settings before → (s : ℕ) → (life_of s before).stage ≡ Ready → AllByRecursion (λ (f : Forwarded). IsSmall f.number) (forwarding_of s before).open_requests
+numbers_small settings range before bounded s was = all_small 2 (forwarding_of s before).next (forwarding_of s before).open_requests bound (rising_of s before)
+  where
+    bound : (forwarding_of s before).next < 2 ^ 64
+    bound = let b = bounded s (ap is_up was) in
+        let second : (forwarding_of s before).next ≤ settings.limits.requests + 2 = b.1 in
+        let wide : settings.limits.requests < 2 ^ 32 = range.requests in
+        omega (arith, second, wide)
 
 all_numbers : (Q : ℕ → Type 0) (fs : List Forwarded) → AllByRecursion (λ (f : Forwarded). Q f.number) fs → AllByRecursion Q (map (λ (f : Forwarded). f.number) fs)
 all_numbers Q [] h = tt
@@ -227,13 +237,7 @@ module _ (settings : Settings) (range : InRange settings) (before : List Event) 
       calm = record { still = still_now place s (stage_still s ∙ was); turn = stays (rests s) }
 
       small : AllByRecursion IsSmall ns
-      small = uncancelled_small e (forwarding_of s before).open_requests (all_small 2 (forwarding_of s before).next (forwarding_of s before).open_requests bound (rising_of s before))
-        where
-          bound : (forwarding_of s before).next < 2 ^ 64
-          bound = let b = bounded s (ap is_up was) in
-              let second : (forwarding_of s before).next ≤ settings.limits.requests + 2 = b.1 in
-              let wide : settings.limits.requests < 2 ^ 32 = range.requests in
-              omega (arith, second, wide)
+      small = uncancelled_small e (forwarding_of s before).open_requests (numbers_small settings range before bounded s was)
 
       waiting : AllByRecursion (Waits (forwarding_of s place).open_requests) ns
       waiting = subst (λ fs. AllByRecursion (Waits fs) ns) (sym (open_still s)) (uncancelled_all (Waits (forwarding_of s before).open_requests) e (forwarding_of s before).open_requests (itself (forwarding_of s before).open_requests))

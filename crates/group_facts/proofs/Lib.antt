@@ -20,6 +20,7 @@ pub mod LiveGroups
 pub mod Lively
 pub mod Multiplexer
 pub mod NoticeRow
+pub mod CancelRow
 pub mod Nulls
 pub mod Numbered
 pub mod Numbers

@@ -40,6 +40,7 @@ use Rattle.group_words.specs.Placing.{home_by}
 use Rattle.group_words.specs.Rows.{initialize_row}
 use Rattle.group_words.proofs.Frames.{home_more}
 use Rattle.group_rows.specs.AskRows.{response_row}
+use Rattle.group_rows.specs.Cancelling.{cancelling_at, cancelling_row}
 use Rattle.group_rows.specs.Forwarded.{Forwarding, forwarding_of, numbered}
 use Rattle.group_rows.specs.Leaves.{leave_row}
 use Rattle.group_rows.specs.Rows.{answer_error, asks_lspmux, can_ask, closing_row, document_at, document_bodies, document_row, early_code, early_row, exit_row, forward, from_editor, is_misplaced, lspmux_row, message_row, named_row, names_lspmux, notice_at, notice_row, open_row, outs_of, request_at, request_row, served_request, served_row, shutdown_row, status_row, sync_bodies, sync_row, taken_row, told_row, wrong_code}
@@ -385,6 +386,18 @@ module _ (settings : Settings) (before : List Event) (n : ℕ) (body : List ℕ)
         bodies : Because (λ places out. ToStart out) now (notice_row settings before n body)
         bodies = by_on (λ none. by_nothing) (λ g home. told_group g)
 
+    cancelling_rests : (method : List ℕ) (params : Option Json) → message_of body ≡ notification method params → Rests (outs (cancelling_row settings before n body params) now)
+    cancelling_rests method params says = open_bodies settings n Nobody now (outs (cancelling_row settings before n body params) now) (all_outs ToStart now _ bodies.why) (no_request (notification method params) says refl refl)
+      where
+        told_at : (s : ℕ) → Because (λ places out. ToStart out) now (cancelling_at before n body params s)
+        told_at s = by_choose (λ ready. by_on (λ none. by_nothing) (λ k is. by_send tt)) (λ off. by_nothing)
+
+        told_group : (g : ℕ) → Because (λ places out. ToStart out) now (on (start_of g before) nothing (cancelling_at before n body params))
+        told_group g = by_on (λ none. by_nothing) (λ s start. told_at s)
+
+        bodies : Because (λ places out. ToStart out) now (cancelling_row settings before n body params)
+        bodies = by_on (λ none. by_nothing) (λ g home. told_group g)
+
     exit_rests : (method : List ℕ) (params : Option Json) → message_of body ≡ notification method params → Rests (outs (exit_row settings before n (notification method params)) now)
     exit_rests method params says = go (bytes_eq (codes "exit") method)
       where
@@ -393,12 +406,14 @@ module _ (settings : Settings) (before : List Event) (n : ℕ) (body : List ℕ)
         go false = rests_here (no_request (notification method params) says refl refl)
 
     served_rests : (method : List ℕ) (params : Option Json) → message_of body ≡ notification method params → Rests (outs (served_row settings before n body (notification method params)) now)
-    served_rests method params says = go (bytes_eq (codes "exit") method) (goes_on (class_of method Editor true))
+    served_rests method params says = go (bytes_eq (codes "exit") method) (goes_on (class_of method Editor true)) (bytes_eq (codes "$/cancelRequest") method)
       where
-        go : (a b : Bool) → Rests (outs (choose a (closing_row settings before n) (choose b (notice_row settings before n body) (document_row settings before n body (saying_by method params)))) now)
-        go true b = closing_rests
-        go false true = notice_rests method params says
-        go false false = document_rests method params says
+        go : (a b c : Bool) → Rests (outs (choose a (closing_row settings before n) (choose b (notice_row settings before n body)
+            (choose c (cancelling_row settings before n body params) (document_row settings before n body (saying_by method params))))) now)
+        go true b c = closing_rests
+        go false true c = notice_rests method params says
+        go false false true = cancelling_rests method params says
+        go false false false = document_rests method params says
 
     notified_rests : (method : List ℕ) (params : Option Json) → message_of body ≡ notification method params → (phase : Phase) → Rests (outs (message_row settings before n body (notification method params) phase) now)
     notified_rests method params says phase = subst (λ xs. Rests xs) (sym (by_single (notification method params) phase refl refl)) (go phase)

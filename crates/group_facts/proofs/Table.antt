@@ -32,6 +32,7 @@ use Rattle.group_facts.specs.Facts.{IsAlone, is_parting}
 use Rattle.group_facts.proofs.AskingRows.{response_why}
 use Rattle.group_facts.proofs.AnswerRows.{server_why, start_why}
 use Rattle.group_facts.proofs.Apart.{alone_by, alone_early}
+use Rattle.group_facts.proofs.CancelRow.{cancelling_why}
 use Rattle.group_facts.proofs.DocumentRow.{document_why}
 use Rattle.group_facts.proofs.Facts.{Facts}
 use Rattle.group_facts.proofs.Multiplexer.{lspmux_apart}
@@ -70,13 +71,15 @@ module _ (settings : Settings) (range : InRange settings) (before : List Event) 
       (λ down. shutdown_why settings range before (facts.base).opened (facts.steady).bounded (facts.steady).asks e body id method params says there late lonely)
       (λ on. request_why settings before e body id method params says there lonely range (facts.base).opened late (not_own method (off_first (bytes_eq (codes "initialize") method) (is_wrong (class_of method Editor false)) placed) on)))
 
-  -- E9, E12 to E17
+  -- E9, E11 to E17
   noticed_why : (method : List ℕ) (params : Option Json) → message_of body ≡ notification method params → is_served (desk_of e before).phase ≡ true → is_there (desk_of e before).phase ≡ true → Mine (served_notice settings before e body method params)
   noticed_why method params says served there = by_choose
       (λ yes. parting there (exit_parts method params says yes))
       (λ no. by_choose
       (λ going. notice_why settings range before (facts.base).opened e body served method params says going)
-      (λ off. document_why settings range before e body (facts.base).opened method params says))
+      (λ off. by_choose
+      (λ cancels. cancelling_why settings range before (facts.steady).bounded e body served params (says ∙ ap (λ m. notification m params) (sym ((bytes_eq-Decides (codes "$/cancelRequest") method).0 cancels))))
+      (λ other. document_why settings range before e body (facts.base).opened method params says)))
 
   served_why : (m : Message) → message_of body ≡ m → is_served (desk_of e before).phase ≡ true → is_early (desk_of e before).phase ≡ false → is_there (desk_of e before).phase ≡ true → is_doubled before e m ≡ false → Mine (served_row settings before e body m)
   served_why (request id method params) says served late there single = asked_why id method params says late there (alone_by before (facts.steady).asked e id single)

@@ -39,7 +39,7 @@ use Rattle.mux_facts.proofs.Tellings.{Says, closed_not, sent_more, version_at, v
 use Rattle.mux_facts.proofs.Words.{same_number}
 use Rattle.group_facts.specs.Facts.{asked_by}
 use Rattle.group_facts.proofs.Forwards.{Still, still_answered, still_notified}
-use Rattle.group_facts.specs.Why.{Turn, Why, stays, greeted, tells, cancels, is_uncancelled, moves, refused_for, resolves}
+use Rattle.group_facts.specs.Why.{Turn, Why, stays, greeted, tells, cancels, of_daemon, is_uncancelled, moves, refused_for, resolves}
 use Rattle.group_rows.specs.Asks.{Ask, asks_of, is_under}
 use Rattle.group_rows.specs.Forwarded.{forwarding_of}
 use Rattle.group_rows.specs.Leaves.{cancel_text}
@@ -111,7 +111,7 @@ module _ (settings : Settings) (range : InRange settings) (before : List Event) 
   -- that a request is cancelled leaves every document alone
   pub cancel_told : {K : List ℕ → Type 0} (events : List Event) (n : ℕ) → n < 2 ^ 64 → moves before cause s ≡ false → list_any (is_uncancelled n) (forwarding_of s events).open_requests ≡ true → Calm events → Tells K events (cancel_text n ∷ [])
   cancel_told events n low rests waits calm = record {
-    why = (cancels (record { number = n; params = params_tree n; value = number nowhere (decimal n); named = cancel_names n; id = ap (λ b. integer_if b (decimal n)) (decimal_integer n (omega arith)); waits = waits; ready = calm.still.ready; stays = rests; bytes = refl; says = cancel_says n low }), tt);
+    why = (cancels (record { number = n; params = params_tree n; value = number nowhere (decimal n); named = cancel_names n; id = ap (λ b. integer_if b (decimal n)) (decimal_integer n (omega arith)); waits = waits; ready = calm.still.ready; stays = rests; text = of_daemon refl; says = cancel_says n low }), tt);
     calm = record { still = still_notified now s events (cancel_text n) (codes "$/cancelRequest") (Some (params_tree n)) (cancel_says n low) calm.still; turn = turn_more before cause events s (cancel_text n) calm.turn };
     others = λ w k. ap (λ (z : Sent). z.held) (sent_more s w events (said (ToServer s (cancel_text n))))
         ∙ ap₂ (λ b m. if b then told (sent_of s w events).encoding w (held_at s w events) (saying_of m) else held_at s w events) (same_number s) (cancel_says n low);

@@ -1,5 +1,5 @@
 -- Which causes meet only rows of the table over several editors and groups that are built, until all are.
--- Not built of an editor: `lspmux/stop` (E6), and while it is served requests that go on with tokens (E10), and the notifications that cancel (E11).
+-- Not built of an editor: `lspmux/stop` (E6), and while it is served requests that go on with tokens (E10), and the notification that cancels the work of one (E11).
 -- Not built of a start while it is ready: the edits that it asks for (V3), what it asks of one editor where none runs (S12), and the classes of S6 to S8, S10, S13 and S15. Nor the end of a program whose group lives.
 -- Of S2, what is read back must be what was meant: editors are shown all of the result.
 use Rattle.std.specs.Prelude.{ℕ, Bool, true, false, not, ◌&&◌, ◌||◌, List, bytes_eq, codes, is_some}
@@ -26,7 +26,6 @@ use Rattle.event_model.specs.Settings.{Settings}
 use Rattle.event_model.specs.Spawns.{group_of}
 use Rattle.event_model.specs.Stages.{life_of, is_first_result}
 use Rattle.mux_model.specs.Built.{is_other}
-use Rattle.mux_model.specs.Methods.{is_cancelling}
 use Rattle.group_words.specs.Houses.{groups_of}
 use Rattle.group_words.specs.Rows.{shown_of}
 use Rattle.group_rows.specs.AskRows.{first_in, running_in}
@@ -58,9 +57,13 @@ doubles phase id ids = is_begun phase && is_open id ids
 abbrev pub built_request : Phase → Bool → List ℕ → Option Json → Bool
 built_request phase doubled method params = names_lspmux method || (is_standard (class_of method Editor false) && (doubled || not (is_served phase && is_marked method params)))
 
--- all but E11
+-- E11: the work of a token is to be cancelled (LSP 3.17, Work Done Progress)
+abbrev pub cancels_work : List ℕ → Bool
+cancels_work method = bytes_eq (codes "window/workDoneProgress/cancel") method
+
+-- all but that
 abbrev pub built_notice : Phase → List ℕ → Bool
-built_notice phase method = not (is_served phase && is_cancelling (class_of method Editor true))
+built_notice phase method = not (is_served phase && cancels_work method)
 
 abbrev pub built_from_editor : Phase → List Id → Message → Bool
 built_from_editor phase ids (request id method params) = built_request phase (doubles phase id ids) method params

@@ -35,6 +35,7 @@ use Rattle.document_model.specs.Helds.{HeldText}
 use Rattle.group_words.specs.Houses.{groups_of, home_of}
 use Rattle.group_rows.specs.Answers.{own_version}
 use Rattle.group_rows.specs.Asks.{Ask, asker_of, asking_of, asks_of, has_number, is_seated, is_single, is_under, next_ask}
+use Rattle.group_rows.specs.Cancelling.{number_named, numbered_text}
 use Rattle.group_rows.specs.Ends.{answers_shutdown}
 use Rattle.group_rows.specs.Forwarded.{Forwarded, Sender, answered_by, forwarding_of}
 use Rattle.group_rows.specs.Leaves.{cancel_text}
@@ -147,6 +148,22 @@ pub record IsShutting (settings : Settings) (before : List Event) (cause : Cause
 abbrev pub is_uncancelled : ℕ → Forwarded → Bool
 is_uncancelled n f = nat_eq f.number n && not f.cancelled
 
+-- an editor that is served cancels an open request of its own, which it names: its message goes on under the request's number
+pub record IsOwnCancel (before : List Event) (cause : Cause) (s number : ℕ) (body : List ℕ) : Type 0 where
+  pub editor : ℕ
+  pub asked : List ℕ
+  pub params : Option Json
+  pub from : cause ≡ FromEditor editor asked
+  pub served : is_served (desk_of editor before).phase ≡ true
+  pub notified : message_of asked ≡ notification (codes "$/cancelRequest") params
+  pub meant : number_named editor params (forwarding_of s before).open_requests ≡ Some number
+  pub bytes : body ≡ numbered_text number asked
+
+-- the daemon's own text, since the request's editor leaves, or the editor's
+pub data CancelText (before : List Event) (cause : Cause) (s number : ℕ) (body : List ℕ) : Type 0 where
+  of_daemon : body ≡ cancel_text number → CancelText before cause s number body
+  of_editor : IsOwnCancel before cause s number body → CancelText before cause s number body
+
 -- an open request that wasn't cancelled is cancelled at s, which is ready, by its number (LSP 3.17, Cancellation Support)
 pub record IsCancel (before : List Event) (cause : Cause) (events : List Event) (s : ℕ) (body : List ℕ) : Type 0 where
   pub number : ℕ
@@ -157,7 +174,7 @@ pub record IsCancel (before : List Event) (cause : Cause) (events : List Event) 
   pub waits : list_any (is_uncancelled number) (forwarding_of s events).open_requests ≡ true
   pub ready : (life_of s events).stage ≡ Ready
   pub stays : moves before cause s ≡ false
-  pub bytes : body ≡ cancel_text number
+  pub text : CancelText before cause s number body
   pub says : message_of body ≡ notification (codes "$/cancelRequest") (Some params)
 
 -- a request of s, which gave no result yet, is answered at once

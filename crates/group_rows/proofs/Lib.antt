@@ -6,6 +6,8 @@ pub mod Integers
 pub mod Moments
 pub mod Worked
 pub mod WorkedAnswers
+pub mod WorkedCancels
+pub mod Cancelling
 pub mod Statuses
 pub mod Stops
 pub mod Versions

@@ -1,5 +1,7 @@
 pub mod Answers
 pub mod AnswersExample
+pub mod Cancelling
+pub mod CancellingExample
 pub mod Ends
 pub mod Example
 pub mod Forwarded

@@ -1,4 +1,4 @@
--- The routing table over several editors and groups, in part: J1, J2, E2 to E5, E7 to E10, E12 to E17, E19, S1, S2 with X4, S3, S4, S5 with V1 and V2, X1 to X3 of groups that live no more, and X5 to X7.
+-- The routing table over several editors and groups, in part: J1, J2, E2 to E5, E7 to E10, E11 but for the work of tokens, E12 to E17, E19, S1, S2 with X4, S3, S4, S5 with V1 and V2, X1 to X3 of groups that live no more, and X5 to X7.
 use Rattle.std.specs.Prelude.{ℕ, Bool, true, false, ◌&&◌, ◌||◌, List, [], ◌∷◌, ◌++◌, filter, flat_map, codes, nat_eq, nat_lt, decimal, bytes_eq, if◌then◌else◌}
 use Rattle.std.specs.Prelude.{Option, Some, None, slice_get}
 use Rattle.std.specs.List.{list_any}
@@ -37,6 +37,7 @@ use Rattle.group_words.specs.Houses.{editors_in, groups_of, home_of, is_doubled,
 use Rattle.group_words.specs.Rows.{initialize_of, initialize_row, shown_of}
 use Rattle.group_rows.specs.Answers.{answer_row}
 use Rattle.group_rows.specs.AskRows.{notified_row, question_row, response_row}
+use Rattle.group_rows.specs.Cancelling.{cancelling_row}
 use Rattle.group_rows.specs.Ends.{answers_shutdown, exit_server}
 use Rattle.group_rows.specs.Forwarded.{forwarding_of}
 use Rattle.group_rows.specs.Leaves.{leave_row}
@@ -142,10 +143,11 @@ abbrev pub served_request : Settings → List Event → ℕ → List ℕ → Lis
 served_request settings before e body method = choose (is_misplaced method) (answer_error e body (wrong_code method invalid_request))
     (choose (bytes_eq (codes "shutdown") method) (shutdown_row settings before e body) (request_row settings before e body))
 
--- E9, and E12 to E17; E15: what speaks of no document and doesn't go on gives nothing
+-- E9, and E11 to E17; E15: what speaks of no document and doesn't go on gives nothing
 abbrev pub served_notice : Settings → List Event → ℕ → List ℕ → List ℕ → Option Json → Row
 served_notice settings before e body method params = choose (bytes_eq (codes "exit") method) (closing_row settings before e)
-    (choose (goes_on (class_of method Editor true)) (notice_row settings before e body) (document_row settings before e body (saying_by method params)))
+    (choose (goes_on (class_of method Editor true)) (notice_row settings before e body)
+    (choose (bytes_eq (codes "$/cancelRequest") method) (cancelling_row settings before e body params) (document_row settings before e body (saying_by method params))))
 
 abbrev pub served_row : Settings → List Event → ℕ → List ℕ → Message → Row
 served_row settings before e body (request id method params) = served_request settings before e body method

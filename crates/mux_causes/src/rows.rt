@@ -6,7 +6,7 @@ ghost use Rattle.event_model.specs.Phases.{desk_of, is_served};
 ghost use Rattle.event_model.specs.Requests.{is_open, open_of};
 ghost use Rattle.event_model.specs.Settings.{Settings};
 ghost use Rattle.event_model.specs.Stages.{is_first_result, life_of};
-ghost use Rattle.group_facts.specs.Built.{built_behind, built_early, built_from_editor, built_from_server, built_notice, built_ready, built_request, built_telling, doubles, is_left, is_marked, is_plain, is_shown_whole, is_standard};
+ghost use Rattle.group_facts.specs.Built.{built_behind, built_early, built_from_editor, built_from_server, built_notice, built_ready, built_request, built_telling, cancels_work, doubles, is_left, is_marked, is_plain, is_shown_whole, is_standard};
 ghost use Rattle.group_facts.specs.Facts.{Known};
 ghost use Rattle.group_facts.specs.Lively.{lives_at};
 ghost use Rattle.group_facts.specs.Settled.{Settled};
@@ -17,7 +17,6 @@ ghost use Rattle.lsp_method.specs.Class.{class_of};
 ghost use Rattle.lsp_method.specs.declared.variants.Origin.TheVariants.{Editor, Server};
 ghost use Rattle.mux_history.specs.Cores.{body_length};
 ghost use Rattle.mux_model.specs.Built.{is_other};
-ghost use Rattle.mux_model.specs.Methods.{is_cancelling};
 ghost use Rattle.mux_tables.specs.Stands.{Stands, number_in};
 ghost use Rattle.rpc_message.specs.Message.{Id, message_of, notification, request, result as outcome};
 ghost use Rattle.rpc_message.specs.Parsed.{IsRead};
@@ -26,7 +25,7 @@ use event_model::{Phase, Stage};
 use lsp_method::Class;
 use message_body::{Body, Memory};
 use mux_history::Cause;
-use mux_members::{class_in, has_token, is_cancelling, is_first_result, told_class};
+use mux_members::{cancels_work, class_in, has_token, is_first_result, told_class};
 use mux_tables::Tables;
 use mux_turns::{asks_lspmux, doubles, shown_of};
 use rpc_message::{Malformed, Message, Sort};
@@ -112,12 +111,12 @@ fn built_request(phase: Phase, doubled: bool, message: &Message) -> bool
     names_lspmux(message) || is_taken(phase, doubled, message)
 }
 
-// E11: whether it is a notification of an editor that is served, and cancels.
+// E11: whether it is a notification of an editor that is served, and cancels the work of a token.
 fn cancels_here(phase: Phase, message: &Message) -> bool
     ensures { (body method : List ℕ) (params : Option Json) → IsRead message.now body → message_of body ≡ notification method params
-        → result ≡ (is_served phase && is_cancelling (class_of method Editor true)) }
+        → result ≡ (is_served phase && cancels_work method) }
 {
-    phase.is_served() && is_cancelling(message)
+    phase.is_served() && cancels_work(message)
 }
 
 // Whether a notification of an editor in this phase is built.

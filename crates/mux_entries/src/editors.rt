@@ -28,12 +28,12 @@ use event_model::{Phase, Server};
 use lsp_method::Class;
 use message_body::{Body, Memory};
 use mux_history::Outs;
-use mux_members::{class_in, goes_on, is_exit, is_initialize, is_open};
+use mux_members::{class_in, goes_on, is_cancel, is_exit, is_initialize, is_open};
 use mux_tables::Tables;
 use mux_turns::{
-    asks_lspmux, doubles, take_closed, take_doubled, take_doubled_own, take_down, take_early,
-    take_exit, take_gone, take_initialize, take_malformed, take_notice, take_open, take_passed,
-    take_quiet, take_reply, take_request, take_shutdown, take_status, take_wrong,
+    asks_lspmux, doubles, take_cancel, take_closed, take_doubled, take_doubled_own, take_down,
+    take_early, take_exit, take_gone, take_initialize, take_malformed, take_notice, take_open,
+    take_passed, take_quiet, take_reply, take_request, take_shutdown, take_status, take_wrong,
 };
 use rpc_message::{Malformed, Message, Sort};
 use std::alloc::Global;
@@ -223,7 +223,7 @@ fn from_asking(
     }
 }
 
-// E9, E12 to E17: a notification of an editor that is served.
+// E9, E11 to E17: a notification of an editor that is served.
 fn from_noting(
     tables: &mut Tables,
     alloc: Global,
@@ -235,7 +235,8 @@ fn from_noting(
     ensures same_limit { tables.new.requests ≡ tables.old.requests }
     ensures same_versions { tables.new.versions ≡ tables.old.versions }
     ensures does { (settings : Settings) (before : List Event) (body method : List ℕ) (params : Option Json) → IsRead message.now body
-        → message_of body ≡ notification method params → is_served (desk_of e before).phase ≡ true → outs.old ≡ [] → Settled settings before
+        → message_of body ≡ notification method params → is_served (desk_of e before).phase ≡ true → outs.old ≡ [] → Known settings before
+        → Settled settings before
         → Stands settings tables.old before → DocumentsStand settings nothing_owed tables.old before
         → OnOk result (Done (λ k events. AllStand settings k events) (served_row settings before e body (notification method params))
         (with_cause before (FromEditor e body)) [] (tables.new, nothing_owed) outs.new) }
@@ -246,13 +247,16 @@ fn from_noting(
     } else if goes_on(message) {
         take_passed(tables, alloc, outs, e, message)?;
         Ok(())
+    } else if is_cancel(message) {
+        take_cancel(tables, alloc, outs, e, message)?;
+        Ok(())
     } else {
         take_notice(tables, alloc, outs, e, message)?;
         Ok(())
     }
 }
 
-// E8 to E10, E12 to E17, and E19: a message of an editor that is served.
+// E8 to E17 and E19: a message of an editor that is served.
 fn from_served(
     tables: &mut Tables,
     alloc: Global,
@@ -264,7 +268,7 @@ fn from_served(
     ensures same_limit { tables.new.requests ≡ tables.old.requests }
     ensures same_versions { tables.new.versions ≡ tables.old.versions }
     ensures does { (settings : Settings) (before : List Event) (body : List ℕ) → IsRead message.now body → is_served (desk_of e before).phase ≡ true
-        → outs.old ≡ [] → Settled settings before → built_behind settings before (FromEditor e body) ≡ true
+        → outs.old ≡ [] → Known settings before → Settled settings before → built_behind settings before (FromEditor e body) ≡ true
         → (is_begun (desk_of e before).phase && is_doubled before e (message_of body)) ≡ false
         → (is_there (desk_of e before).phase && asks_lspmux (message_of body)) ≡ false
         → Stands settings tables.old before → DocumentsStand settings nothing_owed tables.old before

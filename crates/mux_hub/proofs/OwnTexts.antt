@@ -51,7 +51,7 @@ module _ (settings : Settings) (t : Tables) (before : List Event) (st : Stands s
   -- the last start of a group, where it is ready
   last_of : (g s : ℕ) → start_of g before ≡ Some s → is_ready (life_of s before).stage ≡ true → (k : KeptAt g t.lasts.items) × (k.last.life.start ≡ s)
   last_of g s is ready =
-      let k = kept_start settings t before g st s is (λ e. never (sym (ap is_ready e) ∙ ready)) in
+      let k = kept_start settings t before g st s is (λ e. never (sym ready ∙ ap is_ready e)) in
       (k, same_item (sym (st.lasts.each k.place k.last k.at).start ∙ (ap (λ n. start_of n before) k.group ∙ is)))
 
   -- the documents of a group whose last start is ready
@@ -115,9 +115,9 @@ module _ (settings : Settings) (t : Tables) (before : List Event) (st : Stands s
   -- what a ready start of a group has
   pub holders : AllHaveHolders settings before
   holders g s is ready u =
-      let x = last_of g s is in
-      let d = documents_at settings nothing_owed t before g x.0 x.1 ds in
-      let shared = shared_of g s x.0 d.0 x.1 x.2 d.1 ready in
+      let x = last_of g s is ready in
+      let d = documents_at settings nothing_owed t before x.0.place x.0.last x.0.at ds in
+      let shared = shared_of g s x.0 d.0 x.1 d.1 ready in
       let same : HeldStands s shared.start.code d.0 before = subst (λ es. HeldStands s shared.start.code d.0 es) (append-nil before) shared.start.holds in
       subst (λ (y : Texts). HasHolders (holder u y.opens) (held_at s u before)) (sym shared.texts.texts) (by (version_held u d.0.helds) (holder u d.0.opens) (held_at s u before) (same.held u))
     where

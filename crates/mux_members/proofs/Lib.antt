@@ -1,4 +1,5 @@
 pub mod Bared
+pub mod Cancelled
 pub mod Encoded
 pub mod Encodings
 pub mod Looks

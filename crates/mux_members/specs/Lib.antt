@@ -1,3 +1,4 @@
+pub mod Cancels
 pub mod Envelopes
 pub mod Finds
 pub mod Notices

@@ -1,6 +1,7 @@
 //! What the routing table reads in bodies: methods, ids, and the members of params and of results.
 #![tactic(auto)]
 
+mod cancel;
 mod envelope;
 mod look;
 mod method;
@@ -8,9 +9,10 @@ mod notice;
 mod outcome;
 mod params;
 
+pub use cancel::cancelled_id;
 pub use look::{first_item, is_object, member, member_bytes, next_value};
 pub use method::{
-    asked_class, class_in, goes_on, is_cancelling, is_dollar, is_exit, is_initialize,
+    asked_class, cancels_work, class_in, goes_on, is_cancel, is_dollar, is_exit, is_initialize,
     is_initialized, is_message_request, is_open, is_status, is_wrong, told_class,
 };
 pub use notice::{Notice, notice_in, speaks, string};

@@ -4,7 +4,7 @@ ghost use Rattle.json_text.specs.Json.{Json};
 ghost use Rattle.lsp_method.specs.Class.{class_of};
 ghost use Rattle.lsp_method.specs.declared.variants.Origin.TheVariants.{Editor, Server};
 ghost use Rattle.rpc_message.specs.Message.{Id, message_of, notification, request};
-ghost use Rattle.mux_model.specs.Methods.{goes_on, is_cancelling, is_dollar, is_wrong};
+ghost use Rattle.mux_model.specs.Methods.{goes_on, is_dollar, is_wrong};
 ghost use Rattle.rpc_message.specs.Parsed.{IsRead};
 ghost use Rattle.event_model.specs.Event.{notifies, requests};
 
@@ -72,27 +72,12 @@ fn class_goes_on(class: Class) -> bool
     matches!(class, Class::Configuration | Class::Other)
 }
 
-// Whether those of this class cancel a request, or the work of a token.
-fn class_cancels(class: Class) -> bool
-    ensures { result ≡ is_cancelling class }
-{
-    matches!(class, Class::Cancel | Class::ProgressCancel)
-}
-
 /// E16 and E17: whether an editor's notification goes on to a server, by its method.
 pub fn goes_on(m: &Message) -> bool
     ensures { (bytes method : List ℕ) (params : Option Json) → IsRead m.now bytes → message_of bytes ≡ notification method params
         → result ≡ goes_on (class_of method Editor true) }
 {
     class_goes_on(notice_class(m))
-}
-
-/// E11: whether it cancels a request, or the work of a token, by its method (LSP 3.17, Cancellation Support, and Work Done Progress).
-pub fn is_cancelling(m: &Message) -> bool
-    ensures { (bytes method : List ℕ) (params : Option Json) → IsRead m.now bytes → message_of bytes ≡ notification method params
-        → result ≡ is_cancelling (class_of method Editor true) }
-{
-    class_cancels(notice_class(m))
 }
 
 // Whether a method has this name.
@@ -136,6 +121,26 @@ pub fn is_exit(m: &Message) -> bool
 {
     match notification_method(m) {
         Some(method) => spells(m.tape(), Some(method), "exit"),
+        None => false,
+    }
+}
+
+/// Whether it is the notification `$/cancelRequest` (LSP 3.17, Cancellation Support).
+pub fn is_cancel(m: &Message) -> bool
+    ensures { (bytes : List ℕ) → IsRead m.now bytes → result ≡ notifies (codes "$/cancelRequest") (message_of bytes) }
+{
+    match notification_method(m) {
+        Some(method) => spells(m.tape(), Some(method), "$/cancelRequest"),
+        None => false,
+    }
+}
+
+/// Whether it is the notification `window/workDoneProgress/cancel` (LSP 3.17, Work Done Progress).
+pub fn cancels_work(m: &Message) -> bool
+    ensures { (bytes : List ℕ) → IsRead m.now bytes → result ≡ notifies (codes "window/workDoneProgress/cancel") (message_of bytes) }
+{
+    match notification_method(m) {
+        Some(method) => spells(m.tape(), Some(method), "window/workDoneProgress/cancel"),
         None => false,
     }
 }

@@ -270,8 +270,8 @@ module _ (settings : Settings) (t : Tables) (now : List Event) (i e : ℕ) (z : 
     docs_last = documents_set settings nothing_owed nothing_owed t u now last last_rest vs i z (record z { ids = ids }) d (sync_row e d).after at has put set notes
         (λ _. subst (λ (q : Stage). SharedStands settings last [] g s q (sync_row e d).after) (sym ready) now_shared)
         (λ j w c off there h.
-            let far = groups_apart t.lasts.items i j z w st.lasts.rise at there off in
-            other_last w.life.group w.life.start w.life.stage c (ne_eqb g w.life.group (λ q. far (sym q))) (apart t.requests now g w.life.group z w far (st.lasts.each i z at) (st.lasts.each j w there)) h) ds
+        let far = groups_apart t.lasts.items i j z w st.lasts.rise at there off in
+        other_last w.life.group w.life.start w.life.stage c (ne_eqb g w.life.group (λ q. far (sym q))) (apart t.requests now g w.life.group z w far (st.lasts.each i z at) (st.lasts.each j w there)) h) ds
 
     -- and what was sent before it
     pub all_last : (n : ℕ) → s ≡ n → ((sync_row e d).outs ≡ to n (syncing settings now g n e)) × AllStand settings (u, nothing_owed) (behind (behind now (to n (syncing settings now g n e))) (ToServer n text ∷ []))

@@ -153,8 +153,8 @@ module _ (settings : Settings) (t u : Tables) (events later : List Event) (e : �
         documents_set settings nothing_owed (owes g b) t u events later rest vs i x x d.0 (leave_row e d.0).after at d.1 (ls ∙ sym (set_same t.lasts.items i x at)) moved.1 (λ k. k)
             (λ _. subst (λ w. SharedStands settings later w g x.life.start x.life.stage (leave_row e d.0).after) (sym (owes_here g b)) go.0)
             (λ j z c off there h.
-                let far = groups_apart t.lasts.items i j x z st.lasts.rise at there off in
-                subst (λ w. SharedStands settings later w z.life.group z.life.start z.life.stage c) (sym (owes_there g z.life.group b far)) (away z.life.group z.life.start z.life.stage c (ap (is_home z.life.group) own ∙ ne_eqb g z.life.group (λ q. far (sym q))) h)) s,
+            let far = groups_apart t.lasts.items i j x z st.lasts.rise at there off in
+            subst (λ w. SharedStands settings later w z.life.group z.life.start z.life.stage c) (sym (owes_there g z.life.group b far)) (away z.life.group z.life.start z.life.stage c (ap (is_home z.life.group) own ∙ ne_eqb g z.life.group (λ q. far (sym q))) h)) s,
       )
 
   left_from : (o place : Option ℕ) → home ≡ o → IsPlace t.lasts.items o place → StepFrom (leave_row e) place t.documents.items outs u.documents.items → DocumentsStand settings nothing_owed t events → Leaves settings events e o (option_and_then (λ g. start_of g events) o) outs u later

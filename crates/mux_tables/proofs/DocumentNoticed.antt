@@ -229,8 +229,8 @@ module _ (settings : Settings) (events : List Event) (g s e : ℕ) (body method 
             (λ _. subst (λ n. SharedStands settings later (owes g bodies n) n x.life.start x.life.stage (document_step e body said d.0).after) (sym mine)
             (subst (λ w. SharedStands settings later w g x.life.start x.life.stage (document_step e body said d.0).after) (sym (owes_here g bodies)) (subst (λ n. SharedStands settings later bodies g n x.life.stage (document_step e body said d.0).after) (sym is) go.0)))
             (λ j w c off there h.
-                let far : w.life.group ≡ g → ⊥ = λ q. groups_apart t.lasts.items i j x w st.lasts.rise at there off (q ∙ sym mine) in
-                subst (λ q. SharedStands settings later q w.life.group w.life.start w.life.stage c) (sym (owes_there g w.life.group bodies far)) (noticed_other w.life.group w.life.start w.life.stage c (ne_eqb g w.life.group (λ q. far (sym q))) h)) ds,
+            let far : w.life.group ≡ g → ⊥ = λ q. groups_apart t.lasts.items i j x w st.lasts.rise at there off (q ∙ sym mine) in
+            subst (λ q. SharedStands settings later q w.life.group w.life.start w.life.stage c) (sym (owes_there g w.life.group bodies far)) (noticed_other w.life.group w.life.start w.life.stage c (ne_eqb g w.life.group (λ q. far (sym q))) h)) ds,
       )
 
   -- it is over, and nothing is kept of the group
@@ -253,4 +253,3 @@ module _ (settings : Settings) (events : List Event) (g s e : ℕ) (body method 
       go : (o : Option Start) → slice_get t.lasts.items i ≡ o → (outs ≡ to s bodies) × DocumentsStand settings (owes g bodies) u later
       go (Some x) at = noticed_at t u outs i x at (same_item (sym (placed.1 x at))) starts ls vs does st ds
       go None past = absurd (let within = placed.0 in let long = get_past t.lasts.items i past in omega (arith, within, long))
-

@@ -54,7 +54,7 @@ module _ (settings : Settings) (t : Tables) (before : List Event) (p s : ℕ) (x
   awaited_here None is when = sym (awaited_none s before (off x.life.stage refl))
     where
       off : (stage : Stage) → x.life.stage ≡ stage → is_stopping (life_of s before).stage ≡ false
-      off Stopping e = absurd (when.1 e)
+      off Stopping e = never (sym (when.1 e))
       off Unspawned e = ap is_stopping (stage_is ∙ e)
       off Spawning e = ap is_stopping (stage_is ∙ e)
       off Initializing e = ap is_stopping (stage_is ∙ e)
@@ -62,7 +62,7 @@ module _ (settings : Settings) (t : Tables) (before : List Event) (p s : ℕ) (x
       off Ending e = ap is_stopping (stage_is ∙ e)
       off Ended e = ap is_stopping (stage_is ∙ e)
   awaited_here (Some k) is when =
-      let stops : x.life.stage ≡ Stopping = when.0 tt in
+      let stops : x.life.stage ≡ Stopping = when.0 refl in
       let kept : moment_in x.life.stopping ≡ stop_of x.life.start before = subst (λ g. StopAt g x.life.stopping (stop_of x.life.start before)) stops ((st.lasts.each p x here).parts of_stop) in
       ap moment_in is ∙ (kept ∙ (ap (λ n. stop_of n before) (start_at_place t.lasts.items p s x here at) ∙ sym (rw (ap is_stopping (stage_is ∙ stops)) refl)))
 

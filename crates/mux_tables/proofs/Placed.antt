@@ -57,7 +57,8 @@ rise_down low from [] l rise = tt
 rise_down low from (w ∷ ws) l rise = (let first = rise.0 in omega (arith, l, first), rise.1)
 
 pub rise_remove : (from : ℕ) (xs : List Start) (i : ℕ) → Rise from xs → Rise from (remove xs i)
-rise_remove from [] i rise = tt
+rise_remove from [] zero rise = tt
+rise_remove from [] (suc i) rise = tt
 rise_remove from (w ∷ ws) zero rise = rise_down from (w.life.group + 1) ws (let first = rise.0 in omega (arith, first)) rise.1
 rise_remove from (w ∷ ws) (suc i) rise = (rise.0, rise_remove (w.life.group + 1) ws i rise.1)
 
@@ -77,16 +78,11 @@ left_there (w ∷ ws) (suc i) (suc p) = left_there ws i p
 
 pub length_left : {A : Type 0} (xs : List A) (i : ℕ) → i < length xs → length (remove xs i) + 1 ≡ length xs
 length_left [] i l = absurd (omega (arith, l))
-length_left (w ∷ ws) zero l = refl
-length_left (w ∷ ws) (suc i) l = ap (λ n. n + 1) (length_left ws i (omega (arith, l)))
-
-pub left_away : (i p : ℕ) → place_before i p ≡ i → ⊥
-left_away zero p e = absurd (omega (arith, e))
-left_away (suc i) zero e = absurd (omega (arith, e))
-left_away (suc i) (suc p) e = left_away i p (omega (arith, e))
+length_left (w ∷ ws) zero l = let own : length (remove (w ∷ ws) zero) ≡ length ws = refl in omega (arith, own)
+length_left (w ∷ ws) (suc i) l = let own : length (remove (w ∷ ws) (suc i)) ≡ suc (length (remove ws i)) = refl in let rest = length_left ws i (omega (arith, l)) in omega (arith, own, rest)
 
 -- each other place is left
-place_behind : ℕ → ℕ → ℕ
+abbrev place_behind : ℕ → ℕ → ℕ
 place_behind zero zero = zero
 place_behind zero (suc p) = p
 place_behind (suc i) zero = zero
@@ -157,11 +153,20 @@ module _ (lasts : List Start) (g at : ℕ) (rise : Rise 0 lasts) (inside : at �
     ]
   ]
     where
+      over : (z : Start) → nat_lt z.life.group g ≡ false → g ≤ z.life.group
+      over z h = grind (arith, nat_tests)
+
       high : (z : Start) → slice_get lasts at ≡ Some z → g ≤ z.life.group
       high z here = over z (subst (λ (w : Start). nat_lt w.life.group g ≡ false) (read at z z here) ((parts partitioned).1 at z (omega arith) (slice_get_within lasts at z here)))
 
-      over : (z : Start) → nat_lt z.life.group g ≡ false → g ≤ z.life.group
-      over z h = grind (arith, nat_tests)
+-- the same, where these are read of a list
+module _ (lasts xs : List Start) (g at : ℕ) (is : xs ≡ lasts) (rise : Rise 0 lasts) (inside : at ≤ length xs)
+    (parts : IsPartitionedBy (λ (x : Start). nat_lt x.life.group g) xs → IsPartitionPoint (λ (x : Start). nat_lt x.life.group g ≡ true) (λ (x : Start). nat_lt x.life.group g ≡ false) xs at) where
+  pub past_lost_in : length lasts ≤ at → IsLost g lasts
+  past_lost_in past = subst (IsLost g) is (past_lost xs g at (subst (Rise 0) (sym is) rise) inside parts (subst (λ ys. length ys ≤ at) (sym is) past))
+
+  pub other_lost_in : (z : Start) → slice_get lasts at ≡ Some z → (z.life.group ≡ g → ⊥) → IsLost g lasts
+  other_lost_in z here not_it = subst (IsLost g) is (other_lost xs g at (subst (Rise 0) (sym is) rise) inside parts z (ap (λ ys. slice_get ys at) is ∙ here) not_it)
 
 -- the place of a group among those that are kept
 pub record KeptAt (g : ℕ) (lasts : List Start) : Type 0 where

@@ -170,7 +170,7 @@ shut_does settings t u xs ys base g s start n z life text name ps at within read
 
     awaited : Stands settings t (behind base xs) → StopsMove t u (behind base xs) (said (ToServer s text))
     awaited st h =
-        let there : s < starts_of (behind base xs) = subst (λ k. k < starts_of (behind base xs)) same (known t.requests t.origins.groups.items (behind base xs) g z st.origins (st.lasts.each g z here)) in
+        let there : s < starts_of (behind base xs) = subst (λ k. k < starts_of (behind base xs)) same (known t.requests t.origins.groups.items (behind base xs) z.life.group z st.origins (st.lasts.each g z here)) in
         let x : Added (behind base xs) s text = stop_added (behind base xs) s text there (subst (λ k. (life_of k (behind base xs)).stage ≡ Ready) same (stage_here st)) asks in
         x.now ∙ sym (subst (λ k. Adds k t u) (is ∙ own ∙ same) adds x.low x.high (sym h ∙ x.was) x.under x.over)
 

@@ -43,7 +43,8 @@ impl Tables {
         ensures halted { IfNone result ((settings : Settings) (events : List Event) → Stands settings self.now events → runs (life_of s events) ≡ false) }
         ensures settled { IfNone result ((settings : Settings) (events : List Event) → Stands settings self.now events → may_start (life_of s events) ≡ false) }
     {
-        let place = self.place_of(self.origin(s)?)?;
+        let g = self.origin(s)?;
+        let place = self.place_of(g)?;
         if self.lasts[place].life.start() != s {
             return None;
         }
@@ -59,7 +60,8 @@ impl Tables {
             → MatchOption result (HasEnded (start_for settings e events) events) (λ g. (x : Start) → slice_get self.now.lasts.items g ≡ Some x
             → start_for settings e events ≡ Some x.life.start) }
     {
-        self.place_of(self.editors.group(e)?)
+        let g = self.editors.group(e)?;
+        self.place_of(g)
     }
 
     /// Where the editor stands; one past the end never joined.

@@ -56,7 +56,8 @@ impl Tables {
         if e >= self.editors.count() {
             return None;
         }
-        self.place_of(self.editors.group(e)?)
+        let g = self.editors.group(e)?;
+        self.place_of(g)
     }
 
     /// The place of the group of a number, by a bisection. Where there is none, it has no start, or one that ended.
@@ -83,7 +84,8 @@ impl Tables {
     pub fn place_in(&self, home: Option<u64>) -> Option<usize>
         ensures { IsPlace self.now.lasts.items home result }
     {
-        self.place_of(home?)
+        let g = home?;
+        self.place_of(g)
     }
 
     /// Where the group's last start stands.

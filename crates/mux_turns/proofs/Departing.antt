@@ -143,9 +143,12 @@ module _ (settings : Settings) (before : List Event) (e : ℕ) (t : Tables) (st 
       let k = has_start settings t before g s st starts (ready_runs (life_of s before).stage ready) in
       let last = st.lasts.each k.place k.last k.at in
       let own : k.last.life.start ≡ s = same_item (sym last.start ∙ (ap (λ n. start_of n before) k.group ∙ starts)) in
-      let stage : (life_of s before).stage ≡ k.last.life.stage = subst (λ n. (life_of n before).stage ≡ k.last.life.stage) own (ap (λ (l : Life). l.stage) (last.parts of_life)) in
-      (k.place, mapped_on number_in t.lasts.items k.place k.last k.at ∙ ap Some own, mapped_on stage_in t.lasts.items k.place k.last k.at ∙ ap Some (is_that_ready k.last.life.stage (ap is_ready (sym stage) ∙ ready)),
-        mapped_on house_in t.lasts.items k.place k.last k.at ∙ ap Some k.group)
+      let stage : (life_of s before).stage ≡ k.last.life.stage = subst (λ n. (life_of n before).stage ≡ k.last.life.stage) own (ap (λ (l : Life). l.stage) (last.parts of_life)) in (
+        k.place,
+        mapped_on number_in t.lasts.items k.place k.last k.at ∙ ap Some own,
+        mapped_on stage_in t.lasts.items k.place k.last k.at ∙ ap Some (is_that_ready k.last.life.stage (ap is_ready (sym stage) ∙ ready)),
+        mapped_on house_in t.lasts.items k.place k.last k.at ∙ ap Some k.group,
+      )
 
   module _ (u : Tables) (later : List Event) (owed : List Out) where
     -- with what is owed, the documents stand

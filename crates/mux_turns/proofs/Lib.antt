@@ -6,6 +6,7 @@ pub mod Asked
 pub mod Asking
 pub mod Beginning
 pub mod Cancels
+pub mod Cancelling
 pub mod Classes
 pub mod Departing
 pub mod Doubling

@@ -49,7 +49,7 @@ module _ (settings : Settings) (old t : Tables) (before : List Event) (e g s : �
           let own : k.last.life.start ≡ s = same_item (sym last.start ∙ (ap (λ n. start_of n before) k.group ∙ starts)) in
           let stage : (life_of s before).stage ≡ k.last.life.stage = subst (λ n. (life_of n before).stage ≡ k.last.life.stage) own (ap (λ (l : Life). l.stage) (last.parts of_life)) in
           let paid = subst (λ n. Does (λ k events. AllStand settings k events) (to_start k.last.life.start told) base (t, owes n told) xs (t, nothing_owed) ys) k.group
-              (pays k.place k.last told (ap (λ ls. slice_get ls.items k.place) same ∙ k.at) (is_that_ready k.last.life.stage (ap is_ready (sym stage) ∙ h)) (are ∙ (ap (to s) is ∙ ap (λ n. to n told) (sym own)))) in
+          (pays k.place k.last told (ap (λ ls. slice_get ls.items k.place) same ∙ k.at) (is_that_ready k.last.life.stage (ap is_ready (sym stage) ∙ h)) (are ∙ (ap (to s) is ∙ ap (λ n. to n told) (sym own)))) in
           does_alike (λ _. is_first row_is h) (subst (λ bs. Does (λ k events. AllStand settings k events) (to_start s told) base (t, owes g bs) xs (t, nothing_owed) ys) (sym is)
           (subst (λ n. Does (λ k events. AllStand settings k events) (to_start n told) base (t, owes g told) xs (t, nothing_owed) ys) own paid))
       go false h =

@@ -22,7 +22,7 @@ use Rattle.mux_tables.specs.Refusals.{of_editor, refusal}
 use Rattle.mux_tables.specs.Stands.{HasEnded, kept_ask, start_for}
 
 -- where the group has no start, or one that ended, and where it has another
-ended_start : (home : Option ℕ) (start : ℕ → Option ℕ) (p : Row) (f : ℕ → ℕ → Row) → ((g s : ℕ) → option_and_then start home ≡ Some s → Alike (f g s) p) → Alike (on home p (λ g. on (start g) p (f g))) p
+pub ended_start : (home : Option ℕ) (start : ℕ → Option ℕ) (p : Row) (f : ℕ → ℕ → Row) → ((g s : ℕ) → option_and_then start home ≡ Some s → Alike (f g s) p) → Alike (on home p (λ g. on (start g) p (f g))) p
 ended_start None start p f h = alike refl
 ended_start (Some g) start p f h = go (start g) refl
   where

@@ -1,4 +1,5 @@
 pub mod Answers
+pub mod Cancels
 pub mod Ceilings
 pub mod Founding
 pub mod Leavings

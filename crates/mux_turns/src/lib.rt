@@ -3,6 +3,7 @@
 
 mod answers;
 mod broadcasts;
+mod cancelled;
 mod doubled;
 mod ends;
 mod evicting;
@@ -27,6 +28,7 @@ mod ticks;
 
 pub use answers::{answered_ask, answered_number, take_answer};
 pub use broadcasts::take_broadcast;
+pub use cancelled::{Target, take_cancel};
 pub use doubled::{doubles, take_doubled, take_doubled_own};
 pub use ends::{take_ending, take_left, take_stopping};
 pub use evicting::{evict, replace, stage_at};

@@ -201,6 +201,18 @@ fn items(
     Ok(items)
 }
 
+// What is told of groups, each told by one of these.
+fn groups_text(alloc: Global, items: &[Body]) -> Result<Body, Memory>
+    ensures { IfOk result (λ body. body ≡ codes "{\"groups\":" ++ bracketed items.now ++ codes "}") }
+{
+    let list = bracketed(alloc, items)?;
+    let mut text = Vec::new(alloc);
+    text.extend_from_slice("{\"groups\":".as_bytes())?;
+    text.extend_from_slice(list.bytes())?;
+    text.extend_from_slice("}".as_bytes())?;
+    Ok(Body::new(text))
+}
+
 // What is told of all live groups.
 fn status_text(alloc: Global, tables: &Tables, servers: &[Server]) -> Result<Body, Memory>
     ensures { (settings : Settings) (before : List Event) → settings.servers ≡ servers.now → Settled settings before
@@ -208,12 +220,8 @@ fn status_text(alloc: Global, tables: &Tables, servers: &[Server]) -> Result<Bod
 {
     let groups = tables.live_groups()?;
     let items = items(alloc, tables, servers, groups.as_slice())?;
-    let list = bracketed(alloc, items.as_slice())?;
-    let mut text = Vec::new(alloc);
-    text.extend_from_slice("{\"groups\":".as_bytes())?;
-    text.extend_from_slice(list.bytes())?;
-    text.extend_from_slice("}".as_bytes())?;
-    Ok(Body::new(text))
+    let told = groups_text(alloc, items.as_slice())?;
+    Ok(told)
 }
 
 /// E5: `lspmux/status` comes from an editor, under an id that isn't open where it has begun: it is told of each live group, by a walk over

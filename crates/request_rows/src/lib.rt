@@ -1,5 +1,9 @@
-//! Tests of the table of open requests, through the public calls of id_rewrite.
+//! Tests of the tables of open requests, of asks and of registrations, through the public calls of id_rewrite, ask_route and registrations.
 #![tactic(auto)]
 
+#[cfg(test)]
+mod asks;
+#[cfg(test)]
+mod live;
 #[cfg(test)]
 mod requests;

@@ -29,7 +29,7 @@ returns-in_ok-from_early-in-Waiting-clause-does c = λ settings before body read
 pub returns-in_ok-from_served-in-Answered-clause-does : goal.returns-in_ok-from_served-in-Answered-clause-does
 returns-in_ok-from_served-in-Answered-clause-does c = λ settings before body read servers default first known settled fits built single none st ds.
     let served = ap is_served (sym (c.phase.ensures settings before st)) ∙ served_one c.phase.result c.in-Answered.is in
-    c.in_ok-from_served-in-Answered.ensures.does settings before body read served first settled built single none st ds
+    c.in_ok-from_served-in-Answered.ensures.does settings before body read served first known settled built single none st ds
 
 pub returns-in_ok-from_down-in-Down-clause-does : goal.returns-in_ok-from_down-in-Down-clause-does
 returns-in_ok-from_down-in-Down-clause-does c = λ settings before body read servers default first known settled fits built single none st ds.

@@ -12,7 +12,7 @@ use Rattle.mux_entries.proofs.EditorRows.{answered, asks_by_sort, done_alike, is
 use Rattle.mux_entries.proofs.editors.from_served.Goals as goal
 
 pub returns-in_ok-from_asking-in-Request-clause-does : goal.returns-in_ok-from_asking-in-Request-clause-does
-returns-in_ok-from_asking-in-Request-clause-does c = λ settings before body read serves first settled built single none st ds.
+returns-in_ok-from_asking-in-Request-clause-does c = λ settings before body read serves first known settled built single none st ds.
     let e = c.args.e in
     let m = message_of body in
     let p = (desk_of e before).phase in
@@ -22,16 +22,16 @@ returns-in_ok-from_asking-in-Request-clause-does c = λ settings before body rea
     (c.in_ok-from_asking-in-Request.ensures.does settings before body asks.method asks.id asks.params read asks.is sort serves first st ds)
 
 pub returns-in_ok-from_noting-in-Notification-clause-does : goal.returns-in_ok-from_noting-in-Notification-clause-does
-returns-in_ok-from_noting-in-Notification-clause-does c = λ settings before body read serves first settled built single none st ds.
+returns-in_ok-from_noting-in-Notification-clause-does c = λ settings before body read serves first known settled built single none st ds.
     let e = c.args.e in
     let m = message_of body in
     let p = (desk_of e before).phase in
     let notes = notes_by_sort m (c.sort.ensures body read ∙ ap (λ x. Some x) c.in-Notification.is) in
     done_alike (λ k events. AllStand settings k events) (served settings before e body (notification notes.method notes.params) notes.is serves (read_well c.args.message.now body read) single none)
-    (c.in_ok-from_noting-in-Notification.ensures.does settings before body notes.method notes.params read notes.is serves first settled st ds)
+    (c.in_ok-from_noting-in-Notification.ensures.does settings before body notes.method notes.params read notes.is serves first known settled st ds)
 
 pub returns-in_ok-take_reply-in-Result-clause-does : goal.returns-in_ok-take_reply-in-Result-clause-does
-returns-in_ok-take_reply-in-Result-clause-does c = λ settings before body read serves first settled built single none st ds.
+returns-in_ok-take_reply-in-Result-clause-does c = λ settings before body read serves first known settled built single none st ds.
     let e = c.args.e in
     let m = message_of body in
     let unasked = unasking m c.sort.result (c.sort.ensures body read) c.in-Result.is in

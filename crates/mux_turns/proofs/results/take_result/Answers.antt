@@ -32,7 +32,7 @@ returns-clause-does c = λ settings before body id value s read says first at no
     let stands = c.in_ok-owed.ensures.stands settings before s body at first (c.answered_number-n.ensures body read) (c.in_ok-kept.ensures ∙ shows) st in
     let home = (group_seen settings c.args.tables.now before i s z.0 st z.1 at).0 ∙ ap Some (sym (c.group_number-group.ensures z.0 z.1)) in
     let owed = subst (λ n. (c.in_ok-owed.owed ≡ to s (replaying settings before n)) × DocumentsStand settings (owes n (replaying settings before n)) u base) (sym (c.group_number-group.ensures z.0 z.1))
-        (c.in_ok-owed.ensures.documents settings before s body at (first_encoding (message_of body) id value c.encoding.result says first (c.encoding.ensures body id value read says)) st ds z.0 z.1) in
+    (c.in_ok-owed.ensures.documents settings before s body at (first_encoding (message_of body) id value c.encoding.result says first (c.encoding.ensures body id value read says)) st ds z.0 z.1) in
     let there = ap (λ ns. slice_get ns i) c.in_ok-owed.ensures.starts ∙ at in
     let q = initialized_quiet c.in_ok-text.text c.in_ok-text.ensures in
     let begins = all_does settings u u (owes g bodies) (owes g bodies) base c.args.outs.now c.notify.new.outs (c.in_ok-notify.ensures.does settings base s there q.runs q.counts (λ _ _ _. initialized_silent c.in_ok-text.text c.in_ok-text.ensures)) (λ _ d. c.in_ok-notify.ensures.documents settings (owes g bodies) base q.says q.aside d) in

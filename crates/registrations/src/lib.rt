@@ -1,0 +1,11 @@
+//! The live registrations of one start of a server (LSP 3.17, Register Capability and Unregister Capability), and what its requests say of them.
+#![tactic(auto)]
+
+mod items;
+mod live;
+mod names;
+mod registration;
+
+pub use items::{registered, unregistered};
+pub use live::Live;
+pub use registration::Registration;
