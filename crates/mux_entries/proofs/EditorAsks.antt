@@ -4,11 +4,13 @@ use Rattle.std.specs.Prelude.{Option, Some}
 use Rattle.std.specs.List.{AllByRecursion}
 use Rattle.std.proofs.lemmas.Bool.Decides.{nat_tests}
 use Rattle.rpc_message.specs.Message.{Id, Message}
+use Rattle.event_model.specs.declared.stage.Stage.TheVariants.{Ended, Ready}
 use Rattle.event_model.specs.Event.{Event}
 use Rattle.event_model.specs.Phases.{desk_of, is_served}
 use Rattle.event_model.specs.Requests.{answered_id}
 use Rattle.event_model.specs.Settings.{Settings}
 use Rattle.event_model.specs.Spawns.{group_of, start_of}
+use Rattle.event_model.specs.Stages.{life_of}
 use Rattle.event_model.proofs.Frames.{never}
 use Rattle.group_facts.specs.Settled.{HasSeat, Settled}
 use Rattle.group_rows.specs.Asks.{Ask, asks_of, is_seated}
@@ -60,3 +62,14 @@ asked_by_one settings before e g s m settled home last n away = go (asks_of n be
     go : (asked : List Ask) → AllByRecursion (HasSeat settings before n) asked → AllByRecursion (λ (a : Ask). is_seated e (answered_id m) a ≡ false) asked
     go [] h = tt
     go (a ∷ asked) h = (unseated settings before e m settled a (other a h.0), go asked h.1)
+
+-- a start whose program ended asked nothing that is open
+pub ended_unasked : (settings : Settings) (before : List Event) (s : ℕ) → Settled settings before → (life_of s before).stage ≡ Ended → asks_of s before ≡ []
+ended_unasked settings before s settled over = go (asks_of s before) (settled.asks s)
+  where
+    clash : Ready ≡ Ended → ⊥
+    clash q = cc
+
+    go : (asked : List Ask) → AllByRecursion (HasSeat settings before s) asked → asked ≡ []
+    go [] h = refl
+    go (a ∷ asked) h = absurd (clash (sym h.0.ready ∙ over))

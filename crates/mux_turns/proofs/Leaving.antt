@@ -7,13 +7,18 @@ use Rattle.event_model.specs.Does.{Does}
 use Rattle.event_model.specs.Event.{Event}
 use Rattle.event_model.specs.Row.{each}
 use Rattle.event_model.specs.Settings.{Settings}
+use Rattle.event_model.specs.Stages.{Life, life_of}
 use Rattle.mux_tables.specs.declared.tables.Start.{Start}
 use Rattle.mux_tables.specs.declared.tables.Tables.{Tables}
 use Rattle.mux_tables.specs.Refusals.{asks_in, of_editor, refusal}
-use Rattle.mux_tables.specs.Stands.{Stands, number_in, stage_in}
+use Rattle.mux_tables.specs.Stands.{Stands, number_in, of_life, stage_in}
 use Rattle.mux_tables.proofs.Starts.{start_at_place}
 use Rattle.mux_turns.proofs.Departing.{mapped_is, mapped_on}
 use Rattle.mux_turns.proofs.Ready.{start_from}
+
+-- where a group's last start stands, as it is kept
+pub kept_stage : (settings : Settings) (t : Tables) (before : List Event) (g : ℕ) (x : Start) → Stands settings t before → slice_get t.lasts.items g ≡ Some x → (life_of x.life.start before).stage ≡ x.life.stage
+kept_stage settings t before g x st here = ap (λ (l : Life). l.stage) ((st.lasts.each g x here).parts of_life)
 
 -- the last start of a group, where its number, its stage and its asks stay
 pub record Stays (u : Tables) (g : ℕ) (x : Start) : Type 0 where

@@ -86,16 +86,23 @@ pub fn answered_ask(message: &Message) -> Option<u64>
     }
 }
 
-// The same where it is one of 32 bits.
+// A number, where it is one of 32 bits.
+fn small(n: u64) -> Option<u32>
+    ensures { (i : Option Id) → NamesAsk i (Some n) → NamesAt i result }
+{
+    match u32::try_from(n) {
+        Ok(n) => Some(n),
+        Err(_) => None,
+    }
+}
+
+// The same, where there is a number.
 fn narrow(n: Option<u64>) -> Option<u32>
     ensures { (i : Option Id) → NamesAsk i n → NamesAt i result }
 {
     match n {
         None => None,
-        Some(n) => match u32::try_from(n) {
-            Ok(n) => Some(n),
-            Err(_) => None,
-        },
+        Some(n) => small(n),
     }
 }
 

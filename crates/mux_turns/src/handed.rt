@@ -13,6 +13,7 @@ ghost use Rattle.group_rows.specs.Asks.{Ask, asks_of};
 ghost use Rattle.group_words.specs.Houses.{home_of};
 ghost use Rattle.mux_facts.specs.Allowed.{is_response};
 ghost use Rattle.mux_history.specs.declared.cause.Cause.TheVariants.{FromEditor};
+ghost use Rattle.mux_tables.specs.declared.tables.Start.{Start};
 ghost use Rattle.mux_tables.specs.Documents.{AllStand, DocumentsStand, Owed, nothing_owed};
 ghost use Rattle.mux_tables.specs.Stands.{AnswersOne, Stands, number_in};
 ghost use Rattle.mux_turns.specs.Handing.{Fits};
@@ -56,6 +57,37 @@ fn hand_back(
     }
 }
 
+// E19: a response comes from an editor of the group in this place.
+fn reply_at(
+    tables: &mut Tables,
+    alloc: Global,
+    outs: &mut Outs,
+    g: usize,
+    e: u64,
+    message: &Message,
+) -> Result<(), Memory>
+    requires group { g < length tables.old.lasts.items }
+    requires editor { e < length tables.old.editors }
+    ensures requests { tables.new.requests ≡ tables.old.requests }
+    ensures versions { tables.new.versions ≡ tables.old.versions }
+    ensures does { (settings : Settings) (before : List Event) (body : List ℕ) (x : Start) → IsRead message.now body
+        → is_response (message_of body) ≡ true → is_served (desk_of e before).phase ≡ true
+        → slice_get tables.old.lasts.items g ≡ Some x → home_of settings e before ≡ Some x.life.group
+        → AnswersOne x.life.start e (message_of body) before → outs.old ≡ []
+        → Stands settings tables.old before → DocumentsStand settings nothing_owed tables.old before
+        → OnOk result (Done (λ k events. AllStand settings k events) (response_row settings before e body (message_of body))
+        (with_cause before (FromEditor e body)) [] (tables.new, nothing_owed) outs.new) }
+{
+    let ready = stage_at(tables, g).is_ready();
+    let id = tables.hear_response(g, e, Phase::Running, answered_ask(message));
+    if ready {
+        hand_back(tables, alloc, outs, g, id, message)?;
+        Ok(())
+    } else {
+        Ok(())
+    }
+}
+
 /// E19: a response comes from an editor that is served, in a group that has a start. Where it answers what that start asked, and the start
 /// is ready, it goes there under the start's own id, all else as it came; else it gives nothing.
 pub fn take_reply(
@@ -76,15 +108,14 @@ pub fn take_reply(
         → OnOk result (Done (λ k events. AllStand settings k events) (response_row settings before e body (message_of body))
         (with_cause before (FromEditor e body)) [] (tables.new, nothing_owed) outs.new) }
 {
-    let Some(g) = tables.place(e) else {
-        tables.hear_editor(e, Phase::Running);
-        return Ok(());
-    };
-    let ready = stage_at(tables, g).is_ready();
-    let id = tables.hear_response(g, e, Phase::Running, answered_ask(message));
-    if !ready {
-        return Ok(());
+    match tables.place(e) {
+        None => {
+            tables.hear_editor(e, Phase::Running);
+            Ok(())
+        }
+        Some(g) => {
+            reply_at(tables, alloc, outs, g, e, message)?;
+            Ok(())
+        }
     }
-    hand_back(tables, alloc, outs, g, id, message)?;
-    Ok(())
 }

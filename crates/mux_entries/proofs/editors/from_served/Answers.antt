@@ -6,7 +6,7 @@ use Rattle.event_model.specs.Requests.{open_of}
 use Rattle.group_facts.specs.Built.{built_from_editor}
 use Rattle.rpc_message.specs.Message.{message_of, notification, request}
 use Rattle.mux_tables.specs.Documents.{AllStand}
-use Rattle.mux_entries.proofs.EditorAsks.{asked_by_one}
+use Rattle.mux_entries.proofs.EditorAsks.{asked_by_one, ended_unasked}
 use Rattle.mux_entries.proofs.EditorBuilt.{served_needs, served_standard, served_there, unasked_when}
 use Rattle.mux_entries.proofs.EditorRows.{answered, asks_by_sort, done_alike, is_answer, notes_by_sort, read_well, served, unasking, unnoting}
 use Rattle.mux_entries.proofs.editors.from_served.Goals as goal
@@ -39,4 +39,4 @@ returns-in_ok-take_reply-in-Result-clause-does c = λ settings before body read 
     let well = read_well c.args.message.now body read in
     let seat = settled.seated e (served_needs (desk_of e before).phase serves) in
     done_alike (λ k events. AllStand settings k events) (answered settings before e body unasked unnoted serves well single none)
-    (c.in_ok-take_reply-in-Result.ensures.does settings before body seat.group seat.start read (is_answer m unasked unnoted well) serves seat.home seat.last (asked_by_one settings before e seat.group seat.start m settled seat.home seat.last) first st ds)
+    (c.in_ok-take_reply-in-Result.ensures.does settings before body seat.group seat.start read (is_answer m unasked unnoted well) serves seat.home seat.last (asked_by_one settings before e seat.group seat.start m settled seat.home seat.last) (ended_unasked settings before seat.start settled) first st ds)
