@@ -23,8 +23,8 @@ use Rattle.group_rows.specs.Asks.{asking_of, asks_of, next_ask, put}
 use Rattle.group_words.specs.Houses.{emptied, meant_behind, time_behind}
 use Rattle.group_words.proofs.Frames.{home_stays}
 use Rattle.mux_tables.specs.declared.tables.Tables.{Tables}
-use Rattle.mux_tables.specs.Stands.{AsksStay, EditorsStand, GroupsStand, HouseStands, Keeps, Stands, phase_in, group_in, stays_in}
-use Rattle.mux_tables.proofs.Frames.{groups_stand}
+use Rattle.mux_tables.specs.Stands.{AsksStay, EditorsStand, GroupsStand, HouseStands, Keeps, Stands, phase_in, group_in, is_request, stays_in}
+use Rattle.mux_tables.proofs.Frames.{asks_stay, groups_stand}
 use Rattle.mux_tables.proofs.Leaves.{closed_by}
 use Rattle.mux_tables.proofs.Moves.{house_moves}
 use Rattle.mux_tables.proofs.Named.{Goes, goes_so, goes_then, goes_told, meant_by, named_by}
@@ -105,12 +105,12 @@ idle_stay s e events body none = go (message_of body)
 
 pub told_does : (settings : Settings) (t : Tables) (xs ys : List Out) (base : List Event) (e : ℕ) (body : List ℕ) → Keeps e body (behind base xs) → ys ≡ xs ++ ToEditor e body ∷ [] → Does (λ t events. Stands settings t events) (send (ToEditor e body)) base t xs t ys
 told_does settings t xs ys base e body k is = does_send settings (ToEditor e body) base t t xs ys is
-    (house_moves settings t t (behind base xs) (said (ToEditor e body)) (λ n. refl) k.1 refl refl refl refl (λ h. told_house settings (behind base xs) e body t t (kept_editors settings (behind base xs) e body t.editors k h.editors) refl refl h))
+    (house_moves settings t t (behind base xs) (said (ToEditor e body)) (λ n. refl) (λ s. asks_stay s (behind base xs) (said (ToEditor e body)) k.1) refl refl refl refl (λ h. told_house settings (behind base xs) e body t t (kept_editors settings (behind base xs) e body t.editors k h.editors) refl refl h))
 
-pub welcome_does : (settings : Settings) (t u : Tables) (xs ys : List Out) (base : List Event) (e : ℕ) (body : List ℕ) (p : Phase) → e < length t.editors → (desk_of e (behind base xs ++ said (ToEditor e body) ∷ [])).phase ≡ p → ((s : ℕ) → AsksStay s (behind base xs) (said (ToEditor e body))) → u.editors ≡ with_session t.editors e (phased t.editors e p)
+pub welcome_does : (settings : Settings) (t u : Tables) (xs ys : List Out) (base : List Event) (e : ℕ) (body : List ℕ) (p : Phase) → e < length t.editors → (desk_of e (behind base xs ++ said (ToEditor e body) ∷ [])).phase ≡ p → is_request (message_of body) ≡ false → u.editors ≡ with_session t.editors e (phased t.editors e p)
     → u.groups ≡ t.groups → u.time ≡ t.time → u.lasts ≡ t.lasts → u.origins ≡ t.origins → u.requests ≡ t.requests → ys ≡ xs ++ ToEditor e body ∷ [] → Does (λ t events. Stands settings t events) (send (ToEditor e body)) base t xs u ys
 welcome_does settings t u xs ys base e body p l k q es gs now ls os r is = does_send settings (ToEditor e body) base t u xs ys is
-    (house_moves settings t u (behind base xs) (said (ToEditor e body)) (λ n. refl) q refl (ap (λ v. v.items) ls) os r
+    (house_moves settings t u (behind base xs) (said (ToEditor e body)) (λ n. refl) (λ s. asks_stay s (behind base xs) (said (ToEditor e body)) q) refl (ap (λ v. v.items) ls) os r
     (λ h. told_house settings (behind base xs) e body t u (subst (λ z. EditorsStand settings z (behind base xs ++ said (ToEditor e body) ∷ [])) (sym (es ∙ told_plain settings t.editors (behind base xs) e p l h.editors body k)) (moved_editors settings (behind base xs) e body t.editors p l k h.editors)) gs now h))
 
 pub close_does : (settings : Settings) (t u : Tables) (xs ys : List Out) (base : List Event) (e : ℕ) (mid : List Session) (before p : Phase) (home : Option ℕ) (was : Bool) → e < length t.editors

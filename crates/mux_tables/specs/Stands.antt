@@ -280,13 +280,13 @@ AsksStay s events event = (asking_next s events (asking_of s events) event).asks
 abbrev pub AnswersNone : ℕ → Message → List Event → Type 0
 AnswersNone e m events = (s : ℕ) → AllByRecursion (λ (a : Ask). is_seated e (answered_id m) a ≡ false) (asks_of s events)
 
--- this body leaves the editor in its phase, and the asks of each start
+-- this body is no request, and leaves the editor in its phase
 abbrev pub Keeps : ℕ → List ℕ → List Event → Type 0
-Keeps e body events = ((desk_of e (events ++ said (ToEditor e body) ∷ [])).phase ≡ (desk_of e events).phase) × ((s : ℕ) → AsksStay s events (said (ToEditor e body)))
+Keeps e body events = ((desk_of e (events ++ said (ToEditor e body) ∷ [])).phase ≡ (desk_of e events).phase) × (is_request (message_of body) ≡ false)
 
--- this body answers its `initialize`, and leaves the asks of each start
+-- this body answers its `initialize`, and is no request
 abbrev pub Welcomes : ℕ → List ℕ → List Event → Type 0
-Welcomes e body events = ((desk_of e (events ++ said (ToEditor e body) ∷ [])).phase ≡ Answered) × ((s : ℕ) → AsksStay s events (said (ToEditor e body)))
+Welcomes e body events = ((desk_of e (events ++ said (ToEditor e body) ∷ [])).phase ≡ Answered) × (is_request (message_of body) ≡ false)
 
 -- e's request under this id is at work, and goes to start s
 abbrev pub Sends : ℕ → ℕ → List ℕ → List Event → Type 0

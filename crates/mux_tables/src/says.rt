@@ -52,7 +52,7 @@ fn closed(phase: Phase) -> Phase
 }
 
 impl Tables {
-    /// A body goes to an editor, which it leaves in its phase, and the asks of each start as they are.
+    /// A body that is no request goes to an editor, which it leaves in its phase.
     #[tactic(auto, using(crate::proofs::Said::told_does))]
     pub fn tell(&self, outs: &mut Outs, e: u64, body: Body) -> Result<(), Memory>
         ensures outs { OnOk result (outs.new ≡ outs.old ++ ToEditor e body ∷ []) }
