@@ -95,4 +95,5 @@ known_of settings events h = record {
   opened = (h.base).opened;
   plain = (h.base).plain;
   written = (h.base).written;
+  meant = (h.base).meant;
 }

@@ -42,6 +42,15 @@ NoEditors events = (e : ℕ) → editors_of events ≤ e → (desk_of e events).
 
 -- What the events before tell, whatever is sent
 
+-- the message of a body is what the body says
+abbrev pub IsMeant : Event → Type 0
+IsMeant (took (FromEditor e body) m) = m ≡ message_of body
+IsMeant (did (ToServer s body) m) = m ≡ message_of body
+IsMeant other = Unit {0}
+
+abbrev pub Meant : List Event → Type 0
+Meant events = AllByRecursion IsMeant events
+
 -- what the editors of each group have open is UTF-8, each document once at an editor
 pub record IsOpened (x : Texts) : Type 0 where
   pub spelt : AllSpelt x.opens
@@ -252,3 +261,4 @@ pub record Known (settings : Settings) (events : List Event) : Type 0 where
   pub opened : Opened settings events
   pub plain : Plain events
   pub written : Written settings events
+  pub meant : Meant events

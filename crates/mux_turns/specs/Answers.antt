@@ -1,6 +1,5 @@
 -- What answers a request, and what a history says of one that was sent on, as the row of its answer needs it.
-use Rattle.std.specs.Prelude.{◌≡◌, ℕ, Bool, true, false, List}
-use Rattle.std.specs.Prelude.{Option, None}
+use Rattle.std.specs.Prelude.{◌≡◌, Bool, true, false}
 use Rattle.rpc_message.specs.declared.sort.Sort.{Sort}
 use Rattle.rpc_message.specs.declared.sort.Sort.TheVariants.{Result, Error}
 use Rattle.rpc_message.specs.Message.{Id}
@@ -8,7 +7,6 @@ use Rattle.rpc_message.specs.ValueTexts.{IsIdText}
 use Rattle.event_model.specs.declared.phase.Phase.TheVariants.{Waiting}
 use Rattle.event_model.specs.Event.{Event}
 use Rattle.event_model.specs.Phases.{desk_of}
-use Rattle.group_rows.specs.Asks.{asking_of}
 use Rattle.group_rows.specs.Forwarded.{Forwarded}
 
 -- a message of this class answers a request
@@ -22,7 +20,3 @@ pub record IsAsked (before : List Event) (f : Forwarded) : Type 0 where
   pub name : Id
   pub text : IsIdText name f.id
   pub answered : (desk_of f.editor before).phase ≡ Waiting → ⊥
-
--- no request of a start is at work
-abbrev pub Idle : List Event → Type 0
-Idle events = (s : ℕ) → (asking_of s events).asker ≡ None

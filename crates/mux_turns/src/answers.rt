@@ -1,5 +1,5 @@
 //! S5: the answer of a start to an editor's request.
-ghost use Rattle.std.specs.Prelude.{◌≡◌, ◌<◌, ◌^◌, ℕ, List, [], Option, Some, IfOk, IfSome, OnOk, MatchOption, bytes_eq, decimal, find, length, map, slice_get};
+ghost use Rattle.std.specs.Prelude.{◌≡◌, ◌<◌, ◌^◌, ℕ, List, [], false, Option, Some, IfOk, IfSome, OnOk, MatchOption, bytes_eq, decimal, find, length, map, slice_get};
 ghost use Rattle.event_model.specs.declared.phase.Phase.TheVariants.{Waiting};
 ghost use Rattle.event_model.specs.declared.stage.Stage.TheVariants.{Ready};
 ghost use Rattle.event_model.specs.Does.{Alike, Does, Done};
@@ -7,14 +7,15 @@ ghost use Rattle.event_model.specs.Event.{Event, behind, with_cause};
 ghost use Rattle.event_model.specs.Phases.{desk_of};
 ghost use Rattle.event_model.specs.Requests.{answered_id};
 ghost use Rattle.event_model.specs.Settings.{Settings};
+ghost use Rattle.group_facts.specs.Facts.{Meant};
 ghost use Rattle.group_rows.specs.Answers.{answer_row, hand_on, own_version};
 ghost use Rattle.group_rows.specs.Forwarded.{Forwarded, answered_by, forwarding_of};
 ghost use Rattle.mux_history.specs.declared.cause.Cause.TheVariants.{FromServer};
 ghost use Rattle.mux_tables.specs.declared.tables.Start.{Start};
 ghost use Rattle.mux_tables.specs.Documents.{AllStand, DocumentsStand, Owed, nothing_owed};
 ghost use Rattle.mux_tables.specs.Notes.{IsNoted};
-ghost use Rattle.mux_tables.specs.Stands.{NamesAsk, NamesAt, Stands, forwarded_as, number_in};
-ghost use Rattle.mux_turns.specs.Answers.{Idle, IsAsked, is_response};
+ghost use Rattle.mux_tables.specs.Stands.{NamesAsk, NamesAt, Stands, forwarded_as, is_request, number_in};
+ghost use Rattle.mux_turns.specs.Answers.{IsAsked, is_response};
 ghost use Rattle.mux_turns.specs.Replies.{reply_row};
 ghost use Rattle.response_route.specs.Answers.{answer_text};
 ghost use Rattle.rpc_message.specs.Message.{Id, message_of};
@@ -219,7 +220,7 @@ fn reply_to(
 fn hand_out(tables: &Tables, outs: &mut Outs, reply: Option<Reply>) -> Result<(), Memory>
     ensures does { (settings : Settings) (base : List Event)
         → MatchOption reply (Unit {0}) (λ r. (desk_of r.editor (behind base outs.old)).phase ≡ Waiting → ⊥)
-        → MatchOption reply (Unit {0}) (λ r. Idle (behind base outs.old))
+        → MatchOption reply (Unit {0}) (λ r. is_request (message_of r.body) ≡ false)
         → OnOk result (Does (λ t events. Stands settings t events) (reply_row reply) base tables.now outs.old tables.now outs.new) }
     ensures documents { (settings : Settings) (owed : Owed) (base : List Event) → DocumentsStand settings owed tables.now (behind base outs.old)
         → OnOk result (DocumentsStand settings owed tables.now (behind base outs.new)) }
@@ -245,7 +246,7 @@ pub fn take_answer(
     ensures does { (settings : Settings) (before : List Event) (body : List ℕ) (s : ℕ) (x : Start) → IsRead message.now body → outs.old ≡ []
         → slice_get tables.old.lasts.items g ≡ Some x → x.life.stage ≡ Ready → slice_get (map number_in tables.old.lasts.items) g ≡ Some s
         → ((f : Forwarded) → find (answered_by (answered_id (message_of body))) (forwarding_of s before).open_requests ≡ Some f → IsAsked before f)
-        → Stands settings tables.old before → DocumentsStand settings nothing_owed tables.old before
+        → Meant before → Stands settings tables.old before → DocumentsStand settings nothing_owed tables.old before
         → OnOk result (Done (λ k events. AllStand settings k events) (answer_row settings s before body (message_of body))
         (with_cause before (FromServer s body)) [] (tables.new, nothing_owed) outs.new) }
 {
