@@ -1,13 +1,13 @@
 -- Asks of which no two have one id, nor one editor and one number.
-use Rattle.std.proofs.Common.{◌≡◌, ℕ, Bool, true, false, not, ◌&&◌, cond, List, [], ◌∷◌, ◌++◌, filter, map, refl, ap, sym, subst, ◌∙◌, nat_eq, arith}
+use Rattle.std.proofs.Common.{◌≡◌, ℕ, Bool, true, false, not, cond, List, [], ◌∷◌, ◌++◌, filter, map, refl, ap, sym, ◌∙◌}
 use Rattle.std.specs.List.{AllByRecursion}
-use Rattle.std.specs.Prelude.{Option, Some, None, bytes_eq}
+use Rattle.std.specs.Prelude.{Some, bytes_eq}
 use Rattle.std.proofs.lemmas.Slice.Eq.{bytes_eq-Decides}
 use Rattle.rpc_message.specs.Message.{Id, integer, text, same_id}
 use Rattle.event_model.specs.Event.{Event}
 use Rattle.event_model.proofs.Frames.{never}
-use Rattle.group_rows.specs.Asks.{Ask, is_under, is_with}
-use Rattle.mux_tables.specs.Stands.{AreApart, AsksStand, HasText, IsOther, WasAsked, is_beside, kept_ask}
+use Rattle.group_rows.specs.Asks.{Ask, is_under}
+use Rattle.mux_tables.specs.Stands.{AreApart, AsksStand, HasText, IsOther, WasAsked, kept_ask}
 
 bytes_flip : (a b : List ℕ) → bytes_eq b a ≡ false → bytes_eq a b ≡ false
 bytes_flip a b h = go (bytes_eq a b) refl
@@ -72,3 +72,12 @@ module _ (a : Ask) where
       among : (cs : List Ask) → AllByRecursion (IsOther b) (cs ++ a ∷ post) → same_id b.id a.id ≡ false
       among [] k = k.0.1
       among (c ∷ cs) k = among cs k.1
+
+-- without one of them
+among_less : (P : Ask → Type 0) (a : Ask) (pre post : List Ask) → AllByRecursion P (pre ++ a ∷ post) → AllByRecursion P (pre ++ post)
+among_less P a [] post k = k.1
+among_less P a (d ∷ pre) post k = (k.0, among_less P a pre post k.1)
+
+pub less_apart : (a : Ask) (pre post : List Ask) → AreApart (pre ++ a ∷ post) → AreApart (pre ++ post)
+less_apart a [] post h = h.1
+less_apart a (c ∷ pre) post h = (among_less (IsOther c) a pre post h.0, less_apart a pre post h.1)

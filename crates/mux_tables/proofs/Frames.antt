@@ -22,7 +22,7 @@ use Rattle.group_words.specs.Rows.{result_behind, result_of}
 use Rattle.group_words.proofs.Frames.{touches_groups, names_home, groups_stay, home_stays, past_more}
 use Rattle.id_rewrite.specs.Tables.{Table}
 use Rattle.mux_tables.specs.declared.tables.Start.{Start}
-use Rattle.group_rows.specs.Asks.{Ask, Asking, asking_next, asking_of, asks_of, is_under}
+use Rattle.group_rows.specs.Asks.{Asking, asking_next, asking_of, is_under}
 use Rattle.group_rows.specs.Forwarded.{Forwarding, forwarding_behind, forwarding_of, forwards, moves_ids, numbered}
 use Rattle.mux_tables.specs.Stands.{EditorsStand, GroupsStand, OriginsStand, IdsAt, IdsStand, Part, of_life, of_ids, of_shown, PartStands, LastStands, ShownAt, of_stop, StopAt, of_asks, AsksStay, is_answer, is_request}
 use Rattle.mux_tables.proofs.Asking.{asks_by, unanswered, unhanded}

@@ -28,7 +28,6 @@ use Rattle.group_words.proofs.Frames.{groups_more, home_more}
 use Rattle.mux_tables.specs.declared.tables.Tables.{Tables}
 use Rattle.mux_tables.specs.Names.{NameStands, id_in}
 use Rattle.mux_tables.specs.Stands.{AnswersNone, EditorsStand, GroupsStand, HouseStands, Stands, ends, is_answer, phase_in, group_in, meant_in, stays_in}
-use Rattle.group_rows.specs.Asks.{asks_of}
 use Rattle.mux_tables.proofs.Asking.{answers_none, none_answered}
 use Rattle.mux_tables.proofs.Ends.{tick_heard}
 use Rattle.mux_tables.proofs.Exits.{stop_groups}

@@ -1,5 +1,5 @@
 -- The list of last starts, when an event names no start, or one.
-use Rattle.std.proofs.Common.{◌≡◌, ℕ, ◌≤◌, ◌<◌, map, List, [], ◌∷◌, ◌++◌, length, refl, ap, sym, subst, ◌∙◌, false, arith, nat_eq, inl, inr}
+use Rattle.std.proofs.Common.{◌≡◌, ℕ, ◌≤◌, ◌<◌, map, List, [], ◌∷◌, ◌++◌, refl, ap, sym, subst, ◌∙◌, false, arith, nat_eq, inl, inr}
 use Rattle.std.specs.Prelude.{Option, Some, slice_get, slice_set, ◌⊎◌}
 use Rattle.std.specs.List.{remove}
 use Rattle.std.proofs.lemmas.Bool.{ne_eqb}
@@ -15,7 +15,7 @@ use Rattle.mux_tables.specs.declared.tables.Start.{Start}
 use Rattle.group_rows.specs.Asks.{asking_of}
 use Rattle.mux_tables.specs.Stands.{AsksStay, blank, forwarded_of, IsLost, Lost, of_ids, of_life, OriginsStand, LastStands, LastsStand, Rise}
 use Rattle.mux_tables.proofs.Frames.{asks_alone, names_editor, names_start, spawns, starts_alone, start_alone, group_alone, life_alone, last_stands, part_apart}
-use Rattle.mux_tables.proofs.Placed.{groups_apart, left_away, left_there, lost_left, lost_set, place_before, rise_remove, rise_set}
+use Rattle.mux_tables.proofs.Placed.{groups_apart, left_there, lost_left, lost_set, place_before, rise_remove, rise_set}
 
 pub same_place : {i j : ℕ} → ◌≡◌ {A = Option ℕ} (Some i) (Some j) → i ≡ j
 same_place e = cc

@@ -33,7 +33,7 @@ use Rattle.restart_replay.specs.Standings.{Standing, moved}
 use Rattle.mux_tables.specs.declared.tables.Start.{Start}
 use Rattle.mux_tables.specs.declared.tables.Tables.{Tables}
 use Rattle.mux_tables.specs.Names.{NamesStand}
-use Rattle.group_rows.specs.Asks.{Ask, Asking, asking_next, asking_of, asks_of, is_seated, next_ask}
+use Rattle.group_rows.specs.Asks.{Ask, asking_next, asking_of, asks_of, is_seated, next_ask}
 use Rattle.group_rows.specs.Forwarded.{Forwarded, Forwarding, forwarding_of, names}
 use Rattle.group_rows.specs.Ticks.{stop_of, stopping_of}
 
