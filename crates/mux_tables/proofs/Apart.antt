@@ -72,3 +72,12 @@ module _ (a : Ask) where
       among : (cs : List Ask) → AllByRecursion (IsOther b) (cs ++ a ∷ post) → same_id b.id a.id ≡ false
       among [] k = k.0.1
       among (c ∷ cs) k = among cs k.1
+
+-- without one of them
+among_less : (P : Ask → Type 0) (a : Ask) (pre post : List Ask) → AllByRecursion P (pre ++ a ∷ post) → AllByRecursion P (pre ++ post)
+among_less P a [] post k = k.1
+among_less P a (d ∷ pre) post k = (k.0, among_less P a pre post k.1)
+
+pub less_apart : (a : Ask) (pre post : List Ask) → AreApart (pre ++ a ∷ post) → AreApart (pre ++ post)
+less_apart a [] post h = h.1
+less_apart a (c ∷ pre) post h = (among_less (IsOther c) a pre post h.0, less_apart a pre post h.1)

@@ -28,11 +28,11 @@ asks_more s events ev same = ap (λ (x : Asking). x.asks) (asking_more s events 
 pub unanswered : (e : ℕ) (qs : List Ask) (o : Option Id) → is_some o ≡ false → filter (λ a. not (is_seated e o a)) qs ≡ qs
 unanswered e qs (Some id) h = never h
 unanswered e [] None h = refl
-unanswered e (a ∷ qs) None h = go (nat_eq a.editor e)
+unanswered e (a ∷ qs) None h = go (nat_eq a.editor e) (unanswered e qs None h)
   where
-    go : (b : Bool) → (if not (b && false) then a ∷ filter (λ a. not (is_seated e None a)) qs else filter (λ a. not (is_seated e None a)) qs) ≡ a ∷ qs
-    go true = ap (λ bs. a ∷ bs) (unanswered e qs None h)
-    go false = ap (λ bs. a ∷ bs) (unanswered e qs None h)
+    go : (b : Bool) → filter (λ a. not (is_seated e None a)) qs ≡ qs → (if not (b && false) then a ∷ filter (λ a. not (is_seated e None a)) qs else filter (λ a. not (is_seated e None a)) qs) ≡ a ∷ qs
+    go true k = ap (λ bs. a ∷ bs) k
+    go false k = ap (λ bs. a ∷ bs) k
 
 pub unhanded : (qs : List Ask) (o : Option Id) → is_some o ≡ false → filter (λ a. not (is_under o a)) qs ≡ qs
 unhanded qs (Some id) h = never h
@@ -52,7 +52,7 @@ later_asked : (events : List Event) (ev : Event) (qs : List Ask) → AllByRecurs
 later_asked events ev [] h = tt
 later_asked events ev (a ∷ qs) h = ((subst (λ m. a.number < m) (sym (one_more (asked_behind a.editor) _ _ events ev refl)) (later_number a.editor a.number (next_ask a.editor events) ev h.0.0), h.0.1), later_asked events ev qs h.1)
 
-asks_later : (stage : Stage) (events : List Event) (ev : Event) (qs : List Ask) (kept : List route.Ask) → AsksAt stage events qs kept → AsksAt stage (events ++ ev ∷ []) qs kept
+pub asks_later : (stage : Stage) (events : List Event) (ev : Event) (qs : List Ask) (kept : List route.Ask) → AsksAt stage events qs kept → AsksAt stage (events ++ ev ∷ []) qs kept
 asks_later Ready events ev qs kept s = record { same = s.same; texts = s.texts; asked = later_asked events ev qs s.asked; apart = s.apart }
 asks_later Unspawned events ev qs kept s = s
 asks_later Spawning events ev qs kept s = s
@@ -71,12 +71,12 @@ told_asks stage s events body m kept silent h = at stage silent h
     ev : Event
     ev = did (ToServer s body) m
 
-    told : (b : Bool) (P : List Ask → Type 0) → P (filter (λ a. not (is_under (answered_id m) a)) (asks_of s events)) → P (asks_of s events) → P ((if b then record { asker = (asking_of s events).asker; asks = filter (λ a. not (is_under (answered_id m) a)) (asks_of s events) } else asking_of s events).asks)
-    told true P yes no = yes
-    told false P yes no = no
+    told : asks_of s events ≡ [] → (b : Bool) → (if b then record { asker = (asking_of s events).asker; asks = filter (λ a. not (is_under (answered_id m) a)) (asks_of s events) } else asking_of s events).asks ≡ []
+    told none true = ap (filter (λ a. not (is_under (answered_id m) a))) none
+    told none false = none
 
     empties : asks_of s events ≡ [] → asks_of s (events ++ ev ∷ []) ≡ []
-    empties none = ap (λ (x : Asking). x.asks) (asking_more s events ev) ∙ told (nat_eq s s) (λ qs. qs ≡ []) (ap (filter (λ a. not (is_under (answered_id m) a))) none) none
+    empties none = ap (λ (x : Asking). x.asks) (asking_more s events ev) ∙ told none (nat_eq s s)
 
     at : (stage : Stage) → (is_ready stage ≡ true → AsksStay s events ev) → AsksAt stage events (asks_of s events) kept → AsksAt stage (events ++ ev ∷ []) (asks_of s (events ++ ev ∷ [])) kept
     at Ready silent h = subst (λ qs. AsksStand (events ++ ev ∷ []) qs kept) (sym (asks_more s events ev (silent refl))) (asks_later Ready events ev (asks_of s events) kept h)

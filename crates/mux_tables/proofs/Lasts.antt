@@ -15,7 +15,7 @@ use Rattle.mux_tables.specs.declared.tables.Start.{Start}
 use Rattle.group_rows.specs.Asks.{asking_of}
 use Rattle.mux_tables.specs.Stands.{AsksStay, blank, forwarded_of, IsLost, Lost, of_ids, of_life, OriginsStand, LastStands, LastsStand, Rise}
 use Rattle.mux_tables.proofs.Frames.{asks_alone, names_editor, names_start, spawns, starts_alone, start_alone, group_alone, life_alone, last_stands, part_apart}
-use Rattle.mux_tables.proofs.Placed.{groups_apart, left_away, left_there, lost_left, lost_set, place_before, rise_remove, rise_set}
+use Rattle.mux_tables.proofs.Placed.{groups_apart, left_there, lost_left, lost_set, place_before, rise_remove, rise_set}
 
 pub same_place : {i j : ℕ} → ◌≡◌ {A = Option ℕ} (Some i) (Some j) → i ≡ j
 same_place e = cc

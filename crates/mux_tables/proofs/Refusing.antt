@@ -2,7 +2,7 @@
 use Rattle.std.proofs.Common.{◌≡◌, ℕ, zero, suc, ◌+◌, ◌<◌, ◌≤◌, take, get_or, Bool, true, false, not, cond, List, [], ◌∷◌, ◌++◌, filter, map, length, refl, ap, sym, subst, ◌∙◌, nat_eq, append-nil, append_assoc, arith, codes, if◌then◌else◌}
 use Rattle.std.specs.Prelude.{Option, Some, None, slice_get, slice_set}
 use Rattle.std.specs.List.{AllByRecursion}
-use Rattle.std.proofs.lemmas.List.{map-append, take_more}
+use Rattle.std.proofs.lemmas.List.{length-set, map-append, take_more}
 use Rattle.std.proofs.lemmas.Option.{slice_get_within}
 use Rattle.ask_route.specs.declared.ask.Ask as route
 use Rattle.ask_route.specs.Tables as asks
@@ -29,7 +29,7 @@ use Rattle.mux_tables.specs.declared.tables.Tables.{Tables}
 use Rattle.mux_tables.specs.Documents.{DocumentsStand, Owed}
 use Rattle.mux_tables.specs.Refusals.{of_editor, refusal, refusals}
 use Rattle.mux_tables.specs.Stands.{AreApart, AsksAt, AsksStand, HasText, Part, of_life, of_ids, of_shown, of_stop, of_asks, PartStands, Stands, WasAsked, kept_ask, number_in}
-use Rattle.mux_tables.proofs.Apart.{all_filter, one_less, stand_filter}
+use Rattle.mux_tables.proofs.Apart.{all_filter, less_apart, one_less, stand_filter}
 use Rattle.mux_tables.proofs.Asking.{asking_more, asks_later}
 use Rattle.mux_tables.proofs.Awaited.{told_stops}
 use Rattle.mux_tables.proofs.DocumentEvents.{shared_notified}
@@ -84,7 +84,7 @@ module _ (settings : Settings) (t u : Tables) (base : List Event) (xs ys : List 
 
 -- the tables in which these are kept of a group's last start
 abbrev pub keeping : Tables → ℕ → Start → List route.Ask → Tables
-keeping t g z kept = record t { lasts = record t.lasts { items = slice_set t.lasts.items g (record z { asks = kept }) } }
+keeping t g z kept = record t { lasts = record t.lasts { items = slice_set t.lasts.items g (record z { asks = kept }); ok = (t.lasts.ok.0 ∙ sym (length-set t.lasts.items g (record z { asks = kept })), t.lasts.ok.1) } }
 
 -- tables that agree
 pub same_stands : (settings : Settings) (t u : Tables) (events : List Event) → u.lasts.items ≡ t.lasts.items → u.editors ≡ t.editors → u.groups ≡ t.groups → u.time ≡ t.time → u.origins ≡ t.origins → u.requests ≡ t.requests → Stands settings t events → Stands settings u events
@@ -150,29 +150,22 @@ module _ (settings : Settings) (t : Tables) (base : List Event) (g e : ℕ) (z :
   rest pre [] v u xs ys is all apart texts ends outs =
       subst (λ zs. Rows [] v xs u zs) (sym (outs ∙ append-nil xs)) (subst (λ q. Rows [] q xs u xs) (sym is) (same_does settings base (keeping t g z (map kept_ask (pre ++ []))) u xs ends))
   rest pre (a ∷ post) v u xs ys is all apart texts ends outs = go (nat_eq a.editor e) ends outs
+      (λ later goes sends. rest pre post (keeping t g z (map kept_ask (pre ++ post))) u (xs ++ ToServer s (error_text a.bytes request_failed) ∷ []) ys refl later (less_apart a pre post apart) texts.1 goes sends)
+      (λ goes sends. rest (pre ++ a ∷ []) post v u xs ys (is ∙ ap (λ qs. keeping t g z (map kept_ask qs)) (sym moved)) (all ∙ sym moved) (subst AreApart (sym moved) apart) texts.1 goes sends)
     where
-      over : List Ask → Tables → List Out → List Out → Type 0
-      over qs w ws zs = Rows qs w ws u zs
-
       moved : (pre ++ a ∷ []) ++ post ≡ pre ++ a ∷ post
       moved = append_assoc pre (a ∷ []) post
 
       go : (b : Bool) → ((events : List Event) → Stands settings (keeping t g z (map kept_ask (pre ++ cond (not b) (a ∷ filter (λ a. not (is_with e a)) post) (filter (λ a. not (is_with e a)) post)))) events → Stands settings u events)
           → ys ≡ xs ++ refusals s (cond b (kept_ask a ∷ of_editor e (map kept_ask post)) (of_editor e (map kept_ask post)))
+          → (asks_of s (behind base (xs ++ ToServer s (error_text a.bytes request_failed) ∷ [])) ≡ pre ++ post → ((events : List Event) → Stands settings (keeping t g z (map kept_ask (pre ++ filter (λ a. not (is_with e a)) post))) events → Stands settings u events)
+          → ys ≡ (xs ++ ToServer s (error_text a.bytes request_failed) ∷ []) ++ refusals s (of_editor e (map kept_ask post)) → Rows post (keeping t g z (map kept_ask (pre ++ post))) (xs ++ ToServer s (error_text a.bytes request_failed) ∷ []) u ys)
+          → (((events : List Event) → Stands settings (keeping t g z (map kept_ask ((pre ++ a ∷ []) ++ filter (λ a. not (is_with e a)) post))) events → Stands settings u events) → ys ≡ xs ++ refusals s (of_editor e (map kept_ask post)) → Rows post v xs u ys)
           → Does (λ t events. Stands settings t events) (each (refusal s) (cond b (kept_ask a ∷ of_editor e (map kept_ask post)) (of_editor e (map kept_ask post)))) base v xs u ys
-      go true ends outs = next pre post a v u xs ys is all apart texts.0
-          (λ later. rest pre post (keeping t g z (map kept_ask (pre ++ post))) u (xs ++ ToServer s (error_text a.bytes request_failed) ∷ []) ys refl later (less_apart pre apart) texts.1 ends
-          (outs ∙ sym (append_assoc xs (ToServer s (error_text a.bytes request_failed) ∷ []) (refusals s (of_editor e (map kept_ask post))))))
-      go false ends outs = rest (pre ++ a ∷ []) post v u xs ys (is ∙ ap (λ qs. keeping t g z (map kept_ask qs)) (sym moved)) (all ∙ sym moved) (subst AreApart (sym moved) apart) texts.1
+      go true ends outs first second = next pre post a v u xs ys is all apart texts.0
+          (λ later. first later ends (outs ∙ sym (append_assoc xs (ToServer s (error_text a.bytes request_failed) ∷ []) (refusals s (of_editor e (map kept_ask post))))))
+      go false ends outs first second = second
           (λ events st. ends events (subst (λ qs. Stands settings (keeping t g z (map kept_ask qs)) events) (append_assoc pre (a ∷ []) (filter (λ a. not (is_with e a)) post)) st)) outs
-
-      less_apart : (cs : List Ask) → AreApart (cs ++ a ∷ post) → AreApart (cs ++ post)
-      less_apart [] h = h.1
-      less_apart (c ∷ cs) h = (among cs h.0, less_apart cs h.1)
-        where
-          among : {P : Ask → Type 0} (ds : List Ask) → AllByRecursion P (ds ++ a ∷ post) → AllByRecursion P (ds ++ post)
-          among [] k = k.1
-          among (d ∷ ds) k = (k.0, among ds k.1)
 
   -- all of them
   pub refused_does : (u : Tables) (xs ys : List Out) → u.lasts.items ≡ slice_set t.lasts.items g (record z { asks = filter (λ k. not (asks.is_with (Some e) k)) z.asks }) → u.editors ≡ t.editors → u.groups ≡ t.groups → u.time ≡ t.time → u.origins ≡ t.origins → u.requests ≡ t.requests

@@ -62,24 +62,25 @@ module _ (e k : ℕ) (id : Option Id) (named : (n : ℕ) → n < 2 ^ 64 → name
 
   less_filter : (events : List Event) (qs : List Ask) → AllByRecursion (WasAsked events) qs → AreApart qs → asks.less (asks.is_seated e k) (map kept_ask qs) ≡ map kept_ask (filter (λ a. not (is_seated e id a)) qs)
   less_filter events [] h o = refl
-  less_filter events (a ∷ qs) h o = go (asks.is_seated e k (kept_ask a)) (is_seated e id a) refl (same_seat events a h.0)
+  less_filter events (a ∷ qs) h o = go (asks.is_seated e k (kept_ask a)) (is_seated e id a) refl (same_seat events a h.0) (less_filter events qs h.1 o.1)
     where
-      go : (c d : Bool) → asks.is_seated e k (kept_ask a) ≡ c → d ≡ c
+      go : (c d : Bool) → asks.is_seated e k (kept_ask a) ≡ c → d ≡ c → asks.less (asks.is_seated e k) (map kept_ask qs) ≡ map kept_ask (filter (λ a. not (is_seated e id a)) qs)
           → cond c (map kept_ask qs) (kept_ask a ∷ asks.less (asks.is_seated e k) (map kept_ask qs)) ≡ map kept_ask (cond (not d) (a ∷ filter (λ a. not (is_seated e id a)) qs) (filter (λ a. not (is_seated e id a)) qs))
-      go true true is q = ap (map kept_ask) (sym (others events a qs is h.1 o.0))
-      go false false is q = ap (λ ks. kept_ask a ∷ ks) (less_filter events qs h.1 o.1)
-      go true false is q = cc
-      go false true is q = cc
+      go true true is q less = ap (map kept_ask) (sym (others events a qs is h.1 o.0))
+      go false false is q less = ap (λ ks. kept_ask a ∷ ks) less
+      go true false is q less = cc
+      go false true is q less = cc
 
   find_kept : (events : List Event) (qs : List Ask) → AllByRecursion (WasAsked events) qs → option_map (λ (q : route.Ask). q.id) (find (asks.is_seated e k) (map kept_ask qs)) ≡ option_map (λ (a : Ask). a.bytes) (find (is_seated e id) qs)
   find_kept events [] h = refl
-  find_kept events (a ∷ qs) h = go (asks.is_seated e k (kept_ask a)) (is_seated e id a) (same_seat events a h.0)
+  find_kept events (a ∷ qs) h = go (asks.is_seated e k (kept_ask a)) (is_seated e id a) (same_seat events a h.0) (find_kept events qs h.1)
     where
-      go : (c d : Bool) → d ≡ c → option_map (λ (q : route.Ask). q.id) (cond c (Some (kept_ask a)) (find (asks.is_seated e k) (map kept_ask qs))) ≡ option_map (λ (a : Ask). a.bytes) (cond d (Some a) (find (is_seated e id) qs))
-      go true true q = refl
-      go false false q = find_kept events qs h.1
-      go true false q = cc
-      go false true q = cc
+      go : (c d : Bool) → d ≡ c → option_map (λ (q : route.Ask). q.id) (find (asks.is_seated e k) (map kept_ask qs)) ≡ option_map (λ (a : Ask). a.bytes) (find (is_seated e id) qs)
+          → option_map (λ (q : route.Ask). q.id) (cond c (Some (kept_ask a)) (find (asks.is_seated e k) (map kept_ask qs))) ≡ option_map (λ (a : Ask). a.bytes) (cond d (Some a) (find (is_seated e id) qs))
+      go true true q found = refl
+      go false false q found = found
+      go true false q found = cc
+      go false true q found = cc
 
 -- a message that names no number
 none_named : (e : ℕ) (id : Option Id) (events : List Event) → ((n : ℕ) → n < 2 ^ 64 → names id n ≡ false) → (qs : List Ask) → AllByRecursion (WasAsked events) qs → AllByRecursion (λ (a : Ask). is_seated e id a ≡ false) qs
@@ -174,13 +175,13 @@ if_both : {A : Type 0} {P Q R : A → Type 0} (o : Option A) → IfSome o P → 
 if_both None h k f = tt
 if_both (Some a) h k f = f a h k
 
-find_all : {P : Ask → Type 0} (p : Ask → Bool) (qs : List Ask) → AllByRecursion P qs → IfSome (find p qs) P
-find_all p [] h = tt
-find_all {P} p (a ∷ qs) h = go (p a)
+find_all : (P : Ask → Type 0) (p : Ask → Bool) (qs : List Ask) → AllByRecursion P qs → IfSome (find p qs) P
+find_all P p [] h = tt
+find_all P p (a ∷ qs) h = go (p a) (find_all P p qs h.1)
   where
-    go : (b : Bool) → IfSome (cond b (Some a) (find p qs)) P
-    go true = h.0
-    go false = find_all p qs h.1
+    go : (b : Bool) → IfSome (find p qs) P → IfSome (cond b (Some a) (find p qs)) P
+    go true k = h.0
+    go false k = k
 
 abbrev pub Alone : Ask → List Ask → Type 0
 Alone a qs = AllByRecursion (λ (b : Ask). is_under (Some a.id) b ≡ false) qs
@@ -191,11 +192,11 @@ others_under a (b ∷ qs) h = (h.0.1, others_under a qs h.1)
 
 found_alone : (p : Ask → Bool) (qs : List Ask) → AreApart qs → IfSome (find p qs) (λ a. Alone a (filter (λ b. not (p b)) qs))
 found_alone p [] h = tt
-found_alone p (a ∷ qs) h = go (p a)
+found_alone p (a ∷ qs) h = go (p a) (found_alone p qs h.1)
   where
-    go : (b : Bool) → IfSome (cond b (Some a) (find p qs)) (λ c. Alone c (cond (not b) (a ∷ filter (λ b. not (p b)) qs) (filter (λ b. not (p b)) qs)))
-    go true = all_filter (λ (b : Ask). is_under (Some a.id) b ≡ false) (λ b. not (p b)) qs (others_under a qs h.0)
-    go false = if_both (find p qs) (find_all p qs h.0) (found_alone p qs h.1) (λ c o k. (id_flip c.id a.id o.1, k))
+    go : (b : Bool) → IfSome (find p qs) (λ c. Alone c (filter (λ b. not (p b)) qs)) → IfSome (cond b (Some a) (find p qs)) (λ c. Alone c (cond (not b) (a ∷ filter (λ b. not (p b)) qs) (filter (λ b. not (p b)) qs)))
+    go true k = all_filter (λ (b : Ask). is_under (Some a.id) b ≡ false) (λ b. not (p b)) qs (others_under a qs h.0)
+    go false k = if_both (find p qs) (find_all (IsOther a) p qs h.0) k (λ c o l. (id_flip c.id a.id o.1, l))
 
 pub found_fits : (settings : Settings) (t : Tables) (before : List Event) (g e : ℕ) (body : List ℕ) (x : Start) → slice_get t.lasts.items g ≡ Some x → x.life.stage ≡ Ready → Stands settings t before
     → IfSome (find (is_seated e (answered_id (message_of body))) (asks_of x.life.start before)) (λ a. HasText a × Alone a (asks_of x.life.start (before ++ heard (FromEditor e body) ∷ [])))
@@ -204,4 +205,4 @@ found_fits settings t before g e body x at ready st =
     let k = ready_asks x.life.stage before qs x.asks ready ((st.lasts.each g x at).parts of_asks) in
     let p : Ask → Bool = is_seated e (answered_id (message_of body)) in
     subst (λ bs. IfSome (find p qs) (λ a. HasText a × Alone a bs)) (sym (ap (λ (w : Asking). w.asks) (asking_more x.life.start before (heard (FromEditor e body)))))
-    (if_both (find p qs) (find_all p qs k.texts) (found_alone p qs k.apart) (λ a h l. (h, l)))
+    (if_both (find p qs) (find_all HasText p qs k.texts) (found_alone p qs k.apart) (λ a h l. (h, l)))

@@ -101,7 +101,7 @@ idle_stay s e events body none = go (message_of body)
   where
     go : (m : Message) → AsksStay s events (did (ToEditor e body) m)
     go (request id method ps) = ap (λ o. asks_of s events ++ put o e (next_ask e events)) none ∙ append-nil (asks_of s events)
-    go other = refl
+    go rest = refl
 
 pub told_does : (settings : Settings) (t : Tables) (xs ys : List Out) (base : List Event) (e : ℕ) (body : List ℕ) → Keeps e body (behind base xs) → ys ≡ xs ++ ToEditor e body ∷ [] → Does (λ t events. Stands settings t events) (send (ToEditor e body)) base t xs t ys
 told_does settings t xs ys base e body k is = does_send settings (ToEditor e body) base t t xs ys is
