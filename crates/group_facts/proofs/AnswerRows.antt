@@ -29,7 +29,6 @@ use Rattle.mux_model.specs.Documents.{Sent, held_at, sent_of}
 use Rattle.mux_model.specs.Rows.{to_start}
 use Rattle.mux_model.proofs.DocumentFolds.{outs_to_start}
 use Rattle.response_route.specs.Answers.{answer_text}
-use Rattle.event_model.proofs.Frames.{never}
 use Rattle.mux_facts.specs.Allowed.{is_response}
 use Rattle.mux_facts.specs.Ranges.{InRange}
 use Rattle.mux_facts.proofs.Bodies.{IsResponseTo, is_result, is_error, welcome_says, refusal_says}
@@ -52,7 +51,7 @@ use Rattle.group_rows.specs.Texts.{texts_of}
 use Rattle.group_facts.specs.Facts.{AllForwarded, Apart, Asks, asked_by, IsAsker, IsForwarded, IsWaiting, IsWritten, Opened, Untold, Written}
 use Rattle.group_facts.specs.Built.{built_ready}
 use Rattle.group_facts.proofs.Asks.{asked_by_more}
-use Rattle.group_facts.proofs.AskingRows.{notified_why}
+use Rattle.group_facts.proofs.AskingRows.{notified_why, question_why}
 use Rattle.group_facts.proofs.Apart.{alone_answered}
 use Rattle.group_rows.proofs.Versions.{AllMeant, own_flat}
 use Rattle.group_facts.proofs.Answered.{answer_says}
@@ -262,7 +261,7 @@ module _ (settings : Settings) (range : InRange settings) (before : List Event) 
 
     -- S5, and what it asks and tells
     ready_why : (life_of s before).stage ≡ Ready → built_ready settings before s (message_of body) ≡ true → (m : Message) → message_of body ≡ m → Because R now (ready_row settings s before body m)
-    ready_why at built (request id method params) says = never (sym (ap (built_ready settings before s) (sym says) ∙ built))
+    ready_why at built (request id method params) says = question_why settings before s body at id method params says (ap (built_ready settings before s) (sym says) ∙ built)
     ready_why at built (notification method params) says = notified_why settings before s body at asks method params says
     ready_why at built (result id r) says = subst (λ m. Because R now (answer_row settings s before body m)) says (response_why all apart meant)
     ready_why at built (error id x) says = subst (λ m. Because R now (answer_row settings s before body m)) says (response_why all apart meant)

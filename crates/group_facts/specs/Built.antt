@@ -90,14 +90,15 @@ built_asking settings before s method Focused = not (bytes_eq (codes "workspace/
 built_asking settings before s method Lowest = has_running settings before s
 built_asking settings before s method _ = false
 
--- what goes to each editor; S14 is to come
+-- S14, and what goes to each editor
 abbrev pub built_telling : Class → Bool
+built_telling Cancel = true
 built_telling Broadcast = true
 built_telling _ = false
 
--- of a start that is ready: that, and S5; what it asks (S9, S11, S12, by `built_asking`) is to come
+-- of a start that is ready: a request under the id of an open ask, and those; S5
 abbrev pub built_ready : Settings → List Event → ℕ → Message → Bool
-built_ready settings before s (request id method params) = false
+built_ready settings before s (request id method params) = list_any (is_under (Some id)) (asks_of s before) || built_asking settings before s method (class_of method Server false)
 built_ready settings before s (notification method params) = built_telling (class_of method Server true)
 built_ready settings before s other = true
 
