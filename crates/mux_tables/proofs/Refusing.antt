@@ -194,7 +194,7 @@ refused_by settings t u base g e x z kept left start xs ys same at ready leaves 
 
 -- The documents of the groups
 
-rest_same : (settings : Settings) (t : Tables) (events : List Event) → Rest settings t events events
+pub rest_same : (settings : Settings) (t : Tables) (events : List Event) → Rest settings t events events
 rest_same settings t events = record {
   texts = λ g l h. h;
   encoding = λ g l. refl;
