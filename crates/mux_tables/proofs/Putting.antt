@@ -1,5 +1,5 @@
 -- Editors are asked what a start asks (S9, S11, S12).
-use Rattle.std.proofs.Common.{◌≡◌, ℕ, ◌+◌, ◌<◌, ◌^◌, Bool, true, false, not, ◌&&◌, ◌||◌, List, [], ◌∷◌, ◌++◌, map, length, refl, ap, sym, subst, ◌∙◌, append-nil, nat_eq, nat_lt, decimal, arith, if◌then◌else◌}
+use Rattle.std.proofs.Common.{◌≡◌, ℕ, ◌+◌, ◌<◌, ◌^◌, Bool, true, false, ◌&&◌, ◌||◌, List, [], ◌∷◌, ◌++◌, length, refl, ap, sym, subst, ◌∙◌, nat_eq, nat_lt, decimal, arith, if◌then◌else◌}
 use Rattle.std.specs.Prelude.{Option, Some, None, slice_get, slice_set}
 use Rattle.std.specs.List.{AllByRecursion, list_any}
 use Rattle.std.proofs.lemmas.Bool.{ne_eqb}
@@ -16,7 +16,7 @@ use Rattle.rpc_message.specs.Texts.{with_id_text}
 use Rattle.rpc_message.proofs.Decimals.{decimal_wide_law}
 use Rattle.rpc_message.proofs.Ids.{request_id_bytes, request_with_id}
 use Rattle.event_model.specs.declared.phase.Phase.{Phase}
-use Rattle.event_model.specs.declared.phase.Phase.TheVariants.{Absent, New, Waiting, Answered, Running, Down, Closed, Gone}
+use Rattle.event_model.specs.declared.phase.Phase.TheVariants.{Running}
 use Rattle.event_model.specs.declared.stage.Stage.{Stage}
 use Rattle.event_model.specs.declared.stage.Stage.TheVariants.{Ready}
 use Rattle.event_model.specs.Does.{Does}
@@ -32,11 +32,11 @@ use Rattle.editor_session.specs.Sessions as sessions
 use Rattle.editor_session.specs.Sessions.{absent, is_gone, session_of, unless_gone, with_session}
 use Rattle.group_words.proofs.Frames.{itself}
 use Rattle.group_rows.specs.AskRows.{ask}
-use Rattle.group_rows.specs.Asks.{Ask, Asker, Asking, asking_next, asking_of, asks_of, has_number, is_under, next_ask, put}
+use Rattle.group_rows.specs.Asks.{Ask, Asking, asking_next, asking_of, asks_of, has_number, is_under, next_ask, put}
 use Rattle.mux_tables.specs.declared.tables.Start.{Start}
 use Rattle.mux_tables.specs.declared.tables.Tables.{Tables}
 use Rattle.mux_tables.specs.Documents.{DocumentsStand, Owed}
-use Rattle.mux_tables.specs.Stands.{AreApart, AsksAt, AsksStand, AsksStay, CountStands, EditorsStand, HasText, HouseStands, IsOther, LastStands, Part, of_life, of_ids, of_shown, of_stop, of_asks, PartStands, Stands, WasAsked, is_beside, is_request, kept_ask, phase_in}
+use Rattle.mux_tables.specs.Stands.{AreApart, AsksAt, AsksStand, CountStands, EditorsStand, HasText, IsOther, Part, of_life, of_ids, of_shown, of_stop, of_asks, PartStands, Stands, WasAsked, is_beside, is_request, kept_ask, phase_in}
 use Rattle.mux_tables.proofs.Apart.{id_flip}
 use Rattle.mux_tables.proofs.Asking.{asking_more, asks_later}
 use Rattle.mux_tables.proofs.Counted.{asked_more, next_more}

@@ -4,7 +4,6 @@ use Rattle.std.specs.Prelude.{IfSome, Option, Some, None, option_map, slice_get}
 use Rattle.std.specs.List.{AllByRecursion, Contains, last_or, list_any}
 use Rattle.std.proofs.lemmas.Bool.Decides.{nat_tests}
 use Rattle.std.proofs.lemmas.Map.Views.{Contains-from_any}
-use Rattle.ask_route.specs.declared.ask.Ask as route
 use Rattle.ask_route.specs.declared.ask.Seat.{Seat}
 use Rattle.ask_route.specs.Tables as asks
 use Rattle.rpc_message.specs.Message.{Id}

@@ -1,5 +1,5 @@
 -- An editor is asked, which is kept.
-use Rattle.std.proofs.Common.{None, ap, length, refl, sym, subst, ◌++◌, ◌∷◌, [], ◌≡◌, ◌∙◌}
+use Rattle.std.proofs.Common.{None, ap, length, refl, ◌++◌, ◌∷◌, [], ◌∙◌}
 use Rattle.std.proofs.lemmas.List.{length-set}
 use Rattle.ask_route.specs.Tables.{asked}
 use Rattle.event_model.specs.Event.{behind}
