@@ -1,4 +1,4 @@
-pub mod Leaving
+pub mod Stays
 pub mod Handing
 pub mod Answering
 pub mod Asides
