@@ -1,13 +1,13 @@
 -- Asks of which no two have one id, nor one editor and one number.
-use Rattle.std.proofs.Common.{◌≡◌, ℕ, Bool, true, false, not, ◌&&◌, cond, List, [], ◌∷◌, ◌++◌, filter, map, refl, ap, sym, subst, ◌∙◌, nat_eq, arith}
+use Rattle.std.proofs.Common.{◌≡◌, ℕ, Bool, true, false, not, cond, List, [], ◌∷◌, ◌++◌, filter, map, refl, ap, sym, ◌∙◌}
 use Rattle.std.specs.List.{AllByRecursion}
-use Rattle.std.specs.Prelude.{Option, Some, None, bytes_eq}
+use Rattle.std.specs.Prelude.{Some, bytes_eq}
 use Rattle.std.proofs.lemmas.Slice.Eq.{bytes_eq-Decides}
 use Rattle.rpc_message.specs.Message.{Id, integer, text, same_id}
 use Rattle.event_model.specs.Event.{Event}
 use Rattle.event_model.proofs.Frames.{never}
-use Rattle.group_rows.specs.Asks.{Ask, is_under, is_with}
-use Rattle.mux_tables.specs.Stands.{AreApart, AsksStand, HasText, IsOther, WasAsked, is_beside, kept_ask}
+use Rattle.group_rows.specs.Asks.{Ask, is_under}
+use Rattle.mux_tables.specs.Stands.{AreApart, AsksStand, HasText, IsOther, WasAsked, kept_ask}
 
 bytes_flip : (a b : List ℕ) → bytes_eq b a ≡ false → bytes_eq a b ≡ false
 bytes_flip a b h = go (bytes_eq a b) refl

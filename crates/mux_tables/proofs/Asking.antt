@@ -1,5 +1,5 @@
 -- What editors were asked for a start, one event further.
-use Rattle.std.proofs.Common.{◌≡◌, ℕ, ◌+◌, ◌<◌, Bool, true, false, not, ◌&&◌, List, [], ◌∷◌, ◌++◌, filter, map, refl, ap, sym, subst, ◌∙◌, nat_eq, arith, if◌then◌else◌}
+use Rattle.std.proofs.Common.{◌≡◌, ℕ, ◌+◌, ◌<◌, Bool, true, false, not, ◌&&◌, List, [], ◌∷◌, ◌++◌, filter, refl, ap, sym, subst, ◌∙◌, nat_eq, arith, if◌then◌else◌}
 use Rattle.std.specs.Prelude.{Option, Some, None, is_some}
 use Rattle.std.specs.List.{AllByRecursion}
 use Rattle.ask_route.specs.declared.ask.Ask as route
@@ -13,7 +13,6 @@ use Rattle.event_model.specs.Stages.{is_ready}
 use Rattle.event_model.proofs.Frames.{never, one_more}
 use Rattle.group_words.proofs.Frames.{past_more}
 use Rattle.group_rows.specs.Asks.{Ask, Asking, asked_behind, asking_next, asking_of, asks_of, is_seated, is_under, next_ask, no_asking}
-use Rattle.group_rows.specs.Forwarded.{names}
 use Rattle.restart_replay.specs.Standings.{Standing, moved}
 use Rattle.mux_tables.specs.declared.tables.Start.{Start}
 use Rattle.mux_tables.specs.Stands.{AnswersNone, AsksAt, AsksStand, AsksStay, PartStands, WasAsked, begun_at, is_answer, of_asks}

@@ -1,6 +1,6 @@
 -- An event leaves alone what it doesn't name: one lemma for each word, by cases of the event, and one for each table.
 use Rattle.std.proofs.Common.{◌≡◌, ℕ, ◌+◌, Bool, true, false, not, ◌&&◌, List, [], ◌∷◌, ◌++◌, filter, refl, ap, sym, subst, ◌∙◌, nat_eq, arith}
-use Rattle.std.specs.Prelude.{Option, Some, None, codes, if◌then◌else◌}
+use Rattle.std.specs.Prelude.{Option, Some, None, codes, slice_get, if◌then◌else◌}
 use Rattle.std.proofs.lemmas.Bool.Decides.{nat_tests}
 use Rattle.mux_history.specs.declared.cause.Cause.TheVariants.{Joined, FromEditor, EditorGone, Started, StartFailed, FromServer, ServerGone, Tick}
 use Rattle.mux_history.specs.declared.out.Out.TheVariants.{ToEditor, ToServer, Spawn, CloseEditor, EndServer}
@@ -22,10 +22,11 @@ use Rattle.group_words.specs.Rows.{result_behind, result_of}
 use Rattle.group_words.proofs.Frames.{touches_groups, names_home, groups_stay, home_stays, past_more}
 use Rattle.id_rewrite.specs.Tables.{Table}
 use Rattle.mux_tables.specs.declared.tables.Start.{Start}
-use Rattle.group_rows.specs.Asks.{Ask, Asking, asking_next, asking_of, asks_of, is_under}
+use Rattle.group_rows.specs.Asks.{Asking, asked_behind, asking_next, asking_of, is_under, next_ask}
 use Rattle.group_rows.specs.Forwarded.{Forwarding, forwarding_behind, forwarding_of, forwards, moves_ids, numbered}
 use Rattle.mux_tables.specs.Stands.{EditorsStand, GroupsStand, OriginsStand, IdsAt, IdsStand, Part, of_life, of_ids, of_shown, PartStands, LastStands, ShownAt, of_stop, StopAt, of_asks, AsksStay, is_answer, is_request}
 use Rattle.mux_tables.proofs.Asking.{asks_by, unanswered, unhanded}
+use Rattle.mux_tables.proofs.Counted.{counted_same, next_more}
 use Rattle.mux_tables.proofs.Named.{goes_so, meant_by, named_by}
 use Rattle.group_rows.specs.Ticks.{stop_next, stop_of}
 
@@ -76,6 +77,10 @@ meant_alone : (servers : List Server) (e : ℕ) (x : Meant) (ev : Event) → nam
 meant_alone servers e x (took (Joined n) m) h = never h
 meant_alone servers e x (took (FromEditor n body) m) h = never h
 meant_alone servers e x other h = refl
+
+asked_alone : (e n : ℕ) (ev : Event) → names_editor ev ≡ false → asked_behind e n ev ≡ n
+asked_alone e n (did (ToEditor k body) m) h = never h
+asked_alone e n other h = refl
 
 -- another editor's message
 pub desk_apart : (e n : ℕ) (body : List ℕ) (m : Message) (events : List Event) → nat_eq e n ≡ false → desk_of n (events ++ took (FromEditor e body) m ∷ []) ≡ desk_of n events
@@ -144,6 +149,7 @@ editors_stand settings t events ev h s = record {
   home = λ e. home_stays settings e events ev (homeless e ev h) ∙ s.home e;
   names = λ e. named_by (goes_so (one_more (desk_behind e) _ _ events ev refl ∙ desk_alone e _ ev h)) (home_stays settings e events ev (homeless e ev h)) refl (s.names e);
   meant = λ e. meant_by (goes_so (one_more (desk_behind e) _ _ events ev refl ∙ desk_alone e _ ev h)) refl (one_more (meant_behind settings.servers e) _ _ events ev refl ∙ meant_alone settings.servers e _ ev h) (s.meant e);
+  asked = λ e. counted_same (slice_get t e) (next_ask e events) (next_ask e (events ++ ev ∷ [])) (next_more e events ev ∙ asked_alone e (next_ask e events) ev h) (s.asked e);
 }
 
 pub groups_stand : (settings : Settings) (t : group_tables.Table) (events : List Event) (ev : Event) → touches_groups ev ≡ false → GroupsStand settings t events → GroupsStand settings t (events ++ ev ∷ [])

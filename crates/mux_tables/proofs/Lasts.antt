@@ -1,5 +1,5 @@
 -- The list of last starts, when an event names no start, or one.
-use Rattle.std.proofs.Common.{◌≡◌, ℕ, ◌≤◌, ◌<◌, map, List, [], ◌∷◌, ◌++◌, length, refl, ap, sym, subst, ◌∙◌, false, arith, nat_eq, inl, inr}
+use Rattle.std.proofs.Common.{◌≡◌, ℕ, ◌≤◌, ◌<◌, map, List, [], ◌∷◌, ◌++◌, refl, ap, sym, subst, ◌∙◌, false, arith, nat_eq, inl, inr}
 use Rattle.std.specs.Prelude.{Option, Some, slice_get, slice_set, ◌⊎◌}
 use Rattle.std.specs.List.{remove}
 use Rattle.std.proofs.lemmas.Bool.{ne_eqb}

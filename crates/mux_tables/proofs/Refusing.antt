@@ -1,6 +1,6 @@
 -- L1: the asks of an editor that leaves are refused, one after the other.
 use Rattle.std.proofs.Common.{◌≡◌, ℕ, zero, suc, ◌+◌, ◌<◌, ◌≤◌, take, get_or, Bool, true, false, not, cond, List, [], ◌∷◌, ◌++◌, filter, map, length, refl, ap, sym, subst, ◌∙◌, nat_eq, append-nil, append_assoc, arith, codes, if◌then◌else◌}
-use Rattle.std.specs.Prelude.{Option, Some, None, slice_get, slice_set}
+use Rattle.std.specs.Prelude.{Some, slice_get, slice_set}
 use Rattle.std.specs.List.{AllByRecursion}
 use Rattle.std.proofs.lemmas.List.{length-set, map-append, take_more}
 use Rattle.std.proofs.lemmas.Option.{slice_get_within}
@@ -28,7 +28,7 @@ use Rattle.mux_tables.specs.declared.tables.Start.{Start}
 use Rattle.mux_tables.specs.declared.tables.Tables.{Tables}
 use Rattle.mux_tables.specs.Documents.{DocumentsStand, Owed}
 use Rattle.mux_tables.specs.Refusals.{of_editor, refusal, refusals}
-use Rattle.mux_tables.specs.Stands.{AreApart, AsksAt, AsksStand, HasText, Part, of_life, of_ids, of_shown, of_stop, of_asks, PartStands, Stands, WasAsked, kept_ask, number_in}
+use Rattle.mux_tables.specs.Stands.{AreApart, AsksAt, AsksStand, HasText, Part, of_life, of_ids, of_shown, of_stop, of_asks, PartStands, Stands, kept_ask}
 use Rattle.mux_tables.proofs.Apart.{all_filter, less_apart, one_less, stand_filter}
 use Rattle.mux_tables.proofs.Asking.{asking_more, asks_later}
 use Rattle.mux_tables.proofs.Awaited.{told_stops}
@@ -194,7 +194,7 @@ refused_by settings t u base g e x z kept left start xs ys same at ready leaves 
 
 -- The documents of the groups
 
-rest_same : (settings : Settings) (t : Tables) (events : List Event) → Rest settings t events events
+pub rest_same : (settings : Settings) (t : Tables) (events : List Event) → Rest settings t events events
 rest_same settings t events = record {
   texts = λ g l h. h;
   encoding = λ g l. refl;

@@ -1,13 +1,13 @@
 -- E19: an editor answers what a start asked of it.
 use Rattle.std.proofs.Common.{◌≡◌, ℕ, ◌<◌, ◌^◌, Bool, true, false, not, ◌&&◌, cond, List, [], ◌∷◌, ◌++◌, filter, find, map, length, refl, ap, sym, subst, ◌∙◌, nat_eq, arith}
-use Rattle.std.specs.Prelude.{Option, Some, None, IfSome, MatchOption, option_map, slice_get, slice_set}
+use Rattle.std.specs.Prelude.{Option, Some, None, IfSome, option_map, slice_get, slice_set}
 use Rattle.std.specs.List.{AllByRecursion}
 use Rattle.std.proofs.lemmas.Bool.{and_parts}
 use Rattle.std.proofs.lemmas.Bool.Decides.{nat_tests}
 use Rattle.ask_route.specs.declared.ask.Ask as route
 use Rattle.ask_route.specs.Tables as asks
 use Rattle.mux_history.specs.declared.cause.Cause.TheVariants.{FromEditor}
-use Rattle.rpc_message.specs.Message.{Id, Message, message_of}
+use Rattle.rpc_message.specs.Message.{Id, message_of}
 use Rattle.event_model.specs.declared.phase.Phase.{Phase}
 use Rattle.event_model.specs.declared.stage.Stage.{Stage}
 use Rattle.event_model.specs.declared.stage.Stage.TheVariants.{Unspawned, Spawning, Initializing, Ready}
@@ -17,7 +17,6 @@ use Rattle.event_model.specs.Requests.{answered_id}
 use Rattle.event_model.specs.Settings.{Settings}
 use Rattle.event_model.specs.Spawns.{group_behind, start_behind}
 use Rattle.event_model.proofs.Frames.{never, one_more}
-use Rattle.editor_session.specs.declared.session.Session.{Session}
 use Rattle.editor_session.specs.Sessions.{with_session}
 use Rattle.group_words.specs.Houses.{is_first_open, places, stops}
 use Rattle.group_rows.specs.Asks.{Ask, Asking, asks_of, is_seated, is_under}
@@ -25,7 +24,7 @@ use Rattle.group_rows.specs.Forwarded.{names}
 use Rattle.mux_tables.specs.declared.tables.Start.{Start}
 use Rattle.mux_tables.specs.declared.tables.Tables.{Tables}
 use Rattle.mux_tables.specs.Refusals.{Given, Left}
-use Rattle.mux_tables.specs.Stands.{AnswersOne, AreApart, AsksAt, AsksStand, HasText, HouseStands, IsOther, LastStands, NamesAsk, Part, of_life, of_ids, of_shown, of_stop, of_asks, PartStands, Stands, WasAsked, is_beside, kept_ask}
+use Rattle.mux_tables.specs.Stands.{AnswersOne, AreApart, AsksAt, AsksStand, HasText, IsOther, NamesAsk, Part, of_life, of_ids, of_shown, of_stop, of_asks, PartStands, Stands, WasAsked, kept_ask}
 use Rattle.mux_tables.proofs.Apart.{all_filter, id_flip, stand_filter}
 use Rattle.mux_tables.proofs.Asking.{asking_more, asks_later, none_answered}
 use Rattle.mux_tables.proofs.Frames.{part_quiet}

@@ -25,7 +25,7 @@ use Rattle.mux_tables.specs.declared.tables.Start.{Start}
 use Rattle.mux_tables.specs.declared.tables.Tables.{Tables}
 use Rattle.group_rows.specs.Forwarded.{forwarding_behind}
 use Rattle.group_rows.specs.Ticks.{is_stopping}
-use Rattle.group_rows.specs.Asks.{Ask, asks_of}
+use Rattle.group_rows.specs.Asks.{asks_of}
 use Rattle.mux_tables.specs.Stands.{AsksAt, IsLost, IsNew, Lost, OriginsStand, Rise, IdsAt, IdsStand, Part, of_life, of_ids, of_shown, of_stop, of_asks, PartStands, ShownAt, blank, LastStands, LastsStand, Stands}
 use Rattle.mux_tables.proofs.Asking.{asks_more}
 use Rattle.mux_tables.proofs.Frames.{groups_stand, itself, last_stands, life_alone, part_apart}

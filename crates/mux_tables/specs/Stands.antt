@@ -20,7 +20,7 @@ use Rattle.event_model.specs.Settings.{Settings}
 use Rattle.event_model.specs.Spawns.{starts_of, start_of, group_of}
 use Rattle.event_model.specs.Stages.{life_of}
 use Rattle.editor_session.specs.declared.session.Session.{Session}
-use Rattle.editor_session.specs.Sessions.{is_of, numbers_of}
+use Rattle.editor_session.specs.Sessions.{is_gone, is_of, numbers_of}
 use Rattle.group_table.specs.Tables as group_tables
 use Rattle.group_words.specs.declared.kept.Kept.{Kept}
 use Rattle.group_words.specs.Placing.{changed, ended}
@@ -33,7 +33,7 @@ use Rattle.restart_replay.specs.Standings.{Standing, moved}
 use Rattle.mux_tables.specs.declared.tables.Start.{Start}
 use Rattle.mux_tables.specs.declared.tables.Tables.{Tables}
 use Rattle.mux_tables.specs.Names.{NamesStand}
-use Rattle.group_rows.specs.Asks.{Ask, Asking, asking_next, asking_of, asks_of, is_seated, next_ask}
+use Rattle.group_rows.specs.Asks.{Ask, asking_next, asking_of, asks_of, is_seated, next_ask}
 use Rattle.group_rows.specs.Forwarded.{Forwarded, Forwarding, forwarding_of, names}
 use Rattle.group_rows.specs.Ticks.{stop_of, stopping_of}
 
@@ -51,12 +51,22 @@ abbrev pub meant_in : Option Session → Meant
 meant_in None = no_meant
 meant_in (Some s) = record { opened = s.opened; server = s.server }
 
+-- how often an editor was asked
+abbrev pub asked_in : Option Session → ℕ
+asked_in None = 0
+asked_in (Some s) = s.asks
+
+-- the number of the next request to an editor, unless that one is gone
+abbrev pub CountStands : Option Session → ℕ → Type 0
+CountStands kept next = is_gone (phase_in kept) ≡ false → next ≡ asked_in kept + 1
+
 pub record EditorsStand (settings : Settings) (sessions : List Session) (events : List Event) : Type 0 where
   pub count : editors_of events ≡ length sessions
   pub phase : (e : ℕ) → (desk_of e events).phase ≡ phase_in (slice_get sessions e)
   pub home : (e : ℕ) → home_of settings e events ≡ group_in (slice_get sessions e)
   pub names : NamesStand settings sessions events
   pub meant : (e : ℕ) → (desk_of e events).phase ≡ New → meant_in (slice_get sessions e) ≡ meant_of settings.servers e events
+  pub asked : (e : ℕ) → CountStands (slice_get sessions e) (next_ask e events)
 
 -- the groups: the list itself, and its limits
 pub record GroupsStand (settings : Settings) (table : group_tables.Table) (events : List Event) : Type 0 where

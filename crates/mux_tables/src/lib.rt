@@ -8,6 +8,7 @@ mod hears;
 mod looks;
 mod notes;
 mod places;
+mod puts;
 mod requests;
 mod says;
 mod seats;

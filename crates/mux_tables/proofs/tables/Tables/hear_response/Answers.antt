@@ -1,7 +1,6 @@
 -- An editor answers.
 use Rattle.std.proofs.Common.{refl}
 use Rattle.event_model.specs.Requests.{answered_id}
-use Rattle.group_rows.specs.Asks.{asks_of}
 use Rattle.rpc_message.specs.Message.{message_of}
 use Rattle.mux_tables.proofs.DocumentHeard.{reply_documents}
 use Rattle.mux_tables.proofs.Replying.{answer_seen, replied_by}
