@@ -31,3 +31,6 @@ pub mod Synced
 pub mod Welcoming
 mod Telling
 pub mod Ticking
+pub mod Singles
+pub mod Refreshing
+pub mod Recalls
