@@ -2,3 +2,4 @@ pub mod EditorAsks
 pub mod EditorBuilt
 pub mod EditorRows
 pub mod Said
+pub mod Questions

@@ -289,21 +289,6 @@ pub answer_here : (settings : Settings) (before : List Event) (s : ℕ) (body : 
     → Alike (from_server settings s before body (message_of body) (life_of s before).stage) (answer_row settings s before body (message_of body))
 answer_here settings before s body stage r n = alike (ap (from_server settings s before body (message_of body)) stage ∙ ready_answers settings before s body (message_of body) r n)
 
--- what it tells all editors
-told_class : (c : Class) → built_telling c ≡ true → c ≡ Broadcast
-told_class Broadcast h = refl
-told_class other h = never (sym h)
-
-pub broadcast_here : (settings : Settings) (before : List Event) (s : ℕ) (body method : List ℕ) (params : Option Json) → (life_of s before).stage ≡ Ready → message_of body ≡ notification method params → built_from_server settings before s (life_of s before).stage body (message_of body) ≡ true
-    → Alike (from_server settings s before body (message_of body) (life_of s before).stage) (broadcast_row settings before s body)
-broadcast_here settings before s body method params stage says built =
-    let telling : built_telling (class_of method Server true) ≡ true = ap (built_ready settings before s) (sym says) ∙ (ap (λ g. built_from_server settings before s g body (message_of body)) (sym stage) ∙ built) in
-    alike (ap (from_server settings s before body (message_of body)) stage ∙ (ap (rows.ready_row settings s before body) says ∙ ap (notified_row settings s before body params) (told_class (class_of method Server true) telling)))
-
--- and its requests aren't built
-pub unbuilt_here : {A : Type 0} (settings : Settings) (before : List Event) (s : ℕ) (body method : List ℕ) (id : Id) (params : Option Json) → (life_of s before).stage ≡ Ready → message_of body ≡ request id method params → built_from_server settings before s (life_of s before).stage body (message_of body) ≡ true → A
-unbuilt_here settings before s body method id params stage says built = never (sym (ap (built_ready settings before s) (sym says) ∙ (ap (λ g. built_from_server settings before s g body (message_of body)) (sym stage) ∙ built)))
-
 -- S4
 pub stopped_row : (settings : Settings) (before : List Event) (s : ℕ) (body : List ℕ) → (life_of s before).stage ≡ Stopping → Alike (from_server settings s before body (message_of body) (life_of s before).stage) (stopping_row s before (message_of body))
 stopped_row settings before s body stage = alike (ap (from_server settings s before body (message_of body)) stage)

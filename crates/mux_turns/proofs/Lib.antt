@@ -1,4 +1,4 @@
-pub mod Leaving
+pub mod Stays
 pub mod Handing
 pub mod Answering
 pub mod Asides
@@ -31,3 +31,6 @@ pub mod Synced
 pub mod Welcoming
 mod Telling
 pub mod Ticking
+pub mod Singles
+pub mod Refreshing
+pub mod Recalls

@@ -1,5 +1,5 @@
 -- What answers a request, and what a history says of one that was sent on, as the row of its answer needs it.
-use Rattle.std.specs.Prelude.{◌≡◌, Bool, true, false}
+use Rattle.std.specs.Prelude.{◌≡◌, Bool, true, false, List}
 use Rattle.rpc_message.specs.declared.sort.Sort.{Sort}
 use Rattle.rpc_message.specs.declared.sort.Sort.TheVariants.{Result, Error}
 use Rattle.rpc_message.specs.Message.{Id}

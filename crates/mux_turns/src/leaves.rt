@@ -29,7 +29,7 @@ pub struct Departure {
 }
 
 // The notification that cancels the request of a number (LSP 3.17, Cancellation Support).
-fn cancel_request(alloc: Global, n: u32) -> Result<Body, Memory>
+pub fn cancel_request(alloc: Global, n: u128) -> Result<Body, Memory>
     ensures { IfOk result (λ body. body ≡ cancel_text n) }
 {
     let mut digits = Buffer::new();
@@ -61,7 +61,7 @@ fn cancel_all(
         → OnOk result (DocumentsStand settings owed tables.new (behind base outs.new)) }
 {
     for n in numbers {
-        let text = cancel_request(alloc, *n)?;
+        let text = cancel_request(alloc, u128::from(*n))?;
         tables.cancel(outs, g, *n, text)?;
     }
     Ok(())

@@ -19,7 +19,7 @@ use Rattle.mux_turns.specs.Handing.{Fits}
 use Rattle.mux_turns.proofs.Asides.{old_unopened}
 use Rattle.mux_turns.proofs.Departing.{behind_first}
 use Rattle.mux_turns.proofs.Handing.{ready_reply, reply_keeps, reply_runs, reply_stops, unready_reply}
-use Rattle.mux_turns.proofs.Leaving.{kept_stage}
+use Rattle.mux_turns.proofs.Stays.{kept_stage}
 use Rattle.mux_turns.proofs.Matched.{whole_entry}
 use Rattle.mux_turns.proofs.Ready.{is_that_ready}
 use Rattle.mux_turns.proofs.Serving.{not_new, stands_so, unplaced}

@@ -7,7 +7,7 @@ use Rattle.event_model.proofs.Turns.{does_alike, does_then}
 use Rattle.group_rows.specs.Leaves.{cancel}
 use Rattle.mux_tables.specs.Stands.{Stands, number_in}
 use Rattle.mux_turns.proofs.Departing.{mapped_on}
-use Rattle.mux_turns.proofs.Leaving.{refuses_as, stays}
+use Rattle.mux_turns.proofs.Stays.{refuses_as, stays}
 use Rattle.mux_turns.proofs.leaves.leave.Goals as goal
 
 pub returns-in_ok-refuse_asks-in-Some-clause-does : goal.returns-in_ok-refuse_asks-in-Some-clause-does

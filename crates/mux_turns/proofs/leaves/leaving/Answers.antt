@@ -8,7 +8,7 @@ use Rattle.mux_tables.specs.Stands.{number_in, of_asks}
 use Rattle.mux_tables.proofs.Refusing.{ready_asks}
 use Rattle.group_rows.specs.Asks.{asks_of}
 use Rattle.mux_turns.proofs.Departing.{mapped_on}
-use Rattle.mux_turns.proofs.Leaving.{kept_stage}
+use Rattle.mux_turns.proofs.Stays.{kept_stage}
 use Rattle.mux_turns.proofs.Ready.{is_that_ready}
 use Rattle.mux_turns.proofs.Rows.{ready_left, unready_left}
 use Rattle.mux_turns.proofs.leaves.leaving.Goals as goal
