@@ -15,7 +15,7 @@ ghost use Rattle.rpc_message.specs.Message.{message_of};
 ghost use Rattle.mux_tables.specs.declared.tables.Start.{Start};
 ghost use Rattle.mux_tables.specs.Documents.{DocumentsStand, Owed, changes_documents};
 ghost use Rattle.mux_tables.specs.Refusals.{Given, Left, of_editor, refusal, refusals};
-ghost use Rattle.mux_tables.specs.Stands.{AnswersOne, NamesAsk, Stands, number_in, stage_in};
+ghost use Rattle.mux_tables.specs.Stands.{AnswersOne, NamesAsk, Stands, house_in, number_in, stage_in};
 
 use crate::tables::Tables;
 use ask_route::{Ask, Asks};
@@ -90,6 +90,7 @@ impl Tables {
         ensures versions { self.new.versions ≡ self.old.versions }
         ensures starts { OnOk result (map number_in self.new.lasts.items ≡ map number_in self.old.lasts.items) }
         ensures stages { OnOk result (map stage_in self.new.lasts.items ≡ map stage_in self.old.lasts.items) }
+        ensures groups { OnOk result (map house_in self.new.lasts.items ≡ map house_in self.old.lasts.items) }
         ensures does { (settings : Settings) (base : List Event) (x : Start) → slice_get self.old.lasts.items g ≡ Some x → x.life.stage ≡ Ready
             → OnOk result (Does (λ t events. Stands settings t events)
             (each (refusal x.life.start) (of_editor e x.asks)) base self.old outs.old self.new outs.new) }

@@ -48,7 +48,7 @@ module _ (P : ℕ → Type 0) where
 
   -- one of them
   pub any_has : (n : ℕ) (xs : List ℕ) → AllByRecursion P xs → list_any (nat_eq n) xs ≡ true → P n
-  any_has n [] all h = never h
+  any_has n [] all h = never (sym h)
   any_has n (x ∷ xs) all h = go (nat_eq n x) refl h (λ k. any_has n xs all.1 k)
     where
       go : (b : Bool) → nat_eq n x ≡ b → (b || list_any (nat_eq n) xs) ≡ true → (list_any (nat_eq n) xs ≡ true → P n) → P n
@@ -188,7 +188,7 @@ none_under id (a ∷ asks) h = go (is_under (Some id) a) refl h (λ k. none_unde
   where
     go : (b : Bool) → is_under (Some id) a ≡ b → (b || list_any (is_under (Some id)) asks) ≡ false → (list_any (is_under (Some id)) asks ≡ false → AllByRecursion (λ (a : Ask). is_under (Some id) a ≡ false) asks) → AllByRecursion (λ (a : Ask). is_under (Some id) a ≡ false) (a ∷ asks)
     go false e k rest = (e, rest k)
-    go true e k rest = never (sym k)
+    go true e k rest = never k
 
 pub answers_one : (text : List ℕ) (id : Id) (asks : List Ask) → answered_id (message_of text) ≡ Some id → list_any (is_under (Some id)) asks ≡ false → AllByRecursion (λ (a : Ask). is_under (answered_id (message_of text)) a ≡ false) asks
 answers_one text id asks is fresh = subst (λ o. AllByRecursion (λ (a : Ask). is_under o a ≡ false) asks) (sym is) (none_under id asks fresh)

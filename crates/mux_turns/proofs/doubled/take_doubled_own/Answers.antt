@@ -1,5 +1,5 @@
 -- A request of the multiplexer's own under an id that is open.
-use Rattle.std.proofs.Common.{sym, ◌∙◌}
+use Rattle.std.proofs.Common.{ap, sym, ◌∙◌}
 use Rattle.event_model.specs.Phases.{desk_of}
 use Rattle.rpc_message.specs.Message.{message_of}
 use Rattle.mux_tables.specs.Stands.{is_answer}

@@ -20,9 +20,9 @@ returns-in_ok-refuse_asks-in-Some-clause-does c = λ settings before base e leav
     let x = item_at t.lasts.items g inside in
     let k = kept x.0 x.1 in
     let s = x.0.life.start in
-    let y = stays t mid g x.0 x.1 k.0 c.in_ok-cancel_all.ensures.starts c.in_ok-cancel_all.ensures.stages c.in_ok-cancel_all.ensures.asks in
+    let y = stays t mid g x.0 x.1 k.0 c.in_ok-cancel_all-in-Some.ensures.starts c.in_ok-cancel_all-in-Some.ensures.stages c.in_ok-cancel_all-in-Some.ensures.asks in
     does_alike (λ _. k.1) (does_then
-    (subst (λ ns. Does (λ t events. Stands settings t events) (each (cancel s) ns) base t c.args.outs.now mid c.cancel_all.new.outs) c.deref.ensures.value (c.in_ok-cancel_all.ensures.does settings base s (mapped_on number_in t.lasts.items g x.0 x.1)))
+    (subst (λ ns. Does (λ t events. Stands settings t events) (each (cancel s) ns) base t c.args.outs.now mid c.cancel_all.new.outs) c.deref.ensures.value (c.in_ok-cancel_all-in-Some.ensures.does settings base s (mapped_on number_in t.lasts.items g x.0 x.1)))
     (refuses_as settings base t mid c.refuse_asks.new.self c.cancel_all.new.outs c.refuse_asks.new.outs g c.in-Some.left.editor x.0 y (c.in_ok-refuse_asks-in-Some.ensures.does settings base y.start y.at y.ready)))
 
 pub returns-in_ok-refuse_asks-in-Some-clause-documents : goal.returns-in_ok-refuse_asks-in-Some-clause-documents
@@ -34,6 +34,6 @@ returns-in_ok-refuse_asks-in-Some-clause-documents c = λ settings owed before b
     let inside = rw c.in-Some.is at c.requires in
     let x = item_at t.lasts.items g inside in
     let k = kept x.0 x.1 in
-    let y = stays t mid g x.0 x.1 k.0 c.in_ok-cancel_all.ensures.starts c.in_ok-cancel_all.ensures.stages c.in_ok-cancel_all.ensures.asks in
+    let y = stays t mid g x.0 x.1 k.0 c.in_ok-cancel_all-in-Some.ensures.starts c.in_ok-cancel_all-in-Some.ensures.stages c.in_ok-cancel_all-in-Some.ensures.asks in
     c.in_ok-refuse_asks-in-Some.ensures.documents settings owed base y.start y.at y.ready
-    ((c.in_ok-cancel_all.ensures.does settings base x.0.life.start (mapped_on number_in t.lasts.items g x.0 x.1)).done st).stands (c.in_ok-cancel_all.ensures.documents settings owed base ds)
+    ((c.in_ok-cancel_all-in-Some.ensures.does settings base x.0.life.start (mapped_on number_in t.lasts.items g x.0 x.1)).done st).stands (c.in_ok-cancel_all-in-Some.ensures.documents settings owed base ds)

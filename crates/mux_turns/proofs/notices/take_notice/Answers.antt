@@ -1,4 +1,5 @@
 -- What an editor says by a notification.
+use Rattle.std.proofs.Common.{ap}
 use Rattle.event_model.specs.declared.phase.Phase.TheVariants.{Running}
 use Rattle.document_model.specs.Sayings.{saying_by}
 use Rattle.event_model.specs.Event.{with_cause}

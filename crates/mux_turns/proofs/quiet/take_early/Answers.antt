@@ -1,5 +1,5 @@
 -- A message comes before the answer to `initialize`.
-use Rattle.std.proofs.Common.{sym, ◌∙◌}
+use Rattle.std.proofs.Common.{ap, sym, ◌∙◌}
 use Rattle.event_model.specs.Event.{with_cause}
 use Rattle.event_model.specs.Phases.{desk_of}
 use Rattle.group_rows.specs.Rows.{answer_error, early_code}

@@ -1,4 +1,5 @@
 -- A request that an editor which is served may not send.
+use Rattle.std.proofs.Common.{ap}
 use Rattle.event_model.specs.declared.phase.Phase.TheVariants.{Running}
 use Rattle.event_model.specs.Event.{with_cause}
 use Rattle.event_model.specs.Phases.{desk_of}

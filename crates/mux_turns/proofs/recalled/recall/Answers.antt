@@ -12,8 +12,8 @@ use Rattle.mux_tables.proofs.DocumentOwed.{all_does}
 use Rattle.mux_turns.proofs.Keeping.{keeps_notice}
 use Rattle.mux_turns.proofs.recalled.recall.Goals as goal
 
-pub returns-clause-does : goal.returns-clause-does
-returns-clause-does c = λ settings base.
+pub returns : goal.returns
+returns c = λ settings base.
     let t = c.args.tables.now in
     let e = c.args.e in
     let xs = c.args.outs.now in

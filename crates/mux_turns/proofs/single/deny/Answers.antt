@@ -12,8 +12,8 @@ use Rattle.mux_tables.proofs.DocumentOwed.{all_does}
 use Rattle.mux_turns.proofs.Singles.{answers_one, refuses_one}
 use Rattle.mux_turns.proofs.single.deny.Goals as goal
 
-pub returns-clause-does : goal.returns-clause-does
-returns-clause-does c = λ settings base body method id params s read says at fresh.
+pub returns : goal.returns
+returns c = λ settings base body method id params s read says at fresh.
     let t = c.args.tables.now in
     let xs = c.args.outs.now in
     let ys = c.respond.new.outs in

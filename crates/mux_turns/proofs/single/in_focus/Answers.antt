@@ -14,11 +14,11 @@ returns-in-Some-clause-focus c = λ settings before s x here at st.
     focus_is (running_in settings x.life.group before) (forwarding_of s before).open_requests c.last_among.result _ c.in-Some.is
     (c.last_among.ensures.last settings before s at st ∙ ap (λ ns. last_among ns (forwarding_of s before).open_requests) those)
 
-pub returns-in-None-clause-inside : goal.returns-in-None-clause-inside
-returns-in-None-clause-inside c = first_some (λ e. e < length c.args.tables.now.editors) c.in_ok-numbers.numbers.items c.lowest.result c.in_ok-numbers.ensures.inside (c.lowest.ensures ∙ ap first_in c.deref-in-None.ensures.value)
+pub returns-clause-inside : goal.returns-clause-inside
+returns-clause-inside c = first_some (λ e. e < length c.args.tables.now.editors) c.in_ok-numbers.numbers.items c.lowest.result c.in_ok-numbers.ensures.inside (c.lowest.ensures ∙ ap first_in c.deref-in-None.ensures.value)
 
-pub returns-in-None-clause-focus : goal.returns-in-None-clause-focus
-returns-in-None-clause-focus c = λ settings before s x here at st.
+pub returns-clause-focus : goal.returns-clause-focus
+returns-clause-focus c = λ settings before s x here at st.
     let those = c.in_ok-numbers.ensures.those settings before st ∙ ap (λ h. running_in settings h before) (c.group_number-group.ensures x here) in
     c.lowest.ensures ∙ (ap first_in (c.deref-in-None.ensures.value ∙ those)
     ∙ focus_none (running_in settings x.life.group before) (forwarding_of s before).open_requests c.last_among.result c.in-None.is

@@ -33,8 +33,8 @@ returns-in-None-clause-does c = λ settings before body method id params s x rea
     whole_entry (λ k events. AllStand settings k events) (lowest_row settings before x.life.group body) base (u, nothing_owed) (u, nothing_owed) xs xs first (moved, docs)
     (does_alike (λ _. alike (ap (λ o. on o nothing (ask body)) none)) does_nothing)
 
-pub returns-in_ok-put-in-Some-clause-does : goal.returns-in_ok-put-in-Some-clause-does
-returns-in_ok-put-in-Some-clause-does c = λ settings before body method id params s x read says one fresh first here ready at st ds.
+pub returns-clause-does : goal.returns-clause-does
+returns-clause-does c = λ settings before body method id params s x read says one fresh first here ready at st ds.
     let m = message_of body in
     let base = with_cause before (FromServer s body) in
     let u = c.hear_answer.new.self in

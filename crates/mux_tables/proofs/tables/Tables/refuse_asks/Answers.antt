@@ -1,7 +1,7 @@
 -- What an editor that leaves was asked is refused.
 use Rattle.std.proofs.Common.{refl, ap, ◌++◌, ◌∙◌}
 use Rattle.mux_tables.specs.Refusals.{refusals}
-use Rattle.mux_tables.proofs.Starts.{read_same, stages_stay, starts_stay}
+use Rattle.mux_tables.proofs.Starts.{houses_stay, read_same, stages_stay, starts_stay}
 use Rattle.mux_tables.proofs.Refusing.{refused_by, refused_documents}
 use Rattle.mux_tables.proofs.tables.Tables.refuse_asks.Goals as goal
 
@@ -10,6 +10,9 @@ returns-clause-starts c = starts_stay c.args.self.now.lasts.items c.args.g c.ind
 
 pub returns-clause-stages : goal.returns-clause-stages
 returns-clause-stages c = stages_stay c.args.self.now.lasts.items c.args.g c.index_mut-last.result.now (record c.index_mut-last.result.now { asks = c.leave.new.self }) c.requires c.index_mut-last.ensures.value refl
+
+pub returns-clause-groups : goal.returns-clause-groups
+returns-clause-groups c = houses_stay c.args.self.now.lasts.items c.args.g c.index_mut-last.result.now (record c.index_mut-last.result.now { asks = c.leave.new.self }) c.requires c.index_mut-last.ensures.value refl
 
 pub returns-clause-does : goal.returns-clause-does
 returns-clause-does c = λ settings base x at ready.
