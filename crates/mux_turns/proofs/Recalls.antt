@@ -1,5 +1,5 @@
 -- S14: what a start asked, and awaits no more, by its row.
-use Rattle.std.proofs.Common.{◌≡◌, ℕ, Bool, true, false, cond, List, [], ◌∷◌, find, refl, ap, sym, subst, ◌∙◌}
+use Rattle.std.proofs.Common.{◌≡◌, ℕ, ◌<◌, ◌^◌, Bool, true, false, cond, List, [], ◌∷◌, find, refl, ap, sym, subst, ◌∙◌}
 use Rattle.std.specs.Prelude.{Option, Some, None, option_map}
 use Rattle.std.specs.List.{AllByRecursion}
 use Rattle.json_text.specs.Json.{Json}
@@ -17,6 +17,7 @@ use Rattle.group_rows.specs.Asks.{Ask, asks_of, is_under}
 use Rattle.group_rows.specs.Cancelling.{named_id}
 use Rattle.group_rows.specs.Leaves.{cancel_text}
 use Rattle.mux_tables.specs.Refusals.{seat_from}
+use Rattle.mux_tables.specs.Stands.{WasAsked}
 use Rattle.mux_turns.proofs.Rows.{is_first}
 
 -- no id names an ask
@@ -35,6 +36,14 @@ found_has P test (b ∷ asks) a all is = go (test b) is (λ k. found_has P test 
     go : (c : Bool) → cond c (Some b) (find test asks) ≡ Some a → (find test asks ≡ Some a → P a) → P a
     go true k rest = let same : b ≡ a = cc in subst P same all.0
     go false k rest = rest k
+
+-- its number is one of 64 bits
+pub seat_small : (o : Option Id) (events : List Event) (asks : List Ask) (seat : Seat) → ◌≡◌ {A = Option Seat} (Some seat) (option_map seat_from (find (is_under o) asks)) → AllByRecursion (WasAsked events) asks → seat.number < 2 ^ 64
+seat_small o events asks seat is all = go (find (is_under o) asks) refl is
+  where
+    go : (f : Option Ask) → find (is_under o) asks ≡ f → ◌≡◌ {A = Option Seat} (Some seat) (option_map seat_from f) → seat.number < 2 ^ 64
+    go None e k = absurd (cc)
+    go (Some a) e k = let same : seat ≡ seat_from a = cc in subst (λ (z : Seat). z.number < 2 ^ 64) (sym same) (found_has (WasAsked events) (is_under o) asks a all e).1
 
 module _ (s t : ℕ) (before : List Event) (params : Option Json) where
   abbrev found : Option Ask

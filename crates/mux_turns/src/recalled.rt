@@ -1,5 +1,5 @@
 //! S14: a start cancels what it asked of one editor.
-ghost use Rattle.std.specs.Prelude.{◌≡◌, ◌<◌, ℕ, List, [], Option, Some, IfSome, MatchOption, OnOk, find, length, map, option_map, slice_get};
+ghost use Rattle.std.specs.Prelude.{◌≡◌, ◌<◌, ◌^◌, ℕ, List, [], Option, Some, IfSome, MatchOption, OnOk, find, length, map, option_map, slice_get};
 ghost use Rattle.std.specs.List.{AllByRecursion};
 ghost use Rattle.event_model.specs.declared.phase.Phase.TheVariants.{Running};
 ghost use Rattle.event_model.specs.declared.stage.Stage.TheVariants.{Ready};
@@ -45,7 +45,7 @@ fn named(tables: &Tables, g: usize, message: &Message) -> Option<Seat>
 
 // An editor is told that its answer under a number is awaited no more (LSP 3.17, Cancellation Support).
 fn recall(tables: &Tables, alloc: Global, outs: &mut Outs, e: u64, n: u128) -> Result<(), Memory>
-    ensures does { (settings : Settings) (base : List Event)
+    ensures does { (settings : Settings) (base : List Event) → n < 2 ^ 64
         → OnOk result (Does (λ k events. AllStand settings k events) (send (ToEditor e (cancel_text n))) base
         (tables.now, nothing_owed) outs.old (tables.now, nothing_owed) outs.new) }
 {

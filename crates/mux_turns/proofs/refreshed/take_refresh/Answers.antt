@@ -1,5 +1,5 @@
 -- The start is answered, and each editor that runs is asked.
-use Rattle.std.proofs.Common.{◌≡◌, ◌<◌, length, map, true, ap, codes, sym, subst, ◌∙◌}
+use Rattle.std.proofs.Common.{◌≡◌, ◌<◌, length, true, ap, codes, sym, subst, ◌∙◌}
 use Rattle.std.specs.Prelude.{Some, slice_get}
 use Rattle.std.specs.List.{All, AllByRecursion, list_any}
 use Rattle.mux_history.specs.declared.cause.Cause.TheVariants.{FromServer}
@@ -13,7 +13,7 @@ use Rattle.event_model.proofs.Turns.{does_knowing, does_then}
 use Rattle.group_rows.specs.AskRows.{ask, refresh_row, running_in}
 use Rattle.group_rows.specs.Asks.{is_under}
 use Rattle.group_words.specs.Houses.{is_first_error}
-use Rattle.rpc_message.specs.Message.{id_bytes, message_of}
+use Rattle.rpc_message.specs.Message.{message_of}
 use Rattle.rpc_message.specs.Texts.{ok_text}
 use Rattle.mux_tables.specs.Documents.{AllStand, nothing_owed}
 use Rattle.mux_tables.proofs.DocumentOwed.{all_does}
@@ -42,8 +42,8 @@ returns-clause-does c = λ settings before body method id params s x read says m
     let moved = c.hear_answer.ensures.moves settings before s body x here at (not_early (is_first_result m) x.life.stage ready) (not_first (is_first_error m) x.life.stage ready) (asked_named m id method params says) st in
     let docs = c.hear_answer.ensures.documents settings nothing_owed before s body x here at (not_first (is_first_result m) x.life.stage ready) (λ e. not_spawning x.life.stage ready e) st ds in
     let granted = all_does settings u u nothing_owed nothing_owed base xs ys
-        (c.in_ok-respond.ensures.does settings base s (ap (λ ns. slice_get ns c.args.g) c.hear_answer.ensures.starts ∙ at) k.runs k.counts (answers_one text id _ k.answers (ap (list_any (is_under (Some id))) (asks_here before s body xs first) ∙ fresh)))
-        (λ _ d. c.in_ok-respond.ensures.documents settings nothing_owed base k.says k.aside d) in
+    (c.in_ok-respond.ensures.does settings base s (ap (λ ns. slice_get ns c.args.g) c.hear_answer.ensures.starts ∙ at) k.runs k.counts (answers_one text id _ k.answers (ap (list_any (is_under (Some id))) (asks_here before s body xs first) ∙ fresh)))
+    (λ _ d. c.in_ok-respond.ensures.documents settings nothing_owed base k.says k.aside d) in
     let numbers = running_in settings x.life.group before in
     let runs = kept_all numbers before (behind base xs) (λ e h. runs_here before s body xs first e h) (all_running settings x.life.group before) in
     let idle = asks_all before s body xs first method id params says many in
