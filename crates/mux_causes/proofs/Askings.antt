@@ -1,9 +1,10 @@
 -- What is built of what a start asks.
-use Rattle.std.proofs.Common.{◌≡◌, ℕ, Bool, true, false, not, ◌||◌, List, [], ◌∷◌, length, bytes_eq, encode_utf8_all, nat_eq, refl, ap, sym, subst, ◌∙◌, rules}
+use Rattle.std.proofs.Common.{◌≡◌, ℕ, Bool, true, false, ◌||◌, List, [], ◌∷◌, length, bytes_eq, encode_utf8_all, nat_lt, arith, refl, ap, sym, subst, ◌∙◌, rules}
 use Rattle.std.specs.Bool.{Decides}
 use Rattle.std.specs.Prelude.{Option, Some, None, Result, Ok, Err, IfOk, is_some, slice_get}
 use Rattle.std.specs.Option.{option_map_or}
-use Rattle.std.specs.Str.{is_ascii}
+use Rattle.mux_members.specs.Finds.{is_ascii}
+use Rattle.std.proofs.lemmas.Bool.{lt-ltb}
 use Rattle.std.proofs.lemmas.Slice.Eq.{bytes_eq-Decides}
 use Rattle.lsp_method.specs.declared.variants.Class.{Class}
 use Rattle.lsp_method.specs.declared.variants.Class.TheVariants.{Focused, Lowest, Refresh}
@@ -30,20 +31,20 @@ pub named_so : (cs name : List ℕ) → is_ascii name ≡ true → bytes_eq name
 named_so cs name h = flipped name (encode_utf8_all cs) ∙ (ascii_encoded cs name h ∙ flipped cs name)
 
 -- some editor runs
-not_empty : (xs : List ℕ) → not (nat_eq (length xs) 0) ≡ is_some (first_in xs)
-not_empty [] = refl
-not_empty (x ∷ xs) = refl
+some_first : (xs : List ℕ) → nat_lt 0 (length xs) ≡ is_some (first_in xs)
+some_first [] = refl
+some_first (x ∷ xs) = lt-ltb 0 (length (x ∷ xs)) (omega arith)
 
-pub any_runs : (settings : Settings) (before : List Event) (s g : ℕ) (numbers : List ℕ) (empty : Bool) → group_of s before ≡ Some g → numbers ≡ running_in settings g before → empty ≡ nat_eq (length numbers) 0 → not empty ≡ has_running settings before s
-any_runs settings before s g numbers empty home those is =
-    ap not is ∙ (not_empty numbers ∙ (ap (λ ns. is_some (first_in ns)) those ∙ sym (ap (λ o. option_map_or (λ h. is_some (first_in (running_in settings h before))) o false) home)))
+pub any_runs : (settings : Settings) (before : List Event) (s g : ℕ) (numbers : List ℕ) (any : Bool) → group_of s before ≡ Some g → numbers ≡ running_in settings g before → any ≡ nat_lt 0 (length numbers) → any ≡ has_running settings before s
+any_runs settings before s g numbers any home those is =
+    is ∙ (some_first numbers ∙ (ap (λ ns. is_some (first_in ns)) those ∙ sym (ap (λ o. option_map_or (λ h. is_some (first_in (running_in settings h before))) o false) home)))
 
 -- of other classes none is
 pub unasked_class : (settings : Settings) (before : List Event) (s : ℕ) (method : List ℕ) (c : Class) → (c ≡ Refresh → ⊥) → (c ≡ Focused → ⊥) → (c ≡ Lowest → ⊥) → false ≡ built_asking settings before s method c
 unasked_class settings before s method Refresh r f l = absurd (r refl)
 unasked_class settings before s method Focused r f l = absurd (f refl)
 unasked_class settings before s method Lowest r f l = absurd (l refl)
-unasked_class settings before s method other r f l = refl
+unasked_class settings before s method _ r f l = refl
 
 -- under no open id it is built by its class
 pub either_built : {E : Type 0} (a b : Bool) (result : Result Bool E) → a ≡ false → IfOk result (λ answer. answer ≡ b) → IfOk result (λ answer. answer ≡ (a || b))

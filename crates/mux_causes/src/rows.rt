@@ -1,5 +1,5 @@
 // Which causes meet rows of the routing table that are built.
-ghost use Rattle.std.specs.Prelude.{◌≡◌, ◌≤◌, ◌<◌, ◌&&◌, ◌||◌, ℕ, not, true, false, bytes_eq, codes, length, map, find, is_some, List, Option, Some, IfOk, slice_get};
+ghost use Rattle.std.specs.Prelude.{◌≡◌, ◌≤◌, ◌<◌, ◌&&◌, ◌||◌, ℕ, not, true, false, bytes_eq, codes, length, map, find, is_some, nat_lt, List, Option, Some, IfOk, slice_get};
 ghost use Rattle.event_model.specs.declared.stage.Stage.TheVariants.{Ready};
 ghost use Rattle.event_model.specs.Event.{Event};
 ghost use Rattle.event_model.specs.Members.{has_token};
@@ -210,6 +210,13 @@ fn asks_edit(message: &Message) -> bool
     }
 }
 
+// There is one.
+fn is_any(numbers: &[u64]) -> bool
+    ensures { result ≡ nat_lt 0 (length numbers.now) }
+{
+    !numbers.is_empty()
+}
+
 // S12: whether an editor of the group runs.
 fn has_running(tables: &Tables, g: usize) -> Result<bool, Memory>
     requires { g < length tables.now.lasts.items }
@@ -218,7 +225,7 @@ fn has_running(tables: &Tables, g: usize) -> Result<bool, Memory>
 {
     let group = tables.group_number(g);
     let numbers = tables.running(group)?;
-    Ok(!numbers.is_empty())
+    Ok(is_any(&numbers))
 }
 
 // S9, S11 and S12: whether what a start asks is built, by its class.

@@ -1,5 +1,5 @@
 -- What a start asks, by its class.
-use Rattle.std.proofs.Common.{◌∙◌, ap, not, sym, subst}
+use Rattle.std.proofs.Common.{◌≡◌, ◌∙◌, ap, not, sym, subst}
 use Rattle.std.specs.Prelude.{IfOk}
 use Rattle.group_facts.specs.Built.{built_asking}
 use Rattle.mux_causes.proofs.Askings.{unasked_class}

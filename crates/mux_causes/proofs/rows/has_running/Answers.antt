@@ -10,5 +10,5 @@ pub returns : goal.returns
 returns c = λ settings before s at st.
     let t = c.args.tables.now in
     let x = item_at t.lasts.items c.args.g c.requires in
-    any_runs settings before s x.0.life.group c.in_ok-numbers.numbers.items c.is_empty.result (group_seen settings t before c.args.g s x.0 st x.1 at).0
-    (c.in_ok-numbers.ensures.those settings before st ∙ ap (λ h. running_in settings h before) (c.group_number-group.ensures x.0 x.1)) c.is_empty.ensures
+    any_runs settings before s x.0.life.group c.deref.result.now c.is_any.result (group_seen settings t before c.args.g s x.0 st x.1 at).0
+    (c.deref.ensures.value ∙ (c.in_ok-numbers.ensures.those settings before st ∙ ap (λ h. running_in settings h before) (c.group_number-group.ensures x.0 x.1))) c.is_any.ensures
