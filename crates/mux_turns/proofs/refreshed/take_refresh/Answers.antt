@@ -42,8 +42,8 @@ returns-clause-does c = λ settings before body method id params s x read says m
     let moved = c.hear_answer.ensures.moves settings before s body x here at (not_early (is_first_result m) x.life.stage ready) (not_first (is_first_error m) x.life.stage ready) (asked_named m id method params says) st in
     let docs = c.hear_answer.ensures.documents settings nothing_owed before s body x here at (not_first (is_first_result m) x.life.stage ready) (λ e. not_spawning x.life.stage ready e) st ds in
     let granted = all_does settings u u nothing_owed nothing_owed base xs ys
-        (c.in_ok-respond.ensures.does settings base s (ap (λ ns. slice_get ns c.args.g) c.hear_answer.ensures.starts ∙ at) k.runs k.counts (answers_one text id _ k.answers (ap (list_any (is_under (Some id))) (asks_here before s body xs first) ∙ fresh)))
-        (λ _ d. c.in_ok-respond.ensures.documents settings nothing_owed base k.says k.aside d) in
+    (c.in_ok-respond.ensures.does settings base s (ap (λ ns. slice_get ns c.args.g) c.hear_answer.ensures.starts ∙ at) k.runs k.counts (answers_one text id _ k.answers (ap (list_any (is_under (Some id))) (asks_here before s body xs first) ∙ fresh)))
+    (λ _ d. c.in_ok-respond.ensures.documents settings nothing_owed base k.says k.aside d) in
     let numbers = running_in settings x.life.group before in
     let runs = kept_all numbers before (behind base xs) (λ e h. runs_here before s body xs first e h) (all_running settings x.life.group before) in
     let idle = asks_all before s body xs first method id params says many in
