@@ -1,12 +1,12 @@
 -- The answer of a start, passed on.
-use Rattle.std.proofs.Common.{◌≡◌, ℕ, ◌<◌, Bool, true, false, List, [], ◌∷◌, ◌++◌, find, length, map, refl, ap, ap₂, sym, subst, ◌∙◌, append-nil, nat_eq, if◌then◌else◌}
-use Rattle.std.specs.Prelude.{Option, Some, None, Result, Ok, Err, IfOk, OnOk, MatchOption, option_copied, option_map, slice_get}
+use Rattle.std.proofs.Common.{◌≡◌, ℕ, Bool, true, false, List, [], ◌∷◌, find, refl, ap, ap₂, sym, subst, ◌∙◌, append-nil}
+use Rattle.std.specs.Prelude.{Option, Some, None, Result, Ok, Err, IfOk, OnOk, MatchOption, option_copied}
 use Rattle.std.specs.Option.{option_and_then}
 use Rattle.std.specs.Borrow.{Bor}
 use Rattle.mux_history.specs.declared.cause.Cause.TheVariants.{FromServer}
 use Rattle.mux_history.specs.declared.out.Out.{Out}
 use Rattle.mux_history.specs.declared.out.Out.TheVariants.{ToEditor}
-use Rattle.rpc_message.specs.Message.{Message, Id, message_of, error, not_json, not_message, notification, request, result}
+use Rattle.rpc_message.specs.Message.{Message, Id, message_of}
 use Rattle.mux_facts.specs.Allowed.{is_response}
 use Rattle.mux_facts.proofs.Bodies.{IsResponseTo, is_error, is_result}
 use Rattle.group_facts.proofs.AnswerRows.{answers_only}
@@ -23,12 +23,11 @@ use Rattle.event_model.specs.Requests.{answered_id}
 use Rattle.event_model.specs.Row.{on, choose, nothing, outs, send}
 use Rattle.event_model.specs.Settings.{Settings}
 use Rattle.event_model.proofs.Frames.{one_more}
-use Rattle.event_model.proofs.Turns.{alike, does_alike, does_nothing}
+use Rattle.event_model.proofs.Turns.{alike, does_nothing}
 use Rattle.group_rows.specs.Answers.{agreed_version, answer_row, hand_on, held_version, moment_of, own_version, stamp_at}
 use Rattle.group_rows.specs.Forwarded.{Forwarded, answered_by, forwarding_of}
 use Rattle.response_route.specs.declared.versions.Stamp.{Stamp}
 use Rattle.response_route.specs.Answers.{answer_text}
-use Rattle.response_route.specs.Edits.{Renaming}
 use Rattle.response_route.specs.Versions.{stamp_of, version_now}
 use Rattle.mux_tables.specs.declared.tables.Tables.{Tables}
 use Rattle.mux_tables.specs.Notes.{IsNoted, has_left}

@@ -1,5 +1,5 @@
 -- Where a start's program runs, and where an editor is placed.
-use Rattle.std.proofs.Common.{◌≡◌, ℕ, Bool, true, false, List, [], refl, ap, sym, subst, ◌∙◌, append-nil, codes, length}
+use Rattle.std.proofs.Common.{◌≡◌, ℕ, Bool, true, false, List, [], refl, ap, sym, ◌∙◌, append-nil, codes}
 use Rattle.std.specs.Prelude.{Option, Some, None, slice_get}
 use Rattle.mux_history.specs.declared.cause.Cause.TheVariants.{Started}
 use Rattle.mux_history.specs.declared.out.Out.{Out}
@@ -20,11 +20,10 @@ use Rattle.group_rows.specs.Texts.{is_synced}
 use Rattle.group_words.specs.declared.kept.Kept.{Kept}
 use Rattle.group_words.specs.declared.placed.Placed.TheVariants.{Joins}
 use Rattle.group_words.specs.Houses.{groups_of}
-use Rattle.group_words.specs.Rows.{initialize_of, placed_row, spawn, welcomed}
+use Rattle.group_words.specs.Rows.{initialize_of, placed_row, welcomed}
 use Rattle.group_words.proofs.Frames.{groups_stay}
 use Rattle.mux_tables.specs.declared.tables.Tables.{Tables}
 use Rattle.mux_tables.specs.Stands.{HasEnded, Stands, is_answer}
-use Rattle.mux_turns.specs.Founding.{IsNext}
 use Rattle.document_model.specs.Sayings.{saying_of}
 use Rattle.document_model.specs.Sayings.{nothing as no_saying}
 use Rattle.group_facts.specs.Facts.{IsWritten, Known}

@@ -3,7 +3,7 @@ use Rattle.std.proofs.Common.{◌≡◌, ℕ, Bool, true, false, ◌&&◌, List,
 use Rattle.std.specs.Fmt.{digits}
 use Rattle.std.specs.Prelude.{Option, Some, None, slice_get}
 use Rattle.json_text.specs.Json.{Json}
-use Rattle.document_model.specs.Sayings.{nothing, saying_of}
+use Rattle.document_model.specs.Sayings.{saying_of}
 use Rattle.rpc_message.specs.declared.sort.Sort.{Sort}
 use Rattle.rpc_message.specs.declared.sort.Sort.TheVariants as sort
 use Rattle.rpc_message.specs.Message.{Message, Id, integer, text, id_bytes, message_of, request, notification, result, error, not_json, not_message}

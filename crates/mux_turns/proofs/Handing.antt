@@ -16,7 +16,7 @@ use Rattle.event_model.specs.declared.phase.Phase.{Phase}
 use Rattle.event_model.specs.declared.phase.Phase.TheVariants.{Absent, New, Waiting, Answered, Running, Down, Closed, Gone}
 use Rattle.event_model.specs.declared.stage.Stage.TheVariants.{Ended}
 use Rattle.event_model.specs.Does.{Alike, Does}
-use Rattle.event_model.specs.Event.{Event, behind, requests}
+use Rattle.event_model.specs.Event.{Event, requests}
 use Rattle.event_model.specs.Phases.{desk_hears, desk_of, is_served}
 use Rattle.event_model.specs.Requests.{answered_id}
 use Rattle.event_model.specs.Row.{nothing, on, send}

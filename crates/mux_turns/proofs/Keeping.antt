@@ -1,5 +1,5 @@
 -- Bodies that leave an editor in its phase.
-use Rattle.std.proofs.Common.{◌≡◌, ℕ, Bool, true, false, List, [], ◌∷◌, ◌++◌, refl, ap, sym, subst, ◌∙◌, arith, codes}
+use Rattle.std.proofs.Common.{◌≡◌, ℕ, Bool, true, false, List, [], ◌∷◌, ◌++◌, refl, ap, sym, subst, ◌∙◌, codes}
 use Rattle.std.specs.Prelude.{Option, Some, None}
 use Rattle.json_text.specs.declared.kind.Word.TheVariants.{Null}
 use Rattle.json_text.specs.Json.{Json, word}
@@ -7,7 +7,7 @@ use Rattle.mux_history.specs.declared.out.Out.{Out}
 use Rattle.mux_history.specs.declared.out.Out.TheVariants.{ToEditor}
 use Rattle.rpc_message.specs.Message.{Message, error, notification, request, Id, id_bytes, message_of, result}
 use Rattle.rpc_message.specs.Texts.{Code, error_text, error_tree, ok_text}
-use Rattle.rpc_message.proofs.Fixed.{error_law, id_as_response, null_as_response, ok_law}
+use Rattle.rpc_message.proofs.Fixed.{error_law, id_as_response, null_as_response}
 use Rattle.rpc_message.proofs.Ids.{request_id_bytes}
 use Rattle.event_model.specs.declared.phase.Phase.{Phase}
 use Rattle.event_model.specs.declared.phase.Phase.TheVariants.{Absent, New, Waiting, Answered, Running, Down, Closed, Gone}

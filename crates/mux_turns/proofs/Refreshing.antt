@@ -1,6 +1,6 @@
 -- S9: what asks and answers leave as it is.
-use Rattle.std.proofs.Common.{◌≡◌, ℕ, zero, suc, ◌<◌, ◌^◌, Bool, true, false, not, List, filter, [], ◌∷◌, ◌++◌, decimal, length, get_or, nat_eq, nat_lt, if◌then◌else◌, refl, ap, sym, subst, ◌∙◌, append-nil, arith}
-use Rattle.std.specs.Prelude.{Option, Some, None}
+use Rattle.std.proofs.Common.{◌≡◌, ℕ, zero, suc, ◌<◌, ◌^◌, Bool, true, false, not, List, filter, [], ◌∷◌, ◌++◌, decimal, length, get_or, nat_eq, if◌then◌else◌, refl, ap, sym, subst, ◌∙◌, append-nil, arith}
+use Rattle.std.specs.Prelude.{Option}
 use Rattle.std.specs.List.{AllByRecursion}
 use Rattle.std.proofs.lemmas.Bool.Decides.{nat_tests}
 use Rattle.json_text.specs.Json.{Json}

@@ -1,5 +1,5 @@
 -- S9, S11 and S12: a request of a start that editors are asked.
-use Rattle.std.proofs.Common.{◌≡◌, ℕ, Bool, true, false, ◌&&◌, ◌||◌, cond, List, [], ◌∷◌, filter, map, nat_eq, if◌then◌else◌, refl, ap, sym, subst, ◌∙◌, arith, codes, length, ◌<◌}
+use Rattle.std.proofs.Common.{◌≡◌, ℕ, Bool, true, false, ◌&&◌, ◌||◌, cond, List, [], ◌∷◌, filter, map, nat_eq, if◌then◌else◌, refl, ap, sym, subst, ◌∙◌, arith, codes}
 use Rattle.std.specs.Prelude.{Option, Some, None, IfSome, option_map, slice_get}
 use Rattle.std.specs.List.{All, AllByRecursion, Contains, last_or, list_any}
 use Rattle.std.proofs.lemmas.Bool.{and_parts}
@@ -10,7 +10,6 @@ use Rattle.mux_history.specs.declared.out.Out.{Out}
 use Rattle.rpc_message.specs.Message.{Id, id_bytes, message_of, request}
 use Rattle.rpc_message.specs.Texts.{error_text, ok_text, request_failed}
 use Rattle.document_model.specs.Sayings.{nothing as no_saying, saying_of}
-use Rattle.event_model.specs.declared.phase.Phase.{Phase}
 use Rattle.event_model.specs.declared.stage.Stage.TheVariants.{Ready}
 use Rattle.event_model.specs.Event.{Event, behind, heard, requests, with_cause}
 use Rattle.event_model.specs.Requests.{answered_id}

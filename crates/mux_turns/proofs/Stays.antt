@@ -1,5 +1,5 @@
 -- L1: what was asked of an editor that leaves is refused behind the cancels.
-use Rattle.std.proofs.Common.{◌≡◌, ℕ, List, map, ap, sym, subst, ◌∙◌}
+use Rattle.std.proofs.Common.{◌≡◌, ℕ, List, map, ap, subst, ◌∙◌}
 use Rattle.std.specs.Prelude.{Some, slice_get}
 use Rattle.mux_history.specs.declared.out.Out.{Out}
 use Rattle.event_model.specs.declared.stage.Stage.TheVariants.{Ready}

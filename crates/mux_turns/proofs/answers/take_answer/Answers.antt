@@ -1,8 +1,6 @@
 -- A whole answer.
-use Rattle.std.proofs.Common.{append-nil, ap, subst, sym, ◌∙◌}
 use Rattle.rpc_message.specs.Message.{message_of}
-use Rattle.event_model.specs.Event.{behind, with_cause}
-use Rattle.event_model.specs.Requests.{answered_id}
+use Rattle.event_model.specs.Event.{with_cause}
 use Rattle.event_model.specs.Stages.{is_first_result}
 use Rattle.event_model.proofs.Turns.{does_alike}
 use Rattle.group_rows.specs.Answers.{answer_row}

@@ -1,6 +1,5 @@
 -- A notification of a start goes to each editor of its group that runs.
-use Rattle.std.proofs.Common.{◌≡◌, ap, subst, ◌∙◌}
-use Rattle.std.specs.Prelude.{None}
+use Rattle.std.proofs.Common.{ap, subst, ◌∙◌}
 use Rattle.event_model.specs.Does.{Does}
 use Rattle.event_model.specs.Event.{with_cause}
 use Rattle.event_model.specs.Row.{each, nothing, on}

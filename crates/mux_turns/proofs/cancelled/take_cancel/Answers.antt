@@ -1,6 +1,6 @@
 -- A cancel of an editor goes on, or gives nothing.
-use Rattle.std.proofs.Common.{ap, codes, false, map, refl, subst, sym, ◌∙◌}
-use Rattle.std.specs.Prelude.{None, Some, slice_get}
+use Rattle.std.proofs.Common.{ap, codes, map, refl, subst, ◌∙◌}
+use Rattle.std.specs.Prelude.{slice_get}
 use Rattle.event_model.specs.declared.phase.Phase.TheVariants.{Running}
 use Rattle.event_model.specs.Event.{with_cause}
 use Rattle.event_model.specs.Phases.{desk_of}

@@ -1,6 +1,6 @@
 -- A `shutdown` under an id that is open.
-use Rattle.std.proofs.Common.{ap, map, subst, sym, ◌≡◌, ◌∙◌}
-use Rattle.event_model.specs.Event.{behind, with_cause}
+use Rattle.std.proofs.Common.{ap, map, subst, sym, ◌∙◌}
+use Rattle.event_model.specs.Event.{with_cause}
 use Rattle.event_model.specs.Phases.{desk_of, is_served}
 use Rattle.event_model.proofs.Turns.{does_then}
 use Rattle.group_rows.specs.Rows.{closing_row}

@@ -1,11 +1,11 @@
 -- A request under an id that is open.
-use Rattle.std.proofs.Common.{ap, refl, sym, ◌≡◌, ◌&&◌, ◌∙◌, bytes_eq, codes, true, false}
+use Rattle.std.proofs.Common.{ap, refl, sym, ◌≡◌, ◌∙◌, codes, true, false}
 use Rattle.lsp_method.specs.Class.{class_of}
 use Rattle.lsp_method.specs.declared.variants.Origin.TheVariants.{Editor}
 use Rattle.mux_model.specs.Methods.{is_shutdown}
 use Rattle.event_model.specs.declared.phase.Phase.TheVariants.{Running}
 use Rattle.event_model.specs.Event.{requests}
-use Rattle.event_model.specs.Phases.{desk_of, is_served}
+use Rattle.event_model.specs.Phases.{is_served}
 use Rattle.rpc_message.specs.Message.{message_of, request}
 use Rattle.mux_tables.specs.Stands.{is_answer}
 use Rattle.mux_tables.proofs.Asking.{answers_none}

@@ -1,7 +1,6 @@
 -- A response is handed back, or answers nothing.
 use Rattle.std.proofs.Common.{ap, sym, ◌∙◌}
 use Rattle.event_model.specs.Event.{behind}
-use Rattle.rpc_message.specs.Message.{message_of}
 use Rattle.rpc_message.specs.Texts.{with_id_text}
 use Rattle.mux_turns.proofs.Handing.{handed, handed_does, handed_none}
 use Rattle.mux_turns.proofs.handed.hand_back.Goals as goal

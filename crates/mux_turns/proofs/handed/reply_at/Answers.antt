@@ -1,8 +1,8 @@
 -- A response of an editor of the group in a place.
-use Rattle.std.proofs.Common.{map, find, ap, refl, sym, subst, ◌∙◌}
+use Rattle.std.proofs.Common.{find, ap, refl, sym, subst, ◌∙◌}
 use Rattle.std.specs.Prelude.{IfSome, slice_get}
 use Rattle.event_model.specs.declared.phase.Phase.TheVariants.{Running}
-use Rattle.event_model.specs.Event.{behind, with_cause}
+use Rattle.event_model.specs.Event.{with_cause}
 use Rattle.event_model.specs.Phases.{desk_of}
 use Rattle.event_model.specs.Requests.{answered_id}
 use Rattle.event_model.specs.Stages.{is_ready}

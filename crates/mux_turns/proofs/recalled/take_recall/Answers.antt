@@ -1,5 +1,5 @@
 -- A start cancels what it asked.
-use Rattle.std.proofs.Common.{◌≡◌, ap, sym, ◌∙◌}
+use Rattle.std.proofs.Common.{sym, ◌∙◌}
 use Rattle.event_model.specs.Event.{with_cause}
 use Rattle.event_model.specs.Stages.{is_first_result}
 use Rattle.event_model.proofs.Turns.{does_alike, does_nothing}

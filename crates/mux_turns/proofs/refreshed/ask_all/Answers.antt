@@ -1,8 +1,7 @@
 -- Those of a list are asked.
-use Rattle.std.proofs.Common.{◌≡◌, ap, take, true, ◌∙◌, get_or}
-use Rattle.std.specs.Prelude.{None}
+use Rattle.std.proofs.Common.{ap, take, ◌∙◌, get_or}
 use Rattle.event_model.specs.Event.{behind}
-use Rattle.event_model.specs.Phases.{desk_of, is_running}
+use Rattle.event_model.specs.Phases.{is_running}
 use Rattle.event_model.proofs.Turns.{does_knowing, does_next, does_whole}
 use Rattle.group_rows.specs.AskRows.{ask}
 use Rattle.mux_tables.specs.Documents.{nothing_owed}

@@ -1,5 +1,5 @@
 -- The start is answered, and each editor that runs is asked.
-use Rattle.std.proofs.Common.{◌≡◌, ◌<◌, length, map, true, ap, codes, sym, subst, ◌∙◌}
+use Rattle.std.proofs.Common.{◌≡◌, ◌<◌, length, true, ap, codes, sym, subst, ◌∙◌}
 use Rattle.std.specs.Prelude.{Some, slice_get}
 use Rattle.std.specs.List.{All, AllByRecursion, list_any}
 use Rattle.mux_history.specs.declared.cause.Cause.TheVariants.{FromServer}
@@ -13,7 +13,7 @@ use Rattle.event_model.proofs.Turns.{does_knowing, does_then}
 use Rattle.group_rows.specs.AskRows.{ask, refresh_row, running_in}
 use Rattle.group_rows.specs.Asks.{is_under}
 use Rattle.group_words.specs.Houses.{is_first_error}
-use Rattle.rpc_message.specs.Message.{id_bytes, message_of}
+use Rattle.rpc_message.specs.Message.{message_of}
 use Rattle.rpc_message.specs.Texts.{ok_text}
 use Rattle.mux_tables.specs.Documents.{AllStand, nothing_owed}
 use Rattle.mux_tables.proofs.DocumentOwed.{all_does}

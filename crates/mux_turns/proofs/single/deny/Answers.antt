@@ -4,7 +4,6 @@ use Rattle.mux_history.specs.declared.out.Out.TheVariants.{ToServer}
 use Rattle.event_model.specs.Does.{Does}
 use Rattle.event_model.specs.Event.{behind}
 use Rattle.event_model.specs.Row.{send}
-use Rattle.rpc_message.specs.Message.{id_bytes}
 use Rattle.rpc_message.specs.Texts.{error_text, request_failed}
 use Rattle.group_rows.specs.Asks.{asks_of}
 use Rattle.mux_tables.specs.Documents.{AllStand, nothing_owed}

@@ -1,5 +1,5 @@
 -- The editor in focus.
-use Rattle.std.proofs.Common.{◌≡◌, ◌<◌, length, ap, sym, ◌∙◌}
+use Rattle.std.proofs.Common.{◌<◌, length, ap, ◌∙◌}
 use Rattle.group_rows.specs.AskRows.{first_in, last_among, running_in}
 use Rattle.group_rows.specs.Forwarded.{forwarding_of}
 use Rattle.mux_turns.proofs.Singles.{contains_within, first_some, focus_is, focus_none}

@@ -1,6 +1,6 @@
 -- The editor in focus is asked, or the request refused.
-use Rattle.std.proofs.Common.{◌≡◌, true, ◌<◌, length, map, ap, sym, subst, ◌∙◌}
-use Rattle.std.specs.Prelude.{IfSome, None, Some, slice_get}
+use Rattle.std.proofs.Common.{◌≡◌, true, ◌<◌, length, ap, sym, subst, ◌∙◌}
+use Rattle.std.specs.Prelude.{IfSome, Some, slice_get}
 use Rattle.std.specs.List.{list_any}
 use Rattle.mux_history.specs.declared.cause.Cause.TheVariants.{FromServer}
 use Rattle.mux_history.specs.declared.out.Out.TheVariants.{ToServer}

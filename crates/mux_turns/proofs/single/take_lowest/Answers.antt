@@ -1,6 +1,5 @@
 -- The lowest editor that runs is asked.
-use Rattle.std.proofs.Common.{◌≡◌, true, ◌<◌, length, map, ap, sym, subst, ◌∙◌}
-use Rattle.std.specs.Prelude.{None, Some, slice_get}
+use Rattle.std.proofs.Common.{◌≡◌, true, ◌<◌, length, ap, sym, subst, ◌∙◌}
 use Rattle.event_model.specs.Event.{with_cause}
 use Rattle.event_model.specs.Phases.{desk_of, is_running}
 use Rattle.event_model.specs.Row.{nothing, on}

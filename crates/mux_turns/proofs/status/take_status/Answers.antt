@@ -1,6 +1,5 @@
 -- `lspmux/status` is answered.
 use Rattle.std.proofs.Common.{ap, subst, sym, ◌∙◌}
-use Rattle.std.specs.Prelude.{Some}
 use Rattle.event_model.specs.Event.{with_cause}
 use Rattle.group_rows.specs.Rows.{status_row}
 use Rattle.group_rows.specs.Status.{items_of, status_text}
