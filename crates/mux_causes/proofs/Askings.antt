@@ -1,7 +1,7 @@
 -- What is built of what a start asks.
 use Rattle.std.proofs.Common.{◌≡◌, ℕ, Bool, true, false, ◌||◌, List, [], ◌∷◌, length, bytes_eq, encode_utf8_all, nat_lt, arith, refl, ap, sym, subst, ◌∙◌, rules}
 use Rattle.std.specs.Bool.{Decides}
-use Rattle.std.specs.Prelude.{Option, Some, None, Result, Ok, Err, IfOk, is_some, slice_get}
+use Rattle.std.specs.Prelude.{Some, Result, Ok, Err, IfOk, is_some, slice_get}
 use Rattle.std.specs.Option.{option_map_or}
 use Rattle.mux_members.specs.Finds.{is_ascii}
 use Rattle.std.proofs.lemmas.Bool.{lt-ltb}

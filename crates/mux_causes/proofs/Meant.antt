@@ -1,6 +1,6 @@
 -- What is built of a message, by what it is.
-use Rattle.std.proofs.Common.{◌≡◌, ℕ, ◌<◌, Bool, true, false, cond, not, ◌&&◌, ◌||◌, List, [], ◌∷◌, map, length, find, nat_eq, refl, ap, sym, ◌∙◌, ◌⊎◌, inl, inr}
-use Rattle.std.specs.Prelude.{Option, Some, None, is_some, option_map, slice_get}
+use Rattle.std.proofs.Common.{◌≡◌, ℕ, Bool, true, false, not, ◌&&◌, ◌||◌, List, refl, ap, sym, ◌∙◌, ◌⊎◌, inl, inr}
+use Rattle.std.specs.Prelude.{Option, Some, None, slice_get}
 use Rattle.json_text.specs.Json.{Json}
 use Rattle.rpc_message.specs.declared.sort.Sort.{Sort}
 use Rattle.rpc_message.specs.declared.sort.Sort.TheVariants as sort
@@ -11,14 +11,13 @@ use Rattle.rpc_message.specs.Envelopes.{Tells}
 use Rattle.rpc_message.specs.Parsed.{IsRead, Parsed}
 use Rattle.rpc_message.specs.Sorts.{sort_of}
 use Rattle.event_model.specs.declared.phase.Phase.{Phase}
-use Rattle.event_model.specs.declared.phase.Phase.TheVariants.{Absent, New, Waiting, Answered, Running, Down, Closed, Gone}
 use Rattle.event_model.specs.declared.stage.Stage.{Stage}
 use Rattle.event_model.specs.declared.stage.Stage.TheVariants.{Unspawned, Spawning, Initializing, Ready, Stopping, Ending, Ended}
 use Rattle.event_model.specs.Event.{Event}
 use Rattle.event_model.specs.Phases.{is_malformed}
 use Rattle.event_model.specs.Settings.{Settings}
 use Rattle.event_model.specs.Stages.{is_first_result}
-use Rattle.group_words.specs.Houses.{is_first_error, groups_of}
+use Rattle.group_words.specs.Houses.{groups_of}
 use Rattle.group_facts.specs.Built.{built_early, built_from_editor, built_from_server, built_ready, is_shown_whole, is_left}
 use Rattle.group_facts.specs.Lively.{lives_at}
 use Rattle.std.specs.Option.{option_map_or}

@@ -1,4 +1,4 @@
-//! What the program of a start says: S1 to S5.
+//! What the program of a start says: S1 to S5, S9, S11, S12, S14, and what goes to each editor.
 ghost use Rattle.std.specs.Prelude.{◌≡◌, ◌<◌, ◌≤◌, ℕ, List, [], map, Option, Some, false, true, length, OnOk, slice_get};
 ghost use Rattle.std.specs.List.{list_any};
 ghost use Rattle.event_model.specs.declared.stage.Stage.TheVariants.{Initializing, Ready};
@@ -341,8 +341,9 @@ fn take_body(
 }
 
 /// The program of a start says something: where it gives the result of its `initialize`, the editors that wait are answered; where it
-/// refuses it, its group ends; where it answers an editor's request, that editor is answered; where it answers `shutdown`, the start is to end; a body that is no message gives
-/// nothing. Only a start that is the last of its group has a program that runs.
+/// refuses it, its group ends; where it answers an editor's request, that editor is answered; where it asks something, the editors that are
+/// to answer are asked; where it tells something, they are told; where it answers `shutdown`, the start is to end; a body that is no message
+/// gives nothing. Only a start that is the last of its group has a program that runs.
 pub fn from_server(
     tables: &mut Tables,
     alloc: Global,

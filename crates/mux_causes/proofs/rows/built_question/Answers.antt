@@ -1,6 +1,6 @@
 -- A request of a start that is ready.
 use Rattle.std.proofs.Common.{◌∙◌, ◌||◌, false, ap, sym, subst}
-use Rattle.std.specs.Prelude.{IfOk, Some}
+use Rattle.std.specs.Prelude.{Some}
 use Rattle.std.specs.List.{list_any}
 use Rattle.lsp_method.specs.Class.{class_of}
 use Rattle.lsp_method.specs.declared.variants.Origin.TheVariants.{Server}

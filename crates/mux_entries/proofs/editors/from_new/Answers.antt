@@ -1,7 +1,7 @@
 -- The first messages of an editor.
 use Rattle.std.proofs.Common.{◌≡◌, true, false, ap, codes, sym, ◌∙◌}
 use Rattle.event_model.specs.Event.{requests}
-use Rattle.event_model.specs.Phases.{desk_of, is_there}
+use Rattle.event_model.specs.Phases.{desk_of, is_served, is_there}
 use Rattle.group_facts.specs.Facts.{is_early}
 use Rattle.group_words.specs.Houses.{places}
 use Rattle.rpc_message.specs.Message.{message_of}
