@@ -1,5 +1,5 @@
 -- What is read of an editor, and what becomes of all, where its number was looked for among those that are kept.
-use Rattle.std.proofs.Common.{◌≡◌, ℕ, ◌+◌, ◌<◌, true, false, List, [], ◌∷◌, ◌++◌, length, get_or, if◌then◌else◌, refl, sym, ap, ◌∙◌}
+use Rattle.std.proofs.Common.{◌≡◌, ℕ, ◌+◌, ◌<◌, Bool, true, false, List, [], ◌∷◌, ◌++◌, length, get_or, if◌then◌else◌, refl, sym, ap, ◌∙◌}
 use Rattle.std.specs.Prelude.{None, slice_set}
 use Rattle.std.specs.List.{remove}
 use Rattle.event_model.specs.declared.phase.Phase.{Phase}
@@ -11,7 +11,7 @@ use Rattle.number_table.proofs.Places as places
 use Rattle.number_table.proofs.Spreading.{all_at, all_push, all_remove, all_set}
 use Rattle.editor_session.specs.declared.session.Session.{Session}
 use Rattle.editor_session.specs.Kept.{AreLinked}
-use Rattle.editor_session.specs.Sessions.{absent, gone, in_phase, is_gone, joined, session_of, unless_gone, with_session}
+use Rattle.editor_session.specs.Sessions.{absent, asked, gone, has_number, in_phase, is_gone, joined, session_of, unless_gone, with_session}
 
 abbrev Linked : Numbered Session → Type 0
 Linked x = is_linked x.item.phase ≡ true
@@ -91,3 +91,11 @@ is_there_still Gone h k = absurd (cc)
 
 pub set_there : (p : Phase) (x : Session) → is_gone p ≡ false → record x { phase = p } ≡ in_phase p x
 set_there p x h = sym (ap (λ b. if b then gone else record x { phase = p }) h)
+
+-- one that is asked stands where it stood
+pub asked_linked : (x : Session) → is_linked x.phase ≡ true → is_linked (asked x).phase ≡ true
+asked_linked x h = go (has_number x)
+  where
+    go : (b : Bool) → is_linked (if b then record x { asks = x.asks + 1 } else x).phase ≡ true
+    go true = h
+    go false = h

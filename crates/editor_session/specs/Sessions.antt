@@ -1,5 +1,5 @@
 -- Editors by their numbers (LSP 3.17, Lifecycle Messages): the first that joined is number 0, the next is number 1.
-use Rattle.std.specs.Prelude.{ℕ, ◌+◌, Bool, true, false, ◌&&◌, nat_eq, List, length, slice_index_or, slice_set, if◌then◌else◌}
+use Rattle.std.specs.Prelude.{ℕ, ◌+◌, ◌^◌, Bool, true, false, ◌&&◌, nat_eq, nat_lt, List, length, slice_index_or, slice_set, if◌then◌else◌}
 use Rattle.std.specs.Prelude.{Option, Some, None}
 use Rattle.std.specs.List.{filter, range_with_len}
 use Rattle.event_model.specs.declared.phase.Phase.{Phase}
@@ -49,13 +49,20 @@ in_group group id session = record session { group = Some group; id = Some id }
 abbrev pub meaning : Option ℕ → Session → Session
 meaning server session = record session { opened = true; server = server }
 
--- it was asked once more
-abbrev pub asked : Session → Session
-asked session = record session { asks = session.asks + 1 }
+-- the number of the next request that it is asked is below 2^64
+abbrev pub has_number : Session → Bool
+has_number session = nat_lt (session.asks + 1) (2 ^ 64)
 
--- the number of the next request that it is asked
+-- it was asked once more, where there is such a number
+abbrev pub asked : Session → Session
+asked session = if has_number session then record session { asks = session.asks + 1 } else session
+
+abbrev pub number_of : Session → Option ℕ
+number_of session = if has_number session then Some (session.asks + 1) else None
+
+-- the number of the next request that it is asked, where there is one
 abbrev pub next_ask : Session → Option ℕ
-next_ask session = if is_gone session.phase then None else Some (session.asks + 1)
+next_ask session = if is_gone session.phase then None else number_of session
 
 -- the numbers, rising, of the editors that meet a test
 abbrev pub numbers_of : (Session → Bool) → List Session → List ℕ

@@ -197,18 +197,16 @@ impl Editors {
         }
     }
 
-    /// The number of the next request that it is asked: the first has 1. None where it is gone.
-    pub fn ask_number(&mut self, e: u64) -> Option<u128>
-        requires number { e < length self.old }
-        requires room { (session_of self.old e).asks < 2 ^ 127 }
+    /// The number of the next request that it is asked: the first has 1. None where it is gone, or where no number below 2^64 is left.
+    pub fn ask_number(&mut self, e: u64) -> Option<u64>
+        requires { e < length self.old }
         ensures number { result ≡ next_ask (session_of self.old e) }
         ensures kept { self.new ≡ with_session self.old e (unless_gone asked (session_of self.old e)) }
     {
         match place_of(&self.linked, e) {
             Some(at) => {
                 let kept = &mut self.linked[at];
-                kept.item.asks += 1;
-                Some(kept.item.asks)
+                kept.item.ask()
             }
             None => None,
         }

@@ -1,7 +1,7 @@
 // One editor.
 ghost use Rattle.std.specs.Prelude.{◌≡◌};
 ghost use Rattle.event_model.specs.Phases.{is_there};
-ghost use Rattle.editor_session.specs.Sessions.{in_group, is_in, is_of, is_wanted, joined, meaning, needs_in, runs_in, waits_in};
+ghost use Rattle.editor_session.specs.Sessions.{asked, in_group, is_in, is_of, is_wanted, joined, meaning, needs_in, number_of, runs_in, waits_in};
 
 use event_model::Phase;
 use message_body::Body;
@@ -16,7 +16,7 @@ pub struct Session {
     /// The bytes of the id of its `initialize`, once it was placed.
     pub id: Option<Body>,
     /// The number of the last request that it was asked; 0 before the first.
-    pub asks: u128,
+    pub asks: u64,
     /// Whether it sent `lspmux/open`.
     pub opened: bool,
     /// The place, among the servers of the settings, of the one that its first `lspmux/open` names.
@@ -67,6 +67,18 @@ impl Session {
     {
         self.opened = true;
         self.server = server;
+    }
+
+    /// It is asked once more: the number of the request, where one below 2^64 is left.
+    pub fn ask(&mut self) -> Option<u64>
+        ensures number { result ≡ number_of self.old }
+        ensures kept { self.new ≡ asked self.old }
+    {
+        if self.asks == u64::MAX {
+            return None;
+        }
+        self.asks += 1;
+        Some(self.asks)
     }
 
     // Whether it was placed in this group.

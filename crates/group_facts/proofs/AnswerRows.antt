@@ -21,7 +21,7 @@ use Rattle.event_model.specs.declared.phase.Phase.TheVariants.{Waiting}
 use Rattle.event_model.specs.Event.{Event, heard, said, behind, with_cause}
 use Rattle.event_model.specs.Parts.{server_part, is_of_server}
 use Rattle.event_model.specs.Phases.{Desk, desk_of, editors_of, is_there, is_waiting}
-use Rattle.event_model.specs.Requests.{answered_id, open_of, is_open, without}
+use Rattle.event_model.specs.Requests.{answered_id, open_of, is_open, with_request, without}
 use Rattle.event_model.specs.Row.{each, outs}
 use Rattle.event_model.specs.Settings.{Settings}
 use Rattle.event_model.specs.Stages.{Life, life_of, is_first_result, stage_hears, is_initializing, stage_told}
@@ -40,15 +40,18 @@ use Rattle.mux_facts.proofs.Table.{FirstResult, desk_untold, first_result_is, wa
 use Rattle.mux_facts.proofs.Tellings.{sent_more}
 use Rattle.mux_facts.proofs.Waits.{AllWaiting, Waits, waits_at}
 use Rattle.mux_facts.proofs.Why.{is_early}
-use Rattle.mux_facts.proofs.Words.{same_number}
+use Rattle.mux_facts.proofs.Words.{open_last, same_number}
 use Rattle.group_words.specs.Houses.{groups_of, home_of, is_home}
 use Rattle.group_words.specs.Rows.{shown_of}
 use Rattle.group_rows.specs.Answers.{answer_row, own_version}
 use Rattle.group_rows.specs.Ends.{answers_shutdown, exit_server, exit_text}
 use Rattle.group_rows.specs.Forwarded.{Forwarded, answered_by, forwarding_of}
-use Rattle.group_rows.specs.Rows.{first_result, from_server, replay_bodies, result_in, started, waiting_in, welcome, hasty_answer, hasty_row}
+use Rattle.group_rows.specs.Rows.{first_result, from_server, ready_row, replay_bodies, result_in, started, waiting_in, welcome, hasty_answer, hasty_row}
 use Rattle.group_rows.specs.Texts.{texts_of}
-use Rattle.group_facts.specs.Facts.{AllForwarded, Apart, IsAsker, IsForwarded, IsWaiting, IsWritten, Opened, Untold, Written}
+use Rattle.group_facts.specs.Facts.{AllForwarded, Apart, Asks, asked_by, IsAsker, IsForwarded, IsWaiting, IsWritten, Opened, Untold, Written}
+use Rattle.group_facts.specs.Built.{built_ready}
+use Rattle.group_facts.proofs.Asks.{asked_by_more}
+use Rattle.group_facts.proofs.AskingRows.{notified_why, question_why}
 use Rattle.group_facts.proofs.Apart.{alone_answered}
 use Rattle.group_rows.proofs.Versions.{AllMeant, own_flat}
 use Rattle.group_facts.proofs.Answered.{answer_says}
@@ -227,20 +230,24 @@ module _ (settings : Settings) (range : InRange settings) (before : List Event) 
   and_off true = refl
   and_off false = refl
 
-  hasty_responds : (id : Id) (method : List ℕ) (params : Option Json) → message_of body ≡ request id method params → is_response (message_of (hasty_answer method body)) ≡ true
+  hasty_responds : (id : Id) (method : List ℕ) (params : Option Json) → message_of body ≡ request id method params → (is_response (message_of (hasty_answer method body)) ≡ true) × (answered_id (message_of (hasty_answer method body)) ≡ Some id)
   hasty_responds id method params says = go (bytes_eq (codes "window/showMessageRequest") method)
     where
-      go : (b : Bool) → is_response (message_of (if b then ok_text (id_bytes body) (codes "null") else error_text (id_bytes body) invalid_request)) ≡ true
-      go true = ap is_response (null_says id method params says)
-      go false = ap is_response (refusal_says body id method params invalid_request says)
+      go : (b : Bool) → (is_response (message_of (if b then ok_text (id_bytes body) (codes "null") else error_text (id_bytes body) invalid_request)) ≡ true)
+          × (answered_id (message_of (if b then ok_text (id_bytes body) (codes "null") else error_text (id_bytes body) invalid_request)) ≡ Some id)
+      go true = (ap is_response (null_says id method params says), ap answered_id (null_says id method params says))
+      go false = (ap is_response (refusal_says body id method params invalid_request says), ap answered_id (refusal_says body id method params invalid_request says))
 
   hasty_why : (life_of s before).stage ≡ Initializing → is_first_result (message_of body) ≡ false → (m : Message) → message_of body ≡ m → Because R now (hasty_row s body m)
   hasty_why at other (request id method params) says = by_send (responds (record {
+    id = id;
+    answers = (hasty_responds id method params says).1;
+    waits = ap (is_open id) (asked_by_more s before (heard (FromServer s body)) ∙ ap (λ b. if b then with_request (message_of body) (asked_by s before) else asked_by s before) (same_number s) ∙ ap (λ m. with_request m (asked_by s before)) says) ∙ open_last id (asked_by s before);
     waiting = ap (λ (l : Life). l.stage) (life_more s before (heard (FromServer s body)))
         ∙ ap (λ b. (if b then record { stage = stage_hears (life_of s before).stage (message_of body); started = (life_of s before).started } else life_of s before).stage) (same_number s)
         ∙ ap (λ z. stage_hears z (message_of body)) at ∙ ap (λ b. if b then Ready else Initializing) other;
     stays = ap₂ (λ a b. a && (is_initializing (life_of s before).stage && b)) (same_number s) other ∙ and_off (is_initializing (life_of s before).stage);
-    response = hasty_responds id method params says;
+    response = (hasty_responds id method params says).0;
   }))
   hasty_why at other (notification method params) says = by_nothing
   hasty_why at other (result id r) says = by_nothing
@@ -248,18 +255,28 @@ module _ (settings : Settings) (range : InRange settings) (before : List Event) 
   hasty_why at other not_json says = by_nothing
   hasty_why at other not_message says = by_nothing
 
-  module _ (opened : Opened settings before) (untold : Untold before) (waiting : AllWaiting before) (all : AllForwarded before) (apart : Apart before) (meant : AllMeant before) where
+  module _ (opened : Opened settings before) (untold : Untold before) (waiting : AllWaiting before) (all : AllForwarded before) (apart : Apart before) (meant : AllMeant before) (asks : Asks before) where
     result_why : FirstResult (message_of body) → (life_of s before).stage ≡ Initializing → is_first_result (message_of body) ≡ true → shown_of (result_bytes body) ≡ result_bytes body → Because R now (first_result settings before s body)
     result_why first at is whole = by_on (λ none. by_nothing) (λ g home. greet_why first.r first.is whole at is opened untold waiting g)
 
-    pub server_why : ((life_of s before).stage ≡ Initializing → is_first_result (message_of body) ≡ true → shown_of (result_bytes body) ≡ result_bytes body) → (stage : Stage) → (life_of s before).stage ≡ stage → Because R now (from_server settings s before body (message_of body) stage)
-    server_why whole Initializing at = by_choose (λ yes. result_why (first_result_is (message_of body) yes) at yes (whole at yes)) (λ no. by_choose (λ refuses. refused_why settings before s body at refuses waiting) (λ other. hasty_why at no (message_of body) refl))
-    server_why whole Ready at = response_why all apart meant
-    server_why whole Unspawned at = by_nothing
-    server_why whole Spawning at = by_nothing
-    server_why whole Stopping at = by_choose (λ yes. exits_why at yes) (λ no. by_nothing)
-    server_why whole Ending at = by_nothing
-    server_why whole Ended at = by_nothing
+    -- S5, and what it asks and tells
+    ready_why : (life_of s before).stage ≡ Ready → built_ready settings before s (message_of body) ≡ true → (m : Message) → message_of body ≡ m → Because R now (ready_row settings s before body m)
+    ready_why at built (request id method params) says = question_why settings before s body at id method params says (ap (built_ready settings before s) (sym says) ∙ built)
+    ready_why at built (notification method params) says = notified_why settings before s body at asks method params says
+    ready_why at built (result id r) says = subst (λ m. Because R now (answer_row settings s before body m)) says (response_why all apart meant)
+    ready_why at built (error id x) says = subst (λ m. Because R now (answer_row settings s before body m)) says (response_why all apart meant)
+    ready_why at built not_json says = subst (λ m. Because R now (answer_row settings s before body m)) says (response_why all apart meant)
+    ready_why at built not_message says = subst (λ m. Because R now (answer_row settings s before body m)) says (response_why all apart meant)
+
+    pub server_why : ((life_of s before).stage ≡ Initializing → is_first_result (message_of body) ≡ true → shown_of (result_bytes body) ≡ result_bytes body)
+        → ((life_of s before).stage ≡ Ready → built_ready settings before s (message_of body) ≡ true) → (stage : Stage) → (life_of s before).stage ≡ stage → Because R now (from_server settings s before body (message_of body) stage)
+    server_why whole built Initializing at = by_choose (λ yes. result_why (first_result_is (message_of body) yes) at yes (whole at yes)) (λ no. by_choose (λ refuses. refused_why settings before s body at refuses waiting) (λ other. hasty_why at no (message_of body) refl))
+    server_why whole built Ready at = ready_why at (built at) (message_of body) refl
+    server_why whole built Unspawned at = by_nothing
+    server_why whole built Spawning at = by_nothing
+    server_why whole built Stopping at = by_choose (λ yes. exits_why at yes) (λ no. by_nothing)
+    server_why whole built Ending at = by_nothing
+    server_why whole built Ended at = by_nothing
 
 -- a program that begins is sent the daemon's own `initialize`
 module _ (settings : Settings) (before : List Event) (s : ℕ) (written : Written settings before) where

@@ -25,13 +25,14 @@ use Rattle.mux_facts.proofs.Lists.{all_filtered, all_join, all_of}
 use Rattle.mux_facts.proofs.Waits.{late_not}
 use Rattle.mux_facts.proofs.Why.{is_early}
 use Rattle.mux_facts.proofs.Words.{id_same, number_same, still_open}
+use Rattle.group_rows.specs.Asks.{next_ask}
 use Rattle.group_rows.specs.Forwarded.{Forwarded, Forwarding, Sender, answered_by, forwarding_behind, forwarding_of, forwards, no_forwarding, numbered}
 use Rattle.group_facts.specs.Built.{built_behind}
 use Rattle.group_facts.specs.Facts.{AllForwarded, IsAlone, IsAsker, IsForwarded}
 use Rattle.group_facts.proofs.Forwards.{forwarding_more, more_requests, notified_all, zip_all}
 use Rattle.group_facts.proofs.Levels.{each_start}
 use Rattle.group_facts.proofs.Numbers.{forwarding_other, forwarding_sent, response_forwards}
-use Rattle.group_facts.specs.Why.{IsForward, WhyToEditor, WhyToServer, begins, greets, forwarded, notes, tells, shuts, cancels, rejects, refuses, answers, turns_away, welcomes, passes, responds, exits}
+use Rattle.group_facts.specs.Why.{IsForward, WhyToEditor, WhyToServer, begins, greets, forwarded, notes, tells, shuts, cancels, rejects, refuses, answers, turns_away, welcomes, passes, responds, exits, asks, recalls, resolves, spreads}
 
 -- An editor that got its result stays one that did
 
@@ -153,6 +154,7 @@ module _ (settings : Settings) (before : List Event) (cause : Cause) (events : L
   one_asked (tells k) h = let m : Spoken (message_of body) = spoken (message_of body) k.spoken in notified m.method m.params m.is h
   one_asked (cancels k) h = notified (codes "$/cancelRequest") (Some k.params) k.says h
   one_asked (responds k) h = by_message (message_of body) refl (subst (λ (x : Forwarding). AllByRecursion (IsForwarded sent) x.open_requests) (sym (response_forwards (forwarding_of n events) (message_of body) k.response)) (still (forwarding_of n events).open_requests h))
+  one_asked (resolves k) h = by_message (message_of body) refl (subst (λ (x : Forwarding). AllByRecursion (IsForwarded sent) x.open_requests) (sym (response_forwards (forwarding_of n events) (message_of body) k.response)) (still (forwarding_of n events).open_requests h))
   one_asked (exits k) h = notified (codes "exit") None k.says h
   one_asked (shuts k) h = own_request (integer (decimal (next_number n events))) (codes "shutdown") None k.says refl h
 
@@ -191,6 +193,10 @@ module _ (settings : Settings) (before : List Event) (cause : Cause) (events : L
   by_waiting : (desk_of n events).phase ≡ Waiting → (f : Forwarded) → IsForwarded events f → IsForwarded told f
   by_waiting at f k = by_open f k (λ same. absurd (late_not (desk_of f.editor events).phase k.late (ap (λ z. (desk_of z events).phase) (sym same) ∙ at)))
 
+  -- no response
+  unanswered : (m : Message) → message_of body ≡ m → answered_id m ≡ None → AllForwarded events → AllForwarded told
+  unanswered m says none h = asked_still events (said (ToEditor n body)) (λ f a. by_open f a (λ same. ap (λ o. is_open a.id (without o (open_of f.editor events))) (ap answered_id says ∙ none) ∙ a.waits)) (λ s. refl) h
+
   all_alone : (id : Id) → answered_id (message_of body) ≡ Some id → IsAlone events n id → AllForwarded events → AllForwarded told
   all_alone id replies alone h s = asked_list events (said (ToEditor n body)) s (forwarding_of s events).open_requests refl
       (zip_all (IsForwarded events) (λ (f : Forwarded). f.editor ≡ n → IsIdText id f.id → ⊥) (IsForwarded told) (λ f k a. by_alone id replies f a k) (forwarding_of s events).open_requests (h s) (alone s))
@@ -202,3 +208,6 @@ module _ (settings : Settings) (before : List Event) (cause : Cause) (events : L
   asked_told (turns_away k) h = asked_still events (said (ToEditor n body)) (by_waiting (k.waiting).phase) (λ s. refl) h
   asked_told (welcomes k) h = asked_still events (said (ToEditor n body)) (by_waiting (k.waiting).phase) (λ s. refl) h
   asked_told (passes k) h = all_alone k.id k.answers k.alone h
+  asked_told (asks k) h = unanswered (request (integer (decimal (next_ask n events))) k.method k.params) k.says refl h
+  asked_told (spreads k) h = unanswered (notification k.method k.params) k.says refl h
+  asked_told (recalls k) h = unanswered (notification (codes "$/cancelRequest") (Some k.params)) k.says refl h

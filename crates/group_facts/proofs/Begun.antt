@@ -1,5 +1,5 @@
 -- A group is founded in the entry that spawns its first start, and nothing else founds or spawns.
-use Rattle.std.proofs.Common.{◌≡◌, ℕ, max, ◌+◌, ◌≤◌, Bool, true, false, not, ◌&&◌, List, [], ◌∷◌, ◌++◌, map, length, nat_eq, codes, if◌then◌else◌, Option, Some, None, refl, sym, ◌∙◌, ap, subst, arith, append-nil, append_assoc}
+use Rattle.std.proofs.Common.{◌≡◌, ℕ, max, ◌+◌, ◌≤◌, Bool, true, false, not, ◌&&◌, List, [], ◌∷◌, ◌++◌, filter, map, length, nat_eq, codes, if◌then◌else◌, Option, Some, None, refl, sym, ◌∙◌, ap, subst, arith, append-nil, append_assoc}
 use Rattle.std.specs.Prelude.{◌↔◌}
 use Rattle.std.specs.List.{AllByRecursion}
 use Rattle.std.proofs.lemmas.Bool.{and_parts}
@@ -11,8 +11,13 @@ use Rattle.mux_history.specs.declared.cause.Cause.TheVariants.{Joined, FromEdito
 use Rattle.mux_history.specs.declared.out.Out.{Out}
 use Rattle.mux_history.specs.declared.out.Out.TheVariants.{ToEditor, ToServer, Spawn, CloseEditor, EndServer}
 use Rattle.document_model.specs.Sayings.{Saying, saying_by}
-use Rattle.rpc_message.specs.Message.{Message, request, notification, result, error, not_json, not_message, message_of}
-use Rattle.rpc_message.specs.Texts.{initialized_text, request_failed}
+use Rattle.rpc_message.specs.Message.{Message, request, notification, result, error, not_json, not_message, id_bytes, message_of}
+use Rattle.rpc_message.specs.Texts.{error_text, initialized_text, ok_text, request_failed, with_id_text}
+use Rattle.json_text.specs.Json.{Json}
+use Rattle.lsp_method.specs.Class.{class_of}
+use Rattle.lsp_method.specs.declared.variants.Class.{Class}
+use Rattle.lsp_method.specs.declared.variants.Class.TheVariants.{Broadcast, Cancel, Focused, Folders, Lowest, Refresh}
+use Rattle.lsp_method.specs.declared.variants.Origin.TheVariants.{Server}
 use Rattle.event_model.specs.declared.phase.Phase.{Phase}
 use Rattle.event_model.specs.declared.phase.Phase.TheVariants.{New, Waiting, Answered, Running, Down}
 use Rattle.event_model.specs.declared.stage.Stage.{Stage}
@@ -38,9 +43,11 @@ use Rattle.group_words.specs.Rows.{end_group, end_start, initialize_row, placed_
 use Rattle.group_words.proofs.Frames.{changed_length, groups_more, groups_stay, touches_groups}
 use Rattle.group_rows.specs.Cancelling.{cancelling_at, cancelling_row}
 use Rattle.group_rows.specs.Forwarded.{Forwarded, forwarding_of}
-use Rattle.group_rows.specs.Leaves.{cancel, cancel_text, cancels, closings, leave_bodies, leave_row, uncancelled_of}
+use Rattle.group_rows.specs.Leaves.{cancel, cancel_text, cancels, closings, leave_bodies, leave_row, refusals, refuse, uncancelled_of}
+use Rattle.group_rows.specs.AskRows.{ask, asking_row, broadcast, notified_row, response_at, response_row, running_in}
+use Rattle.group_rows.specs.Asks.{Ask, asks_of, is_with}
 use Rattle.group_rows.specs.Answers.{answer_row, hand_on}
-use Rattle.group_rows.specs.Rows.{answer_error, begin_in, closing_row, document_at, document_bodies, document_row, down_row, early_row, exit_row, first_result, from_server, gone_row, lspmux_row, message_row, named_row, notice_at, notice_row, open_row, outs_of, replay_bodies, request_at, request_row, result_in, row_of, served_request, served_row, started, sync_bodies, taken_row, waiting_in, welcome, hasty_row, close_all, refusal, refused_row}
+use Rattle.group_rows.specs.Rows.{answer_error, begin_in, closing_row, document_at, document_bodies, document_row, down_row, early_row, exit_row, first_result, from_server, gone_row, lspmux_row, message_row, named_row, notice_at, notice_row, open_row, outs_of, ready_row, replay_bodies, request_at, request_row, result_in, row_of, served_request, served_row, started, sync_bodies, taken_row, waiting_in, welcome, hasty_row, close_all, refusal, refused_row}
 use Rattle.group_rows.specs.Texts.{encoding_of, texts_of}
 use Rattle.group_rows.specs.Ticks.{due_of, overdue_of, tick_row}
 use Rattle.group_facts.specs.Built.{built_behind}
@@ -95,6 +102,21 @@ module _ (R : List Event → Out → Type 0) (sends : (events : List Event) (s :
   cancels_by s [] events = by_nothing
   cancels_by s (n ∷ ns) events = by_then (by_send (sends events s (cancel_text n))) (cancels_by s ns (behind events (outs (cancel s n) events)))
 
+  refused_by : (s : ℕ) (asks : List Ask) (events : List Event) → Because R events (each (refuse s) asks)
+  refused_by s [] events = by_nothing
+  refused_by s (a ∷ asks) events = by_then (by_send (sends events s (error_text a.bytes request_failed))) (refused_by s asks (behind events (outs (refuse s a) events)))
+
+  -- and of the answer that an editor gives (E19)
+  module _ (settings : Settings) (before : List Event) (e : ℕ) (body : List ℕ) (m : Message) (events : List Event) where
+    handed_at : (s : ℕ) → Because R events (response_at before e body m s)
+    handed_at s = by_choose (λ ready. by_on (λ none. by_nothing) (λ a found. by_send (sends events s (with_id_text body a.bytes)))) (λ off. by_nothing)
+
+    handed_in : (g : ℕ) → Because R events (on (start_of g before) nothing (response_at before e body m))
+    handed_in g = by_on (λ none. by_nothing) (λ s start. handed_at s)
+
+    pub handed_by : Because R events (response_row settings before e body m)
+    handed_by = by_on (λ none. by_nothing) (λ g home. handed_in g)
+
   module _ (settings : Settings) (before : List Event) (e : ℕ) where
     cancelled_by : (s : ℕ) (events : List Event) → Because R events (cancels before s e)
     cancelled_by s events = by_choose (λ ready. cancels_by s (uncancelled_of e (forwarding_of s before).open_requests) events) (λ off. by_nothing)
@@ -102,10 +124,14 @@ module _ (R : List Event → Out → Type 0) (sends : (events : List Event) (s :
     closings_by : (g s : ℕ) (events : List Event) → Because R events (closings settings before g s e)
     closings_by g s events = by_choose (λ ready. bodies_by s (leave_bodies settings.limits.versions (λ u. held_at s u before) e (texts_of settings g before).opens (texts_of settings g before).opens) events) (λ off. by_nothing)
 
-    leaves_by : (g s : ℕ) (events : List Event) → Because R events (cancels before s e ⨾ closings settings before g s e)
-    leaves_by g s events = by_then (cancelled_by s events) (closings_by g s (behind events (outs (cancels before s e) events)))
+    refusals_by : (s : ℕ) (events : List Event) → Because R events (refusals before s e)
+    refusals_by s events = by_choose (λ ready. refused_by s (filter (is_with e) (asks_of s before)) events) (λ off. by_nothing)
 
-    group_by : (g : ℕ) (events : List Event) → Because R events (on (start_of g before) nothing (λ s. cancels before s e ⨾ closings settings before g s e))
+    leaves_by : (g s : ℕ) (events : List Event) → Because R events (cancels before s e ⨾ (refusals before s e ⨾ closings settings before g s e))
+    leaves_by g s events = by_then (cancelled_by s events) (by_then (refusals_by s (behind events (outs (cancels before s e) events)))
+        (closings_by g s (behind (behind events (outs (cancels before s e) events)) (outs (refusals before s e) (behind events (outs (cancels before s e) events))))))
+
+    group_by : (g : ℕ) (events : List Event) → Because R events (on (start_of g before) nothing (λ s. cancels before s e ⨾ (refusals before s e ⨾ closings settings before g s e)))
     group_by g events = by_on (λ none. by_nothing) (λ s start. leaves_by g s events)
 
     pub leave_by : (events : List Event) → Because R events (leave_row settings before e)
@@ -199,13 +225,16 @@ module _ (settings : Settings) (before : List Event) where
   quiet_asked : (e : ℕ) (body method : List ℕ) (events : List Event) → Quiet events (served_request settings before e body method)
   quiet_asked e body method events = by_choose (λ misplaced. by_send tt) (λ placed. by_choose (λ down. by_then (by_send tt) (quiet_leave e _)) (λ on. quiet_request e body events))
 
+  quiet_handed : (e : ℕ) (body : List ℕ) (m : Message) (events : List Event) → Quiet events (response_row settings before e body m)
+  quiet_handed e body m events = handed_by (λ places out. NoSpawn out) (λ places s b. tt) settings before e body m events
+
   quiet_served : (e : ℕ) (body : List ℕ) (m : Message) (events : List Event) → Quiet events (served_row settings before e body m)
   quiet_served e body (request id method params) events = quiet_asked e body method events
   quiet_served e body (notification method params) events = by_choose (λ yes. quiet_closing e events) (λ no. by_choose (λ going. quiet_notice e body events) (λ off. by_choose (λ cancels. quiet_cancelling e body params events) (λ other. quiet_document e body (saying_by method params) events)))
-  quiet_served e body (result id r) events = by_nothing
-  quiet_served e body (error id x) events = by_nothing
-  quiet_served e body not_json events = by_nothing
-  quiet_served e body not_message events = by_nothing
+  quiet_served e body (result id r) events = quiet_handed e body (result id r) events
+  quiet_served e body (error id x) events = quiet_handed e body (error id x) events
+  quiet_served e body not_json events = quiet_handed e body not_json events
+  quiet_served e body not_message events = quiet_handed e body not_message events
 
   quiet_taken : (e : ℕ) (body : List ℕ) (m : Message) (phase : Phase) (events : List Event) → places phase m ≡ false → Quiet events (taken_row settings before e body m phase)
   quiet_taken e body m New events h = by_choose (λ yes. never (sym yes ∙ h)) (λ no. quiet_early e body m events)
@@ -260,9 +289,40 @@ module _ (settings : Settings) (before : List Event) where
   quiet_hasty s body not_json events = by_nothing
   quiet_hasty s body not_message events = by_nothing
 
+  quiet_ask : (body : List ℕ) (e : ℕ) (events : List Event) → Quiet events (ask body e)
+  quiet_ask body e events = by_look (by_choose (λ room. by_send tt) (λ none. by_nothing))
+
+  quiet_each : (body : List ℕ) (es : List ℕ) (events : List Event) → Quiet events (each (ask body) es)
+  quiet_each body [] events = by_nothing
+  quiet_each body (e ∷ es) events = by_then (quiet_ask body e events) (quiet_each body es (behind events (outs (ask body e) events)))
+
+  quiet_spread : (body : List ℕ) (es : List ℕ) (events : List Event) → Quiet events (each (broadcast body) es)
+  quiet_spread body [] events = by_nothing
+  quiet_spread body (e ∷ es) events = by_then (by_send tt) (quiet_spread body es (behind events (ToEditor e body ∷ [])))
+
+  quiet_asking : (g s : ℕ) (body : List ℕ) (c : Class) (events : List Event) → Quiet events (asking_row settings before g s body c)
+  quiet_asking g s body Refresh events = by_then (by_send tt) (quiet_each body (running_in settings g before) (behind events (ToServer s (ok_text (id_bytes body) (codes "null")) ∷ [])))
+  quiet_asking g s body Folders events = by_on (λ none. by_nothing) (λ x found. by_send tt)
+  quiet_asking g s body Focused events = by_on (λ none. by_send tt) (λ e found. quiet_ask body e events)
+  quiet_asking g s body Lowest events = by_on (λ none. by_nothing) (λ e found. quiet_ask body e events)
+  quiet_asking g s body _ events = by_nothing
+
+  quiet_notified : (s : ℕ) (body : List ℕ) (params : Option Json) (c : Class) (events : List Event) → Quiet events (notified_row settings s before body params c)
+  quiet_notified s body params Cancel events = by_on (λ none. by_nothing) (λ a found. by_choose (λ runs. by_send tt) (λ no. by_nothing))
+  quiet_notified s body params Broadcast events = by_on (λ none. by_nothing) (λ g home. quiet_spread body (running_in settings g before) events)
+  quiet_notified s body params _ events = by_nothing
+
+  quiet_ready : (s : ℕ) (body : List ℕ) (m : Message) (events : List Event) → Quiet events (ready_row settings s before body m)
+  quiet_ready s body (request id method params) events = by_choose (λ twice. by_nothing) (λ fresh. by_on (λ none. by_nothing) (λ g home. quiet_asking g s body (class_of method Server false) events))
+  quiet_ready s body (notification method params) events = quiet_notified s body params (class_of method Server true) events
+  quiet_ready s body (result id r) events = quiet_response s body (result id r) events
+  quiet_ready s body (error id x) events = quiet_response s body (error id x) events
+  quiet_ready s body not_json events = quiet_response s body not_json events
+  quiet_ready s body not_message events = quiet_response s body not_message events
+
   quiet_server : (s : ℕ) (body : List ℕ) (m : Message) (stage : Stage) (events : List Event) → Quiet events (from_server settings s before body m stage)
   quiet_server s body m Initializing events = by_choose (λ first. quiet_first s body events) (λ off. by_choose (λ refuses. quiet_refused s body events) (λ other. quiet_hasty s body m events))
-  quiet_server s body m Ready events = quiet_response s body m events
+  quiet_server s body m Ready events = quiet_ready s body m events
   quiet_server s body m Stopping events = by_choose (λ answers. by_then (by_send tt) (by_send tt)) (λ off. by_nothing)
   quiet_server s body m other events = by_nothing
 

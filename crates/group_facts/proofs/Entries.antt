@@ -19,13 +19,14 @@ use Rattle.event_model.specs.Stages.{life_of}
 use Rattle.event_model.proofs.Frames.{never}
 use Rattle.response_route.specs.Answers.{answer_text}
 use Rattle.mux_model.specs.Fits.{fits_behind}
+use Rattle.mux_facts.specs.Allowed.{is_response}
 use Rattle.mux_facts.specs.Ranges.{InRange}
 use Rattle.mux_facts.proofs.Folds.{desk_more, opens_more}
 use Rattle.mux_facts.proofs.Words.{number_same, same_number}
 use Rattle.group_words.specs.Houses.{groups_of, placed_for, places}
 use Rattle.group_rows.specs.Forwarded.{Forwarded, answered_by, forwarding_of}
 use Rattle.group_rows.specs.Answers.{answer_row, hand_on, own_version}
-use Rattle.group_rows.specs.Rows.{from_server, outs_of}
+use Rattle.group_rows.specs.Rows.{from_server, outs_of, ready_row}
 use Rattle.group_rows.proofs.Versions.{own_flat}
 use Rattle.group_facts.specs.Built.{built_behind, built_from_server, is_left}
 use Rattle.group_facts.specs.Facts.{is_too_many, is_up, turned_away}
@@ -229,10 +230,29 @@ module _ (settings : Settings) (range : InRange settings) (before : List Event) 
       abbrev Stays : Stage → Id → Type 0
       Stays stage id = is_answered (desk_of e (behind now (outs (from_server settings s before body (message_of body) stage) now))).phase ≡ true → is_open id (open_of e (behind now (outs (from_server settings s before body (message_of body) stage) now))) ≡ true → ⊥
 
-      ready_not : (life_of s before).stage ≡ Ready → (id : Id) → Passed settings e id before s body → Stays Ready id
-      ready_not at id k served still =
+      answered_response : (life_of s before).stage ≡ Ready → (id : Id) → Passed settings e id before s body → is_answered (desk_of e (behind now (outs (answer_row settings s before body (message_of body)) now))).phase ≡ true
+          → is_open id (open_of e (behind now (outs (answer_row settings s before body (message_of body)) now))) ≡ true → ⊥
+      answered_response at id k served still =
           let p : Found (IsOf e id) (answered_id (message_of body)) (forwarding_of s before).next (low (ap is_up at)) fs = found_one (IsOf e id) (answered_id (message_of body)) (forwarding_of s before).next (low (ap is_up at)) 2 fs (rising_of s before) k in
           answered_not id p.first p.found p.holds (is_there (desk_of (p.first).editor before).phase) refl served still
+
+      ready_not : (life_of s before).stage ≡ Ready → (id : Id) → Passed settings e id before s body → Stays Ready id
+      ready_not at id k served still = go (is_response (message_of body)) refl
+        where
+          none_of : (m : Message) → is_response m ≡ false → answered_id m ≡ None
+          none_of (result id r) h = never h
+          none_of (error id x) h = never h
+          none_of other h = refl
+
+          row_of : (m : Message) → is_response m ≡ true → ready_row settings s before body m ≡ answer_row settings s before body m
+          row_of (result id r) h = refl
+          row_of (error id x) h = refl
+          row_of other h = never (sym h)
+
+          go : (b : Bool) → is_response (message_of body) ≡ b → ⊥
+          go true is = answered_response at id k (subst (λ z. is_answered (desk_of e (behind now (outs z now))).phase ≡ true) (row_of (message_of body) is) served)
+              (subst (λ z. is_open id (open_of e (behind now (outs z now))) ≡ true) (row_of (message_of body) is) still)
+          go false other = none_answered id (none_of (message_of body) other) k
 
       -- what isn't a response answers nothing
       malformed_none : (m : Message) → is_malformed m ≡ true → answered_id m ≡ None
@@ -248,7 +268,7 @@ module _ (settings : Settings) (range : InRange settings) (before : List Event) 
       early_not at id k = none_sent (λ (f : Forwarded). IsOf e id f × (answered_by (answered_id (message_of body)) f ≡ true)) fs
           (subst (λ n. Rising 2 n fs) (subst (λ z. TiedAt z (next_number s before) (forwarding_of s before).next) at (facts.tied s)).1 (rising_of s before)) k
 
-      fine_not : (stage : Stage) → (life_of s before).stage ≡ stage → is_up stage ≡ true → built_from_server stage body (message_of body) ≡ true → (id : Id) → Passed settings e id before s body → Stays stage id
+      fine_not : (stage : Stage) → (life_of s before).stage ≡ stage → is_up stage ≡ true → built_from_server settings before s stage body (message_of body) ≡ true → (id : Id) → Passed settings e id before s body → Stays stage id
       fine_not Initializing at up fine id k served still = early_not at id k
       fine_not Ready at up fine id k served still = ready_not at id k served still
       fine_not Stopping at up fine id k served still = never (sym up)

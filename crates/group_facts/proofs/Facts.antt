@@ -14,7 +14,7 @@ use Rattle.mux_facts.proofs.Starts.{Starts}
 use Rattle.mux_facts.proofs.Waits.{AllWaiting, Waits, WaitsAt, waits_at}
 use Rattle.group_rows.specs.Forwarded.{forwarding_of}
 use Rattle.group_rows.proofs.Versions.{AllMeant}
-use Rattle.group_facts.specs.Facts.{AllForwarded, Apart, Bounded, Housed, Known, Numbered, Opened, Plain, Stopped, Unbegun, Untold, Written, turned_away}
+use Rattle.group_facts.specs.Facts.{AllForwarded, Apart, Asks, Bounded, Housed, Known, Numbered, Opened, Plain, Stopped, Unbegun, Untold, Written, turned_away}
 
 pub record Base (settings : Settings) (events : List Event) : Type 0 where
   pub opened : Opened settings events
@@ -30,6 +30,7 @@ pub record Steady (settings : Settings) (events : List Event) : Type 0 where
   pub editors : Editors events
   pub asked : AllForwarded events
   pub apart : Apart events
+  pub asks : Asks events
   pub housed : Housed settings events
 
 -- the next number of all requests to a start, and of those of editors
@@ -86,6 +87,7 @@ known_of settings events h = record {
   bounded = (h.steady).bounded;
   asked = (h.steady).asked;
   apart = (h.steady).apart;
+  asks = (h.steady).asks;
   housed = (h.steady).housed;
   numbered = numbered_of events h.tied;
   stopped = stopped_of events h.tied;
@@ -93,4 +95,5 @@ known_of settings events h = record {
   opened = (h.base).opened;
   plain = (h.base).plain;
   written = (h.base).written;
+  meant = (h.base).meant;
 }

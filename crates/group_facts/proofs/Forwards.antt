@@ -4,7 +4,7 @@ use Rattle.std.specs.List.{AllByRecursion}
 use Rattle.std.proofs.lemmas.List.Sums.{fold-append}
 use Rattle.json_text.specs.Json.{Json}
 use Rattle.mux_history.specs.declared.out.Out.TheVariants.{ToServer}
-use Rattle.rpc_message.specs.Message.{notification, Id, message_of}
+use Rattle.rpc_message.specs.Message.{error, notification, Id, message_of}
 use Rattle.rpc_message.specs.ValueTexts.{IsIdText}
 use Rattle.event_model.specs.declared.stage.Stage.TheVariants.{Ready}
 use Rattle.event_model.specs.Event.{Event, said}
@@ -75,7 +75,7 @@ fewer_notified s events body method params says t Q h = subst (λ (x : Forwardin
 pub alone_fewer : (events later : List Event) → Fewer events later → (e : ℕ) (id : Id) → IsAlone events e id → IsAlone later e id
 alone_fewer events later fewer e id h t = fewer t (λ n k i. k ≡ e → IsIdText id i → ⊥) (h t)
 
--- s is ready, and since `now` it was sent notifications alone
+-- s is ready, and since `now` it was sent notifications and errors alone
 pub record Still (now : List Event) (s : ℕ) (events : List Event) : Type 0 where
   pub ready : (life_of s events).stage ≡ Ready
   pub next : (forwarding_of s events).next ≡ (forwarding_of s now).next
@@ -101,3 +101,23 @@ still_notified now s events body method params says h = record {
   where
     moved : forwarding_of s (events ++ said (ToServer s body) ∷ []) ≡ forwards (forwarding_of s events) (notification method params)
     moved = forwarding_more s events (said (ToServer s body)) ∙ ap₂ (λ b m. if b then forwards (forwarding_of s events) m else forwarding_of s events) (same_number s) says
+
+-- an error, too, leaves all of it
+pub still_answered : (now : List Event) (s : ℕ) (events : List Event) (body : List ℕ) (id : Option Id) (x : Json) → message_of body ≡ error id x → Still now s events → Still now s (events ++ said (ToServer s body) ∷ [])
+still_answered now s events body id x says h = record {
+  ready = ap (λ (l : Life). l.stage) (life_more s events (said (ToServer s body)))
+      ∙ ap (λ b. (if b then record { stage = stage_told (life_of s events).stage (message_of body); started = (life_of s events).started } else life_of s events).stage) (same_number s)
+      ∙ ap₂ (λ z m. stage_told z m) h.ready says;
+  next = ap (λ (x : Forwarding). x.next) (moved s) ∙ h.next;
+  sender = ap (λ (x : Forwarding). x.sender) (moved s) ∙ h.sender;
+  desks = λ e. desk_more e events (said (ToServer s body)) ∙ h.desks e;
+  opens = λ e. opens_more e events (said (ToServer s body)) ∙ h.opens e;
+  alone = λ e i k t. subst (λ (x : Forwarding). AllByRecursion (λ (g : Forwarded). g.editor ≡ e → IsIdText i g.id → ⊥) x.open_requests) (sym (moved t)) (h.alone e i k t);
+}
+  where
+    moved : (t : ℕ) → forwarding_of t (events ++ said (ToServer s body) ∷ []) ≡ forwarding_of t events
+    moved t = forwarding_more t events (said (ToServer s body)) ∙ ap (λ m. if nat_eq s t then forwards (forwarding_of t events) m else forwarding_of t events) says ∙ go (nat_eq s t)
+      where
+        go : (b : Bool) → (if b then forwards (forwarding_of t events) (error id x) else forwarding_of t events) ≡ forwarding_of t events
+        go true = refl
+        go false = refl

@@ -1,5 +1,5 @@
 -- L1: what a start is sent where an editor of its group leaves has its reasons, wherever it stands in the entry.
-use Rattle.std.proofs.Common.{◌≡◌, ℕ, ◌+◌, ◌<◌, ◌≤◌, ◌^◌, Bool, true, false, not, ◌&&◌, ◌||◌, List, [], ◌∷◌, map, filter, nat_eq, bytes_eq, decimal, if◌then◌else◌, Some, refl, sym, ◌∙◌, ap, ap₂, subst, arith}
+use Rattle.std.proofs.Common.{◌≡◌, ℕ, ◌+◌, ◌<◌, ◌≤◌, ◌^◌, Bool, true, false, not, ◌&&◌, ◌||◌, List, [], ◌∷◌, ◌++◌, append-nil, append_assoc, map, filter, nat_eq, bytes_eq, decimal, if◌then◌else◌, Some, refl, sym, ◌∙◌, ap, ap₂, subst, arith}
 use Rattle.std.specs.List.{AllByRecursion, list_any}
 use Rattle.std.proofs.lemmas.Bool.{and_parts}
 use Rattle.std.proofs.lemmas.Fmt.{decimal_injective}
@@ -22,17 +22,24 @@ use Rattle.mux_facts.specs.Ranges.{InRange}
 use Rattle.mux_facts.proofs.DocumentRow.{ready_is}
 use Rattle.mux_facts.proofs.Lists.{all_filtered, all_of}
 use Rattle.mux_facts.proofs.Reasons.{Because, Reasons, by_nothing, by_on, by_then}
-use Rattle.mux_facts.proofs.Words.{number_same, same_number}
+use Rattle.mux_facts.proofs.Words.{number_same, same_id_itself, same_number, still_open}
+use Rattle.rpc_message.specs.Message.{same_id}
+use Rattle.rpc_message.specs.Texts.{error_text, request_failed}
+use Rattle.rpc_message.specs.ValueTexts.{IsIdText}
+use Rattle.rpc_message.proofs.Fixed.{error_law, id_as_response}
+use Rattle.event_model.specs.Requests.{answered_id, is_open, without}
 use Rattle.group_rows.specs.Forwarded.{Forwarded, Forwarding, cancelled_by, forwarding_of, forwards, is_of}
-use Rattle.group_rows.specs.Leaves.{cancel, cancel_text, cancels, closings, leave_bodies, leave_row, uncancelled_of}
+use Rattle.group_rows.specs.Asks.{Ask, asks_of, is_under, is_with}
+use Rattle.group_rows.specs.Leaves.{cancel, cancel_text, cancels, closings, leave_bodies, leave_row, refusals, refuse, uncancelled_of}
 use Rattle.group_rows.specs.Texts.{texts_of}
 use Rattle.group_rows.proofs.Cancels.{cancel_says}
-use Rattle.group_facts.specs.Facts.{Bounded, Opened, is_up}
+use Rattle.group_facts.specs.Facts.{AllDiffer, Asks, Bounded, IsAsked, Opened, asked_by, is_up}
+use Rattle.group_facts.proofs.Asks.{asked_by_more, differ_filtered}
 use Rattle.group_facts.specs.Why.{Why, is_uncancelled, moves, stays}
-use Rattle.group_facts.proofs.Forwards.{forwarding_more, still_now}
+use Rattle.group_facts.proofs.Forwards.{forwarding_more, still_now, zip_all}
 use Rattle.group_facts.proofs.Sent.{Rising, below_next, rising_filtered, rising_of}
 use Rattle.group_facts.proofs.SharedRows.{AllTold, Held, leave_told}
-use Rattle.group_facts.proofs.Tellings.{Calm, Tells, cancel_names, cancel_told, tells_both, tells_none, tells_row, to}
+use Rattle.group_facts.proofs.Tellings.{Calm, Tells, cancel_names, cancel_told, refuse_told, tells_both, tells_none, tells_row, to}
 
 -- The numbers of open requests are small
 
@@ -123,15 +130,36 @@ other_waits n k low high less (f ∷ fs) h = go (is_uncancelled k f) refl (λ e.
     go false t more e = or_second (is_uncancelled k (cancelled_by (Some (number nowhere (decimal n))) f)) (list_any (is_uncancelled k) (map (cancelled_by (Some (number nowhere (decimal n)))) fs)) (more e)
 
 -- the row of cancels sends these bodies
-cancels_outs : (s : ℕ) (ns : List ℕ) (events : List Event) → outs (each (cancel s) ns) events ≡ map (λ b. ToServer s b) (map cancel_text ns)
+pub cancels_outs : (s : ℕ) (ns : List ℕ) (events : List Event) → outs (each (cancel s) ns) events ≡ map (λ b. ToServer s b) (map cancel_text ns)
 cancels_outs s [] events = refl
 cancels_outs s (n ∷ ns) events = ap (λ xs. ToServer s (cancel_text n) ∷ xs) (cancels_outs s ns (behind events (ToServer s (cancel_text n) ∷ [])))
+
+-- The requests of the start that wait for its answers
+
+abbrev pub refusal_of : Ask → List ℕ
+refusal_of a = error_text a.bytes request_failed
+
+pub refusals_outs : (s : ℕ) (xs : List Ask) (events : List Event) → outs (each (refuse s) xs) events ≡ map (λ b. ToServer s b) (map refusal_of xs)
+refusals_outs s [] events = refl
+refusals_outs s (a ∷ xs) events = ap (λ ys. ToServer s (refusal_of a) ∷ ys) (refusals_outs s xs (behind events (ToServer s (refusal_of a) ∷ [])))
+
+-- one of these
+record IsListed (all : List Ask) (a : Ask) : Type 0 where
+  text : IsIdText a.id a.bytes
+  listed : list_any (is_under (Some a.id)) all ≡ true
+
+pub each_listed : (xs : List Ask) → AllByRecursion (λ (a : Ask). list_any (is_under (Some a.id)) xs ≡ true) xs
+each_listed [] = tt
+each_listed (a ∷ xs) = (
+  or_first (same_id a.id a.id) (list_any (is_under (Some a.id)) xs) (same_id_itself a.id),
+  all_of (λ (b : Ask). list_any (is_under (Some b.id)) xs ≡ true) (λ (b : Ask). list_any (is_under (Some b.id)) (a ∷ xs) ≡ true) (λ b k. or_second (same_id b.id a.id) (list_any (is_under (Some b.id)) xs) k) xs (each_listed xs),
+)
 
 -- At a place where each start is what it was before the entry
 
 module _ (settings : Settings) (range : InRange settings) (before : List Event) (cause : Cause) (opened : Opened settings before) (bounded : Bounded settings before) (place : List Event)
     (rests : (s : ℕ) → moves before cause s ≡ false) (stage_still : (s : ℕ) → (life_of s place).stage ≡ (life_of s before).stage) (held_still : (s : ℕ) (u : List ℕ) → held_at s u place ≡ held_at s u before)
-    (open_still : (s : ℕ) → (forwarding_of s place).open_requests ≡ (forwarding_of s before).open_requests) (e : ℕ) where
+    (open_still : (s : ℕ) → (forwarding_of s place).open_requests ≡ (forwarding_of s before).open_requests) (asks : Asks before) (asked_still : (s : ℕ) → asked_by s place ≡ asked_by s before) (e : ℕ) where
   abbrev R : List Event → Out → Type 0
   R events out = Why settings before cause events out
 
@@ -176,6 +204,31 @@ module _ (settings : Settings) (range : InRange settings) (before : List Event) 
         tells_both settings range before cause place s events (cancel_text n ∷ []) (map cancel_text ns) one
         (cancels_told ns small.1 rises.1 (behind events (sends (cancel_text n ∷ []))) (later_wait events n small.0 ns small.1 rises.0 waits.1) one.calm)
 
+    -- cancels leave its requests open
+    asked_cancelled : (ns : List ℕ) → AllByRecursion IsSmall ns → (events : List Event) → asked_by s (behind events (sends (map cancel_text ns))) ≡ asked_by s events
+    asked_cancelled [] small events = ap (asked_by s) (append-nil events)
+    asked_cancelled (n ∷ ns) small events = ap (asked_by s) (sym (append_assoc events (said (ToServer s (cancel_text n)) ∷ []) (map said (sends (map cancel_text ns)))))
+        ∙ asked_cancelled ns small.1 (events ++ said (ToServer s (cancel_text n)) ∷ [])
+        ∙ asked_by_more s events (said (ToServer s (cancel_text n))) ∙ ap₂ (λ b m. if b then without (answered_id m) (asked_by s events) else asked_by s events) (same_number s) (cancel_says n small.0)
+
+    abbrev asked : List Ask
+    asked = filter (is_with e) (asks_of s before)
+
+    -- behind the refusal of another one
+    still_asked : (events : List Event) (a b : Ask) → IsIdText a.id a.bytes → same_id a.id b.id ≡ false → is_open b.id (asked_by s events) ≡ true → is_open b.id (asked_by s (behind events (sends (refusal_of a ∷ [])))) ≡ true
+    still_asked events a b text other waits = ap (is_open b.id) (asked_by_more s events (said (ToServer s (refusal_of a)))
+        ∙ ap₂ (λ c m. if c then without (answered_id m) (asked_by s events) else asked_by s events) (same_number s) (error_law (Some a.id) a.bytes request_failed (id_as_response a.id a.bytes text)))
+        ∙ still_open a.id b.id (asked_by s events) waits other
+
+    refusals_told : (xs : List Ask) → AllDiffer xs → AllByRecursion (IsListed (asks_of s before)) xs → (events : List Event) → AllByRecursion (λ (a : Ask). is_open a.id (asked_by s events) ≡ true) xs → Mine events → AllAlone events (map refusal_of xs)
+    refusals_told [] differ listed events waits calm = tells_none settings range before cause place s events calm
+    refusals_told (a ∷ xs) differ listed events waits calm =
+        let one : AllAlone events (refusal_of a ∷ []) = refuse_told settings range before cause place s events a (listed.0).text (listed.0).listed (rests s) waits.0 calm in
+        tells_both settings range before cause place s events (refusal_of a ∷ []) (map refusal_of xs) one
+        (refusals_told xs differ.1 listed.1 (behind events (sends (refusal_of a ∷ [])))
+        (zip_all (λ (b : Ask). same_id a.id b.id ≡ false) (λ (b : Ask). is_open b.id (asked_by s events) ≡ true) (λ (b : Ask). is_open b.id (asked_by s (behind events (sends (refusal_of a ∷ [])))) ≡ true)
+        (λ b other w. still_asked events a b (listed.0).text other w) xs differ.0 waits.1) one.calm)
+
     module _ (ready : is_ready (life_of s before).stage ≡ true) where
       was : (life_of s before).stage ≡ Ready
       was = ready_is (life_of s before).stage ready
@@ -195,24 +248,40 @@ module _ (settings : Settings) (range : InRange settings) (before : List Event) 
       abbrev cancelled : List Event
       cancelled = behind place (sends (map cancel_text ns))
 
-      all_held : (os : List Open) → Held settings range before cause place s (λ u. held_at s u before) e cancelled os
-      all_held [] = tt
-      all_held (o ∷ os) = (λ k. told.others o.uri tt ∙ held_still s o.uri, all_held os)
+      listed_all : AllByRecursion (λ (a : Ask). IsListed (asks_of s before) a × (is_open a.id (asked_by s cancelled) ≡ true)) asked
+      listed_all = all_filtered (λ (a : Ask). IsListed (asks_of s before) a × (is_open a.id (asked_by s cancelled) ≡ true)) (λ (a : Ask). IsListed (asks_of s before) a × (is_open a.id (asked_by s cancelled) ≡ true)) (is_with e) (λ a t k. k) (asks_of s before)
+          (zip_all (IsAsked s before) (λ (a : Ask). list_any (is_under (Some a.id)) (asks_of s before) ≡ true) (λ (a : Ask). IsListed (asks_of s before) a × (is_open a.id (asked_by s cancelled) ≡ true))
+          (λ a k l. (record { text = k.text; listed = l }, ap (is_open a.id) (asked_cancelled ns small place ∙ asked_still s) ∙ k.waits)) (asks_of s before) (asks s).asked (each_listed (asks_of s before)))
 
-      closed : AllTold settings range before cause place s cancelled bodies
-      closed = leave_told settings range before cause place s (λ u. held_at s u before) e opens (opened g).spelt opens (opened g).orderly.once (opened g).spelt cancelled told.calm (all_held opens)
+      refused : AllAlone cancelled (map refusal_of asked)
+      refused = refusals_told asked (differ_filtered (is_with e) (asks_of s before) (asks s).differ) (all_of (λ (a : Ask). IsListed (asks_of s before) a × (is_open a.id (asked_by s cancelled) ≡ true)) (IsListed (asks_of s before)) (λ a k. k.0) asked listed_all) cancelled
+          (all_of (λ (a : Ask). IsListed (asks_of s before) a × (is_open a.id (asked_by s cancelled) ≡ true)) (λ (a : Ask). is_open a.id (asked_by s cancelled) ≡ true) (λ a k. k.1) asked listed_all) told.calm
+
+      abbrev parted : List Event
+      parted = behind cancelled (sends (map refusal_of asked))
+
+      all_held : (os : List Open) → Held settings range before cause place s (λ u. held_at s u before) e parted os
+      all_held [] = tt
+      all_held (o ∷ os) = (λ k. refused.others o.uri tt ∙ told.others o.uri tt ∙ held_still s o.uri, all_held os)
+
+      closed : AllTold settings range before cause place s parted bodies
+      closed = leave_told settings range before cause place s (λ u. held_at s u before) e opens (opened g).spelt opens (opened g).orderly.once (opened g).spelt parted refused.calm (all_held opens)
 
       cancels_why : Reasons R place (outs (each (cancel s) ns) place)
       cancels_why = subst (Reasons R place) (sym (cancels_outs s ns place)) told.why
 
-      closings_why : Reasons R (behind place (outs (each (cancel s) ns) place)) (outs (to_start s bodies) (behind place (outs (each (cancel s) ns) place)))
-      closings_why = subst (λ xs. Reasons R (behind place xs) (outs (to_start s bodies) (behind place xs))) (sym (cancels_outs s ns place)) (tells_row settings range before cause place s cancelled bodies closed).why
+      parted_why : Because R cancelled (each (refuse s) asked ⨾ to_start s bodies)
+      parted_why = by_then (record { why = subst (Reasons R cancelled) (sym (refusals_outs s asked cancelled)) refused.why })
+          (record { why = subst (λ xs. Reasons R (behind cancelled xs) (outs (to_start s bodies) (behind cancelled xs))) (sym (refusals_outs s asked cancelled)) (tells_row settings range before cause place s parted bodies closed).why })
 
-    by_ready : (b : Bool) → is_ready (life_of s before).stage ≡ b → Right (choose b (each (cancel s) ns) nothing ⨾ choose b (to_start s bodies) nothing)
-    by_ready true ready = by_then (record { why = cancels_why ready }) (record { why = closings_why ready })
-    by_ready false not_ready = by_then (record { why = tt }) (record { why = tt })
+      all_why : Right (each (cancel s) ns ⨾ (each (refuse s) asked ⨾ to_start s bodies))
+      all_why = by_then (record { why = cancels_why }) (subst (λ xs. Because R (behind place xs) (each (refuse s) asked ⨾ to_start s bodies)) (sym (cancels_outs s ns place)) parted_why)
 
-  by_group : (g : ℕ) → Right (on (start_of g before) nothing (λ s. cancels before s e ⨾ closings settings before g s e))
+    by_ready : (b : Bool) → is_ready (life_of s before).stage ≡ b → Right (choose b (each (cancel s) ns) nothing ⨾ (choose b (each (refuse s) asked) nothing ⨾ choose b (to_start s bodies) nothing))
+    by_ready true ready = record { why = (all_why ready).why }
+    by_ready false not_ready = record { why = tt }
+
+  by_group : (g : ℕ) → Right (on (start_of g before) nothing (λ s. cancels before s e ⨾ (refusals before s e ⨾ closings settings before g s e)))
   by_group g = by_on (λ none. by_nothing) (λ s start. by_ready g s (is_ready (life_of s before).stage) refl)
 
   pub leave_why : Right (leave_row settings before e)

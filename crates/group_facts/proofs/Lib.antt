@@ -51,3 +51,11 @@ pub mod VersionsIn
 pub mod Waiting
 mod Worked
 pub mod Written
+pub mod Asks
+pub mod AskingRows
+pub mod Spreads
+pub mod OneStart
+pub mod AskSeats
+pub mod AskRest
+pub mod AskEntries
+pub mod AskLeft

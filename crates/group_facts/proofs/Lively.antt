@@ -41,7 +41,7 @@ use Rattle.group_facts.specs.Built.{built_behind, built_from_editor, doubles, is
 use Rattle.group_facts.specs.Facts.{is_put_out, is_refusing, is_up}
 use Rattle.group_facts.specs.Lively.{IsDying, Lively, is_busy_at, is_unplaced, lives_at}
 use Rattle.group_facts.specs.Settled.{is_answered}
-use Rattle.group_facts.specs.Why.{Why, WhyEnd, WhyToServer, begins, greets, forwarded, notes, tells, shuts, cancels, exits, refused, starting, stopped, responds}
+use Rattle.group_facts.specs.Why.{Why, WhyEnd, WhyToServer, begins, greets, forwarded, notes, tells, shuts, cancels, exits, refused, starting, stopped, responds, resolves}
 use Rattle.group_facts.proofs.Multiplexer.{lspmux_apart}
 use Rattle.group_facts.proofs.Begun.{Begun, start_more}
 use Rattle.group_facts.proofs.Exits.{left_groups, left_over}
@@ -479,6 +479,7 @@ module _ (settings : Settings) (out : ℕ → Bool) (events : List Event) (h : M
   sent before cause n body (tells k) = sends n body (λ g s same live at. let x : Spoken (message_of body) = spoken (message_of body) k.spoken in ap (requests (codes "shutdown")) x.is)
   sent before cause n body (cancels k) = sends n body (λ g s same live at. ap (requests (codes "shutdown")) k.says)
   sent before cause n body (responds k) = sends n body (λ g s same live at. response_asks (codes "shutdown") (message_of body) k.response)
+  sent before cause n body (resolves k) = sends n body (λ g s same live at. response_asks (codes "shutdown") (message_of body) k.response)
   sent before cause n body (exits k) = sends n body (λ g s same live at. ap (requests (codes "shutdown")) k.says)
   sent before cause n body (shuts k) = sends n body (λ g s same live at. absurd (dies n g k.dying live (at ∙ ap (λ i. Some i) (sym same))))
 

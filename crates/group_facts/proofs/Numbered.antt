@@ -28,10 +28,11 @@ use Rattle.group_words.specs.declared.kept.Kept.{Kept}
 use Rattle.group_words.specs.Houses.{groups_of}
 use Rattle.group_words.specs.Rows.{initialize_of}
 use Rattle.group_rows.specs.Forwarded.{Forwarding, forwarding_of, numbered}
+use Rattle.mux_facts.specs.Allowed.{is_response}
 use Rattle.group_rows.specs.Rows.{outs_of, started}
 use Rattle.group_facts.specs.Built.{built_behind}
 use Rattle.group_facts.specs.Facts.{Housed, IsHoused, IsWritten, Unbegun, Written}
-use Rattle.group_facts.specs.Why.{IsForward, WhyToServer, begins, greets, forwarded, notes, tells, shuts, cancels, responds, IsShutting, exits}
+use Rattle.group_facts.specs.Why.{IsForward, WhyToServer, begins, greets, forwarded, notes, tells, shuts, cancels, responds, IsShutting, exits, resolves}
 use Rattle.group_facts.proofs.AnswerRows.{get_all}
 use Rattle.group_facts.proofs.Facts.{AllTied, OthersTied, Tied, TiedAt, begins_now}
 use Rattle.group_facts.proofs.Forwards.{notified_next}
@@ -125,6 +126,10 @@ module _ (settings : Settings) (cause : Cause) (events : List Event) (n : ℕ) (
       let stage : (life_of n sent).stage ≡ Stopping = stage_now m k.says ∙ ap (λ z. stage_told z m) k.ready in
       subst (λ z. TiedAt z (next_number n sent) (forwarding_of n sent).next) (sym stage) (a ∙ ap (λ z. z + 1) (same ∙ sym f))
 
+  response_stays : (m : Message) → is_response m ≡ true → stage_told Ready m ≡ Ready
+  response_stays (request id method params) h = never (sym h)
+  response_stays other h = refl
+
   module _ (before : List Event) where
     one_tied : WhyToServer settings before cause events n body → Later n
     one_tied (begins k) rest h = never (sym (ap (λ c. begins_now c n) k.from ∙ same_number n) ∙ rest)
@@ -137,6 +142,10 @@ module _ (settings : Settings) (cause : Cause) (events : List Event) (n : ℕ) (
         (number_sent events n body (message_of body) refl ∙ response_number (next_number n events) (message_of body) k.response)
         (ap (λ (x : Forwarding). x.next) (forwarding_sent events n body (message_of body) refl ∙ response_forwards (forwarding_of n events) (message_of body) k.response))
         (subst (λ z. TiedAt z (next_number n events) (forwarding_of n events).next) k.waiting h)
+    one_tied (resolves k) rest h = tied_by n events sent Ready (stage_now (message_of body) refl ∙ ap (λ z. stage_told z (message_of body)) k.ready ∙ response_stays (message_of body) k.response)
+        (number_sent events n body (message_of body) refl ∙ response_number (next_number n events) (message_of body) k.response)
+        (ap (λ (x : Forwarding). x.next) (forwarding_sent events n body (message_of body) refl ∙ response_forwards (forwarding_of n events) (message_of body) k.response))
+        (subst (λ z. TiedAt z (next_number n events) (forwarding_of n events).next) k.ready h)
     one_tied (exits k) rest h = notified (codes "exit") None Stopping k.says k.stopping refl rest h
     one_tied (shuts k) rest h = shut k h
 

@@ -1,5 +1,5 @@
 -- What is open at an editor, behind each out of an entry that has its reason.
-use Rattle.std.proofs.Common.{◌≡◌, ℕ, Bool, true, false, List, [], ◌∷◌, ◌++◌, map, length, nat_eq, if◌then◌else◌, None, ◌⊎◌, inl, inr, refl, sym, ◌∙◌, subst, subst₂, arith, append-nil, append_assoc}
+use Rattle.std.proofs.Common.{◌≡◌, ℕ, Bool, true, false, List, [], ◌∷◌, ◌++◌, map, length, nat_eq, if◌then◌else◌, None, ◌⊎◌, inl, inr, refl, sym, ◌∙◌, ap, subst, subst₂, arith, append-nil, append_assoc}
 use Rattle.std.specs.List.{AllByRecursion}
 use Rattle.mux_history.specs.declared.cause.Cause.{Cause}
 use Rattle.mux_history.specs.declared.out.Out.{Out}
@@ -17,10 +17,11 @@ use Rattle.mux_facts.proofs.Keeps.{behind_both}
 use Rattle.mux_facts.proofs.Reasons.{Reasons}
 use Rattle.mux_facts.proofs.Words.{number_same, same_number}
 use Rattle.group_words.specs.Houses.{groups_of}
+use Rattle.mux_facts.proofs.Why.{is_early}
 use Rattle.group_rows.specs.Rows.{outs_of}
 use Rattle.group_facts.specs.Built.{built_behind}
 use Rattle.group_facts.specs.Facts.{turned_away}
-use Rattle.group_facts.specs.Why.{Why, WhyToEditor, rejects, refuses, answers, turns_away, welcomes, passes}
+use Rattle.group_facts.specs.Why.{Why, WhyToEditor, rejects, refuses, answers, turns_away, welcomes, passes, asks, recalls, spreads}
 use Rattle.group_facts.proofs.Begun.{Begun, Founding, NoSpawn, founding_of, founds, quiet, starts_stay, start_took}
 use Rattle.group_facts.proofs.Facts.{Facts}
 use Rattle.group_facts.proofs.Sent.{SentAt, sent_did, sent_spawn}
@@ -87,6 +88,9 @@ module _ (settings : Settings) (e : ℕ) (E : Id → Type 0) where
     told_by T events body (welcomes k) h = subst (λ m. OpenIf T (phase_told (desk_of e events).phase (desk_of e events).initialize m) (desk_of e events).initialize (without (answered_id m) (open_of e events))) (sym k.says)
         (if_welcomed T (desk_of e events).phase (desk_of e events).initialize (open_of e events) k.id (k.waiting).params k.r (k.waiting).phase (k.waiting).asks h)
     told_by T events body (passes k) h = if_passed T (desk_of e events).phase (desk_of e events).initialize (open_of e events) (message_of body) k.late h
+    told_by T events body (asks k) h = if_passed T (desk_of e events).phase (desk_of e events).initialize (open_of e events) (message_of body) (ap is_early (k.source).running) h
+    told_by T events body (spreads k) h = if_passed T (desk_of e events).phase (desk_of e events).initialize (open_of e events) (message_of body) (ap is_early (k.source).running) h
+    told_by T events body (recalls k) h = if_passed T (desk_of e events).phase (desk_of e events).initialize (open_of e events) (message_of body) (ap is_early (k.source).running) h
 
     pick_told : (T : Id → Type 0) (events : List Event) (n : ℕ) (body : List ℕ) → WhyToEditor settings before cause events n body → OpenIf T (desk_of e events).phase (desk_of e events).initialize (open_of e events)
         → OpenIf T (desk_behind e (desk_of e events) (said (ToEditor n body))).phase (desk_behind e (desk_of e events) (said (ToEditor n body))).initialize (open_behind e (open_of e events) (said (ToEditor n body)))

@@ -39,6 +39,7 @@ use Rattle.group_words.specs.Houses.{home_of, house_of, is_doubled, is_first_ope
 use Rattle.group_words.specs.Placing.{home_by}
 use Rattle.group_words.specs.Rows.{initialize_row}
 use Rattle.group_words.proofs.Frames.{home_more}
+use Rattle.group_rows.specs.AskRows.{response_row}
 use Rattle.group_rows.specs.Cancelling.{cancelling_at, cancelling_row}
 use Rattle.group_rows.specs.Forwarded.{Forwarding, forwarding_of, numbered}
 use Rattle.group_rows.specs.Leaves.{leave_row}
@@ -50,7 +51,7 @@ use Rattle.group_facts.specs.Facts.{turned_away}
 use Rattle.group_facts.specs.Why.{IsForward}
 use Rattle.group_facts.specs.Settled.{is_answered}
 use Rattle.group_facts.proofs.Apart.{alone_by}
-use Rattle.group_facts.proofs.Begun.{NoSpawn, all_outs, bodies_by, leave_by, quiet_bodies, start_did, start_took, starts_stay}
+use Rattle.group_facts.proofs.Begun.{NoSpawn, all_outs, bodies_by, handed_by, leave_by, quiet_bodies, start_did, start_took, starts_stay}
 use Rattle.group_facts.proofs.Facts.{Facts}
 use Rattle.group_facts.proofs.Forwards.{more_requests}
 use Rattle.group_facts.proofs.Numbers.{forwarding_sent}
@@ -339,23 +340,25 @@ module _ (settings : Settings) (before : List Event) (n : ℕ) (body : List ℕ)
     by_single m phase h g = ap (λ b. outs (choose b (closing_row settings before n) (told_row settings before n body m phase)) now) (single phase m h)
         ∙ ap (λ b. outs (choose b (lspmux_row settings before n body m) (taken_row settings before n body m phase)) now) (unasked phase m g)
 
-    result_silent : (id : Option Id) (r : Json) (phase : Phase) → outs (from_editor settings before n body (result id r) phase) now ≡ []
-    result_silent id r phase = by_single (result id r) phase refl refl ∙ silent phase
-      where
-        silent : (phase : Phase) → outs (taken_row settings before n body (result id r) phase) now ≡ []
-        silent New = refl
-        silent other = refl
+    -- it goes to a start at most
+    handed : (m : Message) → AllByRecursion ToStart (outs (response_row settings before n body m) now)
+    handed m = all_outs ToStart now (outs (response_row settings before n body m) now) (handed_by (λ places out. ToStart out) (λ places s b. tt) settings before n body m now).why
 
-    error_silent : (id : Option Id) (x : Json) (phase : Phase) → outs (from_editor settings before n body (error id x) phase) now ≡ []
-    error_silent id x phase = by_single (error id x) phase refl refl ∙ silent phase
-      where
-        silent : (phase : Phase) → outs (taken_row settings before n body (error id x) phase) now ≡ []
-        silent New = refl
-        silent other = refl
+    result_handed : (id : Option Id) (r : Json) (phase : Phase) → AllByRecursion ToStart (outs (taken_row settings before n body (result id r) phase) now)
+    result_handed id r New = tt
+    result_handed id r Answered = handed (result id r)
+    result_handed id r Running = handed (result id r)
+    result_handed id r other = tt
 
-    response_rests : (m : Message) → message_of body ≡ m → with_request m ids ≡ ids → requests (codes "initialize") m ≡ false → outs (from_editor settings before n body m (desk_of n before).phase) now ≡ []
-        → Rests (outs (from_editor settings before n body m (desk_of n before).phase) now)
-    response_rests m says same none silent = subst (λ xs. OpenAt settings n Nobody (behind now xs)) (sym silent) (rests_here (no_request m says same none))
+    error_handed : (id : Option Id) (x : Json) (phase : Phase) → AllByRecursion ToStart (outs (taken_row settings before n body (error id x) phase) now)
+    error_handed id x New = tt
+    error_handed id x Answered = handed (error id x)
+    error_handed id x Running = handed (error id x)
+    error_handed id x other = tt
+
+    response_rests : (m : Message) → message_of body ≡ m → with_request m ids ≡ ids → requests (codes "initialize") m ≡ false → (phase : Phase) → outs (message_row settings before n body m phase) now ≡ outs (taken_row settings before n body m phase) now
+        → AllByRecursion ToStart (outs (taken_row settings before n body m phase) now) → Rests (outs (message_row settings before n body m phase) now)
+    response_rests m says same none phase single starts = open_bodies settings n Nobody now (outs (message_row settings before n body m phase) now) (subst (AllByRecursion ToStart) (sym single) starts) (no_request m says same none)
 
     -- Notifications
 
@@ -479,8 +482,8 @@ module _ (settings : Settings) (before : List Event) (n : ℕ) (body : List ℕ)
       own_rests (notification method params) says off = notified_rests method params says (desk_of n before).phase
       own_rests not_json says off = malformed_rests not_json (desk_of n before).phase says refl refl
       own_rests not_message says off = malformed_rests not_message (desk_of n before).phase says refl refl
-      own_rests (result id r) says off = response_rests (result id r) says refl refl (result_silent id r (desk_of n before).phase)
-      own_rests (error id x) says off = response_rests (error id x) says refl refl (error_silent id x (desk_of n before).phase)
+      own_rests (result id r) says off = response_rests (result id r) says refl refl (desk_of n before).phase (by_single (result id r) (desk_of n before).phase refl refl) (result_handed id r (desk_of n before).phase)
+      own_rests (error id x) says off = response_rests (error id x) says refl refl (desk_of n before).phase (by_single (error id x) (desk_of n before).phase refl refl) (error_handed id x (desk_of n before).phase)
 
       pub message_rests : places (desk_of n before).phase (message_of body) ≡ false → OpenAt settings n Nobody (behind now (outs_of settings before (FromEditor n body)))
       message_rests off = own_rests (message_of body) refl off

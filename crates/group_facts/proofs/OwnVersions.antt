@@ -1,5 +1,5 @@
 -- Each answer that an editor gets has its own versions of documents, or is an error.
-use Rattle.std.proofs.Common.{◌≡◌, ℕ, List, [], ◌∷◌, ◌++◌, find, Some, refl, sym, ◌∙◌, subst, append_assoc, append-nil}
+use Rattle.std.proofs.Common.{◌≡◌, ℕ, List, [], ◌∷◌, ◌++◌, find, true, Some, refl, sym, ◌∙◌, ap, subst, append_assoc, append-nil}
 use Rattle.std.specs.List.{AllByRecursion}
 use Rattle.std.specs.Option.{option_and_then}
 use Rattle.mux_history.specs.declared.cause.Cause.{Cause}
@@ -7,7 +7,9 @@ use Rattle.mux_history.specs.declared.cause.Cause.TheVariants.{Joined, FromEdito
 use Rattle.mux_history.specs.declared.entry.Entry.{Entry}
 use Rattle.mux_history.specs.declared.out.Out.{Out}
 use Rattle.mux_history.specs.declared.out.Out.TheVariants.{ToEditor, ToServer, Spawn, CloseEditor, EndServer}
-use Rattle.rpc_message.specs.Message.{message_of}
+use Rattle.rpc_message.specs.Message.{Message, request, notification, result, error, not_json, not_message, message_of}
+use Rattle.event_model.proofs.Frames.{never}
+use Rattle.mux_facts.specs.Allowed.{is_response}
 use Rattle.event_model.specs.declared.stage.Stage.{Stage}
 use Rattle.event_model.specs.declared.stage.Stage.TheVariants.{Unspawned, Spawning, Initializing, Ready, Stopping, Ending, Ended}
 use Rattle.event_model.specs.Event.{Event, events_of, said, with_cause}
@@ -22,7 +24,7 @@ use Rattle.mux_facts.proofs.Lists.{found_is}
 use Rattle.mux_facts.proofs.Reasons.{Because, Reasons, by_choose, by_nothing, by_on, by_send}
 use Rattle.group_rows.specs.Answers.{agreed_version, answer_row, held_version, moment_of, own_version, stamp_at}
 use Rattle.group_rows.specs.Forwarded.{Forwarded, answered_by, forwarding_of}
-use Rattle.group_rows.specs.Rows.{from_server, outs_of}
+use Rattle.group_rows.specs.Rows.{from_server, outs_of, ready_row}
 use Rattle.group_rows.proofs.Versions.{own_flat}
 use Rattle.group_facts.specs.Facts.{IsAsker, IsForwarded}
 use Rattle.group_facts.specs.Legal.{Legal, LegalFrom}
@@ -34,10 +36,10 @@ use Rattle.group_facts.proofs.Known.{facts_hold}
 use Rattle.group_facts.proofs.SentOn.{AllSentOn, WasSentOn, sent_holds}
 use Rattle.group_facts.proofs.VersionsIn.{own_answer, own_now}
 
--- a start that isn't ready gives an editor no answer to a request of its own
-unready : (settings : Settings) (before : List Event) (s : ℕ) (answer : List ℕ) → ((life_of s before).stage ≡ Ready → ⊥) → (xs : List Out) → AllByRecursion (OnOwnVersions settings before (FromServer s answer)) xs
+-- a start that isn't ready, or a message that is no response, gives an editor no answer to a request of its own
+unready : (settings : Settings) (before : List Event) (s : ℕ) (answer : List ℕ) → ((life_of s before).stage ≡ Ready → is_response (message_of answer) ≡ true → ⊥) → (xs : List Out) → AllByRecursion (OnOwnVersions settings before (FromServer s answer)) xs
 unready settings before s answer other [] = tt
-unready settings before s answer other (ToEditor e body ∷ xs) = (λ ready. absurd (other ready), unready settings before s answer other xs)
+unready settings before s answer other (ToEditor e body ∷ xs) = (λ ready response. absurd (other ready response), unready settings before s answer other xs)
 unready settings before s answer other (ToServer n body ∷ xs) = (tt, unready settings before s answer other xs)
 unready settings before s answer other (Spawn n g ∷ xs) = (tt, unready settings before s answer other xs)
 unready settings before s answer other (CloseEditor e ∷ xs) = (tt, unready settings before s answer other xs)
@@ -64,7 +66,7 @@ module _ (settings : Settings) (before : List Event) (facts : Facts settings bef
   text_for f = answer_text (own_version settings before s f) answer f.id
 
   answer_on : Because R now (answer_row settings s before answer (message_of answer))
-  answer_on = by_on (λ none. by_nothing) (λ f found. by_choose (λ there. by_send (λ ready. on f found)) (λ gone. by_nothing))
+  answer_on = by_on (λ none. by_nothing) (λ f found. by_choose (λ there. by_send (λ ready response. on f found)) (λ gone. by_nothing))
     where
       on : (f : Forwarded) → find (answered_by (answered_id (message_of answer))) (forwarding_of s before).open_requests ≡ Some f → IsHandedOn settings before s answer f.editor (text_for f)
       on f found =
@@ -84,15 +86,26 @@ module _ (settings : Settings) (before : List Event) (facts : Facts settings bef
 
   -- of a start that isn't ready nothing is said
   from_ready : (stage : Stage) → (life_of s before).stage ≡ stage → AllByRecursion (OnOwnVersions settings before (FromServer s answer)) (outs (from_server settings s before answer (message_of answer) stage) now)
-  from_ready Ready at = flat now (outs (answer_row settings s before answer (message_of answer)) now) (answer_on).why
+  from_ready Ready at = go (message_of answer) refl
     where
       flat : (events : List Event) (xs : List Out) → Reasons R events xs → AllByRecursion (OnOwnVersions settings before (FromServer s answer)) xs
       flat events [] h = tt
       flat events (out ∷ xs) h = (h.0, flat (events ++ said out ∷ []) xs h.1)
+
+      answers : (m : Message) → message_of answer ≡ m → AllByRecursion (OnOwnVersions settings before (FromServer s answer)) (outs (answer_row settings s before answer m) now)
+      answers m says = subst (λ z. AllByRecursion (OnOwnVersions settings before (FromServer s answer)) (outs (answer_row settings s before answer z) now)) says (flat now (outs (answer_row settings s before answer (message_of answer)) now) (answer_on).why)
+
+      go : (m : Message) → message_of answer ≡ m → AllByRecursion (OnOwnVersions settings before (FromServer s answer)) (outs (ready_row settings s before answer m) now)
+      go (result id r) says = answers (result id r) says
+      go (error id x) says = answers (error id x) says
+      go (request id method params) says = unready settings before s answer (λ ready response. never (sym response ∙ ap is_response says)) (outs (ready_row settings s before answer (request id method params)) now)
+      go (notification method params) says = unready settings before s answer (λ ready response. never (sym response ∙ ap is_response says)) (outs (ready_row settings s before answer (notification method params)) now)
+      go not_json says = answers not_json says
+      go not_message says = answers not_message says
   from_ready Unspawned at = tt
   from_ready Spawning at = tt
-  from_ready Initializing at = unready settings before s answer (λ ready. let clash : Initializing ≡ Ready = sym at ∙ ready in cc) (outs (from_server settings s before answer (message_of answer) Initializing) now)
-  from_ready Stopping at = unready settings before s answer (λ ready. let clash : Stopping ≡ Ready = sym at ∙ ready in cc) (outs (from_server settings s before answer (message_of answer) Stopping) now)
+  from_ready Initializing at = unready settings before s answer (λ ready response. let clash : Initializing ≡ Ready = sym at ∙ ready in cc) (outs (from_server settings s before answer (message_of answer) Initializing) now)
+  from_ready Stopping at = unready settings before s answer (λ ready response. let clash : Stopping ≡ Ready = sym at ∙ ready in cc) (outs (from_server settings s before answer (message_of answer) Stopping) now)
   from_ready Ending at = tt
   from_ready Ended at = tt
 

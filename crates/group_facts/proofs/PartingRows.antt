@@ -24,10 +24,11 @@ use Rattle.mux_facts.proofs.Why.{is_early}
 use Rattle.mux_facts.proofs.Words.{same_number}
 use Rattle.group_rows.specs.Forwarded.{Forwarding, forwarding_of}
 use Rattle.group_rows.specs.Rows.{closing_row, gone_row, shutdown_row}
-use Rattle.group_facts.specs.Facts.{Bounded, IsAlone, Opened, is_parting, turned_away}
+use Rattle.group_facts.specs.Facts.{Asks, Bounded, IsAlone, Opened, is_parting, turned_away}
 use Rattle.group_facts.specs.Why.{Why, answers}
 use Rattle.group_facts.proofs.Apart.{asks_fewer}
 use Rattle.group_facts.proofs.Forwards.{alone_fewer, forwarding_more}
+use Rattle.group_facts.proofs.Asks.{asked_by_more}
 use Rattle.group_facts.proofs.LeaveRows.{leave_why}
 use Rattle.group_facts.proofs.Nulls.{null_said}
 
@@ -37,14 +38,14 @@ or_second false b h = h
 
 -- X5
 
-pub gone_why : (settings : Settings) → InRange settings → (before : List Event) → Opened settings before → Bounded settings before → (e : ℕ) (why : link.Why) (phase : Phase)
+pub gone_why : (settings : Settings) → InRange settings → (before : List Event) → Opened settings before → Bounded settings before → Asks before → (e : ℕ) (why : link.Why) (phase : Phase)
     → Because (Why settings before (EditorGone e why)) (with_cause before (EditorGone e why)) (gone_row settings before e phase)
-gone_why settings range before opened bounded e why phase = by_choose
+gone_why settings range before opened bounded asks e why phase = by_choose
     (λ served. leave_why settings range before (EditorGone e why) opened bounded (with_cause before (EditorGone e why)) (λ s. refl) (λ s. ap (λ (l : Life). l.stage) (life_more s before (heard (EditorGone e why))))
-    (λ s u. ap (λ (x : Sent). x.held) (sent_more s u before (heard (EditorGone e why)))) (λ s. ap (λ (x : Forwarding). x.open_requests) (forwarding_more s before (heard (EditorGone e why)))) e)
+    (λ s u. ap (λ (x : Sent). x.held) (sent_more s u before (heard (EditorGone e why)))) (λ s. ap (λ (x : Forwarding). x.open_requests) (forwarding_more s before (heard (EditorGone e why)))) asks (λ s. asked_by_more s before (heard (EditorGone e why))) e)
     (λ off. by_nothing)
 
-module _ (settings : Settings) (range : InRange settings) (before : List Event) (opened : Opened settings before) (bounded : Bounded settings before) (e : ℕ) (body : List ℕ) where
+module _ (settings : Settings) (range : InRange settings) (before : List Event) (opened : Opened settings before) (bounded : Bounded settings before) (asks : Asks before) (e : ℕ) (body : List ℕ) where
   abbrev asked : List Event
   asked = with_cause before (FromEditor e body)
 
@@ -67,7 +68,7 @@ module _ (settings : Settings) (range : InRange settings) (before : List Event) 
       (leave_why settings range before (FromEditor e body) opened bounded (asked ++ said (CloseEditor e) ∷ []) (λ s. refl)
       (stage_still (CloseEditor e) (λ s. ap (λ (l : Life). l.stage) (life_more s asked (said (CloseEditor e)))) (λ s u. ap (λ (x : Sent). x.held) (sent_more s u asked (said (CloseEditor e)))))
       (held_still (CloseEditor e) (λ s. ap (λ (l : Life). l.stage) (life_more s asked (said (CloseEditor e)))) (λ s u. ap (λ (x : Sent). x.held) (sent_more s u asked (said (CloseEditor e)))))
-      (open_still (CloseEditor e) (λ s. forwarding_more s asked (said (CloseEditor e)))) e)
+      (open_still (CloseEditor e) (λ s. forwarding_more s asked (said (CloseEditor e)))) asks (λ s. asked_by_more s asked (said (CloseEditor e)) ∙ asked_by_more s before (heard (FromEditor e body))) e)
 
   -- E9: `shutdown`
   module _ (id : Id) (method : List ℕ) (params : Option Json) (says : message_of body ≡ request id method params) where
@@ -88,4 +89,4 @@ module _ (settings : Settings) (range : InRange settings) (before : List Event) 
         (leave_why settings range before (FromEditor e body) opened bounded (asked ++ said (ToEditor e text) ∷ []) (λ s. refl)
         (stage_still (ToEditor e text) (λ s. ap (λ (l : Life). l.stage) (life_more s asked (said (ToEditor e text)))) (λ s u. ap (λ (x : Sent). x.held) (sent_more s u asked (said (ToEditor e text)))))
         (held_still (ToEditor e text) (λ s. ap (λ (l : Life). l.stage) (life_more s asked (said (ToEditor e text)))) (λ s u. ap (λ (x : Sent). x.held) (sent_more s u asked (said (ToEditor e text)))))
-        (open_still (ToEditor e text) (λ s. forwarding_more s asked (said (ToEditor e text)))) e)
+        (open_still (ToEditor e text) (λ s. forwarding_more s asked (said (ToEditor e text)))) asks (λ s. asked_by_more s asked (said (ToEditor e text)) ∙ asked_by_more s before (heard (FromEditor e body))) e)

@@ -103,14 +103,14 @@ the_body h = cc
 
 -- what is built of a start that gave no result: its first result is shown whole
 module _ (settings : Settings) (events : List Event) (n : ℕ) (body : List ℕ) (built : built_behind settings events (FromServer n body) ≡ true) (h : Plain events) where
-  fresh_first : (stage : Stage) → (life_of n events).stage ≡ stage → is_up stage ≡ true → built_from_server stage body (message_of body) ≡ true → result_of n events ≡ None → is_first_result (message_of body) ≡ true → IsPlain body
+  fresh_first : (stage : Stage) → (life_of n events).stage ≡ stage → is_up stage ≡ true → built_from_server settings events n stage body (message_of body) ≡ true → result_of n events ≡ None → is_first_result (message_of body) ≡ true → IsPlain body
   fresh_first Initializing at up fine none first = let k : FirstResult (message_of body) = first_result_is (message_of body) first in record { id = Some (integer (codes "1")); r = k.r; says = k.is; whole = shown_whole (message_of body) body fine first }
   fresh_first Ready at up fine none first = never (sym (sym (ap is_some none) ∙ h.given n (ap is_ready at)))
   fresh_first Stopping at up fine none first = never (sym up)
   fresh_first Ending at up fine none first = never (sym up)
   fresh_first Ended at up fine none first = never (sym up)
-  fresh_first Unspawned at up fine none first = let k : FirstResult (message_of body) = first_result_is (message_of body) first in absurd (let no : false ≡ true = sym (ap (built_from_server Unspawned body) k.is) ∙ fine in cc)
-  fresh_first Spawning at up fine none first = let k : FirstResult (message_of body) = first_result_is (message_of body) first in absurd (let no : false ≡ true = sym (ap (built_from_server Spawning body) k.is) ∙ fine in cc)
+  fresh_first Unspawned at up fine none first = let k : FirstResult (message_of body) = first_result_is (message_of body) first in absurd (let no : false ≡ true = sym (ap (built_from_server settings events n Unspawned body) k.is) ∙ fine in cc)
+  fresh_first Spawning at up fine none first = let k : FirstResult (message_of body) = first_result_is (message_of body) first in absurd (let no : false ≡ true = sym (ap (built_from_server settings events n Spawning body) k.is) ∙ fine in cc)
 
   heard_whole : (s : ℕ) (b : List ℕ) → is_up (life_of s (with_cause events (FromServer n body))).stage ≡ true → result_of s (with_cause events (FromServer n body)) ≡ Some b → IsPlain b
   heard_whole s b after e = go (result_of s events) refl (sym (result_more s events (heard (FromServer n body))) ∙ e)

@@ -27,7 +27,7 @@ use Rattle.group_rows.specs.Texts.{texts_of, worker_behind, worker_of}
 use Rattle.group_rows.proofs.Moments.{asks, moment_other, moment_apart, moment_quiet, moment_sent}
 use Rattle.group_facts.specs.Legal.{Legal}
 use Rattle.group_facts.specs.OwnVersions.{IsSentOn}
-use Rattle.group_facts.specs.Why.{IsForward, WhyToServer, begins, cancels, exits, forwarded, greets, notes, responds, shuts, tells}
+use Rattle.group_facts.specs.Why.{IsForward, WhyToServer, begins, cancels, exits, forwarded, greets, notes, responds, shuts, tells, resolves}
 use Rattle.group_facts.proofs.Apart.{fewer_said, fewer_took, new, grow, own_fewer, response_fewer}
 use Rattle.group_facts.proofs.Forwards.{Fewer, fewer_notified, forwarding_more, notified_sender, zip_all}
 use Rattle.group_facts.proofs.RestLaws.{Law, law_holds}
@@ -238,6 +238,7 @@ module _ (settings : Settings) (before : List Event) (cause : Cause) (events : L
   one_sent (tells k) h = let m : Spoken (message_of body) = spoken (message_of body) k.spoken in notified m.method m.params m.is h
   one_sent (cancels k) h = notified (codes "$/cancelRequest") (Some k.params) k.says h
   one_sent (responds k) h = by_message (message_of body) refl (answer_silent (message_of body) k.response) (response_fewer settings before cause events n body k.response) h
+  one_sent (resolves k) h = by_message (message_of body) refl (answer_silent (message_of body) k.response) (response_fewer settings before cause events n body k.response) h
   one_sent (exits k) h = notified (codes "exit") None k.says h
   one_sent (shuts k) h = own (integer (decimal (next_number n events))) (codes "shutdown") None k.says refl h
 

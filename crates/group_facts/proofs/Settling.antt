@@ -23,6 +23,9 @@ use Rattle.group_facts.specs.Legal.{Legal, LegalFrom}
 use Rattle.group_facts.specs.Lively.{Lively}
 use Rattle.group_facts.specs.Settled.{AreUtf8, IsOnly, IsSent, Settled, is_answered}
 use Rattle.group_facts.proofs.Entries.{OpenAll, open_rests}
+use Rattle.group_facts.proofs.AskEntries.{AllSeats}
+use Rattle.group_facts.proofs.AskLeft.{no_seats, seats_rest}
+use Rattle.group_facts.proofs.OneStart.{OneStart, one_none, one_rests}
 use Rattle.group_facts.proofs.Begun.{Begun, begun_rests}
 use Rattle.group_facts.proofs.Facts.{Facts}
 use Rattle.group_facts.proofs.Keeping.{Keeps, all_did, all_took}
@@ -55,6 +58,8 @@ module _ (settings : Settings) (range : InRange settings) where
     lively : Lively settings events
     opens : OpenAll settings events
     placed : AllPlaced settings events
+    one : OneStart events
+    seats : AllSeats settings events
 
   -- what each event keeps, an entry keeps
   entry_all : (I : List Event → Type 0) → ((events : List Event) (out : Out) → I events → I (events ++ said out ∷ [])) → (events : List Event) (outs : List Out) → I events → I (behind events outs)
@@ -69,6 +74,8 @@ module _ (settings : Settings) (range : InRange settings) where
     lively = lively_rests settings range before h.facts h.begun h.lively cause fits built;
     opens = open_rests settings range before h.facts h.begun h.lively h.opens cause fits built;
     placed = placed_rests settings before h.placed cause built ((h.facts).steady).editors;
+    one = one_rests settings before cause h.begun built h.one;
+    seats = seats_rest settings range before h.facts h.one h.seats h.begun cause built fits (lively_rests settings range before h.facts h.begun h.lively cause fits built);
   }
 
   no_rests : Rests []
@@ -79,6 +86,8 @@ module _ (settings : Settings) (range : InRange settings) where
     lively = no_lively settings;
     opens = λ e. refl;
     placed = λ e needs. absurd (cc);
+    one = one_none;
+    seats = no_seats settings;
   }
 
   rests_more : (before : List Entry) (entry : Entry) → IsTrue (fits_behind (events_of before) entry.cause) → IsTrue (built_behind settings (events_of before) entry.cause) → entry.outs ≡ outs_of settings (events_of before) entry.cause → Rests (events_of before) → Rests (events_of (before ++ entry ∷ []))
@@ -108,6 +117,7 @@ module _ (settings : Settings) (range : InRange settings) where
     unasked = λ e at. subst (λ p. OpenIf (S settings e Nobody events) p (desk_of e events).initialize (open_of e events)) at (h.opens e);
     waiting = λ e at. only events e h.opens at;
     sent = λ e id served still. sent_on events e id h.opens served still;
+    asks = h.seats;
     seated = λ e needs. seat settings events e h.begun (h.placed e needs);
   }
 

@@ -29,6 +29,7 @@ use Rattle.group_words.specs.Rows.{shown_of}
 use Rattle.group_rows.specs.Rows.{asks_lspmux, closing_row, down_row, early_code, early_row, exit_row, from_editor, lspmux_row, message_row, row_of, served_notice, served_request, served_row, taken_row, wrong_code}
 use Rattle.group_facts.specs.Built.{built_behind, built_early, built_from_server, is_shown_whole}
 use Rattle.group_facts.specs.Facts.{IsAlone, is_parting}
+use Rattle.group_facts.proofs.AskingRows.{response_why}
 use Rattle.group_facts.proofs.AnswerRows.{server_why, start_why}
 use Rattle.group_facts.proofs.Apart.{alone_by, alone_early}
 use Rattle.group_facts.proofs.CancelRow.{cancelling_why}
@@ -48,7 +49,7 @@ module _ (settings : Settings) (range : InRange settings) (before : List Event) 
   Mine row = Because (R settings before e body) (asked settings before e body) row
 
   parting : is_there (desk_of e before).phase ≡ true → is_parting before e (message_of body) ≡ true → Mine (closing_row settings before e)
-  parting there ends = closing_why settings range before (facts.base).opened (facts.steady).bounded e body there ends
+  parting there ends = closing_why settings range before (facts.base).opened (facts.steady).bounded (facts.steady).asks e body there ends
 
   exit_parts : (method : List ℕ) (params : Option Json) → message_of body ≡ notification method params → bytes_eq (codes "exit") method ≡ true → is_parting before e (message_of body) ≡ true
   exit_parts method params says is = ap (is_parting before e) says ∙ ap (λ b. b || false) is
@@ -67,7 +68,7 @@ module _ (settings : Settings) (range : InRange settings) (before : List Event) 
   asked_why id method params says late there lonely = by_choose
       (λ misplaced. late_refused settings before e body id method params says there lonely (wrong_code method invalid_request) late)
       (λ placed. by_choose
-      (λ down. shutdown_why settings range before (facts.base).opened (facts.steady).bounded e body id method params says there late lonely)
+      (λ down. shutdown_why settings range before (facts.base).opened (facts.steady).bounded (facts.steady).asks e body id method params says there late lonely)
       (λ on. request_why settings before e body id method params says there lonely range (facts.base).opened late (not_own method (off_first (bytes_eq (codes "initialize") method) (is_wrong (class_of method Editor false)) placed) on)))
 
   -- E9, E11 to E17
@@ -83,10 +84,10 @@ module _ (settings : Settings) (range : InRange settings) (before : List Event) 
   served_why : (m : Message) → message_of body ≡ m → is_served (desk_of e before).phase ≡ true → is_early (desk_of e before).phase ≡ false → is_there (desk_of e before).phase ≡ true → is_doubled before e m ≡ false → Mine (served_row settings before e body m)
   served_why (request id method params) says served late there single = asked_why id method params says late there (alone_by before (facts.steady).asked e id single)
   served_why (notification method params) says served late there single = noticed_why method params says served there
-  served_why (result id r) says served late there single = by_nothing
-  served_why (error id x) says served late there single = by_nothing
-  served_why not_json says served late there single = by_nothing
-  served_why not_message says served late there single = by_nothing
+  served_why (result id r) says served late there single = response_why settings before (facts.steady).asks e body (result id r) says
+  served_why (error id x) says served late there single = response_why settings before (facts.steady).asks e body (error id x) says
+  served_why not_json says served late there single = response_why settings before (facts.steady).asks e body not_json says
+  served_why not_message says served late there single = response_why settings before (facts.steady).asks e body not_message says
 
   -- behind `shutdown`
   down_why : (m : Message) → message_of body ≡ m → (desk_of e before).phase ≡ Down → is_doubled before e m ≡ false → Mine (down_row settings before e body m)
@@ -197,16 +198,17 @@ shown_whole (notification method params) body h first = absurd (cc)
 shown_whole not_json body h first = absurd (cc)
 shown_whole not_message body h first = absurd (cc)
 
-pub first_shown : (before : List Event) (s : ℕ) (body : List ℕ) → built_from_server (life_of s before).stage body (message_of body) ≡ true
+pub first_shown : (settings : Settings) (before : List Event) (s : ℕ) (body : List ℕ) → built_from_server settings before s (life_of s before).stage body (message_of body) ≡ true
     → (life_of s before).stage ≡ Initializing → is_first_result (message_of body) ≡ true → shown_of (result_bytes body) ≡ result_bytes body
-first_shown before s body built at first = shown_whole (message_of body) body (ap (λ stage. built_from_server stage body (message_of body)) (sym at) ∙ built) first
+first_shown settings before s body built at first = shown_whole (message_of body) body (ap (λ stage. built_from_server settings before s stage body (message_of body)) (sym at) ∙ built) first
 
 module _ (settings : Settings) (range : InRange settings) (before : List Event) (facts : Facts settings before) where
   -- every out of every entry has its reason
   pub reasons : (cause : Cause) → built_behind settings before cause ≡ true → Because (Why settings before cause) (with_cause before cause) (row_of settings before cause)
   reasons (FromEditor e body) built = editor_why settings range before facts e body
-  reasons (EditorGone e why) built = gone_why settings range before (facts.base).opened (facts.steady).bounded e why (desk_of e before).phase
-  reasons (FromServer s body) built = server_why settings range before s body (facts.base).opened (facts.steady).untold facts.waiting (facts.steady).asked (facts.steady).apart (facts.base).meant (first_shown before s body built) (life_of s before).stage refl
+  reasons (EditorGone e why) built = gone_why settings range before (facts.base).opened (facts.steady).bounded (facts.steady).asks e why (desk_of e before).phase
+  reasons (FromServer s body) built = server_why settings range before s body (facts.base).opened (facts.steady).untold facts.waiting (facts.steady).asked (facts.steady).apart (facts.base).meant (facts.steady).asks (first_shown settings before s body built)
+      (λ at. ap (λ stage. built_from_server settings before s stage body (message_of body)) (sym at) ∙ built) (life_of s before).stage refl
   reasons (Started s) built = start_why settings before s (facts.base).written (life_of s before).stage refl
   reasons (Tick t) built = tick_why settings range.requests before (facts.steady).bounded t
   reasons cause built = by_nothing

@@ -18,9 +18,12 @@ use Rattle.document_model.proofs.Written.{Spoken, spoken, open_says, FullSays, f
 use Rattle.mux_history.specs.declared.cause.Cause.{Cause}
 use Rattle.mux_history.specs.declared.out.Out.{Out}
 use Rattle.mux_history.specs.declared.out.Out.TheVariants.{ToServer}
-use Rattle.rpc_message.specs.Message.{integer_if, message_of}
+use Rattle.rpc_message.specs.Message.{error, integer_if, message_of}
 use Rattle.rpc_message.proofs.Decimals.{decimal_integer}
-use Rattle.rpc_message.specs.Texts.{initialized_text}
+use Rattle.rpc_message.specs.Texts.{error_text, error_tree, initialized_text, request_failed}
+use Rattle.rpc_message.specs.ValueTexts.{IsIdText}
+use Rattle.rpc_message.proofs.Fixed.{error_law, id_as_response}
+use Rattle.event_model.specs.Requests.{answered_id, is_open}
 use Rattle.event_model.specs.Event.{Event, heard, said, behind}
 use Rattle.event_model.specs.Members.{named_of}
 use Rattle.event_model.specs.Parts.{server_part, is_of_server}
@@ -28,14 +31,16 @@ use Rattle.event_model.specs.Settings.{Settings}
 use Rattle.mux_model.specs.Documents.{Sent, held_at, sent_of}
 use Rattle.mux_model.specs.Rows.{to_start}
 use Rattle.mux_model.proofs.DocumentFolds.{outs_to_start}
-use Rattle.mux_facts.specs.Allowed.{AllowsSaying, IsNext}
+use Rattle.mux_facts.specs.Allowed.{AllowsSaying, IsNext, is_response}
 use Rattle.mux_facts.specs.Ranges.{InRange}
 use Rattle.mux_facts.proofs.Keeps.{behind_both, behind_nothing}
 use Rattle.mux_facts.proofs.Reasons.{Because, Reasons, reasons_both}
 use Rattle.mux_facts.proofs.Tellings.{Says, closed_not, sent_more, version_at, versions_at}
 use Rattle.mux_facts.proofs.Words.{same_number}
-use Rattle.group_facts.proofs.Forwards.{Still, still_notified}
-use Rattle.group_facts.specs.Why.{Turn, Why, stays, greeted, tells, cancels, of_daemon, is_uncancelled, moves}
+use Rattle.group_facts.specs.Facts.{asked_by}
+use Rattle.group_facts.proofs.Forwards.{Still, still_answered, still_notified}
+use Rattle.group_facts.specs.Why.{Turn, Why, stays, greeted, tells, cancels, of_daemon, is_uncancelled, moves, refused_for, resolves}
+use Rattle.group_rows.specs.Asks.{Ask, asks_of, is_under}
 use Rattle.group_rows.specs.Forwarded.{forwarding_of}
 use Rattle.group_rows.specs.Leaves.{cancel_text}
 use Rattle.group_rows.proofs.Cancels.{cancel_says, params_tree}
@@ -111,6 +116,18 @@ module _ (settings : Settings) (range : InRange settings) (before : List Event) 
     others = λ w k. ap (λ (z : Sent). z.held) (sent_more s w events (said (ToServer s (cancel_text n))))
         ∙ ap₂ (λ b m. if b then told (sent_of s w events).encoding w (held_at s w events) (saying_of m) else held_at s w events) (same_number s) (cancel_says n low);
   }
+
+  -- nor does it speak of one that a request of the start is refused
+  pub refuse_told : {K : List ℕ → Type 0} (events : List Event) (a : Ask) → IsIdText a.id a.bytes → list_any (is_under (Some a.id)) (asks_of s before) ≡ true → moves before cause s ≡ false → is_open a.id (asked_by s events) ≡ true → Calm events
+      → Tells K events (error_text a.bytes request_failed ∷ [])
+  refuse_told events a text listed rests waits calm =
+      let is : message_of (error_text a.bytes request_failed) ≡ error (Some a.id) (error_tree request_failed) = error_law (Some a.id) a.bytes request_failed (id_as_response a.id a.bytes text) in
+      record {
+        why = (resolves (record { id = a.id; resolution = refused_for a listed refl refl; ready = calm.still.ready; stays = rests; response = ap is_response is; answers = ap answered_id is; waits = waits }), tt);
+        calm = record { still = still_answered now s events (error_text a.bytes request_failed) (Some a.id) (error_tree request_failed) is calm.still; turn = turn_more before cause events s (error_text a.bytes request_failed) calm.turn };
+        others = λ w k. ap (λ (z : Sent). z.held) (sent_more s w events (said (ToServer s (error_text a.bytes request_failed))))
+            ∙ ap₂ (λ b m. if b then told (sent_of s w events).encoding w (held_at s w events) (saying_of m) else held_at s w events) (same_number s) is;
+      }
 
   -- another document
   abbrev pub Beside : List ℕ → List ℕ → Type 0

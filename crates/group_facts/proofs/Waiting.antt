@@ -24,11 +24,12 @@ use Rattle.mux_facts.proofs.Words.{number_same, still_open}
 use Rattle.group_words.specs.declared.placed.Placed.{Placed}
 use Rattle.group_words.specs.declared.placed.Placed.TheVariants.{Joins, New as Founds, Evicts, TooMany}
 use Rattle.group_words.specs.Houses.{groups_of, placed_for, places}
+use Rattle.mux_facts.proofs.Why.{is_early}
 use Rattle.group_rows.specs.Rows.{asks_lspmux, names_lspmux, outs_of}
 use Rattle.group_facts.specs.Facts.{is_too_many, turned_away}
 use Rattle.group_facts.proofs.Facts.{OthersWait}
 use Rattle.group_facts.proofs.PutOut.{turned_ends}
-use Rattle.group_facts.specs.Why.{IsRefusal, WhyToEditor, rejects, refuses, answers, turns_away, welcomes, passes}
+use Rattle.group_facts.specs.Why.{IsRefusal, WhyToEditor, rejects, refuses, answers, turns_away, welcomes, passes, asks, recalls, spreads}
 
 -- one event more
 wait_more : (e : ℕ) (events : List Event) (event : Event) → WaitsAt (desk_behind e (desk_of e events) event) (open_behind e (open_of e events) event) → WaitsAt (desk_of e (events ++ event ∷ [])) (open_of e (events ++ event ∷ []))
@@ -72,12 +73,19 @@ module _ (settings : Settings) (before : List Event) (cause : Cause) (events : L
   result_told : ((desk_of n events).phase ≡ Waiting → is_a_result (message_of body) ≡ true) → (e : ℕ) → WaitsAt (desk_of e events) (open_of e events) → WaitsAt (desk_of e told) (open_of e told)
   result_told f e h = by_told e h (λ same. told_waits (desk_of e events).phase (message_of body) (desk_of e events).initialize (open_of e events) (λ at. f (ap (λ z. (desk_of z events).phase) same ∙ at)) h)
 
+  -- a body to an editor that runs
+  running_told : (desk_of n events).phase ≡ Running → (e : ℕ) → WaitsAt (desk_of e events) (open_of e events) → WaitsAt (desk_of e told) (open_of e told)
+  running_told at = result_told (λ waits. absurd (late_not (desk_of n events).phase (ap is_early at) waits))
+
   pub waiting_told : WhyToEditor settings before cause events n body → OthersWait settings before cause events → OthersWait settings before cause told
   waiting_told (rejects k) h e rest = null_told k.x k.says e (h e rest)
   waiting_told (refuses k) h e rest = refusal_told k e (h e rest)
   waiting_told (answers k) h e rest = result_told (λ at. ap is_a_result k.says) e (h e rest)
   waiting_told (turns_away k) h e rest = by_told e (h e rest) (λ same. never (sym (ap (turned_away settings before cause) (sym same) ∙ k.turned) ∙ rest))
   waiting_told (welcomes k) h e rest = result_told (λ at. ap is_a_result k.says) e (h e rest)
+  waiting_told (asks k) h e rest = running_told (k.source).running e (h e rest)
+  waiting_told (spreads k) h e rest = running_told (k.source).running e (h e rest)
+  waiting_told (recalls k) h e rest = running_told (k.source).running e (h e rest)
   waiting_told (passes k) h e rest = result_told (λ at. absurd (late_not (desk_of n events).phase k.late at)) e (h e rest)
 
 -- Other outs

@@ -1,9 +1,10 @@
 -- Which causes meet only rows of the table over several editors and groups that are built, until all are.
 -- Not built of an editor: `lspmux/stop` (E6), and while it is served requests that go on with tokens (E10), and the notification that cancels the work of one (E11).
--- Not built of a start: its requests and notifications while it is ready. Nor the end of a program whose group lives.
+-- Not built of a start while it is ready: the edits that it asks for (V3), what it asks of one editor where none runs (S12), and the classes of S6 to S8, S10, S13 and S15. Nor the end of a program whose group lives.
 -- Of S2, what is read back must be what was meant: editors are shown all of the result.
-use Rattle.std.specs.Prelude.{ℕ, Bool, true, false, not, ◌&&◌, ◌||◌, List, bytes_eq, codes}
-use Rattle.std.specs.Prelude.{Option}
+use Rattle.std.specs.Prelude.{ℕ, Bool, true, false, not, ◌&&◌, ◌||◌, List, bytes_eq, codes, is_some}
+use Rattle.std.specs.Prelude.{Option, Some}
+use Rattle.std.specs.List.{list_any}
 use Rattle.std.specs.Option.{option_map_or}
 use Rattle.mux_history.specs.declared.cause.Cause.{Cause}
 use Rattle.mux_history.specs.declared.cause.Cause.TheVariants.{Joined, FromEditor, EditorGone, Started, StartFailed, FromServer, ServerGone, Drained, Tick}
@@ -11,8 +12,8 @@ use Rattle.mux_history.specs.declared.entry.Entry.{Entry}
 use Rattle.json_text.specs.Json.{Json}
 use Rattle.lsp_method.specs.Class.{class_of}
 use Rattle.lsp_method.specs.declared.variants.Class.{Class}
-use Rattle.lsp_method.specs.declared.variants.Class.TheVariants.{Initialize, Shutdown, Wrong, Other}
-use Rattle.lsp_method.specs.declared.variants.Origin.TheVariants.{Editor}
+use Rattle.lsp_method.specs.declared.variants.Class.TheVariants.{Broadcast, Cancel, Focused, Initialize, Lowest, Other, Refresh, Shutdown, Wrong}
+use Rattle.lsp_method.specs.declared.variants.Origin.TheVariants.{Editor, Server}
 use Rattle.rpc_message.specs.Message.{Message, request, notification, result, Id, message_of, result_bytes}
 use Rattle.event_model.specs.declared.phase.Phase.{Phase}
 use Rattle.event_model.specs.declared.stage.Stage.{Stage}
@@ -27,6 +28,8 @@ use Rattle.event_model.specs.Stages.{life_of, is_first_result}
 use Rattle.mux_model.specs.Built.{is_other}
 use Rattle.group_words.specs.Houses.{groups_of}
 use Rattle.group_words.specs.Rows.{shown_of}
+use Rattle.group_rows.specs.AskRows.{first_in, running_in}
+use Rattle.group_rows.specs.Asks.{asks_of, is_under}
 use Rattle.group_rows.specs.Rows.{names_lspmux}
 use Rattle.group_facts.specs.Lively.{lives_at}
 
@@ -62,7 +65,6 @@ cancels_work method = bytes_eq (codes "window/workDoneProgress/cancel") method
 abbrev pub built_notice : Phase → List ℕ → Bool
 built_notice phase method = not (is_served phase && cancels_work method)
 
--- E19: a response answers nothing, since nothing is asked of editors yet
 abbrev pub built_from_editor : Phase → List Id → Message → Bool
 built_from_editor phase ids (request id method params) = built_request phase (doubles phase id ids) method params
 built_from_editor phase ids (notification method params) = built_notice phase method
@@ -77,19 +79,36 @@ abbrev pub built_early : List ℕ → Message → Bool
 built_early body (result id r) = not (is_first_result (result id r)) || is_shown_whole body
 built_early body other = true
 
--- S5, while it is ready; its requests and notifications are to come
-abbrev pub built_response : Message → Bool
-built_response (request id method params) = false
-built_response (notification method params) = false
-built_response other = true
+-- an editor of the start's group runs
+abbrev pub has_running : Settings → List Event → ℕ → Bool
+has_running settings before s = option_map_or (λ g. is_some (first_in (running_in settings g before))) (group_of s before) false
+
+-- S9, S11 and S12
+abbrev pub built_asking : Settings → List Event → ℕ → List ℕ → Class → Bool
+built_asking settings before s method Refresh = true
+built_asking settings before s method Focused = not (bytes_eq (codes "workspace/applyEdit") method)
+built_asking settings before s method Lowest = has_running settings before s
+built_asking settings before s method _ = false
+
+-- S14, and what goes to each editor
+abbrev pub built_telling : Class → Bool
+built_telling Cancel = true
+built_telling Broadcast = true
+built_telling _ = false
+
+-- of a start that is ready: a request under the id of an open ask, and those; S5
+abbrev pub built_ready : Settings → List Event → ℕ → Message → Bool
+built_ready settings before s (request id method params) = list_any (is_under (Some id)) (asks_of s before) || built_asking settings before s method (class_of method Server false)
+built_ready settings before s (notification method params) = built_telling (class_of method Server true)
+built_ready settings before s other = true
 
 -- S4 of a start that is to end; S1 in every stage, and those
-abbrev pub built_from_server : Stage → List ℕ → Message → Bool
-built_from_server Initializing body m = built_early body m
-built_from_server Ready body m = built_response m
-built_from_server Stopping body m = true
-built_from_server Ending body m = true
-built_from_server other body m = is_malformed m
+abbrev pub built_from_server : Settings → List Event → ℕ → Stage → List ℕ → Message → Bool
+built_from_server settings before s Initializing body m = built_early body m
+built_from_server settings before s Ready body m = built_ready settings before s m
+built_from_server settings before s Stopping body m = true
+built_from_server settings before s Ending body m = true
+built_from_server settings before s other body m = is_malformed m
 
 -- X1 to X3 of a start whose group lives no more
 abbrev pub is_left : Settings → List Event → ℕ → Bool
@@ -100,7 +119,7 @@ built_behind settings before (Joined e) = true
 built_behind settings before (Started s) = true
 built_behind settings before (FromEditor e body) = built_from_editor (desk_of e before).phase (open_of e before) (message_of body)
 built_behind settings before (EditorGone e why) = true
-built_behind settings before (FromServer s body) = built_from_server (life_of s before).stage body (message_of body)
+built_behind settings before (FromServer s body) = built_from_server settings before s (life_of s before).stage body (message_of body)
 built_behind settings before (Drained e k) = true
 built_behind settings before (StartFailed s) = is_left settings before s
 built_behind settings before (ServerGone s) = is_left settings before s

@@ -1,5 +1,5 @@
 -- What holds of every legal history of several editors and groups, and is no rule of a session.
-use Rattle.std.specs.Prelude.{◌≡◌, ℕ, ◌+◌, ◌<◌, ◌≤◌, Bool, true, false, ◌&&◌, ◌||◌, List, length, nat_eq, codes, is_some}
+use Rattle.std.specs.Prelude.{◌≡◌, ℕ, ◌+◌, ◌^◌, ◌<◌, ◌≤◌, Bool, true, false, ◌&&◌, ◌||◌, List, [], ◌∷◌, decimal, fold, length, nat_eq, codes, is_some, if◌then◌else◌}
 use Rattle.std.specs.Prelude.{Option, Some, None}
 use Rattle.std.specs.List.{AllByRecursion}
 use Rattle.std.specs.Option.{option_map_or}
@@ -8,15 +8,16 @@ use Rattle.document_model.specs.Orderly.{AllSpelt, Orderly}
 use Rattle.document_model.specs.Texts.{Texts}
 use Rattle.mux_history.specs.declared.cause.Cause.{Cause}
 use Rattle.mux_history.specs.declared.cause.Cause.TheVariants.{FromEditor, FromServer}
-use Rattle.rpc_message.specs.Message.{Id, Message, integer, request, result, message_of, result_bytes}
+use Rattle.mux_history.specs.declared.out.Out.TheVariants.{ToEditor, ToServer}
+use Rattle.rpc_message.specs.Message.{Id, Message, integer, request, result, message_of, result_bytes, same_id}
 use Rattle.rpc_message.specs.ValueTexts.{IsIdText}
 use Rattle.event_model.specs.declared.phase.Phase.{Phase}
 use Rattle.event_model.specs.declared.phase.Phase.TheVariants.{Absent, New, Waiting}
 use Rattle.event_model.specs.declared.stage.Stage.{Stage}
 use Rattle.event_model.specs.declared.stage.Stage.TheVariants.{Unspawned, Spawning, Initializing, Ready, Stopping}
-use Rattle.event_model.specs.Event.{Event, notifies}
+use Rattle.event_model.specs.Event.{Event, took, did, notifies}
 use Rattle.event_model.specs.Phases.{desk_of, editors_of, is_begun, is_waiting}
-use Rattle.event_model.specs.Requests.{next_number, is_open, open_of}
+use Rattle.event_model.specs.Requests.{answered_id, next_number, is_open, open_of, with_request, without}
 use Rattle.event_model.specs.Settings.{Settings}
 use Rattle.event_model.specs.Spawns.{group_of, starts_of}
 use Rattle.event_model.specs.Stages.{is_initializing, is_ready, life_of, no_life}
@@ -26,6 +27,7 @@ use Rattle.group_words.specs.declared.placed.Placed.{Placed}
 use Rattle.group_words.specs.declared.placed.Placed.TheVariants.{TooMany}
 use Rattle.group_words.specs.Houses.{groups_of, home_of, is_doubled, is_first_error, is_home, places, placed_for}
 use Rattle.group_words.specs.Rows.{initialize_of, result_of, shown_of}
+use Rattle.group_rows.specs.Asks.{Ask, asks_of}
 use Rattle.group_rows.specs.Forwarded.{Forwarded, forwarding_of}
 use Rattle.group_rows.specs.Texts.{texts_of}
 
@@ -39,6 +41,15 @@ abbrev pub NoEditors : List Event → Type 0
 NoEditors events = (e : ℕ) → editors_of events ≤ e → (desk_of e events).phase ≡ Absent
 
 -- What the events before tell, whatever is sent
+
+-- the message of a body is what the body says
+abbrev pub IsMeant : Event → Type 0
+IsMeant (took (FromEditor e body) m) = m ≡ message_of body
+IsMeant (did (ToServer s body) m) = m ≡ message_of body
+IsMeant other = Unit {0}
+
+abbrev pub Meant : List Event → Type 0
+Meant events = AllByRecursion IsMeant events
 
 -- what the editors of each group have open is UTF-8, each document once at an editor
 pub record IsOpened (x : Texts) : Type 0 where
@@ -149,6 +160,45 @@ Apart events = (s : ℕ) → AllByRecursion (λ f. (t : ℕ) → AllByRecursion 
 abbrev pub IsAlone : List Event → ℕ → Id → Type 0
 IsAlone events e id = (t : ℕ) → AllByRecursion (λ (g : Forwarded). g.editor ≡ e → IsIdText id g.id → ⊥) (forwarding_of t events).open_requests
 
+-- Requests of starts
+
+-- the ids of the requests of start s that are open: each from its own message until a body to s answers it
+abbrev pub server_behind : ℕ → List Id → Event → List Id
+server_behind s ids (took (FromServer n body) m) = if nat_eq n s then with_request m ids else ids
+server_behind s ids (did (ToServer n body) m) = if nat_eq n s then without (answered_id m) ids else ids
+server_behind s ids other = ids
+
+abbrev pub asked_by : ℕ → List Event → List Id
+asked_by s events = fold (server_behind s) [] events
+
+-- the ids of the requests to editor e that are open: each from its own body until a message of e answers it
+abbrev pub editor_behind : ℕ → List Id → Event → List Id
+editor_behind e ids (did (ToEditor n body) m) = if nat_eq n e then with_request m ids else ids
+editor_behind e ids (took (FromEditor n body) m) = if nat_eq n e then without (answered_id m) ids else ids
+editor_behind e ids other = ids
+
+abbrev pub asked_of : ℕ → List Event → List Id
+asked_of e events = fold (editor_behind e) [] events
+
+-- an ask of start s: its request is open, and so is that to the editor, under a number that is small
+pub record IsAsked (s : ℕ) (events : List Event) (a : Ask) : Type 0 where
+  pub text : IsIdText a.id a.bytes
+  pub small : a.number < 2 ^ 64
+  pub waits : is_open a.id (asked_by s events) ≡ true
+  pub unanswered : is_open (integer (decimal a.number)) (asked_of a.editor events) ≡ true
+
+-- no two of them have the same id
+abbrev pub AllDiffer : List Ask → Type 0
+AllDiffer [] = Unit {0}
+AllDiffer (a ∷ asks) = AllByRecursion (λ (b : Ask). same_id a.id b.id ≡ false) asks × AllDiffer asks
+
+pub record AreAsks (s : ℕ) (events : List Event) : Type 0 where
+  pub asked : AllByRecursion (IsAsked s events) (asks_of s events)
+  pub differ : AllDiffer (asks_of s events)
+
+abbrev pub Asks : List Event → Type 0
+Asks events = (s : ℕ) → AreAsks s events
+
 -- Editors that wait
 
 -- the `initialize` of an editor that waits, and is open
@@ -203,6 +253,7 @@ pub record Known (settings : Settings) (events : List Event) : Type 0 where
   pub bounded : Bounded settings events
   pub asked : AllForwarded events
   pub apart : Apart events
+  pub asks : Asks events
   pub housed : Housed settings events
   pub numbered : Numbered events
   pub stopped : Stopped events
@@ -210,3 +261,4 @@ pub record Known (settings : Settings) (events : List Event) : Type 0 where
   pub opened : Opened settings events
   pub plain : Plain events
   pub written : Written settings events
+  pub meant : Meant events

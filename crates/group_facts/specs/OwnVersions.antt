@@ -28,6 +28,7 @@ use Rattle.event_model.specs.Requests.{answered_id, is_open, is_own, open_of}
 use Rattle.event_model.specs.Settings.{Settings}
 use Rattle.event_model.specs.Stages.{life_of}
 use Rattle.response_route.specs.Results.{documents_in}
+use Rattle.mux_facts.specs.Allowed.{is_response}
 use Rattle.mux_model.specs.Documents.{held_at}
 use Rattle.group_rows.specs.Answers.{shared_texts}
 use Rattle.group_rows.specs.Forwarded.{Forwarded, answered_by, forwarding_of}
@@ -112,9 +113,9 @@ pub record IsHandedOn (settings : Settings) (before : List Event) (s : ℕ) (ans
   pub answered : answered_id (message_of body) ≡ Some id
   pub own : IsOwnAnswer settings s e sent.moment before answer request.id body
 
--- at an out of the entry of a message of a start that is ready
+-- at an out of the entry of a response of a start that is ready
 abbrev pub OnOwnVersions : Settings → List Event → Cause → Out → Type 0
-OnOwnVersions settings before (FromServer s answer) (ToEditor e body) = (life_of s before).stage ≡ Ready → IsHandedOn settings before s answer e body
+OnOwnVersions settings before (FromServer s answer) (ToEditor e body) = (life_of s before).stage ≡ Ready → is_response (message_of answer) ≡ true → IsHandedOn settings before s answer e body
 OnOwnVersions settings before cause out = Unit {0}
 
 -- at each out of these entries, behind those before them

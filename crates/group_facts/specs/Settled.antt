@@ -10,9 +10,12 @@ use Rattle.event_model.specs.Event.{Event}
 use Rattle.event_model.specs.Phases.{desk_of, has_id, needs_server}
 use Rattle.event_model.specs.Requests.{is_open, open_of}
 use Rattle.event_model.specs.Settings.{Settings}
-use Rattle.event_model.specs.Spawns.{start_of}
+use Rattle.event_model.specs.Spawns.{group_of, start_of}
+use Rattle.event_model.specs.Stages.{life_of}
+use Rattle.event_model.specs.declared.stage.Stage.TheVariants.{Ready}
 use Rattle.group_words.specs.declared.kept.Kept.{Kept}
 use Rattle.group_words.specs.Houses.{groups_of, home_of}
+use Rattle.group_rows.specs.Asks.{Ask, asks_of}
 use Rattle.group_rows.specs.Forwarded.{Forwarded, forwarding_of}
 use Rattle.group_facts.specs.Lively.{Lively}
 
@@ -52,7 +55,16 @@ is_answered Running = true
 is_answered Down = true
 is_answered _ = false
 
--- each group has a start, an editor's group lives until the editor leaves it, each open request of an editor that got its result was sent on, and an editor that
+-- the editor that a start asked runs, in the group whose last start it is, and that start is ready
+pub record HasSeat (settings : Settings) (events : List Event) (s : ℕ) (a : Ask) : Type 0 where
+  pub running : (desk_of a.editor events).phase ≡ Running
+  pub home : home_of settings a.editor events ≡ group_of s events
+  pub group : ℕ
+  pub kept : group_of s events ≡ Some group
+  pub last : start_of group events ≡ Some s
+  pub ready : (life_of s events).stage ≡ Ready
+
+-- each group has a start, an editor's group lives until the editor leaves it, each open request of an editor that got its result was sent on, an editor that was asked runs, and one that
 -- needs a server is in a group that has a start
 pub record Settled (settings : Settings) (events : List Event) : Type 0 where
   pub spelt : AllByRecursion (λ (x : Kept). AreUtf8 x.key.folders) (groups_of settings events)
@@ -61,4 +73,5 @@ pub record Settled (settings : Settings) (events : List Event) : Type 0 where
   pub unasked : (e : ℕ) → (desk_of e events).phase ≡ New → open_of e events ≡ []
   pub waiting : (e : ℕ) → (desk_of e events).phase ≡ Waiting → IsOnly events e
   pub sent : (e : ℕ) (id : Id) → is_answered (desk_of e events).phase ≡ true → is_open id (open_of e events) ≡ true → IsSent settings events e id
+  pub asks : (s : ℕ) → AllByRecursion (HasSeat settings events s) (asks_of s events)
   pub seated : (e : ℕ) → needs_server (desk_of e events).phase ≡ true → IsSeated settings events e

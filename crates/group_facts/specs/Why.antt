@@ -1,21 +1,22 @@
 -- Why each out of the routing table over several editors and groups is sent, with what is known at its place: `before` are the events before the entry, `events` those before the out.
-use Rattle.std.specs.Prelude.{◌≡◌, ℕ, ◌<◌, Bool, true, false, not, ◌&&◌, List, [], ◌∷◌, ◌++◌, find, length, map, nat_eq, nat_lt, codes, decimal}
+use Rattle.std.specs.Prelude.{◌≡◌, ℕ, ◌<◌, Bool, true, false, not, ◌&&◌, List, [], ◌∷◌, ◌++◌, find, if◌then◌else◌, length, map, nat_eq, nat_lt, codes, decimal}
 use Rattle.std.specs.Prelude.{Option, Some, None}
 use Rattle.std.specs.List.{list_any}
-use Rattle.std.specs.Option.{option_map}
+use Rattle.std.specs.Option.{option_and_then, option_map}
 use Rattle.json_text.specs.Json.{Json}
 use Rattle.document_model.specs.Sayings.{saying_of, speaks}
 use Rattle.mux_history.specs.declared.cause.Cause.{Cause}
 use Rattle.mux_history.specs.declared.cause.Cause.TheVariants.{Started, FromServer, FromEditor}
 use Rattle.lsp_method.specs.Class.{class_of}
-use Rattle.lsp_method.specs.declared.variants.Origin.TheVariants.{Editor}
+use Rattle.lsp_method.specs.declared.variants.Class.TheVariants.{Broadcast, Cancel, Focused, Refresh}
+use Rattle.lsp_method.specs.declared.variants.Origin.TheVariants.{Editor, Server}
 use Rattle.mux_history.specs.declared.entry.Entry.{Entry}
 use Rattle.mux_history.specs.declared.out.Out.{Out}
 use Rattle.mux_history.specs.declared.out.Out.TheVariants.{ToEditor, ToServer, Spawn, CloseEditor, EndServer}
-use Rattle.rpc_message.specs.Message.{request, Id, id_of, message_of, notification, result, error, integer}
-use Rattle.rpc_message.specs.Texts.{initialized_text, with_id_text}
+use Rattle.rpc_message.specs.Message.{request, Id, id_bytes, id_of, message_of, notification, result, error, integer}
+use Rattle.rpc_message.specs.Texts.{error_text, initialized_text, ok_text, request_failed, with_id_text}
 use Rattle.rpc_message.specs.ValueTexts.{IsIdText}
-use Rattle.event_model.specs.declared.phase.Phase.TheVariants.{Waiting}
+use Rattle.event_model.specs.declared.phase.Phase.TheVariants.{Running, Waiting}
 use Rattle.event_model.specs.declared.stage.Stage.{Stage}
 use Rattle.event_model.specs.declared.stage.Stage.TheVariants.{Spawning, Initializing, Ready, Stopping}
 use Rattle.event_model.specs.Event.{Event, behind, events_of, heard, requests, said, with_cause, same_id}
@@ -24,15 +25,16 @@ use Rattle.event_model.specs.Parts.{server_part}
 use Rattle.event_model.specs.Phases.{desk_of, has_id, is_there, is_malformed, is_served}
 use Rattle.event_model.specs.Requests.{next_number, answered_id, open_of, is_open, is_own}
 use Rattle.event_model.specs.Settings.{Settings}
-use Rattle.event_model.specs.Spawns.{start_of, starts_of}
+use Rattle.event_model.specs.Spawns.{group_of, start_of, starts_of}
 use Rattle.event_model.specs.Stages.{is_first_result, is_initializing, is_ready, is_spawning, life_of}
 use Rattle.response_route.specs.Answers.{answer_text}
 use Rattle.mux_facts.specs.Allowed.{AllowsSaying, is_response}
 use Rattle.mux_model.specs.Documents.{held_at}
 use Rattle.mux_model.specs.Methods.{goes_on}
 use Rattle.document_model.specs.Helds.{HeldText}
-use Rattle.group_words.specs.Houses.{groups_of}
+use Rattle.group_words.specs.Houses.{groups_of, home_of}
 use Rattle.group_rows.specs.Answers.{own_version}
+use Rattle.group_rows.specs.Asks.{Ask, asker_of, asking_of, asks_of, has_number, is_seated, is_single, is_under, next_ask}
 use Rattle.group_rows.specs.Cancelling.{number_named, numbered_text}
 use Rattle.group_rows.specs.Ends.{answers_shutdown}
 use Rattle.group_rows.specs.Forwarded.{Forwarded, Sender, answered_by, forwarding_of}
@@ -40,7 +42,7 @@ use Rattle.group_rows.specs.Leaves.{cancel_text}
 use Rattle.group_rows.specs.Rows.{sync_bodies}
 use Rattle.group_rows.specs.Texts.{texts_of}
 use Rattle.group_facts.specs.Built.{is_left}
-use Rattle.group_facts.specs.Facts.{IsAlone, IsWaiting, ends_link, is_early, turned_away}
+use Rattle.group_facts.specs.Facts.{IsAlone, IsWaiting, asked_by, asked_of, ends_link, is_early, turned_away}
 use Rattle.group_facts.specs.Lively.{IsDying}
 
 -- Bodies to a start
@@ -177,9 +179,29 @@ pub record IsCancel (before : List Event) (cause : Cause) (events : List Event) 
 
 -- a request of s, which gave no result yet, is answered at once
 pub record IsReply (before : List Event) (cause : Cause) (events : List Event) (s : ℕ) (body : List ℕ) : Type 0 where
+  pub id : Id
+  pub answers : answered_id (message_of body) ≡ Some id
+  pub waits : is_open id (asked_by s events) ≡ true
   pub waiting : (life_of s events).stage ≡ Initializing
   pub stays : moves before cause s ≡ false
   pub response : is_response (message_of body) ≡ true
+
+-- what answers it: the response of the editor that was asked (E19), a refusal since that editor left (L1), null since each editor is asked (S9), or a refusal since none runs (S11)
+pub data Resolution (before : List Event) (cause : Cause) (s : ℕ) (id : Id) (body : List ℕ) : Type 0 where
+  handed_back : (e : ℕ) (answer : List ℕ) (a : Ask) → cause ≡ FromEditor e answer → find (is_seated e (answered_id (message_of answer))) (asks_of s before) ≡ Some a → a.id ≡ id → body ≡ with_id_text answer a.bytes → Resolution before cause s id body
+  refused_for : (a : Ask) → list_any (is_under (Some id)) (asks_of s before) ≡ true → a.id ≡ id → body ≡ error_text a.bytes request_failed → Resolution before cause s id body
+  granted : (asked method : List ℕ) (params : Option Json) → cause ≡ FromServer s asked → message_of asked ≡ request id method params → class_of method Server false ≡ Refresh → body ≡ ok_text (id_bytes asked) (codes "null") → Resolution before cause s id body
+  denied : (asked method : List ℕ) (params : Option Json) → cause ≡ FromServer s asked → message_of asked ≡ request id method params → class_of method Server false ≡ Focused → body ≡ error_text (id_bytes asked) request_failed → Resolution before cause s id body
+
+-- an open request of s, which is ready, is answered
+pub record IsResolving (before : List Event) (cause : Cause) (events : List Event) (s : ℕ) (body : List ℕ) : Type 0 where
+  pub id : Id
+  pub resolution : Resolution before cause s id body
+  pub ready : (life_of s events).stage ≡ Ready
+  pub stays : moves before cause s ≡ false
+  pub response : is_response (message_of body) ≡ true
+  pub answers : answered_id (message_of body) ≡ Some id
+  pub waits : is_open id (asked_by s events) ≡ true
 
 -- `exit`, as the first out of its entry: s answered the daemon's `shutdown` (LSP 3.17, Exit Notification)
 pub record IsExit (before : List Event) (cause : Cause) (events : List Event) (s : ℕ) (body : List ℕ) : Type 0 where
@@ -200,6 +222,7 @@ pub data WhyToServer (settings : Settings) (before : List Event) (cause : Cause)
   shuts : IsShutting settings before cause events s body → WhyToServer settings before cause events s body
   cancels : IsCancel before cause events s body → WhyToServer settings before cause events s body
   responds : IsReply before cause events s body → WhyToServer settings before cause events s body
+  resolves : IsResolving before cause events s body → WhyToServer settings before cause events s body
   exits : IsExit before cause events s body → WhyToServer settings before cause events s body
 
 -- Bodies to an editor
@@ -273,6 +296,61 @@ pub record IsPassing (settings : Settings) (before : List Event) (cause : Cause)
   pub response : is_response (message_of body) ≡ true
   pub answers : answered_id (message_of body) ≡ Some id
 
+-- a message of a start goes to an editor of its group, which runs, while the start is ready
+pub record IsFromStart (settings : Settings) (before : List Event) (cause : Cause) (events : List Event) (e s : ℕ) (asked : List ℕ) : Type 0 where
+  pub from : cause ≡ FromServer s asked
+  pub ready : (life_of s before).stage ≡ Ready
+  pub running : (desk_of e events).phase ≡ Running
+
+-- a request of the start, under the editor's next number (S9, S11, S12); of two asks of the start none has the same id
+pub record IsAsk (settings : Settings) (before : List Event) (cause : Cause) (events : List Event) (e : ℕ) (body : List ℕ) : Type 0 where
+  pub start : ℕ
+  pub asked : List ℕ
+  pub id : Id
+  pub method : List ℕ
+  pub params : Option Json
+  pub source : IsFromStart settings before cause events e start asked
+  pub asks : message_of asked ≡ request id method params
+  pub group : ℕ
+  pub kept : group_of start before ≡ Some group
+  pub home : home_of settings e before ≡ Some group
+  pub ran : (desk_of e before).phase ≡ Running
+  pub fresh : list_any (is_under (Some id)) (asks_of start before) ≡ false
+  pub first : is_single method ≡ true → events ≡ with_cause before cause
+  pub asker : (t : ℕ) → (asking_of t events).asker ≡ (if nat_eq start t then asker_of asked (message_of asked) else None)
+  pub room : has_number e events ≡ true
+  pub bytes : body ≡ with_id_text asked (decimal (next_ask e events))
+  pub says : message_of body ≡ request (integer (decimal (next_ask e events))) method params
+
+-- a notification of the start without a row of its own, as it came
+pub record IsSpread (settings : Settings) (before : List Event) (cause : Cause) (events : List Event) (e : ℕ) (body : List ℕ) : Type 0 where
+  pub start : ℕ
+  pub method : List ℕ
+  pub params : Option Json
+  pub source : IsFromStart settings before cause events e start body
+  pub says : message_of body ≡ notification method params
+  pub class : class_of method Server true ≡ Broadcast
+
+-- the editor's open request is cancelled, since the start cancelled its own (S14)
+pub record IsRecall (settings : Settings) (before : List Event) (cause : Cause) (events : List Event) (e : ℕ) (body : List ℕ) : Type 0 where
+  pub start : ℕ
+  pub asked : List ℕ
+  pub method : List ℕ
+  pub given : Option Json
+  pub ask : Ask
+  pub params : Json
+  pub value : Json
+  pub source : IsFromStart settings before cause events e start asked
+  pub asks : message_of asked ≡ notification method given
+  pub class : class_of method Server true ≡ Cancel
+  pub found : find (is_under (option_and_then id_of (named_of (codes "id") given))) (asks_of start before) ≡ Some ask
+  pub editor : ask.editor ≡ e
+  pub open_there : is_open (integer (decimal ask.number)) (asked_of e events) ≡ true
+  pub bytes : body ≡ cancel_text ask.number
+  pub named : named_of (codes "id") (Some params) ≡ Some value
+  pub id : id_of value ≡ Some (integer (decimal ask.number))
+  pub says : message_of body ≡ notification (codes "$/cancelRequest") (Some params)
+
 pub data WhyToEditor (settings : Settings) (before : List Event) (cause : Cause) (events : List Event) (e : ℕ) (body : List ℕ) : Type 0 where
   rejects : IsRejection before cause events e body → WhyToEditor settings before cause events e body
   refuses : IsRefusal events e body → WhyToEditor settings before cause events e body
@@ -280,6 +358,9 @@ pub data WhyToEditor (settings : Settings) (before : List Event) (cause : Cause)
   turns_away : IsTurning settings before cause events e body → WhyToEditor settings before cause events e body
   welcomes : IsWelcome events e body → WhyToEditor settings before cause events e body
   passes : IsPassing settings before cause events e body → WhyToEditor settings before cause events e body
+  asks : IsAsk settings before cause events e body → WhyToEditor settings before cause events e body
+  spreads : IsSpread settings before cause events e body → WhyToEditor settings before cause events e body
+  recalls : IsRecall settings before cause events e body → WhyToEditor settings before cause events e body
 
 -- its program is to begin, or gave no result yet
 abbrev pub is_starting : Stage → Bool

@@ -11,3 +11,4 @@ pub mod Cancelling
 pub mod Statuses
 pub mod Stops
 pub mod Versions
+pub mod WorkedAsks

@@ -5,7 +5,7 @@ use Rattle.mux_history.specs.declared.out.Out.TheVariants.{ToServer}
 use Rattle.document_model.specs.Helds.{HeldText}
 use Rattle.document_model.specs.Opens.{Open, holder_beside}
 use Rattle.document_model.specs.Rows.{sent_close}
-use Rattle.rpc_message.specs.Texts.{notification_text}
+use Rattle.rpc_message.specs.Texts.{error_text, notification_text, request_failed}
 use Rattle.event_model.specs.Event.{Event}
 use Rattle.event_model.specs.Row.{Row, nothing, send, choose, each, on, ◌⨾◌}
 use Rattle.event_model.specs.Settings.{Settings}
@@ -14,6 +14,7 @@ use Rattle.event_model.specs.Stages.{life_of, is_ready}
 use Rattle.mux_model.specs.Documents.{held_at}
 use Rattle.mux_model.specs.Rows.{to_start}
 use Rattle.group_words.specs.Houses.{home_of}
+use Rattle.group_rows.specs.Asks.{Ask, asks_of, is_with}
 use Rattle.group_rows.specs.Forwarded.{Forwarded, forwarding_of, numbers_of}
 use Rattle.group_rows.specs.Texts.{texts_of}
 
@@ -35,6 +36,13 @@ cancel s n = send (ToServer s (cancel_text n))
 abbrev pub cancels : List Event → ℕ → ℕ → Row
 cancels before s e = choose (is_ready (life_of s before).stage) (each (cancel s) (uncancelled_of e (forwarding_of s before).open_requests)) nothing
 
+-- each request of the start that waits for the editor's answer is refused
+abbrev pub refuse : ℕ → Ask → Row
+refuse s a = send (ToServer s (error_text a.bytes request_failed))
+
+abbrev pub refusals : List Event → ℕ → ℕ → Row
+refusals before s e = choose (is_ready (life_of s before).stage) (each (refuse s) (filter (is_with e) (asks_of s before))) nothing
+
 -- it closes each of its documents, in the order of opening
 abbrev pub left : ℕ → ℕ → List Open → Option HeldText → Open → List (List ℕ)
 left versions e all held o = sent_close versions o.uri (holder_beside e o.uri all) held
@@ -48,7 +56,7 @@ closings settings before g s e = choose (is_ready (life_of s before).stage)
     (to_start s (leave_bodies settings.limits.versions (λ u. held_at s u before) e (texts_of settings g before).opens (texts_of settings g before).opens)) nothing
 
 abbrev pub cancels_row : Settings → List Event → ℕ → Row
-cancels_row settings before e = on (home_of settings e before) nothing (λ g. on (start_of g before) nothing (λ s. cancels before s e))
+cancels_row settings before e = on (home_of settings e before) nothing (λ g. on (start_of g before) nothing (λ s. cancels before s e ⨾ refusals before s e))
 
 abbrev pub leave_row : Settings → List Event → ℕ → Row
-leave_row settings before e = on (home_of settings e before) nothing (λ g. on (start_of g before) nothing (λ s. cancels before s e ⨾ closings settings before g s e))
+leave_row settings before e = on (home_of settings e before) nothing (λ g. on (start_of g before) nothing (λ s. cancels before s e ⨾ (refusals before s e ⨾ closings settings before g s e)))

@@ -10,3 +10,6 @@ pub mod Texts
 pub mod Leaves
 pub mod Status
 pub mod Ticks
+pub mod AskRows
+pub mod Asks
+pub mod AsksExample

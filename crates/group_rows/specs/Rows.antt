@@ -1,4 +1,4 @@
--- The routing table over several editors and groups, in part: J1, J2, E2 to E5, E7 to E10, E11 but for the work of tokens, E12 to E17, E19, S1, S2 with X4, S3, S4, S5 with V1 and V2, X1 to X3 of groups that live no more, and X5 to X7.
+-- The routing table over several editors and groups, in part: J1, J2, E2 to E5, E7 to E10, E11 but for the work of tokens, E12 to E17, E19, S1, S2 with X4, S3, S4, S5 with V1 and V2, S9 to S12 but for edits and for what waits until an editor runs, S14, X1 to X3 of groups that live no more, and X5 to X7.
 use Rattle.std.specs.Prelude.{ℕ, Bool, true, false, ◌&&◌, ◌||◌, List, [], ◌∷◌, ◌++◌, filter, flat_map, codes, nat_eq, nat_lt, decimal, bytes_eq, if◌then◌else◌}
 use Rattle.std.specs.Prelude.{Option, Some, None, slice_get}
 use Rattle.std.specs.List.{list_any}
@@ -10,7 +10,7 @@ use Rattle.mux_history.specs.declared.out.Out.TheVariants.{ToEditor, ToServer, C
 use Rattle.json_text.specs.Json.{Json}
 use Rattle.position_codec.specs.declared.Encoding.{Encoding}
 use Rattle.lsp_method.specs.Class.{class_of}
-use Rattle.lsp_method.specs.declared.variants.Origin.TheVariants.{Editor}
+use Rattle.lsp_method.specs.declared.variants.Origin.TheVariants.{Editor, Server}
 use Rattle.rpc_message.specs.Message.{Message, request, notification, message_of, id_bytes, result_bytes}
 use Rattle.rpc_message.specs.Texts.{ok_text, error_text, initialized_text, with_id_text, Code, invalid_params, invalid_request, method_not_found, request_failed, server_not_initialized}
 use Rattle.document_model.specs.Bodies.{open_text}
@@ -36,6 +36,7 @@ use Rattle.mux_model.specs.Rows.{malformed_row, to_start}
 use Rattle.group_words.specs.Houses.{editors_in, groups_of, home_of, is_doubled, is_first_error, is_first_open, server_asked}
 use Rattle.group_words.specs.Rows.{initialize_of, initialize_row, shown_of}
 use Rattle.group_rows.specs.Answers.{answer_row}
+use Rattle.group_rows.specs.AskRows.{notified_row, question_row, response_row}
 use Rattle.group_rows.specs.Cancelling.{cancelling_row}
 use Rattle.group_rows.specs.Ends.{answers_shutdown, exit_server}
 use Rattle.group_rows.specs.Forwarded.{forwarding_of}
@@ -128,7 +129,7 @@ early_code method = if bytes_eq (codes "initialize") method then invalid_request
 abbrev pub is_misplaced : List ℕ → Bool
 is_misplaced method = bytes_eq (codes "initialize") method || is_wrong (class_of method Editor false)
 
--- E9: `exit`, in any phase; E8 and E15: another notification gives nothing, nor does a response, since nothing is asked of editors yet (E19)
+-- E9: `exit`, in any phase; E8 and E15: another notification gives nothing, nor does a response
 abbrev pub exit_row : Settings → List Event → ℕ → Message → Row
 exit_row settings before e (notification method params) = choose (bytes_eq (codes "exit") method) (closing_row settings before e) nothing
 exit_row settings before e other = nothing
@@ -151,7 +152,7 @@ served_notice settings before e body method params = choose (bytes_eq (codes "ex
 abbrev pub served_row : Settings → List Event → ℕ → List ℕ → Message → Row
 served_row settings before e body (request id method params) = served_request settings before e body method
 served_row settings before e body (notification method params) = served_notice settings before e body method params
-served_row settings before e body other = nothing
+served_row settings before e body other = response_row settings before e body other
 
 -- E8: behind `shutdown` each request is refused (LSP 3.17, Shutdown Request)
 abbrev pub down_row : Settings → List Event → ℕ → List ℕ → Message → Row
@@ -244,9 +245,15 @@ hasty_row s body other = nothing
 abbrev pub stopping_row : ℕ → List Event → Message → Row
 stopping_row s before m = choose (answers_shutdown s before m) (exit_server s) nothing
 
+-- what a ready start asks, tells and answers
+abbrev pub ready_row : Settings → ℕ → List Event → List ℕ → Message → Row
+ready_row settings s before body (request id method params) = question_row settings s before body id method
+ready_row settings s before body (notification method params) = notified_row settings s before body params (class_of method Server true)
+ready_row settings s before body other = answer_row settings s before body other
+
 abbrev pub from_server : Settings → ℕ → List Event → List ℕ → Message → Stage → Row
 from_server settings s before body m Initializing = choose (is_first_result m) (first_result settings before s body) (choose (is_first_error m) (refused_row settings before s body) (hasty_row s body m))
-from_server settings s before body m Ready = answer_row settings s before body m
+from_server settings s before body m Ready = ready_row settings s before body m
 from_server settings s before body m Stopping = stopping_row s before m
 from_server settings s before body m other = nothing
 

@@ -26,7 +26,7 @@ use Rattle.mux_facts.proofs.Rules.{rule_more, word_more}
 use Rattle.mux_facts.proofs.Waits.{AllWaiting, Waits, waits_at}
 use Rattle.mux_facts.proofs.Words.{id_same, number_same, same_number}
 use Rattle.session_laws.specs.ClientRules.{ClientRule3, Opening, may_hear, opening_behind, opening_hears, opening_told}
-use Rattle.session_laws.proofs.Client3Law.{Expects, Here, Link, LinkAt, asks_again, closed_link, one_more, opening, same_request}
+use Rattle.session_laws.proofs.Client3Law.{Expects, Here, Link, LinkAt, asks_again, closed_link, one_more, opening, same_request, speaks_now}
 use Rattle.group_rows.specs.Leaves.{leave_row}
 use Rattle.group_rows.specs.Rows.{closing_row, from_editor, outs_of}
 use Rattle.group_facts.proofs.Begun.{all_outs, leave_by}
@@ -62,8 +62,8 @@ module _ (body : List ℕ) (id : Id) (params : Option Json) (x : Json) where
 
   linked : (p : Phase) (i : List ℕ) (o : Opening) → is_begun p ≡ true → is_open id o.initializes ≡ false → Link p i o → Linked p i o
   linked Waiting i o begun fresh h = record { id = h.id; params = h.params; asks = h.asks; only = without_last id o.initializes fresh ∙ h.only; not_yet = h.not_yet }
-  linked Answered i o begun fresh h = without_last id o.initializes fresh ∙ h
-  linked Running i o begun fresh h = without_last id o.initializes fresh ∙ h
+  linked Answered i o begun fresh h = (without_last id o.initializes fresh ∙ h.0, speaks_now o.spoke o.answered false h.1 refl)
+  linked Running i o begun fresh h = (without_last id o.initializes fresh ∙ h.0, ap (λ b. b || (o.answered && true)) h.1)
   linked Down i o begun fresh h = without_last id o.initializes fresh ∙ h
   linked Absent i o begun fresh h = absurd (cc)
   linked New i o begun fresh h = absurd (cc)
@@ -102,8 +102,8 @@ module _ (settings : Settings) (before : List Event) (n : ℕ) (body : List ℕ)
     where
       go : (p : Phase) → (desk_of n before).phase ≡ p → is_begun p ≡ true → Link p (desk_of n before).initialize (opening n before) → is_open id (opening n before).initializes ≡ false
       go Waiting at b k = ap (is_open id) k.only ∙ ap (λ b. b || false) (other_id (waits at) k fresh)
-      go Answered at b k = ap (is_open id) k
-      go Running at b k = ap (is_open id) k
+      go Answered at b k = ap (is_open id) k.0
+      go Running at b k = ap (is_open id) k.0
       go Down at b k = ap (is_open id) k
       go Absent at b k = absurd (cc)
       go New at b k = absurd (cc)

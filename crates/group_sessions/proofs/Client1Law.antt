@@ -1,5 +1,5 @@
 -- Nothing goes to an editor whose link ended, or was to be ended.
-use Rattle.std.proofs.Common.{◌≡◌, ℕ, true, List, [], ◌∷◌, ◌++◌, refl, sym, ◌∙◌, ap, subst}
+use Rattle.std.proofs.Common.{◌≡◌, ℕ, true, List, refl, sym, ◌∙◌, ap, subst}
 use Rattle.mux_history.specs.declared.cause.Cause.{Cause}
 use Rattle.mux_history.specs.declared.entry.Entry.{Entry}
 use Rattle.event_model.specs.Event.{Event, with_cause}
@@ -11,7 +11,7 @@ use Rattle.mux_facts.proofs.Table.{there_taken}
 use Rattle.session_laws.specs.ClientRules.{KeepsClient1}
 use Rattle.session_laws.proofs.Client1Law.{Everywhere, closes, ends, spawns, to_editor, to_server, took_it}
 use Rattle.group_facts.specs.Legal.{Legal}
-use Rattle.group_facts.specs.Why.{WhyToEditor, rejects, refuses, answers, turns_away, welcomes, passes}
+use Rattle.group_facts.specs.Why.{WhyToEditor, rejects, refuses, answers, turns_away, welcomes, passes, asks, recalls, spreads}
 use Rattle.group_facts.proofs.RestLaws.{Law, law_holds}
 
 -- each reason of a body to an editor has that it is there
@@ -23,6 +23,9 @@ module _ (settings : Settings) (before : List Event) (cause : Cause) (events : L
   there (turns_away k) = ap is_there (k.waiting).phase
   there (welcomes k) = ap is_there (k.waiting).phase
   there (passes k) = k.there
+  there (asks k) = ap is_there (k.source).running
+  there (spreads k) = ap is_there (k.source).running
+  there (recalls k) = ap is_there (k.source).running
 
 law : (settings : Settings) → Law settings Everywhere
 law settings = record {

@@ -1,9 +1,9 @@
 -- Each response to an editor has the id of an open request of it.
-use Rattle.std.proofs.Common.{◌≡◌, ℕ, true, List, [], ◌∷◌, ◌++◌, Some, refl, sym, ◌∙◌, ap, subst}
+use Rattle.std.proofs.Common.{◌≡◌, ℕ, true, List, [], ◌∷◌, ◌++◌, codes, decimal, Some, refl, sym, ◌∙◌, ap, subst}
 use Rattle.mux_history.specs.declared.cause.Cause.{Cause}
 use Rattle.mux_history.specs.declared.entry.Entry.{Entry}
 use Rattle.mux_history.specs.declared.out.Out.TheVariants.{ToEditor, ToServer, CloseEditor, EndServer, Spawn}
-use Rattle.rpc_message.specs.Message.{Message, request, notification, result, error, not_json, not_message, Id, message_of}
+use Rattle.rpc_message.specs.Message.{Message, request, notification, result, error, integer, not_json, not_message, Id, message_of}
 use Rattle.event_model.specs.Event.{Event, said, with_cause}
 use Rattle.event_model.specs.Requests.{answered_id}
 use Rattle.event_model.specs.Settings.{Settings}
@@ -12,9 +12,10 @@ use Rattle.mux_facts.specs.Allowed.{is_response}
 use Rattle.mux_facts.specs.Ranges.{InRange}
 use Rattle.mux_facts.proofs.Bodies.{IsResponseTo, is_error, is_result}
 use Rattle.session_laws.specs.ClientRules.{KeepsClient2}
-use Rattle.session_laws.proofs.Client2Law.{Everywhere, more, none_yet, refused, to_editor, took_it}
+use Rattle.session_laws.proofs.Client2Law.{Everywhere, asks_editor, more, none_yet, refused, to_editor, took_it}
 use Rattle.group_facts.specs.Legal.{Legal}
-use Rattle.group_facts.specs.Why.{WhyToEditor, rejects, refuses, answers, turns_away, welcomes, passes}
+use Rattle.group_rows.specs.Asks.{next_ask}
+use Rattle.group_facts.specs.Why.{WhyToEditor, rejects, refuses, answers, turns_away, welcomes, passes, asks, recalls, spreads}
 use Rattle.group_facts.proofs.RestLaws.{Law, law_holds}
 
 -- a response with this id
@@ -33,6 +34,9 @@ module _ (settings : Settings) (before : List Event) (cause : Cause) (events : L
   told_it (answers k) h i = to_editor events e body k.id (is_result k.r k.says) k.waits i
   told_it (turns_away k) h i = to_editor events e body k.id (is_error k.x k.says) (k.waiting).waits i
   told_it (welcomes k) h i = to_editor events e body k.id (is_result k.r k.says) (k.waiting).waits i
+  told_it (asks k) h i = asks_editor events e body (request (integer (decimal (next_ask e events))) k.method k.params) k.says refl i
+  told_it (spreads k) h i = asks_editor events e body (notification k.method k.params) k.says refl i
+  told_it (recalls k) h i = asks_editor events e body (notification (codes "$/cancelRequest") (Some k.params)) k.says refl i
   told_it (passes k) h i = to_editor events e body k.id (response_to k.id (message_of body) k.response k.answers) k.waits i
 
 law : (settings : Settings) → Law settings Everywhere

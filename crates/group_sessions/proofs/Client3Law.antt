@@ -1,10 +1,10 @@
 -- An editor hears nothing but responses before its session is open, and one `initialize` of it gets a result.
-use Rattle.std.proofs.Common.{◌≡◌, ℕ, Bool, true, false, not, ◌&&◌, ◌||◌, cond, List, [], ◌∷◌, ◌++◌, nat_eq, codes, if◌then◌else◌, Option, None, Some, refl, sym, ◌∙◌, ap, subst, subst₂}
+use Rattle.std.proofs.Common.{◌≡◌, ℕ, Bool, true, false, not, ◌&&◌, ◌||◌, cond, List, [], ◌∷◌, ◌++◌, nat_eq, codes, decimal, if◌then◌else◌, Option, None, Some, refl, sym, ◌∙◌, ap, subst, subst₂}
 use Rattle.json_text.specs.Json.{Json}
 use Rattle.mux_history.specs.declared.cause.Cause.{Cause}
 use Rattle.mux_history.specs.declared.entry.Entry.{Entry}
 use Rattle.mux_history.specs.declared.out.Out.TheVariants.{ToEditor, ToServer, CloseEditor, EndServer, Spawn}
-use Rattle.rpc_message.specs.Message.{Message, request, result, error, Id, message_of}
+use Rattle.rpc_message.specs.Message.{Message, request, notification, result, error, integer, not_json, not_message, Id, message_of}
 use Rattle.event_model.specs.declared.phase.Phase.{Phase}
 use Rattle.event_model.specs.declared.phase.Phase.TheVariants.{Absent, New, Waiting, Answered, Running, Down, Closed, Gone}
 use Rattle.event_model.specs.Event.{Event, behind, said, same_id, with_cause}
@@ -27,9 +27,11 @@ use Rattle.session_laws.proofs.Client3Law as client_3
 use Rattle.session_laws.proofs.Client3Law.{Expects, Link, LinkAt, asks_again, closed_link, late_told, may_answer, may_welcome, none_open, opening, same_request, took_it, welcomed}
 use Rattle.group_rows.specs.Rows.{outs_of}
 use Rattle.group_facts.specs.Legal.{Legal}
-use Rattle.group_facts.specs.Why.{IsBeside, WhyToEditor, rejects, refuses, answers, turns_away, welcomes, passes}
+use Rattle.group_facts.specs.Why.{IsBeside, WhyToEditor, rejects, refuses, answers, turns_away, welcomes, passes, asks, recalls, spreads}
 use Rattle.group_facts.proofs.RestLaws.{RestLaw, rest_holds}
 use Rattle.group_sessions.proofs.Again.{again_rests}
+use Rattle.session_laws.proofs.Client2Law.{is_own_word}
+use Rattle.group_rows.specs.Asks.{next_ask}
 use Rattle.group_sessions.proofs.Client2Law.{response_to}
 
 -- Ids that were answered
@@ -81,8 +83,8 @@ error_link Waiting i ids o k x h w =
     let f : Expects i o = h (record { id = w.id; params = w.params; asks = w.asks; waits = open_before k w.id ids w.waits }) in
     let same : f.id ≡ w.id = same_request (sym f.asks ∙ w.asks) in
     record { id = f.id; params = f.params; asks = f.asks; only = ap (without k) f.only ∙ open_alone k f.id ids (ap (λ z. is_open z (without k ids)) same ∙ w.waits); not_yet = f.not_yet }
-error_link Answered i ids o k x h w = none_without k o.initializes (h tt)
-error_link Running i ids o k x h w = none_without k o.initializes (h tt)
+error_link Answered i ids o k x h w = (none_without k o.initializes (h tt).0, (h tt).1)
+error_link Running i ids o k x h w = (none_without k o.initializes (h tt).0, (h tt).1)
 error_link Down i ids o k x h w = none_without k o.initializes (h tt)
 error_link Closed i ids o k x h w = tt
 error_link Gone i ids o k x h w = tt
@@ -109,8 +111,8 @@ none_may o id h = ap (λ ids. not (o.answered && is_open id ids)) h ∙ not_both
 may_reply : (phase : Phase) (i : List ℕ) (o : Opening) (id : Id) (r : Json) → is_there phase ≡ true → Apart phase i id → Link phase i o → may_hear o (result (Some id) r) ≡ true
 may_reply New i o id r there apart h = none_may o id h.0
 may_reply Waiting i o id r there apart h = ap (λ b. not (b && is_open id o.initializes)) h.not_yet
-may_reply Answered i o id r there apart h = none_may o id h
-may_reply Running i o id r there apart h = none_may o id h
+may_reply Answered i o id r there apart h = none_may o id h.0
+may_reply Running i o id r there apart h = none_may o id h.0
 may_reply Down i o id r there apart h = none_may o id h
 may_reply Absent i o id r there apart h = absurd (cc)
 may_reply Closed i o id r there apart h = absurd (cc)
@@ -130,8 +132,8 @@ reply_link : (phase : Phase) (i : List ℕ) (o : Opening) (id : Id) (r : Json) �
 reply_link Absent i o id r apart h = (ap (without (Some id)) h.0, none_answered o id h.0 h.1)
 reply_link New i o id r apart h = (ap (without (Some id)) h.0, none_answered o id h.0 h.1)
 reply_link Waiting i o id r apart h = reply_waiting i o id r apart h
-reply_link Answered i o id r apart h = ap (without (Some id)) h
-reply_link Running i o id r apart h = ap (without (Some id)) h
+reply_link Answered i o id r apart h = (ap (without (Some id)) h.0, ap (λ b. b || is_open id o.initializes) h.1)
+reply_link Running i o id r apart h = (ap (without (Some id)) h.0, h.1)
 reply_link Down i o id r apart h = ap (without (Some id)) h
 reply_link Closed i o id r apart h = tt
 reply_link Gone i o id r apart h = tt
@@ -209,10 +211,10 @@ module _ (events : List Event) (n : ℕ) (body : List ℕ) where
 
   welcome_told : (id : Id) (params : Option Json) (r : Json) → (desk_of n events).phase ≡ Waiting → message_of (desk_of n events).initialize ≡ request id (codes "initialize") params → is_open id (open_of n events) ≡ true → message_of body ≡ result (Some id) r
       → Here n events → Heard
-  welcome_told id params r at asks waits says h =
+  welcome_told id params r at names waits says h =
       let w : Expects (desk_of n events).initialize (opening n events) = subst (λ z. Link z (desk_of n events).initialize (opening n events)) at
-      (h.link (subst (λ z. WaitsIf z (desk_of n events).initialize (open_of n events)) (sym at) (record { id = id; params = params; asks = asks; waits = waits }))) in
-      let result_is : message_of body ≡ result (Some w.id) r = says ∙ ap (λ z. result (Some z) r) (same_request (sym asks ∙ w.asks)) in
+      (h.link (subst (λ z. WaitsIf z (desk_of n events).initialize (open_of n events)) (sym at) (record { id = id; params = params; asks = names; waits = waits }))) in
+      let result_is : message_of body ≡ result (Some w.id) r = says ∙ ap (λ z. result (Some z) r) (same_request (sym names ∙ w.asks)) in
       record {
         may = may_welcome (desk_of n events).initialize (opening n events) w (message_of body) r result_is;
         link = λ left. subst (λ z. Link (phase_told z (desk_of n events).initialize (message_of body)) (desk_of n events).initialize (opening_told (opening n events) (message_of body))) (sym at)
@@ -258,12 +260,41 @@ module _ (events : List Event) (n : ℕ) (body : List ℕ) where
       beside_apart Closed at f = tt
       beside_apart Gone at f = tt
 
+  -- a request or a notification, to an editor that runs
+  asked_told : (m : Message) → (desk_of n events).phase ≡ Running → message_of body ≡ m → is_own_word m ≡ true → Here n events → Heard
+  asked_told m running says own h =
+      let link : ((opening n events).initializes ≡ []) × ((opening n events).spoke ≡ true) = subst (λ z. Link z (desk_of n events).initialize (opening n events)) running
+      (h.link (late_waits (desk_of n events).phase (desk_of n events).initialize (open_of n events) (ap is_early running))) in
+      record {
+        may = ap (may_hear (opening n events)) says ∙ any_time m own ∙ link.1;
+        link = λ left. subst₂ (λ p o. Link p (desk_of n events).initialize o) (sym (ap (λ p. phase_told p (desk_of n events).initialize (message_of body)) running)) (sym (ap (opening_told (opening n events)) says ∙ untold m own)) link;
+      }
+    where
+      any_time : (m : Message) → is_own_word m ≡ true → may_hear (opening n events) m ≡ (opening n events).spoke
+      any_time (request id method params) own = refl
+      any_time (notification method params) own = refl
+      any_time (result id r) own = absurd (cc)
+      any_time (error id x) own = absurd (cc)
+      any_time not_json own = absurd (cc)
+      any_time not_message own = absurd (cc)
+
+      untold : (m : Message) → is_own_word m ≡ true → opening_told (opening n events) m ≡ opening n events
+      untold (request id method params) own = refl
+      untold (notification method params) own = refl
+      untold (result id r) own = absurd (cc)
+      untold (error id x) own = absurd (cc)
+      untold not_json own = absurd (cc)
+      untold not_message own = absurd (cc)
+
   heard_it : (settings : Settings) (before : List Event) (cause : Cause) → WhyToEditor settings before cause events n body → Here n events → Heard
   heard_it settings before cause (rejects k) h = error_told None k.x k.says h
   heard_it settings before cause (refuses k) h = error_told (Some k.id) k.x k.says h
   heard_it settings before cause (answers k) h = reply_told k.id k.r k.there k.others k.says h
   heard_it settings before cause (turns_away k) h = error_told (Some k.id) k.x k.says h
   heard_it settings before cause (welcomes k) h = welcome_told k.id (k.waiting).params k.r (k.waiting).phase (k.waiting).asks (k.waiting).waits k.says h
+  heard_it settings before cause (asks k) h = asked_told (request (integer (decimal (next_ask n events))) k.method k.params) (k.source).running k.says refl h
+  heard_it settings before cause (spreads k) h = asked_told (notification k.method k.params) (k.source).running k.says refl h
+  heard_it settings before cause (recalls k) h = asked_told (notification (codes "$/cancelRequest") (Some k.params)) (k.source).running k.says refl h
   heard_it settings before cause (passes k) h = answer_told k.id k.there k.late (response_to k.id (message_of body) k.response k.answers) h
 
 -- Other outs

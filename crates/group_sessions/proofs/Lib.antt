@@ -12,3 +12,6 @@ pub mod Server8Law
 pub mod Sessions
 pub mod SpawnedLaw
 pub mod Worked
+pub mod Client4Law
+pub mod Client5Law
+pub mod Server5Law

@@ -14,7 +14,7 @@ use Rattle.rpc_message.specs.Message.{Message, request, notification, integer, m
 use Rattle.rpc_message.specs.Texts.{initialized_text}
 use Rattle.event_model.specs.declared.stage.Stage.{Stage}
 use Rattle.event_model.specs.declared.stage.Stage.TheVariants.{Unspawned, Spawning, Initializing, Ready, Stopping, Ending, Ended}
-use Rattle.event_model.specs.Event.{Event, did, heard, said, behind, with_cause, requests}
+use Rattle.event_model.specs.Event.{Event, did, heard, said, behind, with_cause, notifies, requests}
 use Rattle.event_model.specs.Parts.{server_part, is_of_server}
 use Rattle.event_model.specs.Settings.{Settings}
 use Rattle.event_model.specs.Row.{outs}
@@ -24,6 +24,7 @@ use Rattle.event_model.proofs.Places.{item_at}
 use Rattle.mux_facts.specs.Ranges.{InRange}
 use Rattle.mux_facts.proofs.Folds.{life_more}
 use Rattle.mux_facts.proofs.Starts.{Starts}
+use Rattle.mux_facts.specs.Allowed.{is_response}
 use Rattle.mux_facts.proofs.Why as single
 use Rattle.mux_facts.proofs.Words.{number_same, pick, same_number}
 use Rattle.session_laws.specs.ServerRules.{Handshake, KeepsServer2, ServerRule2, allows, answered, asked, handshake_behind, handshake_of, open_to_all, silent}
@@ -35,7 +36,7 @@ use Rattle.group_rows.specs.Rows.{outs_of, result_in}
 use Rattle.group_facts.specs.Facts.{Housed, IsHoused, IsWritten, Written, is_unready}
 use Rattle.group_rows.proofs.Going.{no_initialized}
 use Rattle.group_facts.specs.Legal.{Legal}
-use Rattle.group_facts.specs.Why.{IsTelling, Turn, WhyToServer, begins, greets, forwarded, notes, tells, shuts, cancels, stays, greeted, moves, responds, exits}
+use Rattle.group_facts.specs.Why.{IsTelling, Turn, WhyToServer, begins, greets, forwarded, notes, tells, shuts, cancels, stays, greeted, moves, responds, exits, resolves}
 use Rattle.group_facts.proofs.AnswerRows.{get_all}
 use Rattle.group_facts.proofs.Facts.{Facts}
 use Rattle.group_facts.proofs.RestLaws.{RestLaw}
@@ -199,6 +200,11 @@ asked_on w n body m number method params says h = (ap₂ allows h says, still_op
 noted_on : (w : Handshake) (n : ℕ) (body : List ℕ) (m : Message) (method : List ℕ) (params : Option Json) → m ≡ notification method params → bytes_eq (codes "initialized") method ≡ false → w ≡ open_to_all → IsTrue (allows w m) × Link (stage_told Ready m) (handshake_behind w (did (ToServer n body) m))
 noted_on w n body m method params says other h = (ap₂ allows h says ∙ ap not other, still_open (requests (codes "shutdown") m) (handshake_behind w (did (ToServer n body) m)) (ap (λ z. handshake_behind z (did (ToServer n body) m)) h))
 
+-- nor is a response that notification
+response_open : (m : Message) → is_response m ≡ true → not (notifies (codes "initialized") m) ≡ true
+response_open (notification method params) h = absurd (cc)
+response_open other h = refl
+
 module _ (settings : Settings) (range : InRange settings) (before : List Event) (cause : Cause) (events : List Event) (s : ℕ) (body : List ℕ) where
   abbrev OpenStep : Type 0
   OpenStep = hand s events ≡ open_to_all → IsTrue (allows (hand s events) (message_of body)) × Link (stage_told Ready (message_of body)) (handshake_behind (hand s events) (said (ToServer s body)))
@@ -254,6 +260,10 @@ module _ (settings : Settings) (range : InRange settings) (before : List Event) 
         allowed = ap (λ w. allows w (message_of body)) asking ∙ k.response;
         next = λ still. subst (λ z. Link (stage_told z (message_of body)) (handshake_behind (hand s events) (said (ToServer s body)))) (sym k.waiting) (ap (λ w. handshake_behind w (said (ToServer s body))) asking);
       }
+  step (resolves k) h m = ready_step k.ready k.stays m (λ o. (
+    ap (λ w. allows w (message_of body)) o ∙ response_open (message_of body) k.response,
+    still_open (requests (codes "shutdown") (message_of body)) (handshake_behind (hand s events) (said (ToServer s body))) (ap (λ z. handshake_behind z (said (ToServer s body))) o),
+  ))
   step (shuts k) h m = ready_step k.ready k.stays m (λ o. asked_on (hand s events) s body (message_of body) _ (codes "shutdown") None k.says o)
   step (exits k) h m =
       let still : moves before cause s ≡ false = ap (λ c. moves before c s) k.from ∙ ap₂ (λ a z. a && (is_initializing z && is_first_result (message_of k.answer))) (same_number s) k.stage in

@@ -24,7 +24,7 @@ use Rattle.session_laws.proofs.Server6Law.{free, response_free, spoken_free, wai
 use Rattle.group_rows.specs.Forwarded.{Forwarded, Forwarding, Sender, answered_by, cancelled_by, forwarding_behind, forwarding_of, forwards, is_written, names, numbered}
 use Rattle.group_rows.proofs.Going.{not_cancel}
 use Rattle.group_facts.specs.Legal.{Legal}
-use Rattle.group_facts.specs.Why.{WhyToServer, begins, greets, forwarded, notes, tells, shuts, cancels, is_uncancelled, responds, exits}
+use Rattle.group_facts.specs.Why.{WhyToServer, begins, greets, forwarded, notes, tells, shuts, cancels, is_uncancelled, responds, exits, resolves}
 use Rattle.group_facts.proofs.Forwards.{forwarding_more}
 use Rattle.group_facts.proofs.RestLaws.{Inside, Law}
 use Rattle.group_sessions.proofs.PartLaws.{ServerRule, server_history}
@@ -178,6 +178,7 @@ module _ (settings : Settings) (before : List Event) (cause : Cause) (events : L
   numbered_by (exits k) = subst (IsNumbered (forwarding_of s events).next) (sym k.says) tt
   numbered_by (notes k) = subst (IsNumbered (forwarding_of s events).next) (sym k.says) tt
   numbered_by (tells k) = spoken_numbered (forwarding_of s events).next (message_of body) k.spoken
+  numbered_by (resolves k) = response_numbered (forwarding_of s events).next (message_of body) k.response
   numbered_by (responds k) = response_numbered (forwarding_of s events).next (message_of body) k.response
 
   abbrev May : Message → Type 0
@@ -192,6 +193,7 @@ module _ (settings : Settings) (before : List Event) (cause : Cause) (events : L
   may_send (notes k) h = subst May (sym k.says) (ap (λ b. not b || is_among (cancelled_id k.params) (waiting s events)) (not_cancel k.method k.going))
   may_send (tells k) h = spoken_free (waiting s events) (message_of body) k.spoken
   may_send (responds k) h = response_free (waiting s events) (message_of body) k.response
+  may_send (resolves k) h = response_free (waiting s events) (message_of body) k.response
   may_send (cancels k) h = subst May (sym k.says) (ap (λ j. is_among (id_at j) (waiting s events)) k.named ∙ ap (λ i. is_among i (waiting s events)) k.id ∙ may_name k.number (waiting s events) (forwarding_of s events).open_requests (h s) k.waits)
 
 law : (settings : Settings) → Law settings Ties

@@ -7,8 +7,8 @@ ghost use Rattle.event_model.specs.Settings.{Settings};
 ghost use Rattle.event_model.specs.Spawns.{starts_of};
 ghost use Rattle.mux_facts.specs.Ranges.{InRange};
 ghost use Rattle.group_facts.specs.Legal.{Legal};
-ghost use Rattle.session_laws.specs.ClientRules.{KeepsClient1, KeepsClient2, KeepsClient3};
-ghost use Rattle.session_laws.specs.ServerRules.{KeepsServer1, KeepsServer2, KeepsServer3, KeepsServer4, KeepsServer6, KeepsServer8};
+ghost use Rattle.session_laws.specs.ClientRules.{KeepsClient1, KeepsClient2, KeepsClient3, KeepsClient4, KeepsClient5};
+ghost use Rattle.session_laws.specs.ServerRules.{KeepsServer1, KeepsServer2, KeepsServer3, KeepsServer4, KeepsServer5, KeepsServer6, KeepsServer8};
 
 /// A law: nothing goes to an editor whose link ended, or was to be ended (LSP 3.17, Base Protocol).
 pub fn client_1()
@@ -25,6 +25,16 @@ pub fn client_2()
 /// one `initialize` of it at most gets a result (LSP 3.17, Initialize Request).
 pub fn client_3()
     ensures { (settings : Settings) → InRange settings → (history : List Entry) → Legal settings history → KeepsClient3 history }
+{}
+
+/// A law: the n-th request to an editor has the id n (JSON-RPC 2.0, section 4).
+pub fn client_4()
+    ensures { (settings : Settings) → InRange settings → (history : List Entry) → Legal settings history → KeepsClient4 history }
+{}
+
+/// A law: a cancel to an editor names a request that was sent to it and that it hasn't answered (LSP 3.17, Cancellation Support).
+pub fn client_5()
+    ensures { (settings : Settings) → InRange settings → (history : List Entry) → Legal settings history → KeepsClient5 history }
 {}
 
 /// A law: bodies go to a server's program while it runs, and not once it is to be ended (LSP 3.17, Lifecycle
@@ -48,6 +58,12 @@ pub fn server_3()
 /// its version plus 1, or closes, where it has it (LSP 3.17, Text Document Synchronization).
 pub fn server_4()
     ensures { (settings : Settings) → InRange settings → (history : List Entry) → Legal settings history → KeepsServer4 history }
+{}
+
+/// A law: a response to a server has the id of a request that the server sent and that has no response yet (JSON-RPC 2.0, section 5; LSP 3.17,
+/// Response Message).
+pub fn server_5()
+    ensures { (settings : Settings) → InRange settings → (history : List Entry) → Legal settings history → KeepsServer5 history }
 {}
 
 /// A law: a cancel to a server names a request that was sent to it and that it hasn't answered, and each is named once (LSP 3.17,

@@ -1,6 +1,6 @@
 -- What is built of a message, by what it is.
-use Rattle.std.proofs.Common.{◌≡◌, ℕ, ◌<◌, Bool, true, false, cond, not, ◌&&◌, ◌||◌, List, [], ◌∷◌, map, length, find, nat_eq, refl, ap, sym, ◌∙◌, ◌⊎◌, inl, inr}
-use Rattle.std.specs.Prelude.{Option, Some, None, is_some, option_map, slice_get}
+use Rattle.std.proofs.Common.{◌≡◌, ℕ, Bool, true, false, not, ◌&&◌, ◌||◌, List, refl, ap, sym, ◌∙◌, ◌⊎◌, inl, inr}
+use Rattle.std.specs.Prelude.{Option, Some, None, slice_get}
 use Rattle.json_text.specs.Json.{Json}
 use Rattle.rpc_message.specs.declared.sort.Sort.{Sort}
 use Rattle.rpc_message.specs.declared.sort.Sort.TheVariants as sort
@@ -11,19 +11,17 @@ use Rattle.rpc_message.specs.Envelopes.{Tells}
 use Rattle.rpc_message.specs.Parsed.{IsRead, Parsed}
 use Rattle.rpc_message.specs.Sorts.{sort_of}
 use Rattle.event_model.specs.declared.phase.Phase.{Phase}
-use Rattle.event_model.specs.declared.phase.Phase.TheVariants.{Absent, New, Waiting, Answered, Running, Down, Closed, Gone}
 use Rattle.event_model.specs.declared.stage.Stage.{Stage}
 use Rattle.event_model.specs.declared.stage.Stage.TheVariants.{Unspawned, Spawning, Initializing, Ready, Stopping, Ending, Ended}
 use Rattle.event_model.specs.Event.{Event}
 use Rattle.event_model.specs.Phases.{is_malformed}
 use Rattle.event_model.specs.Settings.{Settings}
 use Rattle.event_model.specs.Stages.{is_first_result}
-use Rattle.group_words.specs.Houses.{is_first_error, groups_of}
-use Rattle.group_facts.specs.Built.{built_early, built_from_editor, built_from_server, built_response, is_shown_whole, is_left}
+use Rattle.group_words.specs.Houses.{groups_of}
+use Rattle.group_facts.specs.Built.{built_early, built_from_editor, built_from_server, built_ready, is_shown_whole, is_left}
 use Rattle.group_facts.specs.Lively.{lives_at}
 use Rattle.std.specs.Option.{option_map_or}
 use Rattle.mux_tables.specs.declared.tables.Tables.{Tables}
-use Rattle.mux_turns.specs.Answers.{is_response}
 use Rattle.mux_tables.specs.Stands.{Stands, is_over}
 
 -- what a message of each sort is
@@ -66,13 +64,15 @@ response_built phase ids (notification method params) x h (inr e) = absurd (cc)
 
 -- of a start
 
-pub sort_built : (m : Message) (x : Sort) → sort_of m ≡ Some x → is_response x ≡ built_response m
-sort_built (result id r) x h = let is : sort.Result ≡ x = cc in ap is_response (sym is)
-sort_built (error id e) x h = let is : sort.Error ≡ x = cc in ap is_response (sym is)
-sort_built (request id method params) x h = let is : sort.Request ≡ x = cc in ap is_response (sym is)
-sort_built (notification method params) x h = let is : sort.Notification ≡ x = cc in ap is_response (sym is)
-sort_built not_json x h = absurd (cc)
-sort_built not_message x h = absurd (cc)
+pub answer_built : (settings : Settings) (before : List Event) (s : ℕ) (m : Message) (x : Sort) → sort_of m ≡ Some x → (x ≡ sort.Result) ⊎ (x ≡ sort.Error) → true ≡ built_ready settings before s m
+answer_built settings before s (result id r) x h k = refl
+answer_built settings before s (error id e) x h k = refl
+answer_built settings before s not_json x h k = refl
+answer_built settings before s not_message x h k = refl
+answer_built settings before s (request id method params) x h (inl e) = absurd (cc)
+answer_built settings before s (request id method params) x h (inr e) = absurd (cc)
+answer_built settings before s (notification method params) x h (inl e) = absurd (cc)
+answer_built settings before s (notification method params) x h (inr e) = absurd (cc)
 
 -- before its result
 pub early_first : (body : List ℕ) (m : Message) → is_first_result m ≡ true → is_shown_whole body ≡ built_early body m
@@ -92,9 +92,9 @@ early_other body not_json h = refl
 early_other body not_message h = refl
 
 -- of a start that is to end each message is built
-pub late_built : (x y : Stage) (body : List ℕ) (m : Message) → y ≡ x → (y ≡ Stopping) ⊎ (y ≡ Ending) → true ≡ built_from_server x body m
-late_built x y body m same (inl at) = ap (λ z. built_from_server z body m) (sym at ∙ same)
-late_built x y body m same (inr at) = ap (λ z. built_from_server z body m) (sym at ∙ same)
+pub late_built : (settings : Settings) (before : List Event) (s : ℕ) (x y : Stage) (body : List ℕ) (m : Message) → y ≡ x → (y ≡ Stopping) ⊎ (y ≡ Ending) → true ≡ built_from_server settings before s x body m
+late_built settings before s x y body m same (inl at) = ap (λ z. built_from_server settings before s z body m) (sym at ∙ same)
+late_built settings before s x y body m same (inr at) = ap (λ z. built_from_server settings before s z body m) (sym at ∙ same)
 
 -- X1 to X3
 pub left_here : (settings : Settings) (t : Tables) (before : List Event) (s g : ℕ) (b : Bool) → Stands settings t before → Some g ≡ slice_get t.origins.groups.items s → b ≡ lives_at g (groups_of settings before) → not b ≡ is_left settings before s
@@ -104,14 +104,14 @@ pub left_nowhere : (settings : Settings) (t : Tables) (before : List Event) (s :
 left_nowhere settings t before s st at = ap (λ o. not (option_map_or (λ h. lives_at h (groups_of settings before)) o false)) (at ∙ sym (st.origins.group s))
 
 -- of a start that is over no message is built
-pub over_built : (stage : Stage) (body : List ℕ) (m : Message) → is_malformed m ≡ false → is_over stage ≡ true → false ≡ built_from_server stage body m
-over_built Unspawned body m well h = sym well
-over_built Ended body m well h = sym well
-over_built Spawning body m well h = absurd (cc)
-over_built Initializing body m well h = absurd (cc)
-over_built Ready body m well h = absurd (cc)
-over_built Stopping body m well h = absurd (cc)
-over_built Ending body m well h = absurd (cc)
+pub over_built : (settings : Settings) (before : List Event) (s : ℕ) (stage : Stage) (body : List ℕ) (m : Message) → is_malformed m ≡ false → is_over stage ≡ true → false ≡ built_from_server settings before s stage body m
+over_built settings before s Unspawned body m well h = sym well
+over_built settings before s Ended body m well h = sym well
+over_built settings before s Spawning body m well h = absurd (cc)
+over_built settings before s Initializing body m well h = absurd (cc)
+over_built settings before s Ready body m well h = absurd (cc)
+over_built settings before s Stopping body m well h = absurd (cc)
+over_built settings before s Ending body m well h = absurd (cc)
 
 -- a message that was read isn't malformed
 pub read_well : (p : Parsed) (body : List ℕ) → IsRead p body → is_malformed (message_of body) ≡ false
@@ -134,17 +134,17 @@ and_off false false h = refl
 and_off a true h = absurd (cc)
 
 -- by where the start stands
-pub as_here : (x y : Stage) (body : List ℕ) (m : Message) (b : Bool) → y ≡ x → b ≡ built_from_server y body m → b ≡ built_from_server x body m
-as_here x y body m b same is = is ∙ ap (λ z. built_from_server z body m) same
+pub as_here : (settings : Settings) (before : List Event) (s : ℕ) (x y : Stage) (body : List ℕ) (m : Message) (b : Bool) → y ≡ x → b ≡ built_from_server settings before s y body m → b ≡ built_from_server settings before s x body m
+as_here settings before s x y body m b same is = is ∙ ap (λ z. built_from_server settings before s z body m) same
 
-pub other_built : (y : Stage) (body : List ℕ) (m : Message) → (y ≡ Initializing → ⊥) → (y ≡ Ready → ⊥) → (y ≡ Stopping → ⊥) → (y ≡ Ending → ⊥) → is_malformed m ≡ false → false ≡ built_from_server y body m
-other_built Unspawned body m i r s e well = sym well
-other_built Spawning body m i r s e well = sym well
-other_built Ended body m i r s e well = sym well
-other_built Initializing body m i r s e well = absurd (i refl)
-other_built Ready body m i r s e well = absurd (r refl)
-other_built Stopping body m i r s e well = absurd (s refl)
-other_built Ending body m i r s e well = absurd (e refl)
+pub other_built : (settings : Settings) (before : List Event) (s : ℕ) (y : Stage) (body : List ℕ) (m : Message) → (y ≡ Initializing → ⊥) → (y ≡ Ready → ⊥) → (y ≡ Stopping → ⊥) → (y ≡ Ending → ⊥) → is_malformed m ≡ false → false ≡ built_from_server settings before s y body m
+other_built settings before s Unspawned body m i r t e well = sym well
+other_built settings before s Spawning body m i r t e well = sym well
+other_built settings before s Ended body m i r t e well = sym well
+other_built settings before s Initializing body m i r t e well = absurd (i refl)
+other_built settings before s Ready body m i r t e well = absurd (r refl)
+other_built settings before s Stopping body m i r t e well = absurd (t refl)
+other_built settings before s Ending body m i r t e well = absurd (e refl)
 
 pub and_first : (a b : Bool) → a ≡ true → b ≡ (a && b)
 and_first a b h = ap (λ x. x && b) (sym h)

@@ -1,12 +1,13 @@
 // Which causes meet rows of the routing table that are built.
-ghost use Rattle.std.specs.Prelude.{◌≡◌, ◌≤◌, ◌<◌, ◌&&◌, ◌||◌, ℕ, not, true, false, bytes_eq, codes, length, map, find, is_some, List, Option, Some, IfOk, slice_get};
+ghost use Rattle.std.specs.Prelude.{◌≡◌, ◌≤◌, ◌<◌, ◌&&◌, ◌||◌, ℕ, not, true, false, bytes_eq, codes, length, map, find, is_some, nat_lt, List, Option, Some, IfOk, slice_get};
+ghost use Rattle.event_model.specs.declared.stage.Stage.TheVariants.{Ready};
 ghost use Rattle.event_model.specs.Event.{Event};
 ghost use Rattle.event_model.specs.Members.{has_token};
 ghost use Rattle.event_model.specs.Phases.{desk_of, is_served};
 ghost use Rattle.event_model.specs.Requests.{is_open, open_of};
 ghost use Rattle.event_model.specs.Settings.{Settings};
 ghost use Rattle.event_model.specs.Stages.{is_first_result, life_of};
-ghost use Rattle.group_facts.specs.Built.{built_behind, built_early, built_from_editor, built_from_server, built_notice, built_request, built_response, cancels_work, doubles, is_left, is_marked, is_plain, is_shown_whole, is_standard};
+ghost use Rattle.group_facts.specs.Built.{built_asking, built_behind, built_early, built_from_editor, built_from_server, built_notice, built_ready, built_request, built_telling, cancels_work, doubles, has_running, is_left, is_marked, is_plain, is_shown_whole, is_standard};
 ghost use Rattle.group_facts.specs.Facts.{Known};
 ghost use Rattle.group_facts.specs.Lively.{lives_at};
 ghost use Rattle.group_facts.specs.Settled.{Settled};
@@ -14,10 +15,10 @@ ghost use Rattle.group_rows.specs.Rows.{names_lspmux};
 ghost use Rattle.group_words.specs.Houses.{groups_of};
 ghost use Rattle.json_text.specs.Json.{Json};
 ghost use Rattle.lsp_method.specs.Class.{class_of};
-ghost use Rattle.lsp_method.specs.declared.variants.Origin.TheVariants.{Editor};
+ghost use Rattle.lsp_method.specs.declared.variants.Origin.TheVariants.{Editor, Server};
 ghost use Rattle.mux_history.specs.Cores.{body_length};
 ghost use Rattle.mux_model.specs.Built.{is_other};
-ghost use Rattle.mux_turns.specs.Answers.{is_response};
+ghost use Rattle.mux_tables.specs.declared.tables.Start.{Start};
 ghost use Rattle.mux_tables.specs.Stands.{Stands, number_in};
 ghost use Rattle.rpc_message.specs.Message.{Id, message_of, notification, request, result as outcome};
 ghost use Rattle.rpc_message.specs.Parsed.{IsRead};
@@ -26,7 +27,7 @@ use event_model::{Phase, Stage};
 use lsp_method::Class;
 use message_body::{Body, Memory};
 use mux_history::Cause;
-use mux_members::{cancels_work, class_in, has_token, is_first_result};
+use mux_members::{asked_class, cancels_work, class_in, has_token, is_first_result, told_class};
 use mux_tables::Tables;
 use mux_turns::{asks_lspmux, doubles, shown_of};
 use rpc_message::{Malformed, Message, Sort};
@@ -174,18 +175,100 @@ fn is_shown_whole(alloc: Global, message: &Message) -> Result<bool, Memory>
     Ok(told.bytes() == answer)
 }
 
-// Whether a message of this class answers a request (JSON-RPC 2.0, section 5).
-fn is_response(sort: Sort) -> bool
-    ensures { result ≡ is_response sort }
+// Whether notifications of this class are built.
+fn is_told(class: Class) -> bool
+    ensures { result ≡ built_telling class }
 {
-    matches!(sort, Sort::Result | Sort::Error)
+    matches!(class, Class::Cancel | Class::Broadcast)
 }
 
-// S5: a message of a start that is ready.
-fn built_response(message: &Message) -> bool
-    ensures { (body : List ℕ) → IsRead message.now body → result ≡ built_response (message_of body) }
+// Whether a notification of a start that is ready is built.
+fn built_telling(message: &Message) -> bool
+    ensures { (body method : List ℕ) (params : Option Json) → IsRead message.now body → message_of body ≡ notification method params
+        → result ≡ built_telling (class_of method Server true) }
 {
-    is_response(message.sort())
+    is_told(told_class(message))
+}
+
+// Whether this is the method `workspace/applyEdit`.
+fn is_edit(method: &[u8]) -> bool
+    ensures { result ≡ bytes_eq (codes "workspace/applyEdit") method.now }
+{
+    "workspace/applyEdit".as_bytes() == method
+}
+
+// V3: whether a request asks for an edit.
+fn asks_edit(message: &Message) -> bool
+    ensures { (body method : List ℕ) (id : Id) (params : Option Json) → IsRead message.now body → message_of body ≡ request id method params
+        → result ≡ bytes_eq (codes "workspace/applyEdit") method }
+{
+    match message.method() {
+        Some(method) => is_edit(method),
+        None => false,
+    }
+}
+
+// There is one.
+fn is_any(numbers: &[u64]) -> bool
+    ensures { result ≡ nat_lt 0 (length numbers.now) }
+{
+    !numbers.is_empty()
+}
+
+// S12: whether an editor of the group runs.
+fn has_running(tables: &Tables, g: usize) -> Result<bool, Memory>
+    requires { g < length tables.now.lasts.items }
+    ensures { (settings : Settings) (before : List Event) (s : ℕ) → slice_get (map number_in tables.now.lasts.items) g ≡ Some s
+        → Stands settings tables.now before → IfOk result (λ answer. answer ≡ has_running settings before s) }
+{
+    let group = tables.group_number(g);
+    let numbers = tables.running(group)?;
+    Ok(is_any(&numbers))
+}
+
+// S9, S11 and S12: whether what a start asks is built, by its class.
+fn built_class(tables: &Tables, g: usize, message: &Message) -> Result<bool, Memory>
+    requires { g < length tables.now.lasts.items }
+    ensures { (settings : Settings) (before : List Event) (body method : List ℕ) (id : Id) (params : Option Json) (s : ℕ)
+        → slice_get (map number_in tables.now.lasts.items) g ≡ Some s → Stands settings tables.now before → IsRead message.now body
+        → message_of body ≡ request id method params
+        → IfOk result (λ answer. answer ≡ built_asking settings before s method (class_of method Server false)) }
+{
+    match asked_class(message) {
+        Class::Refresh => Ok(true),
+        Class::Focused => Ok(!asks_edit(message)),
+        Class::Lowest => has_running(tables, g),
+        _ => Ok(false),
+    }
+}
+
+// A request of a group's last start, which is ready: that, or one under the id of an open ask.
+fn built_question(tables: &Tables, g: usize, message: &Message) -> Result<bool, Memory>
+    requires { g < length tables.now.lasts.items }
+    ensures { (settings : Settings) (before : List Event) (body method : List ℕ) (id : Id) (params : Option Json) (x : Start)
+        → slice_get tables.now.lasts.items g ≡ Some x → x.life.stage ≡ Ready → Stands settings tables.now before → IsRead message.now body
+        → message_of body ≡ request id method params
+        → IfOk result (λ answer. answer ≡ built_ready settings before x.life.start (request id method params)) }
+{
+    if tables.is_asked(g, message.id_bytes()) {
+        Ok(true)
+    } else {
+        built_class(tables, g, message)
+    }
+}
+
+// S5: a message of a group's last start, which is ready.
+fn built_ready(tables: &Tables, g: usize, message: &Message) -> Result<bool, Memory>
+    requires { g < length tables.now.lasts.items }
+    ensures { (settings : Settings) (before : List Event) (body : List ℕ) (x : Start) → slice_get tables.now.lasts.items g ≡ Some x
+        → x.life.stage ≡ Ready → Stands settings tables.now before → IsRead message.now body
+        → IfOk result (λ answer. answer ≡ built_ready settings before x.life.start (message_of body)) }
+{
+    match message.sort() {
+        Sort::Request => built_question(tables, g, message),
+        Sort::Notification => Ok(built_telling(message)),
+        Sort::Result | Sort::Error => Ok(true),
+    }
 }
 
 // S2 to S4: a message of a start that gave no result yet.
@@ -204,11 +287,11 @@ fn built_answer(tables: &Tables, alloc: Global, g: usize, message: &Message) -> 
     requires { g < length tables.now.lasts.items }
     ensures { (settings : Settings) (before : List Event) (body : List ℕ) (s : ℕ) → slice_get (map number_in tables.now.lasts.items) g ≡ Some s
         → Stands settings tables.now before → IsRead message.now body
-        → IfOk result (λ answer. answer ≡ built_from_server (life_of s before).stage body (message_of body)) }
+        → IfOk result (λ answer. answer ≡ built_from_server settings before s (life_of s before).stage body (message_of body)) }
 {
     match tables.stage(g) {
         Stage::Initializing => built_early(alloc, message),
-        Stage::Ready => Ok(built_response(message)),
+        Stage::Ready => built_ready(tables, g, message),
         Stage::Stopping | Stage::Ending => Ok(true),
         _ => Ok(false),
     }
@@ -222,7 +305,7 @@ fn built_from_start(
     message: &Message,
 ) -> Result<bool, Memory>
     ensures { (settings : Settings) (before : List Event) (body : List ℕ) → Stands settings tables.now before → IsRead message.now body
-        → IfOk result (λ answer. answer ≡ built_from_server (life_of s before).stage body (message_of body)) }
+        → IfOk result (λ answer. answer ≡ built_from_server settings before s (life_of s before).stage body (message_of body)) }
 {
     match tables.last(s) {
         None => Ok(false),
@@ -234,7 +317,7 @@ fn built_from_start(
 fn built_from_server(tables: &Tables, alloc: Global, s: u64, body: &Body) -> Result<bool, Memory>
     requires { length body.now ≤ 268435456 }
     ensures { (settings : Settings) (before : List Event) → Stands settings tables.now before
-        → IfOk result (λ answer. answer ≡ built_from_server (life_of s before).stage body.now (message_of body.now)) }
+        → IfOk result (λ answer. answer ≡ built_from_server settings before s (life_of s before).stage body.now (message_of body.now)) }
 {
     match Message::read(alloc, body.bytes()) {
         Ok(message) => built_from_start(tables, alloc, s, &message),

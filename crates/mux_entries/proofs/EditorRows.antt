@@ -26,6 +26,8 @@ use Rattle.event_model.proofs.Turns.{alike, alike_then, does_nothing}
 use Rattle.mux_model.specs.Rows.{malformed_row}
 use Rattle.group_words.specs.Rows.{initialize_row}
 use Rattle.group_words.specs.Houses.{is_doubled}
+use Rattle.group_rows.specs.AskRows.{response_row}
+use Rattle.mux_facts.specs.Allowed.{is_response}
 use Rattle.group_rows.specs.Rows.{asks_lspmux, closing_row, down_row, early_row, exit_row, from_editor, lspmux_row, open_row, row_of, served_row, status_row, taken_row}
 use Rattle.mux_tables.specs.declared.tables.Tables.{Tables}
 use Rattle.mux_tables.specs.Documents.{AllStand, DocumentsStand, nothing_owed}
@@ -200,7 +202,7 @@ module _ (settings : Settings) (before : List Event) (e : ℕ) (body : List ℕ)
   pub served : (m : Message) → message_of body ≡ m → is_served (desk_of e before).phase ≡ true → is_malformed (message_of body) ≡ false → (is_begun (desk_of e before).phase && is_doubled before e (message_of body)) ≡ false → (is_there (desk_of e before).phase && asks_lspmux (message_of body)) ≡ false → Alike row (served_row settings before e body m)
   served m says h well single other = alike_then (taken (desk_of e before).phase refl well single other) (alike (served_as (message_of body) (desk_of e before).phase h ∙ ap (served_row settings before e body) says))
 
-  answers_as : (m : Message) → (sort_of m ≡ Some sort.Request → ⊥) → (sort_of m ≡ Some sort.Notification → ⊥) → served_row settings before e body m ≡ nothing
+  answers_as : (m : Message) → (sort_of m ≡ Some sort.Request → ⊥) → (sort_of m ≡ Some sort.Notification → ⊥) → served_row settings before e body m ≡ response_row settings before e body m
   answers_as (request id method params) h k = absurd (h refl)
   answers_as (notification method params) h k = absurd (k refl)
   answers_as (result id r) h k = refl
@@ -208,8 +210,17 @@ module _ (settings : Settings) (before : List Event) (e : ℕ) (body : List ℕ)
   answers_as not_json h k = refl
   answers_as not_message h k = refl
 
-  pub answered : (sort_of (message_of body) ≡ Some sort.Request → ⊥) → (sort_of (message_of body) ≡ Some sort.Notification → ⊥) → is_served (desk_of e before).phase ≡ true → is_malformed (message_of body) ≡ false → (is_begun (desk_of e before).phase && is_doubled before e (message_of body)) ≡ false → (is_there (desk_of e before).phase && asks_lspmux (message_of body)) ≡ false → Alike row nothing
+  pub answered : (sort_of (message_of body) ≡ Some sort.Request → ⊥) → (sort_of (message_of body) ≡ Some sort.Notification → ⊥) → is_served (desk_of e before).phase ≡ true → is_malformed (message_of body) ≡ false → (is_begun (desk_of e before).phase && is_doubled before e (message_of body)) ≡ false → (is_there (desk_of e before).phase && asks_lspmux (message_of body)) ≡ false → Alike row (response_row settings before e body (message_of body))
   answered h k p well single other = alike_then (served (message_of body) refl p well single other) (alike (answers_as (message_of body) h k))
+
+-- and it is a response
+pub is_answer : (m : Message) → (sort_of m ≡ Some sort.Request → ⊥) → (sort_of m ≡ Some sort.Notification → ⊥) → is_malformed m ≡ false → is_response m ≡ true
+is_answer (request id method params) h k w = absurd (h refl)
+is_answer (notification method params) h k w = absurd (k refl)
+is_answer (result id r) h k w = refl
+is_answer (error id r) h k w = refl
+is_answer not_json h k w = absurd (cc)
+is_answer not_message h k w = absurd (cc)
 
 -- what is no request, by its row
 pub exit_named : (settings : Settings) (before : List Event) (e : ℕ) (m : Message) → notifies (codes "exit") m ≡ true → Alike (exit_row settings before e m) (closing_row settings before e)

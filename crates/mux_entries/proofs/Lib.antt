@@ -1,3 +1,5 @@
+pub mod EditorAsks
 pub mod EditorBuilt
 pub mod EditorRows
 pub mod Said
+pub mod Questions

@@ -25,9 +25,15 @@ use Rattle.event_model.specs.Settings.{Settings}
 use Rattle.event_model.specs.Stages.{Life, is_ended, is_first_result, life_behind, life_of, no_life, runs, stage_ending, stage_hears, stage_started, stage_told}
 use Rattle.event_model.proofs.Frames.{never}
 use Rattle.event_model.proofs.Turns.{alike, alike_then}
-use Rattle.group_facts.specs.Built.{built_early, built_from_server, is_shown_whole}
+use Rattle.group_facts.specs.Built.{built_early, built_from_server, built_ready, built_telling, is_shown_whole}
 use Rattle.group_facts.specs.Facts.{AllForwarded, IsForwarded, WaitingAsked, is_early}
+use Rattle.lsp_method.specs.Class.{class_of}
+use Rattle.lsp_method.specs.declared.variants.Class.{Class}
+use Rattle.lsp_method.specs.declared.variants.Class.TheVariants.{Broadcast}
+use Rattle.lsp_method.specs.declared.variants.Origin.TheVariants.{Server}
 use Rattle.group_rows.specs.Answers.{answer_row, hand_on}
+use Rattle.group_rows.specs.AskRows.{broadcast_row, notified_row}
+use Rattle.group_rows.specs.Rows as rows
 use Rattle.group_rows.specs.Forwarded.{Forwarded, answered_by, forwarding_of, names}
 use Rattle.group_rows.specs.Rows.{first_result, from_server, refused_row, hasty_row, stopping_row}
 use Rattle.group_rows.specs.Ends.{last_number}
@@ -159,6 +165,23 @@ malformed_names (error id r) h = absurd (cc)
 pub unanswered_named : (m : Message) → answered_id m ≡ None → NamesAt (answered_id m) None
 unanswered_named m h = subst (λ id. NamesAt id None) (sym h) (λ n l. refl)
 
+malformed_aside_notice : (m : Message) → is_malformed m ≡ true → sort_of m ≡ Some sort.Notification → ⊥
+malformed_aside_notice not_json h k = cc
+malformed_aside_notice not_message h k = cc
+malformed_aside_notice (request id method params) h k = absurd (cc)
+malformed_aside_notice (notification method params) h k = absurd (cc)
+malformed_aside_notice (result id r) h k = absurd (cc)
+malformed_aside_notice (error id r) h k = absurd (cc)
+
+-- a message of a start that is ready, which is neither a request nor a notification
+ready_answers : (settings : Settings) (before : List Event) (s : ℕ) (body : List ℕ) (m : Message) → (sort_of m ≡ Some sort.Request → ⊥) → (sort_of m ≡ Some sort.Notification → ⊥) → rows.ready_row settings s before body m ≡ answer_row settings s before body m
+ready_answers settings before s body (request id method params) r n = absurd (r refl)
+ready_answers settings before s body (notification method params) r n = absurd (n refl)
+ready_answers settings before s body (result id r') r n = refl
+ready_answers settings before s body (error id r') r n = refl
+ready_answers settings before s body not_json r n = refl
+ready_answers settings before s body not_message r n = refl
+
 module _ (settings : Settings) (s : ℕ) (before : List Event) (body : List ℕ) where
   unasked_row : (m : Message) → (sort_of m ≡ Some sort.Request → ⊥) → hasty_row s body m ≡ nothing
   unasked_row (request id method params) h = absurd (h refl)
@@ -171,7 +194,8 @@ module _ (settings : Settings) (s : ℕ) (before : List Event) (body : List ℕ)
   -- S1
   pub malformed_row : (m : Message) (stage : Stage) → is_malformed m ≡ true → Alike (from_server settings s before body m stage) nothing
   malformed_row m Initializing h = alike_then (is_second refl (unanswered_first m (malformed_names m h))) (alike_then (is_second refl (unanswered_error m (malformed_names m h))) (alike (unasked_row m (malformed_aside m h))))
-  malformed_row m Ready h = alike (ap (λ o. on o nothing (hand_on settings before s body)) (ap (λ id. find (answered_by id) (forwarding_of s before).open_requests) (malformed_names m h) ∙ nobody (forwarding_of s before).open_requests))
+  malformed_row m Ready h = alike_then (alike (ready_answers settings before s body m (malformed_aside m h) (malformed_aside_notice m h)))
+      (alike (ap (λ o. on o nothing (hand_on settings before s body)) (ap (λ id. find (answered_by id) (forwarding_of s before).open_requests) (malformed_names m h) ∙ nobody (forwarding_of s before).open_requests)))
   malformed_row m Unspawned h = alike refl
   malformed_row m Spawning h = alike refl
   malformed_row m Stopping h = is_second refl (ap (λ id. names id (last_number s before)) (malformed_names m h))
@@ -238,9 +262,9 @@ pub record IsFirst (settings : Settings) (before : List Event) (s : ℕ) (body :
   pub shown : IsShown body
   pub row : Alike (from_server settings s before body (message_of body) (life_of s before).stage) (first_result settings before s body)
 
-module _ (settings : Settings) (before : List Event) (s : ℕ) (body : List ℕ) (stage : (life_of s before).stage ≡ Initializing) (built : built_from_server (life_of s before).stage body (message_of body) ≡ true) where
+module _ (settings : Settings) (before : List Event) (s : ℕ) (body : List ℕ) (stage : (life_of s before).stage ≡ Initializing) (built : built_from_server settings before s (life_of s before).stage body (message_of body) ≡ true) where
   now_built : built_early body (message_of body) ≡ true
-  now_built = ap (λ g. built_from_server g body (message_of body)) (sym stage) ∙ built
+  now_built = ap (λ g. built_from_server settings before s g body (message_of body)) (sym stage) ∙ built
 
   pub first_entry : is_first_result (message_of body) ≡ true → IsFirst settings before s body
   first_entry first =
@@ -261,23 +285,24 @@ asked_so before f k = record { name = k.id; text = k.text; answered = λ waits. 
 pub asked : (before : List Event) (s : ℕ) (m : Message) → AllForwarded before → (f : Forwarded) → find (answered_by (answered_id m)) (forwarding_of s before).open_requests ≡ Some f → IsAsked before f
 asked before s m all f found = asked_so before f (found_is (IsForwarded before) (answered_by (answered_id m)) f (forwarding_of s before).open_requests (all s) found)
 
-pub ready_row : (settings : Settings) (before : List Event) (s : ℕ) (body : List ℕ) → (life_of s before).stage ≡ Ready → Alike (from_server settings s before body (message_of body) (life_of s before).stage) (answer_row settings s before body (message_of body))
-ready_row settings before s body stage = alike (ap (from_server settings s before body (message_of body)) stage)
+pub answer_here : (settings : Settings) (before : List Event) (s : ℕ) (body : List ℕ) → (life_of s before).stage ≡ Ready → (sort_of (message_of body) ≡ Some sort.Request → ⊥) → (sort_of (message_of body) ≡ Some sort.Notification → ⊥)
+    → Alike (from_server settings s before body (message_of body) (life_of s before).stage) (answer_row settings s before body (message_of body))
+answer_here settings before s body stage r n = alike (ap (from_server settings s before body (message_of body)) stage ∙ ready_answers settings before s body (message_of body) r n)
 
 -- S4
 pub stopped_row : (settings : Settings) (before : List Event) (s : ℕ) (body : List ℕ) → (life_of s before).stage ≡ Stopping → Alike (from_server settings s before body (message_of body) (life_of s before).stage) (stopping_row s before (message_of body))
 stopped_row settings before s body stage = alike (ap (from_server settings s before body (message_of body)) stage)
 
 -- in other stages no message is built
-others_none : (stage : Stage) (body : List ℕ) (m : Message) → (stage ≡ Initializing → ⊥) → (stage ≡ Ready → ⊥) → (stage ≡ Stopping → ⊥) → (stage ≡ Ending → ⊥) → built_from_server stage body m ≡ is_malformed m
-others_none Initializing body m i r s e = absurd (i refl)
-others_none Ready body m i r s e = absurd (r refl)
-others_none Stopping body m i r s e = absurd (s refl)
-others_none Ending body m i r s e = absurd (e refl)
-others_none Unspawned body m i r s e = refl
-others_none Spawning body m i r s e = refl
-others_none Ended body m i r s e = refl
+others_none : (settings : Settings) (before : List Event) (s : ℕ) (stage : Stage) (body : List ℕ) (m : Message) → (stage ≡ Initializing → ⊥) → (stage ≡ Ready → ⊥) → (stage ≡ Stopping → ⊥) → (stage ≡ Ending → ⊥) → built_from_server settings before s stage body m ≡ is_malformed m
+others_none settings before n Initializing body m i r s e = absurd (i refl)
+others_none settings before n Ready body m i r s e = absurd (r refl)
+others_none settings before n Stopping body m i r s e = absurd (s refl)
+others_none settings before n Ending body m i r s e = absurd (e refl)
+others_none settings before n Unspawned body m i r s e = refl
+others_none settings before n Spawning body m i r s e = refl
+others_none settings before n Ended body m i r s e = refl
 
-pub built_elsewhere : {A : Type 0} (stage kept : Stage) (body : List ℕ) (m : Message) → stage ≡ kept → (kept ≡ Initializing → ⊥) → (kept ≡ Ready → ⊥) → (kept ≡ Stopping → ⊥) → (kept ≡ Ending → ⊥)
-    → is_malformed m ≡ false → built_from_server stage body m ≡ true → A
-built_elsewhere stage kept body m at i r s e well built = never (sym built ∙ others_none stage body m (λ h. i (sym at ∙ h)) (λ h. r (sym at ∙ h)) (λ h. s (sym at ∙ h)) (λ h. e (sym at ∙ h)) ∙ well)
+pub built_elsewhere : {A : Type 0} (settings : Settings) (before : List Event) (n : ℕ) (stage kept : Stage) (body : List ℕ) (m : Message) → stage ≡ kept → (kept ≡ Initializing → ⊥) → (kept ≡ Ready → ⊥) → (kept ≡ Stopping → ⊥) → (kept ≡ Ending → ⊥)
+    → is_malformed m ≡ false → built_from_server settings before n stage body m ≡ true → A
+built_elsewhere settings before n stage kept body m at i r s e well built = never (sym built ∙ others_none settings before n stage body m (λ h. i (sym at ∙ h)) (λ h. r (sym at ∙ h)) (λ h. s (sym at ∙ h)) (λ h. e (sym at ∙ h)) ∙ well)

@@ -17,7 +17,7 @@ ghost use Rattle.mux_history.specs.declared.cause.Cause.TheVariants.{EditorGone,
 ghost use Rattle.mux_history.specs.declared.cause.Why.{Why};
 ghost use Rattle.mux_model.specs.Fits.{fits_behind};
 ghost use Rattle.mux_tables.specs.Documents.{AllStand, DocumentsStand, nothing_owed};
-ghost use Rattle.mux_tables.specs.Stands.{Stands};
+ghost use Rattle.mux_tables.specs.Stands.{AnswersNone, Stands};
 ghost use Rattle.mux_turns.specs.Ceilings.{HaveCeilings};
 ghost use Rattle.rpc_message.specs.declared.sort.Sort.TheVariants.{Request};
 ghost use Rattle.rpc_message.specs.Message.{Id, message_of, notification, request};
@@ -33,7 +33,7 @@ use mux_tables::Tables;
 use mux_turns::{
     asks_lspmux, doubles, take_cancel, take_closed, take_doubled, take_doubled_own, take_down,
     take_early, take_exit, take_gone, take_initialize, take_malformed, take_notice, take_open,
-    take_passed, take_quiet, take_request, take_shutdown, take_status, take_wrong,
+    take_passed, take_quiet, take_reply, take_request, take_shutdown, take_status, take_wrong,
 };
 use rpc_message::{Malformed, Message, Sort};
 use std::alloc::Global;
@@ -82,7 +82,8 @@ fn from_aside(
     ensures same_limit { tables.new.requests ≡ tables.old.requests }
     ensures same_versions { tables.new.versions ≡ tables.old.versions }
     ensures does { (settings : Settings) (before : List Event) (body : List ℕ) → IsRead message.now body
-        → (sort_of (message_of body) ≡ Some Request → ⊥) → is_served (desk_of e before).phase ≡ false → outs.old ≡ []
+        → (sort_of (message_of body) ≡ Some Request → ⊥) → is_served (desk_of e before).phase ≡ false
+        → AnswersNone e (message_of body) before → outs.old ≡ []
         → Stands settings tables.old before → DocumentsStand settings nothing_owed tables.old before
         → OnOk result (Done (λ k events. AllStand settings k events) (exit_row settings before e (message_of body))
         (with_cause before (FromEditor e body)) [] (tables.new, nothing_owed) outs.new) }
@@ -109,7 +110,7 @@ fn from_early(
     ensures same_versions { tables.new.versions ≡ tables.old.versions }
     ensures does { (settings : Settings) (before : List Event) (body : List ℕ) → IsRead message.now body → is_early (desk_of e before).phase ≡ true
         → places (desk_of e before).phase (message_of body) ≡ false → stops before e (message_of body) ≡ false
-        → asks_lspmux (message_of body) ≡ false → outs.old ≡ []
+        → asks_lspmux (message_of body) ≡ false → AnswersNone e (message_of body) before → outs.old ≡ []
         → Stands settings tables.old before → DocumentsStand settings nothing_owed tables.old before
         → OnOk result (Done (λ k events. AllStand settings k events) (early_row settings before e body (message_of body))
         (with_cause before (FromEditor e body)) [] (tables.new, nothing_owed) outs.new) }
@@ -138,7 +139,7 @@ fn from_down(
     ensures same_limit { tables.new.requests ≡ tables.old.requests }
     ensures same_versions { tables.new.versions ≡ tables.old.versions }
     ensures does { (settings : Settings) (before : List Event) (body : List ℕ) → IsRead message.now body → (desk_of e before).phase ≡ Down
-        → stops before e (message_of body) ≡ false → outs.old ≡ []
+        → stops before e (message_of body) ≡ false → AnswersNone e (message_of body) before → outs.old ≡ []
         → Stands settings tables.old before → DocumentsStand settings nothing_owed tables.old before
         → OnOk result (Done (λ k events. AllStand settings k events) (down_row settings before e body (message_of body))
         (with_cause before (FromEditor e body)) [] (tables.new, nothing_owed) outs.new) }
@@ -284,7 +285,7 @@ fn from_served(
             Ok(())
         }
         Sort::Result | Sort::Error => {
-            take_quiet(tables, e, message);
+            take_reply(tables, alloc, outs, e, message)?;
             Ok(())
         }
     }

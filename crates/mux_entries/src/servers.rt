@@ -1,33 +1,41 @@
-//! What the program of a start says: S1 to S5.
-ghost use Rattle.std.specs.Prelude.{◌≡◌, ◌<◌, ◌≤◌, ℕ, List, [], map, Some, false, true, length, OnOk, slice_get};
-ghost use Rattle.event_model.specs.declared.stage.Stage.TheVariants.{Initializing};
+//! What the program of a start says: S1 to S5, S9, S11, S12, S14, and what goes to each editor.
+ghost use Rattle.std.specs.Prelude.{◌≡◌, ◌<◌, ◌≤◌, ℕ, List, [], map, Option, Some, false, true, length, OnOk, slice_get};
+ghost use Rattle.std.specs.List.{list_any};
+ghost use Rattle.event_model.specs.declared.stage.Stage.TheVariants.{Initializing, Ready};
 ghost use Rattle.event_model.specs.Does.{Alike, Done};
 ghost use Rattle.event_model.specs.Event.{Event, with_cause};
 ghost use Rattle.event_model.specs.Requests.{answered_id};
 ghost use Rattle.event_model.specs.Row.{nothing};
 ghost use Rattle.event_model.specs.Settings.{Settings};
 ghost use Rattle.event_model.specs.Stages.{is_first_result, life_of, runs};
-ghost use Rattle.group_facts.specs.Built.{built_behind};
+ghost use Rattle.group_facts.specs.Built.{built_asking, built_behind, built_ready, built_telling};
 ghost use Rattle.group_facts.specs.Facts.{Known};
 ghost use Rattle.group_facts.specs.Settled.{Settled};
+ghost use Rattle.group_rows.specs.AskRows.{asking_row, notified_row, question_row};
+ghost use Rattle.group_rows.specs.Asks.{asks_of, is_under};
 ghost use Rattle.group_rows.specs.Rows.{row_of};
 ghost use Rattle.group_words.specs.Houses.{is_first_error};
+ghost use Rattle.json_text.specs.Json.{Json};
+ghost use Rattle.lsp_method.specs.Class.{class_of};
+ghost use Rattle.lsp_method.specs.declared.variants.Origin.TheVariants.{Server};
 ghost use Rattle.mux_history.specs.declared.cause.Cause.TheVariants.{FromServer};
 ghost use Rattle.mux_model.specs.Fits.{fits_behind};
 ghost use Rattle.mux_tables.specs.declared.tables.Start.{Start};
 ghost use Rattle.mux_tables.specs.Documents.{AllStand, DocumentsStand, nothing_owed};
 ghost use Rattle.mux_tables.specs.Stands.{NamesAt, Stands, number_in};
-ghost use Rattle.rpc_message.specs.Message.{message_of};
+ghost use Rattle.rpc_message.specs.Message.{Id, message_of, notification, request};
 ghost use Rattle.rpc_message.specs.Parsed.{IsRead};
 ghost use Rattle.rpc_message.specs.Sorts.{Refuses};
 
 use event_model::Stage;
+use lsp_method::Class;
 use message_body::{Body, Memory};
 use mux_history::Outs;
-use mux_members::is_first_result;
+use mux_members::{asked_class, is_first_result, told_class};
 use mux_tables::Tables;
 use mux_turns::{
-    answered_number, is_first_error, stage_at, take_answer, take_ending, take_hasty, take_refused,
+    answered_number, is_first_error, stage_at, take_answer, take_broadcast, take_ending,
+    take_focused, take_hasty, take_lowest, take_recall, take_refresh, take_refused, take_repeated,
     take_result, take_stopping,
 };
 use rpc_message::{Malformed, Message, Sort};
@@ -130,6 +138,136 @@ fn take_first(
     }
 }
 
+// S9, S11 and S12: a request comes from a start that is ready, under the id of no open ask; other classes aren't built.
+fn take_class(
+    tables: &mut Tables,
+    alloc: Global,
+    outs: &mut Outs,
+    g: usize,
+    message: &Message,
+) -> Result<(), Memory>
+    requires { g < length tables.old.lasts.items }
+    ensures same_limit { tables.new.requests ≡ tables.old.requests }
+    ensures same_versions { tables.new.versions ≡ tables.old.versions }
+    ensures does { (settings : Settings) (before : List Event) (body method : List ℕ) (id : Id) (params : Option Json) (s : ℕ) (x : Start)
+        → IsRead message.now body → message_of body ≡ request id method params → list_any (is_under (Some id)) (asks_of s before) ≡ false
+        → built_asking settings before s method (class_of method Server false) ≡ true → outs.old ≡ []
+        → slice_get tables.old.lasts.items g ≡ Some x → x.life.stage ≡ Ready → slice_get (map number_in tables.old.lasts.items) g ≡ Some s
+        → Stands settings tables.old before → DocumentsStand settings nothing_owed tables.old before
+        → OnOk result (Done (λ k events. AllStand settings k events) (asking_row settings before x.life.group s body (class_of method Server false))
+        (with_cause before (FromServer s body)) [] (tables.new, nothing_owed) outs.new) }
+{
+    match asked_class(message) {
+        Class::Refresh => {
+            take_refresh(tables, alloc, outs, g, message)?;
+            Ok(())
+        }
+        Class::Focused => {
+            take_focused(tables, alloc, outs, g, message)?;
+            Ok(())
+        }
+        Class::Lowest => {
+            take_lowest(tables, alloc, outs, g, message)?;
+            Ok(())
+        }
+        _ => Ok(()),
+    }
+}
+
+// A request comes from a start that is ready: that, or one under the id of an open ask, which gives nothing.
+fn take_question(
+    tables: &mut Tables,
+    alloc: Global,
+    outs: &mut Outs,
+    g: usize,
+    message: &Message,
+) -> Result<(), Memory>
+    requires { g < length tables.old.lasts.items }
+    ensures same_limit { tables.new.requests ≡ tables.old.requests }
+    ensures same_versions { tables.new.versions ≡ tables.old.versions }
+    ensures does { (settings : Settings) (before : List Event) (body method : List ℕ) (id : Id) (params : Option Json) (s : ℕ) (x : Start)
+        → IsRead message.now body → message_of body ≡ request id method params
+        → built_ready settings before s (request id method params) ≡ true → outs.old ≡ []
+        → slice_get tables.old.lasts.items g ≡ Some x → x.life.stage ≡ Ready → slice_get (map number_in tables.old.lasts.items) g ≡ Some s
+        → Stands settings tables.old before → DocumentsStand settings nothing_owed tables.old before
+        → OnOk result (Done (λ k events. AllStand settings k events) (question_row settings s before body id method)
+        (with_cause before (FromServer s body)) [] (tables.new, nothing_owed) outs.new) }
+{
+    if tables.is_asked(g, message.id_bytes()) {
+        take_repeated(tables, g);
+        Ok(())
+    } else {
+        take_class(tables, alloc, outs, g, message)?;
+        Ok(())
+    }
+}
+
+// S14, and what goes to each editor: a notification comes from a start that is ready; other classes aren't built.
+fn take_telling(
+    tables: &mut Tables,
+    alloc: Global,
+    outs: &mut Outs,
+    g: usize,
+    message: &Message,
+) -> Result<(), Memory>
+    requires { g < length tables.old.lasts.items }
+    ensures same_limit { tables.new.requests ≡ tables.old.requests }
+    ensures same_versions { tables.new.versions ≡ tables.old.versions }
+    ensures does { (settings : Settings) (before : List Event) (body method : List ℕ) (params : Option Json) (s : ℕ) (x : Start)
+        → IsRead message.now body → message_of body ≡ notification method params
+        → built_telling (class_of method Server true) ≡ true → outs.old ≡ [] → Settled settings before
+        → slice_get tables.old.lasts.items g ≡ Some x → x.life.stage ≡ Ready → slice_get (map number_in tables.old.lasts.items) g ≡ Some s
+        → Stands settings tables.old before → DocumentsStand settings nothing_owed tables.old before
+        → OnOk result (Done (λ k events. AllStand settings k events) (notified_row settings s before body params (class_of method Server true))
+        (with_cause before (FromServer s body)) [] (tables.new, nothing_owed) outs.new) }
+{
+    match told_class(message) {
+        Class::Cancel => {
+            take_recall(tables, alloc, outs, g, message)?;
+            Ok(())
+        }
+        _ => {
+            take_broadcast(tables, alloc, outs, g, message)?;
+            Ok(())
+        }
+    }
+}
+
+// A message comes from a start that is ready: it asks something of editors, tells them something, or answers an editor's request.
+fn take_ready(
+    tables: &mut Tables,
+    alloc: Global,
+    outs: &mut Outs,
+    g: usize,
+    message: &Message,
+) -> Result<(), Memory>
+    requires group { g < length tables.old.lasts.items }
+    requires stage { (x : Start) → slice_get tables.old.lasts.items g ≡ Some x → x.life.stage ≡ Ready }
+    ensures same_limit { tables.new.requests ≡ tables.old.requests }
+    ensures same_versions { tables.new.versions ≡ tables.old.versions }
+    ensures does { (settings : Settings) (before : List Event) (body : List ℕ) (s : ℕ) → IsRead message.now body → outs.old ≡ []
+        → slice_get (map number_in tables.old.lasts.items) g ≡ Some s → Known settings before → Settled settings before
+        → built_behind settings before (FromServer s body) ≡ true
+        → Stands settings tables.old before → DocumentsStand settings nothing_owed tables.old before
+        → OnOk result (Done (λ k events. AllStand settings k events) (row_of settings before (FromServer s body))
+        (with_cause before (FromServer s body)) [] (tables.new, nothing_owed) outs.new) }
+{
+    match message.sort() {
+        Sort::Request => {
+            take_question(tables, alloc, outs, g, message)?;
+            Ok(())
+        }
+        Sort::Notification => {
+            take_telling(tables, alloc, outs, g, message)?;
+            Ok(())
+        }
+        Sort::Result | Sort::Error => {
+            take_answer(tables, alloc, outs, g, message)?;
+            Ok(())
+        }
+    }
+}
+
 // A message comes from the group's last start. Behind its `shutdown` the response to it ends the start, and all else there, as all
 // behind its end, gives nothing (S4); in other stages than these none is built.
 fn take_message(
@@ -143,7 +281,7 @@ fn take_message(
     ensures same_limit { tables.new.requests ≡ tables.old.requests }
     ensures same_versions { tables.new.versions ≡ tables.old.versions }
     ensures does { (settings : Settings) (before : List Event) (body : List ℕ) (s : ℕ) → IsRead message.now body → outs.old ≡ []
-        → slice_get (map number_in tables.old.lasts.items) g ≡ Some s → Known settings before → runs (life_of s before) ≡ true
+        → slice_get (map number_in tables.old.lasts.items) g ≡ Some s → Known settings before → Settled settings before → runs (life_of s before) ≡ true
         → built_behind settings before (FromServer s body) ≡ true
         → Stands settings tables.old before → DocumentsStand settings nothing_owed tables.old before
         → OnOk result (Done (λ k events. AllStand settings k events) (row_of settings before (FromServer s body))
@@ -156,7 +294,7 @@ fn take_message(
             Ok(())
         }
         Stage::Ready => {
-            take_answer(tables, alloc, outs, g, message)?;
+            take_ready(tables, alloc, outs, g, message)?;
             Ok(())
         }
         Stage::Stopping => {
@@ -184,7 +322,7 @@ fn take_body(
     ensures same_limit { tables.new.requests ≡ tables.old.requests }
     ensures same_versions { tables.new.versions ≡ tables.old.versions }
     ensures does { (settings : Settings) (before : List Event) (s : ℕ) → outs.old ≡ []
-        → slice_get (map number_in tables.old.lasts.items) g ≡ Some s → Known settings before → runs (life_of s before) ≡ true
+        → slice_get (map number_in tables.old.lasts.items) g ≡ Some s → Known settings before → Settled settings before → runs (life_of s before) ≡ true
         → built_behind settings before (FromServer s body.now) ≡ true
         → Stands settings tables.old before → DocumentsStand settings nothing_owed tables.old before
         → OnOk result (Done (λ k events. AllStand settings k events) (row_of settings before (FromServer s body.now))
@@ -203,8 +341,9 @@ fn take_body(
 }
 
 /// The program of a start says something: where it gives the result of its `initialize`, the editors that wait are answered; where it
-/// refuses it, its group ends; where it answers an editor's request, that editor is answered; where it answers `shutdown`, the start is to end; a body that is no message gives
-/// nothing. Only a start that is the last of its group has a program that runs.
+/// refuses it, its group ends; where it answers an editor's request, that editor is answered; where it asks something, the editors that are
+/// to answer are asked; where it tells something, they are told; where it answers `shutdown`, the start is to end; a body that is no message
+/// gives nothing. Only a start that is the last of its group has a program that runs.
 pub fn from_server(
     tables: &mut Tables,
     alloc: Global,

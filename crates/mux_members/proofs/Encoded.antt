@@ -9,7 +9,7 @@ use Rattle.std.specs.List.{All}
 use Rattle.std.proofs.lemmas.List.Sums.{AllPass-from_list_all}
 use lib.Utf8.{encode, encodes}
 use Rattle.json_token.proofs.Encoded.{one, two, three, four}
-use Rattle.lsp_method.specs.Class.{own_request, own_notification, goes_nowhere, editor_request, editor_notification}
+use Rattle.lsp_method.specs.Class.{editor_notification, editor_request, goes_nowhere, is_focused, is_refresh, own_notification, own_request, server_notification, server_request}
 use Rattle.lsp_method.specs.declared.variants.Class.TheVariants.{Wrong, Other, Dropped}
 use Rattle.mux_model.specs.Methods.{is_dollar}
 use Rattle.mux_members.specs.Finds.{is_ascii}
@@ -111,3 +111,41 @@ dollar_encoded cs = rw (
 pub class_encoded : (cs : List ℕ) → editor_request (encode_utf8_all cs) ≡ editor_request cs
 unfolding editor_request
 class_encoded cs = ap₂ (λ o w. unwrap_or o w) (requests_same cs) (ap₂ (λ o b. if is_some o || b then Wrong else Other) (notifications_same cs) (nowhere_same cs))
+
+-- and that of a server's
+refresh_same : (cs : List ℕ) → is_refresh (encode_utf8_all cs) ≡ is_refresh cs
+unfolding is_refresh
+refresh_same cs = rw (
+  ascii_encoded cs (codes "workspace/codeLens/refresh") refl,
+  ascii_encoded cs (codes "workspace/semanticTokens/refresh") refl,
+  ascii_encoded cs (codes "workspace/inlayHint/refresh") refl,
+  ascii_encoded cs (codes "workspace/inlineValue/refresh") refl,
+  ascii_encoded cs (codes "workspace/diagnostic/refresh") refl,
+) refl
+
+focused_same : (cs : List ℕ) → is_focused (encode_utf8_all cs) ≡ is_focused cs
+unfolding is_focused
+focused_same cs = rw (
+  ascii_encoded cs (codes "workspace/applyEdit") refl,
+  ascii_encoded cs (codes "window/showMessageRequest") refl,
+  ascii_encoded cs (codes "window/showDocument") refl,
+) refl
+
+pub asked_encoded : (cs : List ℕ) → server_request (encode_utf8_all cs) ≡ server_request cs
+unfolding server_request
+asked_encoded cs = rw (
+  ascii_encoded cs (codes "client/registerCapability") refl,
+  ascii_encoded cs (codes "client/unregisterCapability") refl,
+  ascii_encoded cs (codes "window/workDoneProgress/create") refl,
+  ascii_encoded cs (codes "workspace/workspaceFolders") refl,
+  refresh_same cs,
+  focused_same cs,
+) refl
+
+pub told_encoded : (cs : List ℕ) → server_notification (encode_utf8_all cs) ≡ server_notification cs
+unfolding server_notification
+told_encoded cs = rw (
+  ascii_encoded cs (codes "$/progress") refl,
+  ascii_encoded cs (codes "$/cancelRequest") refl,
+  ascii_encoded cs (codes "textDocument/publishDiagnostics") refl,
+) refl

@@ -2,7 +2,7 @@
 ghost use Rattle.std.specs.Prelude.{◌≡◌, ℕ, List, true, false, codes, Option, bytes_eq};
 ghost use Rattle.json_text.specs.Json.{Json};
 ghost use Rattle.lsp_method.specs.Class.{class_of};
-ghost use Rattle.lsp_method.specs.declared.variants.Origin.TheVariants.{Editor};
+ghost use Rattle.lsp_method.specs.declared.variants.Origin.TheVariants.{Editor, Server};
 ghost use Rattle.rpc_message.specs.Message.{Id, message_of, notification, request};
 ghost use Rattle.mux_model.specs.Methods.{goes_on, is_dollar, is_wrong};
 ghost use Rattle.rpc_message.specs.Parsed.{IsRead};
@@ -39,6 +39,28 @@ fn notice_class(m: &Message) -> Class
 {
     match m.method() {
         Some(method) => class(method, Origin::Editor, true),
+        None => Class::Other,
+    }
+}
+
+/// The class of a server's request, by its method.
+pub fn asked_class(m: &Message) -> Class
+    ensures { (bytes method : List ℕ) (id : Id) (params : Option Json) → IsRead m.now bytes → message_of bytes ≡ request id method params
+        → result ≡ class_of method Server false }
+{
+    match m.method() {
+        Some(method) => class(method, Origin::Server, false),
+        None => Class::Other,
+    }
+}
+
+/// The class of a server's notification, by its method.
+pub fn told_class(m: &Message) -> Class
+    ensures { (bytes method : List ℕ) (params : Option Json) → IsRead m.now bytes → message_of bytes ≡ notification method params
+        → result ≡ class_of method Server true }
+{
+    match m.method() {
+        Some(method) => class(method, Origin::Server, true),
         None => Class::Other,
     }
 }

@@ -17,7 +17,6 @@ use Rattle.event_model.specs.Settings.{Settings}
 use Rattle.event_model.specs.Spawns.{group_of}
 use Rattle.event_model.proofs.Frames.{never}
 use Rattle.event_model.proofs.Places.{item_at}
-use Rattle.focus_switch.specs.Documents.{Documents}
 use Rattle.focus_switch.specs.Versions.{versions_of}
 use Rattle.group_laws.specs.Stands.{HeldStands}
 use Rattle.group_laws.proofs.Versions.{now_stamp}

@@ -3,7 +3,7 @@ use Rattle.std.proofs.Common.{◌≡◌, ℕ, ◌<◌, ◌≤◌, ◌^◌, [], r
 use Rattle.std.specs.Prelude.{Option, Some, None}
 use Rattle.event_model.specs.Settings.{Settings}
 use Rattle.mux_tables.specs.declared.tables.Tables.{Tables}
-use Rattle.mux_tables.specs.Stands.{Part, of_life, of_ids, of_shown, of_stop, PartStands, blank, GroupsStand, LastsStand, Stands}
+use Rattle.mux_tables.specs.Stands.{Part, of_life, of_ids, of_shown, of_stop, of_asks, PartStands, blank, GroupsStand, LastsStand, Stands}
 
 none_some : {A : Type 0} {x : A} → ◌≡◌ {A = Option A} None (Some x) → ⊥
 none_some e = cc
@@ -13,6 +13,7 @@ blank_stands limit s h of_life = refl
 blank_stands limit s h of_ids = record { next = refl; open_requests = refl; ends = refl; order = record { rising = omega arith; within = h } }
 blank_stands limit s h of_shown = (refl, refl)
 blank_stands limit s h of_stop = tt
+blank_stands limit s h of_asks = (refl, refl)
 
 no_lasts : (limit : ℕ) → 2 ≤ limit → LastsStand limit [] []
 no_lasts limit h = record {
@@ -30,7 +31,7 @@ pub begins : (settings : Settings) (t : Tables) (groups idle : ℕ) → 2 ≤ t.
     → settings.limits.groups ≡ groups → settings.limits.idle ≡ idle → settings.limits.requests ≡ t.requests → Stands settings t []
 begins settings t groups idle h below es gs now ls os sk limit wait last = record {
   house = record {
-    editors = rw es (record { count = refl; phase = λ e. refl; home = λ e. refl; names = λ e. record { own = λ g w h. absurd (none_some h); unplaced = λ n. refl }; meant = λ e w. refl });
+    editors = rw es (record { count = refl; phase = λ e. refl; home = λ e. refl; names = λ e. record { own = λ g w h. absurd (none_some h); unplaced = λ n. refl }; meant = λ e w. refl; asked = λ e there. refl });
     groups = rw gs (no_groups settings groups idle limit wait);
     now = rw now refl;
   };

@@ -51,14 +51,14 @@ use Rattle.mux_tables.specs.declared.tables.Start.{Start}
 use Rattle.mux_tables.specs.declared.tables.Tables.{Tables}
 use Rattle.mux_tables.specs.Documents.{AllStand, AllTell, DocumentsStand, IsOwned, SharedStands, StepAt, Told, nothing_owed, syncing, to}
 use Rattle.mux_tables.specs.Notes.{IsNoted, NotesStand, StampsAt, stamp_in}
-use Rattle.mux_tables.specs.Stands.{Sends, Stands, forwarded_of, number_in, of_ids}
+use Rattle.mux_tables.specs.Stands.{Sends, Stands, forwarded_of, is_answer, number_in, of_ids}
 use Rattle.mux_tables.proofs.DocumentEvents.{shared_beside}
 use Rattle.mux_tables.proofs.DocumentFrames.{all_owned, owner_stays, sent_apart, sent_silent, shared_stays, start_stays}
 use Rattle.mux_tables.proofs.DocumentMoves.{Rest, documents_at, documents_set, founds_kept, set_same, starts_kept}
 use Rattle.mux_tables.proofs.Placed.{groups_apart}
 use Rattle.mux_tables.proofs.DocumentOwed.{stands_told}
 use Rattle.mux_tables.proofs.DocumentSaid.{cancel_silent}
-use Rattle.mux_tables.proofs.Frames.{itself}
+use Rattle.mux_tables.proofs.Frames.{asks_stay, itself}
 use Rattle.mux_tables.proofs.IdMoves.{sent_as}
 use Rattle.mux_tables.proofs.Lasts.{apart, known}
 use Rattle.mux_tables.proofs.Noting.{below_next, left_stays, left_told, moment_apart, moment_here, moment_told, notes_more}
@@ -382,4 +382,4 @@ passed_does settings t u xs ys told base g s start e z text method ps at within 
     stands d mid_st =
         let mid = behind now (to z.life.start (rows.sync_bodies d.versions (λ u. held_at z.life.start u now) e d.opens)) in
         (does_entry mid_st (unmoved_does settings t u [] (ToServer z.life.start text ∷ []) mid g z.life.start z.life.start z text (subst (λ n. slice_get (map number_in t.lasts.items) g ≡ Some n) (sym number) at) within read
-        (ap (requests (codes "shutdown")) says) (ap moves_ids says ∙ plain.1) (ap (λ v. v.items) ls) es gs time os r refl refl)).stands
+        (ap (requests (codes "shutdown")) says) (ap moves_ids says ∙ plain.1) (λ _. asks_stay z.life.start (behind mid []) (said (ToServer z.life.start text)) (ap is_answer says)) (ap (λ v. v.items) ls) es gs time os r refl refl)).stands

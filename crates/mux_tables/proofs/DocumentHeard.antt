@@ -4,7 +4,8 @@ use Rattle.std.specs.Prelude.{Option, Some, None, MatchOption, bytes_eq, slice_g
 use Rattle.std.proofs.lemmas.Bool.{ne_eqb}
 use Rattle.std.proofs.lemmas.Slice.Eq.{bytes_eq-Decides}
 use Rattle.mux_history.specs.declared.cause.Cause.TheVariants.{Joined, FromEditor, FromServer, Started, Drained}
-use Rattle.rpc_message.specs.Message.{Message, error, result, request, notification, not_json, not_message}
+use Rattle.ask_route.specs.declared.ask.Ask.{Ask}
+use Rattle.rpc_message.specs.Message.{Message, error, result, request, notification, not_json, not_message, message_of}
 use Rattle.document_model.specs.Sayings.{saying_of, speaks}
 use Rattle.event_model.specs.declared.phase.Phase.TheVariants.{New}
 use Rattle.event_model.specs.declared.stage.Stage.{Stage}
@@ -67,6 +68,12 @@ pub heard_documents : (settings : Settings) (owed : Owed) (t u : Tables) (events
     → DocumentsStand settings owed t events → DocumentsStand settings owed u (events ++ took (FromEditor e body) m ∷ [])
 heard_documents settings owed t u events e body m q ls ds vs = documents_all settings owed owed t u events (events ++ took (FromEditor e body) m ∷ []) (rest_heard settings t events e body m q) vs (ap (λ v. v.items) ls) (ap (λ v. v.items) ds)
     (λ g x d at h. shared_heard settings events (owed x.life.group) x.life.group x.life.start x.life.stage d e body m q h)
+
+-- a response, with what is kept of what its start asked
+pub reply_documents : (settings : Settings) (owed : Owed) (t u : Tables) (events : List Event) (g e : ℕ) (z : Start) (left : List Ask) (body : List ℕ) → slice_get t.lasts.items g ≡ Some z → changes_documents events e (message_of body) ≡ false
+    → u.lasts.items ≡ slice_set t.lasts.items g (record z { asks = left }) → u.documents ≡ t.documents → u.versions ≡ t.versions → DocumentsStand settings owed t events → DocumentsStand settings owed u (events ++ took (FromEditor e body) (message_of body) ∷ [])
+reply_documents settings owed t u events g e z left body at q ls ds vs = documents_last settings owed owed t u events (events ++ took (FromEditor e body) (message_of body) ∷ []) (rest_heard settings t events e body (message_of body) q) vs g z (record z { asks = left }) at ls (ap (λ v. v.items) ds) (λ n. n)
+    (λ d h. shared_heard settings events (owed z.life.group) z.life.group z.life.start z.life.stage d e body (message_of body) q h) (λ j w c away there h. shared_heard settings events (owed w.life.group) w.life.group w.life.start w.life.stage c e body (message_of body) q h)
 
 -- its `initialize`, and one that stops all
 pub first_unchanged : (settings : Settings) (t : Tables) (events : List Event) (e : ℕ) (x : Session) (m : Message) → slice_get t.editors e ≡ Some x → x.phase ≡ New → Stands settings t events → changes_documents events e m ≡ false

@@ -1,10 +1,9 @@
 -- E12 to E14: an editor says something of a document: what is kept of it, and what the start is owed.
-use Rattle.std.proofs.Common.{◌≡◌, ℕ, ◌+◌, ◌<◌, ◌^◌, Bool, true, false, ◌&&◌, List, [], ◌∷◌, ◌++◌, length, nat_eq, codes, refl, sym, ap, ap₂, subst, ◌∙◌, append-nil, arith, if◌then◌else◌}
+use Rattle.std.proofs.Common.{◌≡◌, ℕ, ◌+◌, ◌<◌, ◌^◌, Bool, true, false, ◌&&◌, List, [], ◌∷◌, ◌++◌, nat_eq, codes, refl, sym, ap, ap₂, subst, ◌∙◌, append-nil, arith, if◌then◌else◌}
 use Rattle.std.specs.Prelude.{Option, Some, None, slice_get}
 use Rattle.std.specs.List.{AllByRecursion}
 use Rattle.std.specs.Option.{option_and_then, option_map, option_map_or}
 use Rattle.std.proofs.lemmas.Bool.{ne_eqb}
-use Rattle.std.proofs.lemmas.Option.{slice_get_within}
 use Rattle.json_text.specs.Json.{Json}
 use Rattle.json_text.specs.Tree.{tree_of}
 use Rattle.mux_history.specs.declared.cause.Cause.TheVariants.{FromEditor}
@@ -28,7 +27,7 @@ use Rattle.event_model.specs.Phases.{desk_of, is_served}
 use Rattle.event_model.specs.Settings.{Settings}
 use Rattle.event_model.specs.Spawns.{start_of}
 use Rattle.event_model.specs.Stages.{Life, is_ready, life_of}
-use Rattle.event_model.proofs.Places.{item_at, same_item}
+use Rattle.event_model.proofs.Places.{same_item}
 use Rattle.focus_switch.specs.Documents.{Documents}
 use Rattle.focus_switch.specs.Rows.{Step}
 use Rattle.mux_model.specs.Documents.{held_at, sent_of}

@@ -26,7 +26,7 @@ use Rattle.group_laws.proofs.Entries.{first_behind, texts_told}
 use Rattle.mux_tables.specs.declared.tables.Start.{Start}
 use Rattle.mux_tables.specs.declared.tables.Tables.{Tables}
 use Rattle.mux_tables.specs.Documents.{AllStand, AllTell, DocumentsStand, Owed, SharedStands, nothing_owed, owes, to}
-use Rattle.mux_tables.specs.Stands.{Stands, number_in}
+use Rattle.mux_tables.specs.Stands.{Stands, is_answer, number_in}
 use Rattle.mux_tables.proofs.DocumentEvents.{shared_beside, shared_next}
 use Rattle.mux_tables.proofs.DocumentFrames.{sent_apart}
 use Rattle.mux_tables.proofs.Noting.{asks_told, left_stays, moment_stays}
@@ -73,9 +73,10 @@ number_there (w ∷ xs) (suc g) x h = number_there xs g x h
 record Tells (m : Message) : Type 0 where
   pub runs : requests (codes "shutdown") m ≡ false
   pub counts : moves_ids m ≡ false
+  pub answers : is_answer m ≡ false
 
 tells : (m : Message) → speaks (saying_of m) ≡ true → Tells m
-tells (notification method ps) h = record { runs = refl; counts = go (bytes_eq method (codes "$/cancelRequest")) refl }
+tells (notification method ps) h = record { runs = refl; counts = go (bytes_eq method (codes "$/cancelRequest")) refl; answers = refl }
   where
     silent : method ≡ codes "$/cancelRequest" → speaks (saying_by method ps) ≡ false
     silent e = subst (λ w. speaks (saying_by w ps) ≡ false) (sym e) refl
@@ -90,7 +91,7 @@ module _ (settings : Settings) (t : Tables) (g : ℕ) (x : Start) (at : slice_ge
   next_stands : (body : List ℕ) (events : List Event) → speaks (saying_of (message_of body)) ≡ true → Stands settings t events → Stands settings t (events ++ said (ToServer x.life.start body) ∷ [])
   next_stands body events h st =
       let k = tells (message_of body) h in
-      (does_entry st (notify_does settings t [] (ToServer x.life.start body ∷ []) events g x.life.start x.life.start x body (number_there t.lasts.items g x at) (slice_get_within t.lasts.items g x at) (read_back t.lasts.items g x at) k.runs k.counts refl refl)).stands
+      (does_entry st (notify_does settings t [] (ToServer x.life.start body ∷ []) events g x.life.start x.life.start x body (number_there t.lasts.items g x at) (slice_get_within t.lasts.items g x at) (read_back t.lasts.items g x at) k.runs k.counts (λ _. k.answers) refl refl)).stands
 
   pub stands_told : (bodies : List (List ℕ)) (events : List Event) → AllTell bodies → Stands settings t events → Stands settings t (behind events (to x.life.start bodies))
   stands_told [] events h st = subst (λ es. Stands settings t es) (sym (append-nil events)) st

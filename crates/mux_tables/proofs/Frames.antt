@@ -1,6 +1,6 @@
 -- An event leaves alone what it doesn't name: one lemma for each word, by cases of the event, and one for each table.
-use Rattle.std.proofs.Common.{◌≡◌, ℕ, ◌+◌, Bool, true, false, not, ◌&&◌, List, [], ◌∷◌, ◌++◌, refl, ap, sym, subst, ◌∙◌, nat_eq, arith}
-use Rattle.std.specs.Prelude.{Option, Some, None, codes, if◌then◌else◌}
+use Rattle.std.proofs.Common.{◌≡◌, ℕ, ◌+◌, Bool, true, false, not, ◌&&◌, List, [], ◌∷◌, ◌++◌, filter, refl, ap, sym, subst, ◌∙◌, nat_eq, arith}
+use Rattle.std.specs.Prelude.{Option, Some, None, codes, slice_get, if◌then◌else◌}
 use Rattle.std.proofs.lemmas.Bool.Decides.{nat_tests}
 use Rattle.mux_history.specs.declared.cause.Cause.TheVariants.{Joined, FromEditor, EditorGone, Started, StartFailed, FromServer, ServerGone, Tick}
 use Rattle.mux_history.specs.declared.out.Out.TheVariants.{ToEditor, ToServer, Spawn, CloseEditor, EndServer}
@@ -10,7 +10,7 @@ use Rattle.event_model.specs.declared.stage.Stage.{Stage}
 use Rattle.event_model.specs.declared.stage.Stage.TheVariants.{Initializing, Ready}
 use Rattle.event_model.specs.Event.{Event, took, did, requests}
 use Rattle.event_model.specs.Phases.{Desk, desk_behind, desk_hears, desk_of, editors_behind}
-use Rattle.event_model.specs.Requests.{is_own}
+use Rattle.event_model.specs.Requests.{answered_id, is_own}
 use Rattle.event_model.specs.Settings.{Settings}
 use Rattle.event_model.specs.Spawns.{starts_behind, start_behind, group_behind}
 use Rattle.event_model.specs.Stages.{Life, is_ready, life_behind, life_of, is_first_result, stage_hears, stage_told}
@@ -22,8 +22,11 @@ use Rattle.group_words.specs.Rows.{result_behind, result_of}
 use Rattle.group_words.proofs.Frames.{touches_groups, names_home, groups_stay, home_stays, past_more}
 use Rattle.id_rewrite.specs.Tables.{Table}
 use Rattle.mux_tables.specs.declared.tables.Start.{Start}
+use Rattle.group_rows.specs.Asks.{Asking, asked_behind, asking_next, asking_of, is_under, next_ask}
 use Rattle.group_rows.specs.Forwarded.{Forwarding, forwarding_behind, forwarding_of, forwards, moves_ids, numbered}
-use Rattle.mux_tables.specs.Stands.{EditorsStand, GroupsStand, OriginsStand, IdsAt, IdsStand, Part, of_life, of_ids, of_shown, PartStands, LastStands, ShownAt, of_stop, StopAt}
+use Rattle.mux_tables.specs.Stands.{EditorsStand, GroupsStand, OriginsStand, IdsAt, IdsStand, Part, of_life, of_ids, of_shown, PartStands, LastStands, ShownAt, of_stop, StopAt, of_asks, AsksStay, is_answer, is_request}
+use Rattle.mux_tables.proofs.Asking.{asks_by, unanswered, unhanded}
+use Rattle.mux_tables.proofs.Counted.{counted_same, next_more}
 use Rattle.mux_tables.proofs.Named.{goes_so, meant_by, named_by}
 use Rattle.group_rows.specs.Ticks.{stop_next, stop_of}
 
@@ -74,6 +77,10 @@ meant_alone : (servers : List Server) (e : ℕ) (x : Meant) (ev : Event) → nam
 meant_alone servers e x (took (Joined n) m) h = never h
 meant_alone servers e x (took (FromEditor n body) m) h = never h
 meant_alone servers e x other h = refl
+
+asked_alone : (e n : ℕ) (ev : Event) → names_editor ev ≡ false → asked_behind e n ev ≡ n
+asked_alone e n (did (ToEditor k body) m) h = never h
+asked_alone e n other h = refl
 
 -- another editor's message
 pub desk_apart : (e n : ℕ) (body : List ℕ) (m : Message) (events : List Event) → nat_eq e n ≡ false → desk_of n (events ++ took (FromEditor e body) m ∷ []) ≡ desk_of n events
@@ -142,6 +149,7 @@ editors_stand settings t events ev h s = record {
   home = λ e. home_stays settings e events ev (homeless e ev h) ∙ s.home e;
   names = λ e. named_by (goes_so (one_more (desk_behind e) _ _ events ev refl ∙ desk_alone e _ ev h)) (home_stays settings e events ev (homeless e ev h)) refl (s.names e);
   meant = λ e. meant_by (goes_so (one_more (desk_behind e) _ _ events ev refl ∙ desk_alone e _ ev h)) refl (one_more (meant_behind settings.servers e) _ _ events ev refl ∙ meant_alone settings.servers e _ ev h) (s.meant e);
+  asked = λ e. counted_same (slice_get t e) (next_ask e events) (next_ask e (events ++ ev ∷ [])) (next_more e events ev ∙ asked_alone e (next_ask e events) ev h) (s.asked e);
 }
 
 pub groups_stand : (settings : Settings) (t : group_tables.Table) (events : List Event) (ev : Event) → touches_groups ev ≡ false → GroupsStand settings t events → GroupsStand settings t (events ++ ev ∷ [])
@@ -172,6 +180,12 @@ touches of_shown (took (FromServer n body) m) = is_first_result m
 touches of_shown other = false
 touches of_stop (did (ToServer n body) m) = requests (codes "shutdown") m
 touches of_stop other = false
+touches of_asks (took (FromEditor e body) m) = is_answer m
+touches of_asks (took (StartFailed n) m) = true
+touches of_asks (took (ServerGone n) m) = true
+touches of_asks (did (ToEditor e body) m) = is_request m
+touches of_asks (did (ToServer n body) m) = is_answer m
+touches of_asks other = false
 
 hears_quiet : (g : Stage) (m : Message) → is_first_result m ≡ false → stage_hears g m ≡ g
 hears_quiet Initializing m h = rw h refl
@@ -247,6 +261,34 @@ stop_quiet s events o other h = refl
 stop_by : (limit : ℕ) (x : Start) (events : List Event) (ev : Event) → stop_next x.life.start events (stop_of x.life.start events) ev ≡ stop_of x.life.start events → PartStands of_stop limit x events → PartStands of_stop limit x (events ++ ev ∷ [])
 stop_by limit x events ev same s = subst (λ o. StopAt x.life.stage x.life.stopping o) (sym (stop_more x.life.start events ev ∙ same)) s
 
+-- what editors were asked for a start
+pub asks_alone : (s : ℕ) (events : List Event) (x : Asking) (ev : Event) → names_editor ev ≡ false → names_start s ev ≡ false → (asking_next s events x ev).asks ≡ x.asks
+asks_alone s events x (took (FromEditor e body) m) k h = never k
+asks_alone s events x (took (StartFailed n) m) k h = rw h refl
+asks_alone s events x (took (ServerGone n) m) k h = rw h refl
+asks_alone s events x (did (ToEditor e body) m) k h = never k
+asks_alone s events x (did (ToServer n body) m) k h = rw h refl
+asks_alone s events x other k h = refl
+
+asks_quiet : (s : ℕ) (events : List Event) (x : Asking) (ev : Event) → touches of_asks ev ≡ false → (asking_next s events x ev).asks ≡ x.asks
+asks_quiet s events x (took (FromEditor e body) m) h = unanswered e x.asks (answered_id m) h
+asks_quiet s events x (took (StartFailed n) m) h = never h
+asks_quiet s events x (took (ServerGone n) m) h = never h
+asks_quiet s events x (did (ToEditor e body) m) h = untold m h
+  where
+    untold : (m : Message) → is_request m ≡ false → (asking_next s events x (did (ToEditor e body) m)).asks ≡ x.asks
+    untold (request id method ps) h = never h
+    untold other h = refl
+asks_quiet s events x (did (ToServer n body) m) h = go (nat_eq n s)
+  where
+    go : (b : Bool) → (if b then record { asker = x.asker; asks = filter (λ a. not (is_under (answered_id m) a)) x.asks } else x).asks ≡ x.asks
+    go true = unhanded x.asks (answered_id m) h
+    go false = refl
+asks_quiet s events x other h = refl
+
+pub asks_stay : (s : ℕ) (events : List Event) (ev : Event) → touches of_asks ev ≡ false → AsksStay s events ev
+asks_stay s events ev h = asks_quiet s events (asking_of s events) ev h
+
 -- an event of another start, and an event of another kind
 ids_by : (limit s : ℕ) (t : Table) (events : List Event) (ev : Event) → SameForwarding (forwarding_behind s (forwarding_of s events) ev) (forwarding_of s events) → IdsStand limit s t events → IdsStand limit s t (events ++ ev ∷ [])
 ids_by limit s t events ev same i = subst (λ x. IdsAt limit x t) (sym (one_more (forwarding_behind s) _ _ events ev refl)) (record { next = same.next ∙ i.next; open_requests = same.open_requests ∙ i.open_requests; ends = i.ends; order = i.order })
@@ -254,23 +296,25 @@ ids_by limit s t events ev same i = subst (λ x. IdsAt limit x t) (sym (one_more
 shown_by : (limit : ℕ) (x : Start) (events : List Event) (ev : Event) → result_behind x.life.start (result_of x.life.start events) ev ≡ result_of x.life.start events → PartStands of_shown limit x events → PartStands of_shown limit x (events ++ ev ∷ [])
 shown_by limit x events ev same s = subst (λ o. ShownAt x.life.stage x.shown o) (sym (one_more (result_behind x.life.start) _ _ events ev refl ∙ same)) s
 
-pub part_apart : (p : Part) (limit : ℕ) (x : Start) (events : List Event) (ev : Event) → names_start x.life.start ev ≡ false → PartStands p limit x events → PartStands p limit x (events ++ ev ∷ [])
-part_apart of_life limit x events ev h s = one_more (life_behind x.life.start) _ _ events ev s ∙ life_alone x.life.start _ ev h
-part_apart of_ids limit x events ev h s = ids_by limit x.life.start x.ids events ev (forwarding_alone x.life.start (forwarding_of x.life.start events) ev h) s
-part_apart of_shown limit x events ev h s = shown_by limit x events ev (result_alone x.life.start (result_of x.life.start events) ev h) s
-part_apart of_stop limit x events ev h s = stop_by limit x events ev (stop_alone x.life.start events (stop_of x.life.start events) ev h) s
+pub part_apart : (p : Part) (limit : ℕ) (x : Start) (events : List Event) (ev : Event) → names_start x.life.start ev ≡ false → AsksStay x.life.start events ev → PartStands p limit x events → PartStands p limit x (events ++ ev ∷ [])
+part_apart of_life limit x events ev h a s = one_more (life_behind x.life.start) _ _ events ev s ∙ life_alone x.life.start _ ev h
+part_apart of_ids limit x events ev h a s = ids_by limit x.life.start x.ids events ev (forwarding_alone x.life.start (forwarding_of x.life.start events) ev h) s
+part_apart of_shown limit x events ev h a s = shown_by limit x events ev (result_alone x.life.start (result_of x.life.start events) ev h) s
+part_apart of_stop limit x events ev h a s = stop_by limit x events ev (stop_alone x.life.start events (stop_of x.life.start events) ev h) s
+part_apart of_asks limit x events ev h a s = asks_by limit x events ev a s
 
 pub part_quiet : (p : Part) (limit : ℕ) (x : Start) (events : List Event) (ev : Event) → touches p ev ≡ false → PartStands p limit x events → PartStands p limit x (events ++ ev ∷ [])
 part_quiet of_life limit x events ev h s = one_more (life_behind x.life.start) _ _ events ev s ∙ life_quiet x.life.start _ ev h
 part_quiet of_ids limit x events ev h s = ids_by limit x.life.start x.ids events ev (forwarding_quiet x.life.start (forwarding_of x.life.start events) ev h) s
 part_quiet of_shown limit x events ev h s = shown_by limit x events ev (result_quiet x.life.start (result_of x.life.start events) ev h) s
 part_quiet of_stop limit x events ev h s = stop_by limit x events ev (stop_quiet x.life.start events (stop_of x.life.start events) ev h) s
+part_quiet of_asks limit x events ev h s = asks_by limit x events ev (asks_stay x.life.start events ev h) s
 
 -- the last start of a group, where the event doesn't name it, and no start is spawned for the group
-pub last_stands : (limit : ℕ) (events : List Event) (ev : Event) (g : ℕ) (x : Start) → names_start x.life.start ev ≡ false → ((o : Option ℕ) → start_behind g o ev ≡ o) → LastStands limit events g x → LastStands limit (events ++ ev ∷ []) g x
-last_stands limit events ev g x h k s = record {
+pub last_stands : (limit : ℕ) (events : List Event) (ev : Event) (g : ℕ) (x : Start) → names_start x.life.start ev ≡ false → AsksStay x.life.start events ev → ((o : Option ℕ) → start_behind g o ev ≡ o) → LastStands limit events g x → LastStands limit (events ++ ev ∷ []) g x
+last_stands limit events ev g x h a k s = record {
   start = one_more (start_behind g) _ _ events ev s.start ∙ k _;
   home = one_more (group_behind x.life.start) _ _ events ev s.home ∙ group_apart x.life.start _ ev h;
   own = s.own;
-  parts = λ p. part_apart p limit x events ev h (s.parts p);
+  parts = λ p. part_apart p limit x events ev h a (s.parts p);
 }

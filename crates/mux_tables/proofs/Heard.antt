@@ -1,9 +1,9 @@
 -- What the tables do when a cause about an editor comes, as the code has it.
-use Rattle.std.proofs.Common.{◌≡◌, ℕ, ◌<◌, Bool, true, false, List, [], ◌∷◌, ◌++◌, length, max, refl, ap, sym, subst, ◌∙◌, ◌&&◌, not, nat_eq, codes, bytes_eq, if◌then◌else◌}
+use Rattle.std.proofs.Common.{◌≡◌, ℕ, ◌<◌, Bool, true, false, arith, List, [], ◌∷◌, ◌++◌, length, max, refl, ap, sym, subst, ◌∙◌, ◌&&◌, not, nat_eq, codes, bytes_eq, if◌then◌else◌}
 use Rattle.std.specs.Prelude.{Option, Some, None, slice_get, slice_set}
 use Rattle.std.proofs.lemmas.Bool.{and_parts, ne_eqb}
 use Rattle.std.proofs.lemmas.Slice.Eq.{bytes_eq-Decides}
-use Rattle.std.proofs.lemmas.Option.{slice_get-get_or}
+use Rattle.std.proofs.lemmas.Option.{slice_get-get_or, slice_get_past}
 use Rattle.std.proofs.lemmas.List.{length-set, length-append}
 use Rattle.mux_history.specs.declared.cause.Why.{Why}
 use Rattle.mux_history.specs.declared.cause.Cause.TheVariants.{Joined, FromEditor, EditorGone, Drained, Tick}
@@ -27,14 +27,17 @@ use Rattle.group_words.specs.Houses.{Meant, declared_for, emptied, groups_of, ho
 use Rattle.group_words.proofs.Frames.{groups_more, home_more}
 use Rattle.mux_tables.specs.declared.tables.Tables.{Tables}
 use Rattle.mux_tables.specs.Names.{NameStands, id_in}
-use Rattle.mux_tables.specs.Stands.{EditorsStand, GroupsStand, Stands, ends, phase_in, group_in, meant_in, stays_in}
+use Rattle.mux_tables.specs.Stands.{AnswersNone, CountStands, EditorsStand, GroupsStand, HouseStands, Stands, ends, is_answer, phase_in, group_in, meant_in, stays_in}
+use Rattle.group_rows.specs.Asks.{next_ask}
+use Rattle.mux_tables.proofs.Asking.{answers_none, none_answered}
+use Rattle.mux_tables.proofs.Counted.{counted_same, counted_set, next_more}
 use Rattle.mux_tables.proofs.Ends.{tick_heard}
 use Rattle.mux_tables.proofs.Exits.{stop_groups}
 use Rattle.mux_tables.proofs.Frames.{desk_apart, itself, groups_stand, meant_apart}
 use Rattle.mux_tables.proofs.Leaves.{gone_by}
 use Rattle.mux_tables.proofs.Moves.{house_moves, quiet_moves}
 use Rattle.mux_tables.proofs.Named.{Goes, goes_heard, goes_so, goes_then, meant_by, named_by, named_new}
-use Rattle.mux_tables.proofs.Phased.{heard_plain, phased}
+use Rattle.mux_tables.proofs.Phased.{heard_plain, heard_same, phased}
 use Rattle.mux_tables.proofs.Seated.{Seated, initialize_heard}
 
 and_off : (a : Bool) → (a && false) ≡ false
@@ -51,10 +54,19 @@ joined_editors settings t u events e last is s = record {
   names = λ j. subst (λ d. NameStands d (home_of settings j (events ++ took (Joined e) not_message ∷ [])) (id_in (slice_get u j))) (sym (one_more (desk_behind j) _ _ events (took (Joined e) not_message) refl))
       (subst (λ n. NameStands (desk_behind j (desk_of j events) (took (Joined n) not_message)) (home_of settings j (events ++ took (Joined e) not_message ∷ [])) (id_in (slice_get u j))) (sym last) (named j (compare (length t) j)));
   meant = λ j. meant_at j (compare (length t) j);
+  asked = λ j. subst (λ (z : List Session). CountStands (slice_get z j) (next_ask j (events ++ ev ∷ []))) (sym is) (counted j (compare (length t) j));
 }
   where
     ev : Event
     ev = took (Joined e) not_message
+
+    -- one that never joined was asked nothing
+    unasked : next_ask (length t) events ≡ 1
+    unasked = let none : CountStands None (next_ask (length t) events) = subst (λ (o : Option Session). CountStands o (next_ask (length t) events)) (slice_get_past t (length t) (omega arith)) (s.asked (length t)) in none refl
+
+    counted : (j : ℕ) → Same (length t) j → CountStands (slice_get (t ++ joined ∷ []) j) (next_ask j (events ++ ev ∷ []))
+    counted _ same = subst (λ (o : Option Session). CountStands o (next_ask (length t) (events ++ ev ∷ []))) (sym (get_push_same t joined)) (λ there. next_more (length t) events ev ∙ unasked)
+    counted j (other h) = subst (λ (o : Option Session). CountStands o (next_ask j (events ++ ev ∷ []))) (sym (get_push_other t joined j h)) (counted_same (slice_get t j) (next_ask j events) (next_ask j (events ++ ev ∷ [])) (next_more j events ev) (s.asked j))
 
     meant_at : (j : ℕ) → Same (length t) j → (desk_of j (events ++ ev ∷ [])).phase ≡ New → meant_in (slice_get u j) ≡ meant_of settings.servers j (events ++ ev ∷ [])
     meant_at _ same w = ap (λ z. meant_in (slice_get z (length t))) is ∙ ap meant_in (get_push_same t joined)
@@ -89,7 +101,7 @@ joined_editors settings t u events e last is s = record {
 
 pub joined_moves : (settings : Settings) (t u : Tables) (events : List Event) (e : ℕ) → e ≡ length t.editors → u.editors ≡ t.editors ++ joined ∷ [] → u.groups ≡ t.groups → u.time ≡ t.time → u.lasts ≡ t.lasts → u.origins ≡ t.origins → u.requests ≡ t.requests
     → Stands settings t events → Stands settings u (events ++ took (Joined e) not_message ∷ [])
-joined_moves settings t u events e last is gs now ls os r s = house_moves settings t u events (took (Joined e) not_message) (λ n. refl) refl (ap (λ v. v.items) ls) os r (λ h. record {
+joined_moves settings t u events e last is gs now ls os r s = house_moves settings t u events (took (Joined e) not_message) (λ n. refl) (λ n. refl) refl (ap (λ v. v.items) ls) os r (λ h. record {
   editors = joined_editors settings t.editors u.editors events e last is h.editors;
   groups = subst (λ g. GroupsStand settings g (events ++ took (Joined e) not_message ∷ [])) (sym gs) (groups_stand settings t.groups events (took (Joined e) not_message) refl h.groups);
   now = one_more time_behind _ _ events (took (Joined e) not_message) h.now ∙ sym now;
@@ -135,7 +147,7 @@ module _ (settings : Settings) (t : List Session) (events : List Event) (e : ℕ
 module _ (settings : Settings) (t u : Tables) (events : List Event) (e : ℕ) (body : List ℕ) (y : Session) (l : e < length t.editors) (is : u.editors ≡ with_session t.editors e y)
     (now : u.time ≡ t.time) (ls : u.lasts ≡ t.lasts) (os : u.origins ≡ t.origins) (r : u.requests ≡ t.requests)
     (stays : places (desk_of e events).phase (message_of body) ≡ false) (step : (desk_of e (events ++ heard (FromEditor e body) ∷ [])).phase ≡ y.phase)
-    (group : y.group ≡ (session_of t.editors e).group) (id : y.id ≡ (session_of t.editors e).id)
+    (group : y.group ≡ (session_of t.editors e).group) (id : y.id ≡ (session_of t.editors e).id) (count : y.asks ≡ (session_of t.editors e).asks)
     (means : (desk_of e (events ++ heard (FromEditor e body) ∷ [])).phase ≡ New → meant_in (Some y) ≡ meant_of settings.servers e (events ++ heard (FromEditor e body) ∷ [])) where
   abbrev ev : Event
   ev = took (FromEditor e body) (message_of body)
@@ -147,6 +159,8 @@ module _ (settings : Settings) (t u : Tables) (events : List Event) (e : ℕ) (b
     home = λ n. home_more settings n events ev ∙ (rw (stays, and_off (nat_eq e n)) (s.home n) ∙ (home_at n (compare e n) ∙ ap (λ z. group_in (slice_get z n)) (sym is)));
     names = λ n. named_by (goes_then (goes n (compare e n)) (one_more (desk_behind n) _ _ events ev refl)) (home_more settings n events ev ∙ rw (stays, and_off (nat_eq e n)) refl) (ap (λ z. id_in (slice_get z n)) is ∙ id_at n (compare e n)) (s.names n);
     meant = λ n w. ap (λ z. meant_in (slice_get z n)) is ∙ meant_at n (compare e n) w;
+    asked = λ n. subst (λ (z : List Session). CountStands (slice_get z n) (next_ask n (events ++ ev ∷ []))) (sym is)
+        (counted_set t.editors e (session_of t.editors e) y (slice_get-get_or t.editors e absent l) (λ there. (sym (heard_same settings t.editors events e y.phase l s body step) ∙ there, count)) n (next_ask n events) (next_ask n (events ++ ev ∷ [])) (next_more n events ev) (s.asked n));
   }
     where
       here : slice_get (slice_set t.editors e y) e ≡ Some y
@@ -173,19 +187,33 @@ module _ (settings : Settings) (t u : Tables) (events : List Event) (e : ℕ) (b
       meant_at n (other h) w = meant_by (goes_so (desk_apart e n body (message_of body) events (ne_eqb e n (λ q. h (sym q))))) (ap meant_in (get_set_other t.editors e n y h))
           (meant_apart settings.servers e n body (message_of body) events (ne_eqb e n (λ q. h (sym q)))) (s.meant n) w
 
-  all_heard : (GroupsStand settings t.groups events → GroupsStand settings u.groups (events ++ ev ∷ [])) → Stands settings t events → Stands settings u (events ++ ev ∷ [])
-  all_heard go = house_moves settings t u events ev (λ n. refl) refl (ap (λ v. v.items) ls) os r (λ h. record {
+  heard_house : (GroupsStand settings t.groups events → GroupsStand settings u.groups (events ++ ev ∷ [])) → HouseStands settings t events → HouseStands settings u (events ++ ev ∷ [])
+  heard_house go h = record {
     editors = heard_editors h.editors;
     groups = go h.groups;
     now = one_more time_behind _ _ events ev h.now ∙ sym now;
-  })
+  }
 
-  heard_moves : u.groups ≡ t.groups → stops events e (message_of body) ≡ false → Stands settings t events → Stands settings u (events ++ ev ∷ [])
-  heard_moves gs goes = all_heard (λ h. subst (λ g. GroupsStand settings g (events ++ ev ∷ [])) (sym gs) (record { groups = groups_more settings events ev ∙ (rw (stays, goes) refl ∙ h.groups); limit = h.limit; idle = h.idle }))
+  heard_groups : u.groups ≡ t.groups → stops events e (message_of body) ≡ false → GroupsStand settings t.groups events → GroupsStand settings u.groups (events ++ ev ∷ [])
+  heard_groups gs goes h = subst (λ g. GroupsStand settings g (events ++ ev ∷ [])) (sym gs) (record { groups = groups_more settings events ev ∙ (rw (stays, goes) refl ∙ h.groups); limit = h.limit; idle = h.idle })
+
+  all_heard : AnswersNone e (message_of body) events → (GroupsStand settings t.groups events → GroupsStand settings u.groups (events ++ ev ∷ [])) → Stands settings t events → Stands settings u (events ++ ev ∷ [])
+  all_heard silent go = house_moves settings t u events ev (λ n. refl) (λ n. none_answered e n (message_of body) events (silent n)) refl (ap (λ v. v.items) ls) os r (heard_house go)
+
+  heard_moves : AnswersNone e (message_of body) events → u.groups ≡ t.groups → stops events e (message_of body) ≡ false → Stands settings t events → Stands settings u (events ++ ev ∷ [])
+  heard_moves silent gs goes = all_heard silent (heard_groups gs goes)
 
   -- E6
-  stopped_moves : (ns : List ℕ) → ns ≡ all_from 0 is_live t.groups.groups → u.groups ≡ with_groups (ends ns t.groups.groups) t.groups → stops events e (message_of body) ≡ true → Stands settings t events → Stands settings u (events ++ ev ∷ [])
-  stopped_moves ns all gs stop = all_heard (λ h. stop_groups settings events e body (message_of body) t.groups u.groups stays stop (ap (λ (w : Table). w.limit) gs) (ap (λ (w : Table). w.idle) gs) (ap (λ (w : Table). w.groups) gs ∙ ap (λ ms. ends ms t.groups.groups) all) h)
+  stopped_moves : AnswersNone e (message_of body) events → (ns : List ℕ) → ns ≡ all_from 0 is_live t.groups.groups → u.groups ≡ with_groups (ends ns t.groups.groups) t.groups → stops events e (message_of body) ≡ true → Stands settings t events → Stands settings u (events ++ ev ∷ [])
+  stopped_moves silent ns all gs stop = all_heard silent (λ h. stop_groups settings events e body (message_of body) t.groups u.groups stays stop (ap (λ (w : Table). w.limit) gs) (ap (λ (w : Table). w.idle) gs) (ap (λ (w : Table). w.groups) gs ∙ ap (λ ms. ends ms t.groups.groups) all) h)
+
+-- a request answers nothing
+pub asks_silent : (name : List ℕ) (m : Message) → requests name m ≡ true → is_answer m ≡ false
+asks_silent name (request id method params) h = refl
+asks_silent name rest h = never (sym h)
+
+pub stop_silent : (events : List Event) (e : ℕ) (m : Message) → stops events e m ≡ true → AnswersNone e m events
+stop_silent events e m h = answers_none e m events (asks_silent (codes "lspmux/stop") m (and_parts (requests (codes "lspmux/stop") m) _ h).0)
 
 -- one that stops all is no `lspmux/open`
 stops_asks : (events : List Event) (e : ℕ) (servers : List Server) (m : Message) → stops events e m ≡ true → is_first_open servers events e m ≡ false
@@ -202,13 +230,18 @@ module _ (settings : Settings) (t u : Tables) (events : List Event) (e : ℕ) (b
   abbrev put : Session
   put = record (session_of t.editors e) { phase = p }
 
-  pub set_moves : u.groups ≡ t.groups → stops events e (message_of body) ≡ false → is_first_open settings.servers events e (message_of body) ≡ false → Stands settings t events → Stands settings u (events ++ heard (FromEditor e body) ∷ [])
-  set_moves gs goes off s = heard_moves settings t u events e body put l (set ∙ heard_plain settings t.editors events e p l s.house.editors body step) now ls os r stays step refl refl
-      (meant_kept settings t.editors events e body l p stays off s.house.editors) gs goes s
+  pub set_house : u.groups ≡ t.groups → stops events e (message_of body) ≡ false → is_first_open settings.servers events e (message_of body) ≡ false → HouseStands settings t events → HouseStands settings u (events ++ heard (FromEditor e body) ∷ [])
+  set_house gs goes off h = heard_house settings t u events e body put l (set ∙ heard_plain settings t.editors events e p l h.editors body step) now ls os r stays step refl refl refl
+      (meant_kept settings t.editors events e body l p stays off h.editors)
+      (heard_groups settings t u events e body put l (set ∙ heard_plain settings t.editors events e p l h.editors body step) now ls os r stays step refl refl refl (meant_kept settings t.editors events e body l p stays off h.editors) gs goes) h
 
-  pub stop_moves : (ns : List ℕ) → ns ≡ all_from 0 is_live t.groups.groups → u.groups ≡ with_groups (ends ns t.groups.groups) t.groups → stops events e (message_of body) ≡ true → Stands settings t events → Stands settings u (events ++ heard (FromEditor e body) ∷ [])
-  stop_moves ns all gs stop s = stopped_moves settings t u events e body put l (set ∙ heard_plain settings t.editors events e p l s.house.editors body step) now ls os r stays step refl refl
-      (meant_kept settings t.editors events e body l p stays (stops_asks events e settings.servers (message_of body) stop) s.house.editors) ns all gs stop s
+  pub set_moves : AnswersNone e (message_of body) events → u.groups ≡ t.groups → stops events e (message_of body) ≡ false → is_first_open settings.servers events e (message_of body) ≡ false → Stands settings t events → Stands settings u (events ++ heard (FromEditor e body) ∷ [])
+  set_moves silent gs goes off s = heard_moves settings t u events e body put l (set ∙ heard_plain settings t.editors events e p l s.house.editors body step) now ls os r stays step refl refl refl
+      (meant_kept settings t.editors events e body l p stays off s.house.editors) silent gs goes s
+
+  pub stop_moves : AnswersNone e (message_of body) events → (ns : List ℕ) → ns ≡ all_from 0 is_live t.groups.groups → u.groups ≡ with_groups (ends ns t.groups.groups) t.groups → stops events e (message_of body) ≡ true → Stands settings t events → Stands settings u (events ++ heard (FromEditor e body) ∷ [])
+  stop_moves silent ns all gs stop s = stopped_moves settings t u events e body put l (set ∙ heard_plain settings t.editors events e p l s.house.editors body step) now ls os r stays step refl refl refl
+      (meant_kept settings t.editors events e body l p stays (stops_asks events e settings.servers (message_of body) stop) s.house.editors) silent ns all gs stop s
 
 -- E4: the first `lspmux/open` of a new editor
 module _ (settings : Settings) (t u : Tables) (events : List Event) (e : ℕ) (body : List ℕ) (o : Option ℕ) (l : e < length t.editors) (set : u.editors ≡ with_session t.editors e (unless_gone (meaning o) (session_of t.editors e)))
@@ -250,7 +283,7 @@ module _ (settings : Settings) (t u : Tables) (events : List Event) (e : ℕ) (b
       (set ∙ ap (λ p. with_session t.editors e (if is_gone p then seen else record seen { opened = true; server = o })) (stands_new s.house.editors)) now ls os r
       (ap (λ b. is_new (desk_of e events).phase && b) (no_first (message_of body) asks) ∙ and_off (is_new (desk_of e events).phase))
       (now_new ∙ sym (stands_new s.house.editors))
-      refl refl (λ w. meant_first settings t.editors events e body l o is first)
+      refl refl refl (λ w. meant_first settings t.editors events e body l o is first) (answers_none e (message_of body) events (asks_silent (codes "lspmux/open") (message_of body) asks))
       gs (ap (λ b. b && (is_there (desk_of e events).phase && not (is_doubled events e (message_of body)))) (no_stop (message_of body) asks)) s
 
 -- X6: no table speaks of bytes that were written
@@ -264,20 +297,20 @@ pub gone_heard : (settings : Settings) (t u : Tables) (events : List Event) (e :
     → u.groups ≡ with_groups (emptied home was (stays_in mid) t.time t.groups.groups) t.groups
     → Stands settings t events → Stands settings u (events ++ took (EditorGone e why) not_message ∷ [])
 gone_heard settings t u events e why mid p home was l phases homes begun set es now ls os r gs =
-    house_moves settings t u events (took (EditorGone e why) not_message) (λ n. refl) refl (ap (λ v. v.items) ls) os r
+    house_moves settings t u events (took (EditorGone e why) not_message) (λ n. refl) (λ n. refl) refl (ap (λ v. v.items) ls) os r
     (gone_by settings events e why not_message t u mid p home was l phases homes begun set es now gs)
 
 -- E7
 pub initialized_moves : (settings : Settings) (before : List Event) (e : ℕ) (body : List ℕ) (t u : Tables) (mid : Table) (x : Session) (p : Placed) (key : Common) (given id : List ℕ) → requests (codes "initialize") (message_of body) ≡ true → slice_get t.editors e ≡ Some x → x.phase ≡ New → id ≡ id_bytes body
     → key ≡ key_for settings before e body → given ≡ declared_for settings before e body → p ≡ place_in key given t.groups → mid ≡ after_place key given t.groups → u.groups ≡ with_groups (placing.joined p mid.groups) mid
-    → Seated t.editors u.editors e p x.group id → u.time ≡ t.time → u.lasts ≡ t.lasts → u.origins ≡ t.origins → u.requests ≡ t.requests → Stands settings t before
+    → Seated t.editors u.editors e p x id → u.time ≡ t.time → u.lasts ≡ t.lasts → u.origins ≡ t.origins → u.requests ≡ t.requests → Stands settings t before
     → (p ≡ placed_for settings before e body (groups_of settings before)) × Stands settings u (before ++ took (FromEditor e body) (message_of body) ∷ [])
 initialized_moves settings before e body t u mid x p key given id first at new own k d chosen placed busy sits now ls os r s =
     let h = initialize_heard settings before e body (message_of body) t u mid x p key given id first at new own k d chosen placed busy sits now s.house in
-    (h.0, house_moves settings t u before (took (FromEditor e body) (message_of body)) (λ n. refl) refl (ap (λ v. v.items) ls) os r (λ _. h.1) s)
+    (h.0, house_moves settings t u before (took (FromEditor e body) (message_of body)) (λ n. refl) (λ n. none_answered e n (message_of body) before (answers_none e (message_of body) before (asks_silent (codes "initialize") (message_of body) first) n)) refl (ap (λ v. v.items) ls) os r (λ _. h.1) s)
 
 -- X7
 pub ticked_moves : (settings : Settings) (t u : Tables) (events : List Event) (now later : ℕ) (ns : List ℕ) → later ≡ max t.time now → u.editors ≡ t.editors → u.time ≡ later → ns ≡ all_from 0 (is_due t.groups.idle later) t.groups.groups
     → u.groups ≡ with_groups (ends ns t.groups.groups) t.groups → u.lasts ≡ t.lasts → u.origins ≡ t.origins → u.requests ≡ t.requests → Stands settings t events → Stands settings u (events ++ took (Tick now) not_message ∷ [])
 ticked_moves settings t u events now later ns l es k n gs ls os r =
-    house_moves settings t u events (took (Tick now) not_message) (λ n. refl) refl (ap (λ v. v.items) ls) os r (tick_heard settings events now later not_message t u ns l es k n gs)
+    house_moves settings t u events (took (Tick now) not_message) (λ n. refl) (λ n. refl) refl (ap (λ v. v.items) ls) os r (tick_heard settings events now later not_message t u ns l es k n gs)

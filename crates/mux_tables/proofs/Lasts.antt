@@ -1,5 +1,5 @@
 -- The list of last starts, when an event names no start, or one.
-use Rattle.std.proofs.Common.{◌≡◌, ℕ, ◌≤◌, ◌<◌, map, List, [], ◌∷◌, ◌++◌, length, refl, ap, sym, subst, ◌∙◌, false, arith, nat_eq, inl, inr}
+use Rattle.std.proofs.Common.{◌≡◌, ℕ, ◌≤◌, ◌<◌, map, List, [], ◌∷◌, ◌++◌, refl, ap, sym, subst, ◌∙◌, false, arith, nat_eq, inl, inr}
 use Rattle.std.specs.Prelude.{Option, Some, slice_get, slice_set, ◌⊎◌}
 use Rattle.std.specs.List.{remove}
 use Rattle.std.proofs.lemmas.Bool.{ne_eqb}
@@ -12,8 +12,9 @@ use Rattle.event_model.proofs.Frames.{one_more}
 use Rattle.group_rows.specs.Forwarded.{forwarding_of}
 use Rattle.event_model.proofs.Places.{each_set, Same, same, other, compare, same_item}
 use Rattle.mux_tables.specs.declared.tables.Start.{Start}
-use Rattle.mux_tables.specs.Stands.{blank, forwarded_of, IsLost, Lost, of_ids, of_life, OriginsStand, LastStands, LastsStand, Rise}
-use Rattle.mux_tables.proofs.Frames.{names_start, spawns, starts_alone, start_alone, group_alone, life_alone, last_stands, part_apart}
+use Rattle.group_rows.specs.Asks.{asking_of}
+use Rattle.mux_tables.specs.Stands.{AsksStay, blank, forwarded_of, IsLost, Lost, of_ids, of_life, OriginsStand, LastStands, LastsStand, Rise}
+use Rattle.mux_tables.proofs.Frames.{asks_alone, names_editor, names_start, spawns, starts_alone, start_alone, group_alone, life_alone, last_stands, part_apart}
 use Rattle.mux_tables.proofs.Placed.{groups_apart, left_there, lost_left, lost_set, place_before, rise_remove, rise_set}
 
 pub same_place : {i j : ℕ} → ◌≡◌ {A = Option ℕ} (Some i) (Some j) → i ≡ j
@@ -56,30 +57,30 @@ module _ (limit g s : ℕ) (events : List Event) (l : Lost limit g s events) whe
   lost_answered = subst (λ n. (forwarding_of n events).open_requests ≡ []) l.number ((l.stands.parts of_ids).open_requests ∙ ap (map forwarded_of) l.answered)
 
 -- the event names no start
-pub lasts_stand : (limit : ℕ) (lasts : List Start) (events : List Event) (ev : Event) → ((n : ℕ) → names_start n ev ≡ false) → spawns ev ≡ false → LastsStand limit lasts events → LastsStand limit lasts (events ++ ev ∷ [])
-lasts_stand limit lasts events ev h k s = record {
+pub lasts_stand : (limit : ℕ) (lasts : List Start) (events : List Event) (ev : Event) → ((n : ℕ) → names_start n ev ≡ false) → ((n : ℕ) → AsksStay n events ev) → spawns ev ≡ false → LastsStand limit lasts events → LastsStand limit lasts (events ++ ev ∷ [])
+lasts_stand limit lasts events ev h a k s = record {
   rise = s.rise;
-  each = λ j z at. last_stands limit events ev z.life.group z (h z.life.start) (λ o. start_alone z.life.group o ev k) (s.each j z at);
-  lost = λ g n none e. let was = s.lost g n none (start_before events ev g n k e) in record { last = was.last; stands = last_stands limit events ev g was.last (h was.last.life.start) (λ o. start_alone g o ev k) was.stands; number = was.number; ended = was.ended; answered = was.answered };
-  fresh = λ n l p. part_apart p limit (blank limit n) events ev (h n) (s.fresh n (subst (λ m. m ≤ n) (one_more starts_behind _ _ events ev refl ∙ starts_alone _ ev k) l) p);
+  each = λ j z at. last_stands limit events ev z.life.group z (h z.life.start) (a z.life.start) (λ o. start_alone z.life.group o ev k) (s.each j z at);
+  lost = λ g n none e. let was = s.lost g n none (start_before events ev g n k e) in record { last = was.last; stands = last_stands limit events ev g was.last (h was.last.life.start) (a was.last.life.start) (λ o. start_alone g o ev k) was.stands; number = was.number; ended = was.ended; answered = was.answered };
+  fresh = λ n l p. part_apart p limit (blank limit n) events ev (h n) (a n) (s.fresh n (subst (λ m. m ≤ n) (one_more starts_behind _ _ events ev refl ∙ starts_alone _ ev k) l) p);
   old = λ n g e. last_stays events ev n g k (h n) (s.old n g (group_before events ev n g k e));
 }
 
--- the event names the last start of one group alone, which goes from x to y
-pub one_last : (limit : ℕ) (origins : List ℕ) (lasts after : List Start) (events : List Event) (ev : Event) (i : ℕ) (x y : Start) → ((n : ℕ) → names_start n ev ≡ nat_eq x.life.start n) → spawns ev ≡ false
+-- the event names no start, and changes the asks of the last start of one group alone, which goes from x to y
+pub asked_last : (limit : ℕ) (origins : List ℕ) (lasts after : List Start) (events : List Event) (ev : Event) (i : ℕ) (x y : Start) → ((n : ℕ) → names_start n ev ≡ false) → ((n : ℕ) → nat_eq x.life.start n ≡ false → AsksStay n events ev) → spawns ev ≡ false
     → slice_get lasts i ≡ Some x → after ≡ slice_set lasts i y → y.life.group ≡ x.life.group → OriginsStand origins events → (LastStands limit events x.life.group x → LastStands limit (events ++ ev ∷ []) x.life.group y) → LastsStand limit lasts events → LastsStand limit after (events ++ ev ∷ [])
-one_last limit origins lasts after events ev i x y h k at e own st go s =
+asked_last limit origins lasts after events ev i x y h a k at e own st go s =
     record {
       rise = subst (Rise 0) (sym e) (rise_set 0 lasts i x y at own s.rise);
       each = each_set (λ j z. (slice_get lasts j ≡ Some z) × LastStands limit events z.life.group z) (λ j z. LastStands limit (events ++ ev ∷ []) z.life.group z) lasts after i x y at e (λ j z there. (there, s.each j z there))
           (λ r. subst (λ n. LastStands limit (events ++ ev ∷ []) n y) (sym own) (go r.1))
-          (λ j z d r q. last_stands limit events ev z.life.group z (h z.life.start ∙ apart limit events x.life.group z.life.group x z (groups_apart lasts i j x z s.rise r.0 q.0 d) r.1 q.1) (λ o. start_alone z.life.group o ev k) q.1);
+          (λ j z d r q. last_stands limit events ev z.life.group z (h z.life.start) (a z.life.start (apart limit events x.life.group z.life.group x z (groups_apart lasts i j x z s.rise r.0 q.0 d) r.1 q.1)) (λ o. start_alone z.life.group o ev k) q.1);
       lost = λ g n none w.
           let gone = lost_set g i lasts x y at own (subst (IsLost g) e none) in
           let was = s.lost g n gone (start_before events ev g n k w) in
           record {
             last = was.last;
-            stands = last_stands limit events ev g was.last (h was.last.life.start ∙ apart limit events x.life.group g x was.last (λ q. gone i x at (sym q)) (s.each i x at) was.stands) (λ o. start_alone g o ev k) was.stands;
+            stands = last_stands limit events ev g was.last (h was.last.life.start) (a was.last.life.start (apart limit events x.life.group g x was.last (λ q. gone i x at (sym q)) (s.each i x at) was.stands)) (λ o. start_alone g o ev k) was.stands;
             number = was.number;
             ended = was.ended;
             answered = was.answered;
@@ -87,7 +88,37 @@ one_last limit origins lasts after events ev i x y h k at e own st go s =
       fresh = λ n l p.
           let older : starts_of events ≤ n = subst (λ m. m ≤ n) (one_more starts_behind _ _ events ev refl ∙ starts_alone _ ev k) l in
           let k = known limit origins events x.life.group x st (s.each i x at) in
-          part_apart p limit (blank limit n) events ev (h n ∙ ne_eqb x.life.start n (λ q. absurd (omega arith))) (s.fresh n older p);
+          part_apart p limit (blank limit n) events ev (h n) (a n (ne_eqb x.life.start n (λ q. absurd (omega arith)))) (s.fresh n older p);
+      old = λ n g q. last_stays events ev n g k (h n) (s.old n g (group_before events ev n g k q));
+    }
+
+-- the event names the last start of one group alone, which goes from x to y
+pub one_last : (limit : ℕ) (origins : List ℕ) (lasts after : List Start) (events : List Event) (ev : Event) (i : ℕ) (x y : Start) → ((n : ℕ) → names_start n ev ≡ nat_eq x.life.start n) → names_editor ev ≡ false → spawns ev ≡ false
+    → slice_get lasts i ≡ Some x → after ≡ slice_set lasts i y → y.life.group ≡ x.life.group → OriginsStand origins events → (LastStands limit events x.life.group x → LastStands limit (events ++ ev ∷ []) x.life.group y) → LastsStand limit lasts events → LastsStand limit after (events ++ ev ∷ [])
+one_last limit origins lasts after events ev i x y h v k at e own st go s =
+    record {
+      rise = subst (Rise 0) (sym e) (rise_set 0 lasts i x y at own s.rise);
+      each = each_set (λ j z. (slice_get lasts j ≡ Some z) × LastStands limit events z.life.group z) (λ j z. LastStands limit (events ++ ev ∷ []) z.life.group z) lasts after i x y at e (λ j z there. (there, s.each j z there))
+          (λ r. subst (λ n. LastStands limit (events ++ ev ∷ []) n y) (sym own) (go r.1))
+          (λ j z d r q.
+          let other = h z.life.start ∙ apart limit events x.life.group z.life.group x z (groups_apart lasts i j x z s.rise r.0 q.0 d) r.1 q.1 in
+          last_stands limit events ev z.life.group z other (asks_alone z.life.start events (asking_of z.life.start events) ev v other) (λ o. start_alone z.life.group o ev k) q.1);
+      lost = λ g n none w.
+          let gone = lost_set g i lasts x y at own (subst (IsLost g) e none) in
+          let was = s.lost g n gone (start_before events ev g n k w) in
+          let other = h was.last.life.start ∙ apart limit events x.life.group g x was.last (λ q. gone i x at (sym q)) (s.each i x at) was.stands in
+          record {
+            last = was.last;
+            stands = last_stands limit events ev g was.last other (asks_alone was.last.life.start events (asking_of was.last.life.start events) ev v other) (λ o. start_alone g o ev k) was.stands;
+            number = was.number;
+            ended = was.ended;
+            answered = was.answered;
+          };
+      fresh = λ n l p.
+          let older : starts_of events ≤ n = subst (λ m. m ≤ n) (one_more starts_behind _ _ events ev refl ∙ starts_alone _ ev k) l in
+          let k = known limit origins events x.life.group x st (s.each i x at) in
+          let other = h n ∙ ne_eqb x.life.start n (λ q. absurd (omega arith)) in
+          part_apart p limit (blank limit n) events ev other (asks_alone n events (asking_of n events) ev v other) (s.fresh n older p);
       old = λ n g w. older n g (compare x.life.start n) (s.each i x at) (s.old n g (group_before events ev n g k w)) (group_before events ev n g k w);
     }
   where

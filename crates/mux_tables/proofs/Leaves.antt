@@ -14,7 +14,7 @@ use Rattle.event_model.specs.Event.{Event, took, did}
 use Rattle.event_model.specs.Phases.{Desk, desk_of, desk_behind, editors_behind, phase_closed, is_begun}
 use Rattle.event_model.specs.Settings.{Settings}
 use Rattle.editor_session.specs.declared.session.Session.{Session}
-use Rattle.editor_session.specs.Sessions.{gone, session_of, with_session}
+use Rattle.editor_session.specs.Sessions.{gone, is_gone, session_of, with_session}
 use Rattle.event_model.proofs.Places.{Same, same, other, compare, get_set_same, get_set_other}
 use Rattle.group_words.specs.declared.kept.Kept.{Kept}
 use Rattle.group_words.specs.Placing.{changed}
@@ -23,11 +23,14 @@ use Rattle.group_words.proofs.Frames.{itself, groups_more, home_more, home_stays
 use Rattle.group_table.specs.Tables.{Table, with_groups}
 use Rattle.mux_tables.specs.declared.tables.Tables.{Tables}
 use Rattle.mux_tables.specs.Names.{NameStands, id_in}
-use Rattle.mux_tables.specs.Stands.{EditorsStand, GroupsStand, HouseStands, phase_in, group_in, meant_in, stays_in}
-use Rattle.event_model.proofs.Frames.{one_more}
+use Rattle.group_rows.specs.Asks.{asked_behind, next_ask}
+use Rattle.mux_tables.specs.Stands.{CountStands, EditorsStand, GroupsStand, HouseStands, phase_in, group_in, meant_in, stays_in}
+use Rattle.event_model.proofs.Frames.{never, one_more}
+use Rattle.mux_tables.proofs.Counted.{counted_set, next_more}
 use Rattle.mux_tables.proofs.Frames.{ticks, time_alone}
 use Rattle.mux_tables.proofs.Lists.{editors_by}
 use Rattle.mux_tables.proofs.Named.{closed_old, goes_closed, goes_so, goes_then, meant_by, named_by}
+use Rattle.mux_tables.proofs.Phased.{closed_gone}
 use Rattle.mux_tables.proofs.Seated.{index_get}
 
 emptied_alike : (home : Option ℕ) (was : Bool) (f g : ℕ → Bool) (now : ℕ) (xs : List Kept) → ((n : ℕ) → f n ≡ g n) → emptied home was f now xs ≡ emptied home was g now xs
@@ -40,8 +43,9 @@ record LeftOne (settings : Settings) (events : List Event) (ev : Event) (e : ℕ
   name : NameStands (desk_of e events) (home_of settings e events) x.id → NameStands (desk_behind e (desk_of e events) ev) (home_of settings e (events ++ ev ∷ [])) y.id
   old : (desk_behind e (desk_of e events) ev).phase ≡ New → ⊥
   counts : (g : ℕ) (o : Option ℕ) → o ≡ x.group → (is_begun y.phase && is_home g o) ≡ (is_begun y.phase && is_home g y.group)
+  asked : is_gone y.phase ≡ false → (is_gone x.phase ≡ false) × (y.asks ≡ x.asks)
 
-module _ (settings : Settings) (events : List Event) (ev : Event) (e : ℕ) (leaves : (x : House) → groups_next settings events x ev ≡ groups_left events ev e x) (rest : (n : ℕ) (d : Desk) → nat_eq e n ≡ false → desk_behind n d ev ≡ d) (number : (n : ℕ) → editors_behind n ev ≡ n) (homes : (n : ℕ) → nat_eq e n ≡ false → names_home n ev ≡ false) (time : ticks ev ≡ false) (unmeant : (n : ℕ) (x : Meant) → meant_behind settings.servers n x ev ≡ x) where
+module _ (settings : Settings) (events : List Event) (ev : Event) (e : ℕ) (leaves : (x : House) → groups_next settings events x ev ≡ groups_left events ev e x) (rest : (n : ℕ) (d : Desk) → nat_eq e n ≡ false → desk_behind n d ev ≡ d) (number : (n : ℕ) → editors_behind n ev ≡ n) (homes : (n : ℕ) → nat_eq e n ≡ false → names_home n ev ≡ false) (time : ticks ev ≡ false) (unmeant : (n : ℕ) (x : Meant) → meant_behind settings.servers n x ev ≡ x) (unasked : (n k : ℕ) → asked_behind n k ev ≡ k) where
   home_apart : (n : ℕ) → (n ≡ e → ⊥) → home_of settings n (events ++ ev ∷ []) ≡ home_of settings n events
   home_apart n h = home_stays settings n events ev (homes n (ne_eqb e n (λ q. h (sym q))))
 
@@ -54,6 +58,8 @@ module _ (settings : Settings) (events : List Event) (ev : Event) (e : ℕ) (lea
     names = λ n. subst (λ d. NameStands d (home_of settings n (events ++ ev ∷ [])) (id_in (slice_get u n))) (sym (one_more (desk_behind n) _ _ events ev refl))
         (subst (λ z. NameStands (desk_behind n (desk_of n events) ev) (home_of settings n (events ++ ev ∷ [])) (id_in (slice_get z n))) (sym is) (named n (compare e n)));
     meant = λ n. meant_at n (compare e n);
+    asked = λ n. subst (λ (z : List Session). CountStands (slice_get z n) (next_ask n (events ++ ev ∷ []))) (sym is)
+        (counted_set t e x y at own.asked n (next_ask n events) (next_ask n (events ++ ev ∷ [])) (next_more n events ev ∙ unasked n (next_ask n events)) (s.asked n));
   }
     where
       here : slice_get (slice_set t e y) e ≡ Some y
@@ -116,11 +122,11 @@ module _ (settings : Settings) (events : List Event) (ev : Event) (e : ℕ) (lea
       }
 
 -- its link is to be ended: it keeps its home
-pub close_moves : (settings : Settings) (events : List Event) (e : ℕ) (m : Message) (t u : Tables) (x y : Session) → slice_get t.editors e ≡ Some x → u.editors ≡ slice_set t.editors e y → y.group ≡ x.group → y.id ≡ x.id → y.phase ≡ phase_closed x.phase
+pub close_moves : (settings : Settings) (events : List Event) (e : ℕ) (m : Message) (t u : Tables) (x y : Session) → slice_get t.editors e ≡ Some x → u.editors ≡ slice_set t.editors e y → y.group ≡ x.group → y.id ≡ x.id → y.asks ≡ x.asks → y.phase ≡ phase_closed x.phase
     → u.groups.limit ≡ t.groups.limit → u.groups.idle ≡ t.groups.idle → u.time ≡ t.time → u.groups.groups ≡ emptied x.group (is_begun x.phase) (stays_in u.editors) t.time t.groups.groups
     → HouseStands settings t events → HouseStands settings u (events ++ did (CloseEditor e) m ∷ [])
-close_moves settings events e m t u x y at is group id closed l i k gs s =
-    left_moves settings events (did (CloseEditor e) m) e (λ h. refl) (λ n d f. rw f refl) (λ n. refl) (λ n f. refl) refl (λ n x. refl) t u x y at is own (λ d p. rw (itself e, p) (sym closed)) l i k gs s
+close_moves settings events e m t u x y at is group id asks closed l i k gs s =
+    left_moves settings events (did (CloseEditor e) m) e (λ h. refl) (λ n d f. rw f refl) (λ n. refl) (λ n f. refl) refl (λ n x. refl) (λ n k. refl) t u x y at is own (λ d p. rw (itself e, p) (sym closed)) l i k gs s
   where
     stays : home_of settings e (events ++ did (CloseEditor e) m ∷ []) ≡ home_of settings e events
     stays = home_stays settings e events (did (CloseEditor e) m) refl
@@ -134,6 +140,7 @@ close_moves settings events e m t u x y at is group id closed l i k gs s =
       name = λ n. named_by (goes_then (goes_closed (desk_of e events)) closes) stays id n;
       old = λ w. closed_old (desk_of e events).phase _ refl (sym (ap (λ (d : Desk). d.phase) closes) ∙ w);
       counts = λ g o h. ap (λ q. is_begun y.phase && is_home g q) (h ∙ sym group);
+      asked = λ there. (sym (ap is_gone closed ∙ closed_gone x.phase) ∙ there, asks);
     }
 
 -- its link ended: it is in no group from then on
@@ -141,7 +148,7 @@ pub gone_moves : (settings : Settings) (events : List Event) (e : ℕ) (why : Wh
     → u.groups.limit ≡ t.groups.limit → u.groups.idle ≡ t.groups.idle → u.time ≡ t.time → u.groups.groups ≡ emptied x.group (is_begun x.phase) (stays_in u.editors) t.time t.groups.groups
     → HouseStands settings t events → HouseStands settings u (events ++ took (EditorGone e why) m ∷ [])
 gone_moves settings events e why m t u x at is l i k gs s =
-    left_moves settings events (took (EditorGone e why) m) e (λ h. refl) (λ n d f. rw f refl) (λ n. refl) (λ n f. f) refl (λ n x. refl) t u x gone at is own (λ d p. rw (itself e) refl) l i k gs s
+    left_moves settings events (took (EditorGone e why) m) e (λ h. refl) (λ n d f. rw f refl) (λ n. refl) (λ n f. f) refl (λ n x. refl) (λ n k. refl) t u x gone at is own (λ d p. rw (itself e) refl) l i k gs s
   where
     leaves : desk_behind e (desk_of e events) (took (EditorGone e why) m) ≡ record { phase = Gone; initialize = (desk_of e events).initialize }
     leaves = rw (itself e) refl
@@ -152,6 +159,7 @@ gone_moves settings events e why m t u x at is l i k gs s =
       name = λ n. rw (itself e) (record { own = λ g w k. absurd (cc); unplaced = λ w. absurd (cc) });
       old = λ w. let k : Gone ≡ New = sym (ap (λ (d : Desk). d.phase) leaves) ∙ w in cc;
       counts = λ g o h. refl;
+      asked = λ there. never there;
     }
 
 pub closed_said : (settings : Settings) (events : List Event) (e : ℕ) (m : Message) (t u : Tables) (mid : List Session) (x : Session) (p : Phase) → e < length t.editors → slice_get t.editors e ≡ Some x → p ≡ phase_closed x.phase → mid ≡ with_session t.editors e (record (session_of t.editors e) { phase = p }) → u.editors ≡ mid → u.time ≡ t.time
@@ -159,7 +167,7 @@ pub closed_said : (settings : Settings) (events : List Event) (e : ℕ) (m : Mes
     → HouseStands settings t events → HouseStands settings u (events ++ did (CloseEditor e) m ∷ [])
 closed_said settings events e m t u mid x p h at closed set es now gs s =
     let y : Session = record (session_of t.editors e) { phase = p } in
-    close_moves settings events e m t u x y at (es ∙ set) (ap (λ (z : Session). z.group) (index_get t.editors e x _ at)) (ap (λ (z : Session). z.id) (index_get t.editors e x _ at)) closed (ap (λ (w : Table). w.limit) gs) (ap (λ (w : Table). w.idle) gs) now
+    close_moves settings events e m t u x y at (es ∙ set) (ap (λ (z : Session). z.group) (index_get t.editors e x _ at)) (ap (λ (z : Session). z.id) (index_get t.editors e x _ at)) (ap (λ (z : Session). z.asks) (index_get t.editors e x _ at)) closed (ap (λ (w : Table). w.limit) gs) (ap (λ (w : Table). w.idle) gs) now
     (ap (λ (w : Table). w.groups) gs ∙ ap (λ ns. emptied x.group (is_begun x.phase) (stays_in ns) t.time t.groups.groups) (sym es)) s
 
 read_at : {X : Type 0} (xs : List X) (i : ℕ) (d : X) → i < length xs → slice_get xs i ≡ Some (slice_index_or xs i d)

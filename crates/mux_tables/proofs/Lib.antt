@@ -1,3 +1,10 @@
+pub mod Replying
+pub mod Refusing
+pub mod Putting
+pub mod Searched
+pub mod Apart
+pub mod Asking
+pub mod Counted
 pub mod Awaited
 pub mod Begins
 pub mod Frames

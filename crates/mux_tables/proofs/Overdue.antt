@@ -12,7 +12,7 @@ use Rattle.event_model.proofs.Frames.{never}
 use Rattle.group_rows.specs.Ticks.{is_stopping, overdue_of, stop_of}
 use Rattle.group_words.specs.Houses.{time_of}
 use Rattle.group_words.specs.Placing.{is_since}
-use Rattle.group_rows.proofs.Stops.{filter_both, stopping_is}
+use Rattle.group_rows.proofs.Stops.{filter_both}
 use Rattle.mux_tables.specs.declared.tables.Start.{Start}
 use Rattle.mux_tables.specs.declared.tables.Tables.{Tables}
 use Rattle.mux_tables.specs.Stands.{Stands, StopAt, is_over, moment_in, number_in, of_life, of_stop}

@@ -74,10 +74,16 @@ module _ (settings : Settings) (t : List Session) (events : List Event) (e : ℕ
   own : is_gone (desk_of e events).phase ≡ is_gone (session_of t e).phase
   own = ap is_gone (s.phase e) ∙ ap (λ o. is_gone (phase_in o)) (slice_get-get_or t e absent l)
 
+  pub heard_same : (body : List ℕ) → (desk_of e (events ++ heard (FromEditor e body) ∷ [])).phase ≡ p → is_gone p ≡ is_gone (session_of t e).phase
+  heard_same body step = ap is_gone (sym step) ∙ (ap (λ (d : Desk). is_gone d.phase) (one_more (desk_behind e) _ _ events (heard (FromEditor e body)) refl)
+      ∙ (rw (itself e) (hears_gone (desk_of e events).phase (desk_of e events).initialize body (message_of body)) ∙ own))
+
+  pub told_same : (body : List ℕ) → (desk_of e (events ++ said (ToEditor e body) ∷ [])).phase ≡ p → is_gone p ≡ is_gone (session_of t e).phase
+  told_same body step = ap is_gone (sym step) ∙ (ap (λ (d : Desk). is_gone d.phase) (one_more (desk_behind e) _ _ events (said (ToEditor e body)) refl)
+      ∙ (rw (itself e) (told_gone (desk_of e events).phase (desk_of e events).initialize (message_of body)) ∙ own))
+
   pub heard_plain : (body : List ℕ) → (desk_of e (events ++ heard (FromEditor e body) ∷ [])).phase ≡ p → with_session t e (phased t e p) ≡ with_session t e (record (session_of t e) { phase = p })
-  heard_plain body step = plain t e p (ap is_gone (sym step) ∙ (ap (λ (d : Desk). is_gone d.phase) (one_more (desk_behind e) _ _ events (heard (FromEditor e body)) refl)
-      ∙ (rw (itself e) (hears_gone (desk_of e events).phase (desk_of e events).initialize body (message_of body)) ∙ own)))
+  heard_plain body step = plain t e p (heard_same body step)
 
   pub told_plain : (body : List ℕ) → (desk_of e (events ++ said (ToEditor e body) ∷ [])).phase ≡ p → with_session t e (phased t e p) ≡ with_session t e (record (session_of t e) { phase = p })
-  told_plain body step = plain t e p (ap is_gone (sym step) ∙ (ap (λ (d : Desk). is_gone d.phase) (one_more (desk_behind e) _ _ events (said (ToEditor e body)) refl)
-      ∙ (rw (itself e) (told_gone (desk_of e events).phase (desk_of e events).initialize (message_of body)) ∙ own)))
+  told_plain body step = plain t e p (told_same body step)

@@ -1,12 +1,12 @@
 -- What the tables do when an out about an editor is said, as the code has it.
-use Rattle.std.proofs.Common.{◌≡◌, ℕ, ◌<◌, Bool, true, false, List, [], ◌∷◌, ◌++◌, length, refl, ap, sym, subst, ◌∙◌, nat_eq, if◌then◌else◌}
-use Rattle.std.specs.Prelude.{Option, Some, slice_get, slice_set}
+use Rattle.std.proofs.Common.{◌≡◌, ℕ, ◌+◌, ◌<◌, Bool, true, false, List, [], ◌∷◌, ◌++◌, length, refl, ap, sym, subst, ◌∙◌, append-nil, nat_eq, if◌then◌else◌}
+use Rattle.std.specs.Prelude.{Option, Some, None, slice_get, slice_set}
 use Rattle.std.proofs.lemmas.Bool.{ne_eqb}
 use Rattle.std.proofs.lemmas.Option.{slice_get-get_or}
 use Rattle.std.proofs.lemmas.List.{length-set}
 use Rattle.mux_history.specs.declared.out.Out.{Out}
 use Rattle.mux_history.specs.declared.out.Out.TheVariants.{ToEditor, CloseEditor}
-use Rattle.rpc_message.specs.Message.{message_of, not_message}
+use Rattle.rpc_message.specs.Message.{Message, message_of, not_message, request}
 use Rattle.event_model.specs.declared.phase.Phase.{Phase}
 use Rattle.event_model.specs.Does.{Does}
 use Rattle.event_model.specs.Event.{Event, behind, did, said}
@@ -19,16 +19,18 @@ use Rattle.event_model.proofs.Turns.{behind_more}
 use Rattle.editor_session.specs.declared.session.Session.{Session}
 use Rattle.editor_session.specs.Sessions.{absent, is_gone, session_of, with_session}
 use Rattle.group_table.specs.Tables.{with_groups}
+use Rattle.group_rows.specs.Asks.{asking_of, asks_of, next_ask, put}
 use Rattle.group_words.specs.Houses.{emptied, meant_behind, time_behind}
 use Rattle.group_words.proofs.Frames.{home_stays}
 use Rattle.mux_tables.specs.declared.tables.Tables.{Tables}
-use Rattle.mux_tables.specs.Stands.{EditorsStand, GroupsStand, HouseStands, Keeps, Stands, phase_in, group_in, stays_in}
-use Rattle.mux_tables.proofs.Frames.{groups_stand}
+use Rattle.mux_tables.specs.Stands.{AsksStay, CountStands, EditorsStand, GroupsStand, HouseStands, Keeps, Stands, phase_in, group_in, is_request, meant_in, stays_in}
+use Rattle.mux_tables.proofs.Counted.{asked_apart, asked_more, asked_quiet, counted_same, counted_set, next_more}
+use Rattle.mux_tables.proofs.Frames.{asks_stay, groups_stand}
 use Rattle.mux_tables.proofs.Leaves.{closed_by}
 use Rattle.mux_tables.proofs.Moves.{house_moves}
 use Rattle.mux_tables.proofs.Named.{Goes, goes_so, goes_then, goes_told, meant_by, named_by}
-use Rattle.mux_tables.proofs.Phased.{closed_gone, phased, plain, told_plain}
-use Rattle.mux_tables.proofs.Waits.{ids_stay, meant_stay}
+use Rattle.mux_tables.proofs.Phased.{closed_gone, phased, plain, told_plain, told_same}
+use Rattle.mux_tables.proofs.Waits.{ids_kept, meant_kept}
 
 -- one out, by what it does to the tables
 pub does_send : (settings : Settings) (out : Out) (base : List Event) (t u : Tables) (xs ys : List Out) → ys ≡ xs ++ out ∷ [] → (Stands settings t (behind base xs) → Stands settings u (behind base xs ++ said out ∷ [])) → Does (λ t events. Stands settings t events) (send out) base t xs u ys
@@ -51,7 +53,10 @@ module _ (settings : Settings) (events : List Event) (e : ℕ) (body : List ℕ)
       go true = goes_told (desk_of n events) (message_of body)
       go false = goes_so refl
 
-  told_house : (t u : Tables) → EditorsStand settings u.editors (events ++ ev ∷ []) → u.groups ≡ t.groups → u.time ≡ t.time → HouseStands settings t events → HouseStands settings u (events ++ ev ∷ [])
+  quiet_count : (n : ℕ) → is_request (message_of body) ≡ false → next_ask n (events ++ ev ∷ []) ≡ next_ask n events
+  quiet_count n quiet = next_more n events ev ∙ asked_quiet n (next_ask n events) e body (message_of body) quiet
+
+  pub told_house : (t u : Tables) → EditorsStand settings u.editors (events ++ ev ∷ []) → u.groups ≡ t.groups → u.time ≡ t.time → HouseStands settings t events → HouseStands settings u (events ++ ev ∷ [])
   told_house t u after gs now s = record {
     editors = after;
     groups = subst (λ xs. GroupsStand settings xs (events ++ ev ∷ [])) (sym gs) (groups_stand settings t.groups events ev refl s.groups);
@@ -65,24 +70,25 @@ module _ (settings : Settings) (events : List Event) (e : ℕ) (body : List ℕ)
     home = λ n. home_stays settings n events ev refl ∙ s.home n;
     names = λ n. named_by (told_goes n) (home_stays settings n events ev refl) refl (s.names n);
     meant = λ n. meant_by (told_goes n) refl (one_more (meant_behind settings.servers n) _ _ events ev refl) (s.meant n);
+    asked = λ n. counted_same (slice_get t n) (next_ask n events) (next_ask n (events ++ ev ∷ [])) (quiet_count n k.1) (s.asked n);
   }
     where
       at : (n : ℕ) → Same e n → (desk_of n (events ++ ev ∷ [])).phase ≡ phase_in (slice_get t n)
-      at _ same = k ∙ s.phase e
+      at _ same = k.0 ∙ s.phase e
       at n (other h) = ap (λ (d : Desk). d.phase) (one_more (desk_behind n) _ _ events ev refl ∙ untold n (desk_of n events) (ne_eqb e n (λ q. h (sym q)))) ∙ s.phase n
 
-  moved_editors : (t : List Session) (p : Phase) → e < length t → (desk_of e (events ++ ev ∷ [])).phase ≡ p → EditorsStand settings t events → EditorsStand settings (with_session t e (record (session_of t e) { phase = p })) (events ++ ev ∷ [])
-  moved_editors t p l k s = record {
+  -- the editor's session changes, but not its group, its id and what it meant
+  said_editors : (t : List Session) (y : Session) → e < length t → (desk_of e (events ++ ev ∷ [])).phase ≡ y.phase → y.group ≡ (session_of t e).group → y.id ≡ (session_of t e).id → meant_in (Some y) ≡ meant_in (Some (session_of t e))
+      → ((n : ℕ) → CountStands (slice_get (slice_set t e y) n) (next_ask n (events ++ ev ∷ []))) → EditorsStand settings t events → EditorsStand settings (with_session t e y) (events ++ ev ∷ [])
+  said_editors t y l k group id means counts s = record {
     count = one_more editors_behind _ _ events ev s.count ∙ sym (length-set t e y);
     phase = λ n. at n (compare e n);
     home = λ n. home_stays settings n events ev refl ∙ (s.home n ∙ home_at n (compare e n));
-    names = λ n. named_by (told_goes n) (home_stays settings n events ev refl) (ids_stay t e p l n) (s.names n);
-    meant = λ n. meant_by (told_goes n) (meant_stay t e p l n) (one_more (meant_behind settings.servers n) _ _ events ev refl) (s.meant n);
+    names = λ n. named_by (told_goes n) (home_stays settings n events ev refl) (ids_kept t e y l id n) (s.names n);
+    meant = λ n. meant_by (told_goes n) (meant_kept t e y l means n) (one_more (meant_behind settings.servers n) _ _ events ev refl) (s.meant n);
+    asked = counts;
   }
     where
-      y : Session
-      y = record (session_of t e) { phase = p }
-
       here : slice_get (slice_set t e y) e ≡ Some y
       here = get_set_same t e y l
 
@@ -91,23 +97,51 @@ module _ (settings : Settings) (events : List Event) (e : ℕ) (body : List ℕ)
       at n (other h) = ap (λ (d : Desk). d.phase) (one_more (desk_behind n) _ _ events ev refl ∙ untold n (desk_of n events) (ne_eqb e n (λ q. h (sym q)))) ∙ (s.phase n ∙ ap phase_in (sym (get_set_other t e n y h)))
 
       home_at : (n : ℕ) → Same e n → group_in (slice_get t n) ≡ group_in (slice_get (slice_set t e y) n)
-      home_at _ same = ap group_in (slice_get-get_or t e absent l) ∙ ap group_in (sym here)
+      home_at _ same = ap group_in (slice_get-get_or t e absent l) ∙ (sym group ∙ ap group_in (sym here))
       home_at n (other h) = ap group_in (sym (get_set_other t e n y h))
+
+  -- its phase does, by a body that is no request
+  moved_editors : (t : List Session) (p : Phase) → e < length t → (desk_of e (events ++ ev ∷ [])).phase ≡ p → is_request (message_of body) ≡ false → EditorsStand settings t events → EditorsStand settings (with_session t e (record (session_of t e) { phase = p })) (events ++ ev ∷ [])
+  moved_editors t p l k quiet s =
+      let y : Session = record (session_of t e) { phase = p } in
+      said_editors t y l k refl refl refl (λ n. counted_set t e (session_of t e) y (slice_get-get_or t e absent l) (λ there. (sym (told_same settings t events e p l s body k) ∙ there, refl)) n (next_ask n events) (next_ask n (events ++ ev ∷ [])) (quiet_count n quiet) (s.asked n)) s
+
+  -- it is asked once more
+  pub asked_editors : (t : List Session) → e < length t → (desk_of e (events ++ ev ∷ [])).phase ≡ (session_of t e).phase → is_request (message_of body) ≡ true → EditorsStand settings t events → EditorsStand settings (with_session t e (record (session_of t e) { asks = (session_of t e).asks + 1 })) (events ++ ev ∷ [])
+  asked_editors t l k asks s = said_editors t y l k refl refl refl (λ n. counts n (compare e n)) s
+    where
+      y : Session
+      y = record (session_of t e) { asks = (session_of t e).asks + 1 }
+
+      counts : (n : ℕ) → Same e n → CountStands (slice_get (slice_set t e y) n) (next_ask n (events ++ ev ∷ []))
+      counts _ same = subst (λ (o : Option Session). CountStands o (next_ask e (events ++ ev ∷ []))) (sym (get_set_same t e y l))
+          (λ there. let was : CountStands (Some (session_of t e)) (next_ask e events) = subst (λ (o : Option Session). CountStands o (next_ask e events)) (slice_get-get_or t e absent l) (s.asked e) in
+          next_more e events ev ∙ (asked_more e (next_ask e events) body (message_of body) asks ∙ ap (λ m. m + 1) (was there)))
+      counts n (other h) = subst (λ (o : Option Session). CountStands o (next_ask n (events ++ ev ∷ []))) (sym (get_set_other t e n y h))
+          (counted_same (slice_get t n) (next_ask n events) (next_ask n (events ++ ev ∷ [])) (next_more n events ev ∙ asked_apart n (next_ask n events) e body (message_of body) (ne_eqb e n (λ q. h (sym q)))) (s.asked n))
+
+-- a body of an entry in which no start asks
+pub idle_stay : (s e : ℕ) (events : List Event) (body : List ℕ) → (asking_of s events).asker ≡ None → AsksStay s events (said (ToEditor e body))
+idle_stay s e events body none = go (message_of body)
+  where
+    go : (m : Message) → AsksStay s events (did (ToEditor e body) m)
+    go (request id method ps) = ap (λ o. asks_of s events ++ put o e (next_ask e events)) none ∙ append-nil (asks_of s events)
+    go rest = refl
 
 pub told_does : (settings : Settings) (t : Tables) (xs ys : List Out) (base : List Event) (e : ℕ) (body : List ℕ) → Keeps e body (behind base xs) → ys ≡ xs ++ ToEditor e body ∷ [] → Does (λ t events. Stands settings t events) (send (ToEditor e body)) base t xs t ys
 told_does settings t xs ys base e body k is = does_send settings (ToEditor e body) base t t xs ys is
-    (house_moves settings t t (behind base xs) (said (ToEditor e body)) (λ n. refl) refl refl refl refl (λ h. told_house settings (behind base xs) e body t t (kept_editors settings (behind base xs) e body t.editors k h.editors) refl refl h))
+    (house_moves settings t t (behind base xs) (said (ToEditor e body)) (λ n. refl) (λ s. asks_stay s (behind base xs) (said (ToEditor e body)) k.1) refl refl refl refl (λ h. told_house settings (behind base xs) e body t t (kept_editors settings (behind base xs) e body t.editors k h.editors) refl refl h))
 
-pub welcome_does : (settings : Settings) (t u : Tables) (xs ys : List Out) (base : List Event) (e : ℕ) (body : List ℕ) (p : Phase) → e < length t.editors → (desk_of e (behind base xs ++ said (ToEditor e body) ∷ [])).phase ≡ p → u.editors ≡ with_session t.editors e (phased t.editors e p)
+pub welcome_does : (settings : Settings) (t u : Tables) (xs ys : List Out) (base : List Event) (e : ℕ) (body : List ℕ) (p : Phase) → e < length t.editors → (desk_of e (behind base xs ++ said (ToEditor e body) ∷ [])).phase ≡ p → is_request (message_of body) ≡ false → u.editors ≡ with_session t.editors e (phased t.editors e p)
     → u.groups ≡ t.groups → u.time ≡ t.time → u.lasts ≡ t.lasts → u.origins ≡ t.origins → u.requests ≡ t.requests → ys ≡ xs ++ ToEditor e body ∷ [] → Does (λ t events. Stands settings t events) (send (ToEditor e body)) base t xs u ys
-welcome_does settings t u xs ys base e body p l k es gs now ls os r is = does_send settings (ToEditor e body) base t u xs ys is
-    (house_moves settings t u (behind base xs) (said (ToEditor e body)) (λ n. refl) refl (ap (λ v. v.items) ls) os r
-    (λ h. told_house settings (behind base xs) e body t u (subst (λ z. EditorsStand settings z (behind base xs ++ said (ToEditor e body) ∷ [])) (sym (es ∙ told_plain settings t.editors (behind base xs) e p l h.editors body k)) (moved_editors settings (behind base xs) e body t.editors p l k h.editors)) gs now h))
+welcome_does settings t u xs ys base e body p l k q es gs now ls os r is = does_send settings (ToEditor e body) base t u xs ys is
+    (house_moves settings t u (behind base xs) (said (ToEditor e body)) (λ n. refl) (λ s. asks_stay s (behind base xs) (said (ToEditor e body)) q) refl (ap (λ v. v.items) ls) os r
+    (λ h. told_house settings (behind base xs) e body t u (subst (λ z. EditorsStand settings z (behind base xs ++ said (ToEditor e body) ∷ [])) (sym (es ∙ told_plain settings t.editors (behind base xs) e p l h.editors body k)) (moved_editors settings (behind base xs) e body t.editors p l k q h.editors)) gs now h))
 
 pub close_does : (settings : Settings) (t u : Tables) (xs ys : List Out) (base : List Event) (e : ℕ) (mid : List Session) (before p : Phase) (home : Option ℕ) (was : Bool) → e < length t.editors
     → before ≡ (session_of t.editors e).phase → home ≡ (session_of t.editors e).group → p ≡ phase_closed before → was ≡ is_begun before
     → mid ≡ with_session t.editors e (phased t.editors e p) → u.editors ≡ mid → u.time ≡ t.time → u.lasts ≡ t.lasts → u.origins ≡ t.origins → u.requests ≡ t.requests
     → u.groups ≡ with_groups (emptied home was (stays_in mid) t.time t.groups.groups) t.groups → ys ≡ xs ++ CloseEditor e ∷ [] → Does (λ t events. Stands settings t events) (send (CloseEditor e)) base t xs u ys
 close_does settings t u xs ys base e mid before p home was l phases homes closes begun set es now ls os r gs is = does_send settings (CloseEditor e) base t u xs ys is
-    (house_moves settings t u (behind base xs) (said (CloseEditor e)) (λ n. refl) refl (ap (λ v. v.items) ls) os r
+    (house_moves settings t u (behind base xs) (said (CloseEditor e)) (λ n. refl) (λ n. refl) refl (ap (λ v. v.items) ls) os r
     (closed_by settings (behind base xs) e not_message t u mid before p home was l phases homes closes begun (set ∙ plain t.editors e p (ap is_gone closes ∙ (closed_gone before ∙ ap is_gone phases))) es now gs))

@@ -23,7 +23,7 @@ use Rattle.mux_tables.specs.Stands.{HouseStands}
 use Rattle.mux_tables.proofs.Phased.{phased}
 use Rattle.mux_tables.proofs.Placing.{initialize_moves}
 
-set_set : {X : Type 0} (xs : List X) (i : ℕ) (y z : X) → slice_set (slice_set xs i y) i z ≡ slice_set xs i z
+pub set_set : {X : Type 0} (xs : List X) (i : ℕ) (y z : X) → slice_set (slice_set xs i y) i z ≡ slice_set xs i z
 set_set [] i y z = refl
 set_set (x ∷ xs) zero y z = refl
 set_set (x ∷ xs) (suc i) y z = ap (λ ws. x ∷ ws) (set_set xs i y z)
@@ -42,8 +42,8 @@ index_get (w ∷ xs) zero x d h = the h
 index_get (w ∷ xs) (suc i) x d h = index_get xs i x d h
 
 -- what is left of an editor that was placed
-abbrev pub Seated : List Session → List Session → ℕ → Placed → Option ℕ → List ℕ → Type 0
-Seated t u e p group id = (y : Session) × (u ≡ slice_set t e y) × (y.phase ≡ Waiting) × (y.group ≡ home_by p group) × ((g : ℕ) → home_by p None ≡ Some g → y.id ≡ Some id)
+abbrev pub Seated : List Session → List Session → ℕ → Placed → Session → List ℕ → Type 0
+Seated t u e p x id = (y : Session) × (u ≡ slice_set t e y) × (y.phase ≡ Waiting) × (y.group ≡ home_by p x.group) × ((g : ℕ) → home_by p None ≡ Some g → y.id ≡ Some id) × (y.asks ≡ x.asks)
 
 abbrev pub waiting : List Session → ℕ → Session
 waiting t e = phased t e Waiting
@@ -55,7 +55,7 @@ sits : (w x : Session) (g : ℕ) (id : List ℕ) → w ≡ record x { phase = Wa
 sits w x g id h = ap (unless_gone (in_group g id)) h
 
 pub seated : (t u v : List Session) (e g : ℕ) (id : List ℕ) (p : Placed) (x : Session) → e < length t → slice_get t e ≡ Some x → is_gone x.phase ≡ false → u ≡ with_session t e (waiting t e) → v ≡ with_session u e (unless_gone (in_group g id) (session_of u e)) → ((o : Option ℕ) → home_by p o ≡ Some g)
-    → Seated t v e p x.group id
+    → Seated t v e p x id
 seated t u v e g id p x h at there one two home = (
   record x { phase = Waiting; group = Some g; id = Some id },
   two ∙ (ap (λ w. with_session w e (unless_gone (in_group g id) (session_of w e))) one
@@ -64,10 +64,11 @@ seated t u v e g id p x h at there one two home = (
   refl,
   sym (home x.group),
   λ n q. refl,
+  refl,
 )
 
-pub unseated : (t u : List Session) (e : ℕ) (x : Session) (id : List ℕ) (p : Placed) → slice_get t e ≡ Some x → is_gone x.phase ≡ false → u ≡ with_session t e (waiting t e) → ((o : Option ℕ) → home_by p o ≡ o) → Seated t u e p x.group id
-unseated t u e x id p at there one home = (record x { phase = Waiting }, one ∙ ap (slice_set t e) (ap (λ (z : Session). unless_gone (in_phase Waiting) z) (index_get t e x _ at) ∙ waits x there), refl, sym (home x.group), λ g q. none g (sym (home None) ∙ q))
+pub unseated : (t u : List Session) (e : ℕ) (x : Session) (id : List ℕ) (p : Placed) → slice_get t e ≡ Some x → is_gone x.phase ≡ false → u ≡ with_session t e (waiting t e) → ((o : Option ℕ) → home_by p o ≡ o) → Seated t u e p x id
+unseated t u e x id p at there one home = (record x { phase = Waiting }, one ∙ ap (slice_set t e) (ap (λ (z : Session). unless_gone (in_phase Waiting) z) (index_get t e x _ at) ∙ waits x there), refl, sym (home x.group), λ g q. none g (sym (home None) ∙ q), refl)
   where
     none : {A : Type 0} (g : ℕ) → ◌≡◌ {A = Option ℕ} None (Some g) → A
     none g q = absurd (cc)
@@ -77,7 +78,7 @@ twice_length t u v e y z one two = ap length two ∙ (length-set u e z ∙ (ap l
 
 pub initialize_heard : (settings : Settings) (before : List Event) (e : ℕ) (body : List ℕ) (m : Message) (t u : Tables) (mid : Table) (x : Session) (p : Placed) (key : Common) (given id : List ℕ) → requests (codes "initialize") m ≡ true → slice_get t.editors e ≡ Some x → x.phase ≡ New → id ≡ id_bytes body
     → key ≡ key_for settings before e body → given ≡ declared_for settings before e body → p ≡ place_in key given t.groups → mid ≡ after_place key given t.groups → u.groups ≡ with_groups (placing.joined p mid.groups) mid
-    → Seated t.editors u.editors e p x.group id → u.time ≡ t.time → HouseStands settings t before
+    → Seated t.editors u.editors e p x id → u.time ≡ t.time → HouseStands settings t before
     → (p ≡ placed_for settings before e body (groups_of settings before)) × HouseStands settings u (before ++ took (FromEditor e body) m ∷ [])
 initialize_heard settings before e body m t u mid x p key given id first at new own k d chosen placed busy sits now s =
     let K : Common = key_for settings before e body in
@@ -90,7 +91,7 @@ initialize_heard settings before e body m t u mid x p key given id first at new 
     let limit : u.groups.limit ≡ T.limit = ap (λ (w : Table). w.limit) busy ∙ ap (λ (w : Table). w.limit) placed in
     let idle : u.groups.idle ≡ T.idle = ap (λ (w : Table). w.idle) busy ∙ ap (λ (w : Table). w.idle) placed in (
       p_is ∙ (ap (λ n. placed_in n K D T.groups) (sym s.groups.limit) ∙ ap (λ gs. placed_in settings.limits.groups K D gs) (sym s.groups.groups)),
-      initialize_moves settings before e body m first t u x sits.0 at new sits.1 sits.2 (λ g q. sits.4 g (ap (λ w. home_by w None) p_is ∙ q) ∙ ap (λ w. Some w) own) (sits.3 ∙ ap (λ q. home_by q x.group) p_is) groups limit idle now s,
+      initialize_moves settings before e body m first t u x sits.0 at new sits.1 sits.2 (λ g q. sits.4 g (ap (λ w. home_by w None) p_is ∙ q) ∙ ap (λ w. Some w) own) (sits.3 ∙ ap (λ q. home_by q x.group) p_is) groups limit idle now sits.5 s,
     )
 
 pub joined_inside : (p : Placed) (t u : Table) → u ≡ with_groups (placing.joined p t.groups) t → Inside p (length t.groups) → Inside p (length u.groups)

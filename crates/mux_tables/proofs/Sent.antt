@@ -27,15 +27,18 @@ use Rattle.mux_tables.specs.declared.tables.Tables.{Tables}
 use Rattle.group_rows.specs.Forwarded.{forwarding_of, is_written, moves_ids}
 use Rattle.group_rows.specs.Ticks.{is_stopping, stop_of}
 use Rattle.group_words.specs.Houses.{time_of}
-use Rattle.mux_tables.specs.Stands.{Part, of_life, of_ids, of_shown, of_stop, PartStands, Sends, Stands, StopAt, forwarded_of, number_in, unstopped}
-use Rattle.mux_tables.proofs.Frames.{groups_stand, itself, part_quiet, stop_more}
+use Rattle.mux_tables.specs.Stands.{AsksStay, Part, of_life, of_ids, of_shown, of_stop, of_asks, PartStands, Sends, Stands, StopAt, forwarded_of, is_answer, number_in, unstopped}
+use Rattle.event_model.specs.Requests.{answered_id}
+use Rattle.group_rows.specs.Asks.{Ask, asks_of, is_under}
+use Rattle.mux_tables.proofs.Asking.{none_handed, told_asks}
+use Rattle.mux_tables.proofs.Frames.{asks_stay, groups_stand, itself, part_quiet, stop_more}
 use Rattle.mux_tables.proofs.IdMoves.{cancelled_ids, sent_as, sent_ids}
 use Rattle.mux_tables.proofs.Lasts.{known}
 use Rattle.mux_tables.proofs.Said.{does_send}
-use Rattle.mux_tables.proofs.Starts.{groups_kept, is_late, late_shown, no_stop, part_ids, part_life, read_here, start_at_place, start_moves, still_ids, still_life, still_shown, still_stop}
+use Rattle.mux_tables.proofs.Starts.{groups_kept, is_late, late_asks, late_shown, no_stop, part_ids, part_life, read_here, start_at_place, start_moves, still_asks, still_ids, still_life, still_shown, still_stop}
 use Rattle.mux_tables.proofs.Awaited.{Added, StopsMove, stop_added, stopping_less, told_stops}
 
-same_set : (xs : List Start) (g : ℕ) (z : Start) → slice_get xs g ≡ Some z → slice_set xs g z ≡ xs
+pub same_set : (xs : List Start) (g : ℕ) (z : Start) → slice_get xs g ≡ Some z → slice_set xs g z ≡ xs
 same_set [] g z h = refl
 same_set (x ∷ xs) zero z h = ap (λ w. w ∷ xs) (sym (same_item h))
 same_set (x ∷ xs) (suc g) z h = ap (λ ws. x ∷ ws) (same_set xs g z h)
@@ -66,9 +69,9 @@ module _ (settings : Settings) (t u : Tables) (xs ys : List Out) (base : List Ev
 
 -- one that moves no table of a start
 pub unmoved_does : (settings : Settings) (t u : Tables) (xs ys : List Out) (base : List Event) (g s start : ℕ) (z : Start) (text : List ℕ) → slice_get (map number_in t.lasts.items) g ≡ Some s → g < length t.lasts.items → z ≡ get_or t.lasts.items g z
-    → requests (codes "shutdown") (message_of text) ≡ false → moves_ids (message_of text) ≡ false → u.lasts.items ≡ t.lasts.items → u.editors ≡ t.editors → u.groups ≡ t.groups → u.time ≡ t.time → u.origins ≡ t.origins → u.requests ≡ t.requests
+    → requests (codes "shutdown") (message_of text) ≡ false → moves_ids (message_of text) ≡ false → (is_ready z.life.stage ≡ true → AsksStay z.life.start (behind base xs) (said (ToServer z.life.start text))) → u.lasts.items ≡ t.lasts.items → u.editors ≡ t.editors → u.groups ≡ t.groups → u.time ≡ t.time → u.origins ≡ t.origins → u.requests ≡ t.requests
     → start ≡ z.life.start → ys ≡ xs ++ ToServer start text ∷ [] → Does (λ t events. Stands settings t events) (send (ToServer s text)) base t xs u ys
-unmoved_does settings t u xs ys base g s start z text at within read runs counts ls es gs now os r is said_so =
+unmoved_does settings t u xs ys base g s start z text at within read runs counts silent ls es gs now os r is said_so =
     sent_does settings t u xs ys base g s start z z text at within read (ls ∙ sym (same_set t.lasts.items g z (read_here t.lasts.items g z within read))) refl refl es gs now (ap (λ v. v.groups) os) r is said_so (λ st. told_stops t u (behind base xs) s text os runs) (λ st p h. part p h)
   where
     part : (p : Part) → PartStands p t.requests z (behind base xs) → PartStands p t.requests z (behind base xs ++ said (ToServer z.life.start text) ∷ [])
@@ -76,11 +79,21 @@ unmoved_does settings t u xs ys base g s start z text at within read runs counts
     part of_ids h = part_quiet of_ids t.requests z (behind base xs) (said (ToServer z.life.start text)) counts h
     part of_shown h = part_quiet of_shown t.requests z (behind base xs) (said (ToServer z.life.start text)) refl h
     part of_stop h = part_quiet of_stop t.requests z (behind base xs) (said (ToServer z.life.start text)) runs h
+    part of_asks h = told_asks z.life.stage z.life.start (behind base xs) text (message_of text) z.asks silent h
 
 -- nor any other
 pub notify_does : (settings : Settings) (t : Tables) (xs ys : List Out) (base : List Event) (g s start : ℕ) (z : Start) (text : List ℕ) → slice_get (map number_in t.lasts.items) g ≡ Some s → g < length t.lasts.items → z ≡ get_or t.lasts.items g z
-    → requests (codes "shutdown") (message_of text) ≡ false → moves_ids (message_of text) ≡ false → start ≡ z.life.start → ys ≡ xs ++ ToServer start text ∷ [] → Does (λ t events. Stands settings t events) (send (ToServer s text)) base t xs t ys
-notify_does settings t xs ys base g s start z text at within read runs counts is said_so = unmoved_does settings t t xs ys base g s start z text at within read runs counts refl refl refl refl refl refl is said_so
+    → requests (codes "shutdown") (message_of text) ≡ false → moves_ids (message_of text) ≡ false → (is_ready z.life.stage ≡ true → is_answer (message_of text) ≡ false) → start ≡ z.life.start → ys ≡ xs ++ ToServer start text ∷ [] → Does (λ t events. Stands settings t events) (send (ToServer s text)) base t xs t ys
+notify_does settings t xs ys base g s start z text at within read runs counts silent is said_so = unmoved_does settings t t xs ys base g s start z text at within read runs counts (λ ready. asks_stay z.life.start (behind base xs) (said (ToServer z.life.start text)) (silent ready)) refl refl refl refl refl refl is said_so
+
+-- an answer under the id of no ask that is left
+pub respond_does : (settings : Settings) (t : Tables) (xs ys : List Out) (base : List Event) (g s start : ℕ) (z : Start) (text : List ℕ) → slice_get (map number_in t.lasts.items) g ≡ Some s → g < length t.lasts.items → z ≡ get_or t.lasts.items g z
+    → requests (codes "shutdown") (message_of text) ≡ false → moves_ids (message_of text) ≡ false → AllByRecursion (λ (a : Ask). is_under (answered_id (message_of text)) a ≡ false) (asks_of s (behind base xs)) → start ≡ z.life.start → ys ≡ xs ++ ToServer start text ∷ []
+    → Does (λ t events. Stands settings t events) (send (ToServer s text)) base t xs t ys
+respond_does settings t xs ys base g s start z text at within read runs counts free is said_so =
+    let same : z.life.start ≡ s = start_at_place t.lasts.items g s z (read_here t.lasts.items g z within read) at in
+    unmoved_does settings t t xs ys base g s start z text at within read runs counts
+    (λ _. none_handed z.life.start (behind base xs) text (message_of text) (subst (λ n. AllByRecursion (λ (a : Ask). is_under (answered_id (message_of text)) a ≡ false) (asks_of n (behind base xs))) (sym same) free)) refl refl refl refl refl refl is said_so
 
 not_shutdown : (method : List ℕ) → is_own method ≡ false → bytes_eq (codes "shutdown") method ≡ false
 not_shutdown method h = go (bytes_eq (codes "shutdown") method) refl
@@ -106,6 +119,7 @@ forward_does settings t u xs ys base g s start e z ids pending text id method na
         (sent_ids t.requests z.life.start z.ids ids (forwarding_of z.life.start (behind base xs)) text method (message_of text) name ps (record { number = z.ids.next; pending = pending }) (record { editor = e; id = id }) says own sends kept put next limit order) h
     part sends of_shown h = still_shown t.requests (behind base xs) (said (ToServer z.life.start text)) z (record z { ids = ids }) refl refl refl h
     part sends of_stop h = still_stop t.requests (behind base xs) (said (ToServer z.life.start text)) z (record z { ids = ids }) refl (ap (requests (codes "shutdown")) says ∙ not_shutdown method own) h
+    part sends of_asks h = still_asks t.requests (behind base xs) (said (ToServer z.life.start text)) z (record z { ids = ids }) refl refl (ap is_answer says) h
 
 -- a cancel
 pub cancel_does : (settings : Settings) (t u : Tables) (xs ys : List Out) (base : List Event) (g s start n : ℕ) (z : Start) (ids : Table) (text method : List ℕ) (ps : Option Json) → slice_get (map number_in t.lasts.items) g ≡ Some s → g < length t.lasts.items → z ≡ get_or t.lasts.items g z
@@ -122,6 +136,7 @@ cancel_does settings t u xs ys base g s start n z ids text method ps at within r
         (cancelled_ids t.requests z.life.start z.ids ids (forwarding_of z.life.start (behind base xs)) text method (message_of text) ps n st.range says cancels written put next limit order) h
     part st of_shown h = still_shown t.requests (behind base xs) (said (ToServer z.life.start text)) z (record z { ids = ids }) refl refl refl h
     part st of_stop h = still_stop t.requests (behind base xs) (said (ToServer z.life.start text)) z (record z { ids = ids }) refl (ap (requests (codes "shutdown")) says) h
+    part st of_asks h = still_asks t.requests (behind base xs) (said (ToServer z.life.start text)) z (record z { ids = ids }) refl refl (ap is_answer says) h
 
 -- the numbers that are kept, where one more goes to its place among them
 abbrev pub Adds : ℕ → Tables → Tables → Type 0
@@ -171,6 +186,7 @@ shut_does settings t u xs ys base g s start n z life text name ps at within read
     part st of_ids h = still_ids t.requests (behind base xs) (said (ToServer z.life.start text)) z y own refl (ap moves_ids says) h
     part st of_shown h = late_shown t.requests (behind base xs ++ said (ToServer z.life.start text) ∷ []) y (ap (λ (l : Standing). is_late l.stage) stops)
     part st of_stop h = subst (λ (l : Standing). StopAt l.stage l.stopping (stop_of l.start (behind base xs ++ said (ToServer z.life.start text) ∷ []))) (sym stops) (sym (moment st))
+    part st of_asks h = late_asks t.requests (behind base xs ++ said (ToServer z.life.start text) ∷ []) y (ap (λ (l : Standing). is_late l.stage) stops)
 
 ending : (g : Stage) → (g ≡ Ended → ⊥) → stage_ending g ≡ Ending
 ending Ended h = absurd (h refl)
@@ -201,3 +217,4 @@ end_does settings t u xs ys base g s start z life at within read runs ends cease
     part own of_ids h = still_ids t.requests (behind base xs) (said (EndServer z.life.start)) z (record z { life = life; shown = None }) own refl refl h
     part own of_shown h = late_shown t.requests (behind base xs ++ said (EndServer z.life.start) ∷ []) (record z { life = life; shown = None }) (ap (λ (l : Standing). is_late l.stage) ends)
     part own of_stop h = no_stop t.requests (behind base xs ++ said (EndServer z.life.start) ∷ []) (record z { life = life; shown = None }) (ap (λ (l : Standing). is_stopping l.stage) ends)
+    part own of_asks h = late_asks t.requests (behind base xs ++ said (EndServer z.life.start) ∷ []) (record z { life = life; shown = None }) (ap (λ (l : Standing). is_late l.stage) ends)

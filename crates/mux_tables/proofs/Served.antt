@@ -24,11 +24,13 @@ use Rattle.group_rows.specs.Ticks.{is_stopping, stop_of}
 use Rattle.mux_tables.specs.declared.tables.Start.{Start}
 use Rattle.mux_tables.specs.declared.tables.Tables.{Tables}
 use Rattle.group_rows.specs.Forwarded.{Forwarding, forwarding_behind, forwarding_of, is_under}
-use Rattle.mux_tables.specs.Stands.{Exits, IdsAt, NamesAt, Part, of_life, of_ids, of_shown, of_stop, PartStands, ShownAt, Stands, StopAt, begun_at, forwarded_as, is_early, number_in, unstopped}
+use Rattle.group_rows.specs.Asks.{Ask, asks_of}
+use Rattle.mux_tables.specs.Stands.{AsksAt, Exits, IdsAt, NamesAt, Part, of_life, of_ids, of_shown, of_stop, of_asks, PartStands, ShownAt, Stands, StopAt, begun_at, forwarded_as, is_early, number_in, unstopped}
+use Rattle.mux_tables.proofs.Asking.{begun_asks, first_asks}
 use Rattle.mux_tables.proofs.Exits.{lost_groups, refused_groups}
 use Rattle.mux_tables.proofs.Frames.{itself, groups_stand, names_editor, names_start, part_quiet, result_quiet, spawns, stop_more, ticks}
 use Rattle.mux_tables.proofs.IdMoves.{answered_ids, ended_ids, failed_ids, unanswered_ids, found_seen}
-use Rattle.mux_tables.proofs.Starts.{groups_kept, is_late, late_shown, no_stop, not_refused, part_ids, part_life, part_shown, read_back, read_here, start_at_place, start_moves, still_ids, still_shown, still_stop}
+use Rattle.mux_tables.proofs.Starts.{groups_kept, is_late, late_asks, late_shown, no_stop, not_refused, part_ids, part_life, part_shown, read_back, read_here, start_at_place, start_moves, still_asks, still_ids, still_shown, still_stop}
 use Rattle.mux_tables.proofs.Awaited.{StopsMove, hears_same, same_either, started_same, stopping_less, stops_kept}
 
 -- the program runs
@@ -87,6 +89,8 @@ started_moves settings t u events g s z life at within read is set es gs now os 
         (begun_shown z.life.stage z.life z.shown _ refl (subst (λ o. ShownAt z.life.stage z.shown o) (sym (result_quiet z.life.start (result_of z.life.start events) (took (Started z.life.start) not_message) refl)) s))) h
     part own of_stop h = subst (λ (l : Standing). StopAt l.stage l.stopping (stop_of l.start (events ++ took (Started z.life.start) not_message ∷ []))) (sym is)
         (begun_stop z.life.stage z.life (λ n. stop_of n (events ++ took (Started z.life.start) not_message ∷ [])) refl (part_quiet of_stop t.requests z events (took (Started z.life.start) not_message) refl h))
+    part own of_asks h = subst (λ (l : Standing). AsksAt l.stage (events ++ took (Started z.life.start) not_message ∷ []) (asks_of l.start (events ++ took (Started z.life.start) not_message ∷ [])) z.asks) (sym is)
+        (begun_asks z.life.stage z.life (events ++ took (Started z.life.start) not_message ∷ []) (λ n. asks_of n (events ++ took (Started z.life.start) not_message ∷ [])) z.asks refl (part_quiet of_asks t.requests z events (took (Started z.life.start) not_message) refl h))
 
 -- the start answers a request, or none
 same_table : (limit : ℕ) (x : Forwarding) (t u : Table) → u.requests ≡ t.requests → u.next ≡ t.next → u.limit ≡ t.limit → (IsInOrder t → IsInOrder u) → IdsAt limit x t → IdsAt limit x u
@@ -115,6 +119,7 @@ heard_stops t u events s body os = stops_kept t u events (took (FromServer s bod
 module _ (settings : Settings) (t u : Tables) (events : List Event) (g s : ℕ) (z : Start) (body : List ℕ) (n : Option ℕ) (life : Standing) (ids : Table) (shown : Option (List ℕ)) (at : slice_get (map number_in t.lasts.items) g ≡ Some s) (within : g < length t.lasts.items) (read : z ≡ get_or t.lasts.items g z)
     (awaits : StopAt z.life.stage z.life.stopping (stop_of z.life.start events) → StopAt life.stage life.stopping (stop_of z.life.start events))
     (gives : ShownAt z.life.stage z.shown (result_of z.life.start events) → ShownAt life.stage shown (result_behind z.life.start (result_of z.life.start events) (took (FromServer z.life.start body) (message_of body))))
+    (goes_on : (later : List Event) (asked : List Ask) → AsksAt z.life.stage later asked z.asks → AsksAt life.stage later asked z.asks)
     (own : life.start ≡ z.life.start) (group : life.group ≡ z.life.group) (hears : stage_hears z.life.stage (message_of body) ≡ life.stage) (refuses : (is_first_error (message_of body) && is_initializing z.life.stage) ≡ false) (named : NamesAt (answered_id (message_of body)) n)
     (taken : MatchOption n (ids.requests ≡ z.ids.requests) (λ k. ids.requests ≡ without k z.ids.requests)) (next : ids.next ≡ z.ids.next) (limit : ids.limit ≡ z.ids.limit) (order : IsInOrder z.ids → IsInOrder ids)
     (set : u.lasts.items ≡ slice_set t.lasts.items g (record z { life = life; ids = ids; shown = shown })) (es : u.editors ≡ t.editors) (gs : u.groups ≡ t.groups) (now : u.time ≡ t.time) (os : u.origins ≡ t.origins) (r : u.requests ≡ t.requests) where
@@ -136,6 +141,8 @@ module _ (settings : Settings) (t u : Tables) (events : List Event) (g s : ℕ) 
       part st of_shown h = part_shown t.requests events (took (FromServer z.life.start body) (message_of body)) z y own gives h
       part st of_stop h = subst (λ k. StopAt life.stage life.stopping (stop_of k (events ++ took (FromServer z.life.start body) (message_of body) ∷ []))) (sym own)
           (subst (λ o. StopAt life.stage life.stopping o) (sym (stop_more z.life.start events (took (FromServer z.life.start body) (message_of body)))) (awaits h))
+      part st of_asks h = subst (λ k. AsksAt life.stage (events ++ took (FromServer z.life.start body) (message_of body) ∷ []) (asks_of k (events ++ took (FromServer z.life.start body) (message_of body) ∷ [])) z.asks) (sym own)
+          (goes_on (events ++ took (FromServer z.life.start body) (message_of body) ∷ []) (asks_of z.life.start (events ++ took (FromServer z.life.start body) (message_of body) ∷ [])) (part_quiet of_asks t.requests z events (took (FromServer z.life.start body) (message_of body)) refl h))
 
 -- what was given stays; one that is late keeps nothing
 later_given : (n : ℕ) (o : Option (List ℕ)) (body : List ℕ) (m : Message) → is_first_result m ≡ false → result_behind n o (took (FromServer n body) m) ≡ o
@@ -166,7 +173,7 @@ pub answer_moves : (settings : Settings) (t u : Tables) (events : List Event) (g
 answer_moves settings t u events g s x z body n ids is at within read no_result no_failure named taken next limit order set es gs now os r =
     let same : x ≡ z = same_item (sym is ∙ read_here t.lasts.items g z within read) in
     let later : (is_first_result (message_of body) && is_early z.life.stage) ≡ false = ap (λ (w : Start). is_first_result (message_of body) && is_early w.life.stage) (sym same) ∙ no_result in
-    server_moves settings t u events g s z body n z.life ids z.shown at within read (λ h. h) (later_shown z.life.start z.life.stage z.shown (result_of z.life.start events) body (message_of body) later) refl refl
+    server_moves settings t u events g s z body n z.life ids z.shown at within read (λ h. h) (later_shown z.life.start z.life.stage z.shown (result_of z.life.start events) body (message_of body) later) (λ es asked h. h) refl refl
     (hears_answer z.life.stage (message_of body) (later_begun (is_first_result (message_of body)) z.life.stage later))
     (ap (λ (w : Start). is_first_error (message_of body) && is_initializing w.life.stage) (sym same) ∙ no_failure) named taken next limit order set es gs now os r
 
@@ -199,6 +206,7 @@ pub result_moves : (settings : Settings) (t u : Tables) (events : List Event) (g
     → Stands settings t events → Stands settings u (events ++ took (FromServer s body) (message_of body) ∷ [])
 result_moves settings t u events g s z body n life ids shown at within read stage first named shows is taken next limit order set es gs now os r =
     server_moves settings t u events g s z body n life ids (Some shown) at within read (λ _. subst (λ (l : Standing). StopAt l.stage l.stopping (stop_of z.life.start events)) (sym is) tt) (first_shown z.life.start z.life.stage z.shown (result_of z.life.start events) body shown (message_of body) life z.life is stage first shows)
+    (λ es asked h. first_asks z.life.stage life z.life es asked z.asks is stage h)
     (ap (λ (l : Standing). l.start) is) (ap (λ (l : Standing). l.group) is)
     (rw (stage, first) refl ∙ ap (λ (l : Standing). l.stage) (sym is)) (no_error (message_of body) first (is_initializing z.life.stage)) named taken next limit order set es gs now os r
 
@@ -245,6 +253,7 @@ refusal_moves settings t u events g s z body n ids at within read stage refuses 
         (answered_any t.requests z.life.start z.ids ids (forwarding_of z.life.start events) body (message_of body) n st.range named taken next limit order) h
     part of_shown h = still_shown t.requests events (took (FromServer z.life.start body) (message_of body)) z y refl refl (no_first (is_first_result (message_of body)) (no_result (message_of body) refuses true)) h
     part of_stop h = still_stop t.requests events (took (FromServer z.life.start body) (message_of body)) z y refl refl h
+    part of_asks h = still_asks t.requests events (took (FromServer z.life.start body) (message_of body)) z y refl refl refl h
 
 -- X1 to X3
 module _ (settings : Settings) (t u : Tables) (events : List Event) (g s : ℕ) (z : Start) (ev : ℕ → Event) (at : slice_get (map number_in t.lasts.items) g ≡ Some s) (within : g < length t.lasts.items) (here : slice_get t.lasts.items g ≡ Some z) (x : Exits settings.limits.restarts t g z u)
@@ -266,6 +275,7 @@ module _ (settings : Settings) (t u : Tables) (events : List Event) (g s : ℕ) 
       part own of_ids h = part_ids t.requests events (ev z.life.start) z x.start own (λ _. clears z.life.start (forwarding_of z.life.start events)) h
       part own of_shown h = late_shown t.requests (events ++ ev z.life.start ∷ []) x.start (ap (λ (l : Standing). is_late l.stage) x.life)
       part own of_stop h = no_stop t.requests (events ++ ev z.life.start ∷ []) x.start (ap (λ (l : Standing). is_stopping l.stage) x.life)
+      part own of_asks h = late_asks t.requests (events ++ ev z.life.start ∷ []) x.start (ap (λ (l : Standing). is_late l.stage) x.life)
 
 gone_clears : (limit n : ℕ) (f : Forwarding) (ids : Table) → ids.requests ≡ [] → ids.next ≡ 2 → ids.limit ≡ limit → IsInOrder ids → IdsAt limit (forwarding_behind n f (took (ServerGone n) not_message)) ids
 gone_clears limit n f ids r k l o = ended_ids limit n ids f not_message (r, k, l, o)

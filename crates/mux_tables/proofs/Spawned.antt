@@ -25,7 +25,9 @@ use Rattle.mux_tables.specs.declared.tables.Start.{Start}
 use Rattle.mux_tables.specs.declared.tables.Tables.{Tables}
 use Rattle.group_rows.specs.Forwarded.{forwarding_behind}
 use Rattle.group_rows.specs.Ticks.{is_stopping}
-use Rattle.mux_tables.specs.Stands.{IsLost, IsNew, Lost, OriginsStand, Rise, IdsAt, IdsStand, Part, of_life, of_ids, of_shown, of_stop, PartStands, ShownAt, blank, LastStands, LastsStand, Stands}
+use Rattle.group_rows.specs.Asks.{asks_of}
+use Rattle.mux_tables.specs.Stands.{AsksAt, IsLost, IsNew, Lost, OriginsStand, Rise, IdsAt, IdsStand, Part, of_life, of_ids, of_shown, of_stop, of_asks, PartStands, ShownAt, blank, LastStands, LastsStand, Stands}
+use Rattle.mux_tables.proofs.Asking.{asks_more}
 use Rattle.mux_tables.proofs.Frames.{groups_stand, itself, last_stands, life_alone, part_apart}
 use Rattle.mux_tables.proofs.Lasts.{Last, known, same_place}
 use Rattle.mux_tables.proofs.Moves.{house_stands}
@@ -47,7 +49,7 @@ spawned_origins origins after events n g last is s = record {
 
 -- the tables of a start that was just spawned
 abbrev pub IsFresh : ℕ → ℕ → ℕ → Start → Type 0
-IsFresh limit n g y = (y.life ≡ spawned n g) × (y.started ≡ false) × (y.ids.requests ≡ []) × (y.ids.next ≡ 2) × (y.ids.limit ≡ limit) × IsInOrder y.ids × (y.shown ≡ None)
+IsFresh limit n g y = (y.life ≡ spawned n g) × (y.started ≡ false) × (y.ids.requests ≡ []) × (y.ids.next ≡ 2) × (y.ids.limit ≡ limit) × IsInOrder y.ids × (y.shown ≡ None) × (y.asks ≡ [])
 
 spawned_last : (limit : ℕ) (events : List Event) (n g : ℕ) (y : Start) → ((p : Part) → PartStands p limit (blank limit n) events) → IsFresh limit n g y → LastStands limit (events ++ did (Spawn n g) not_message ∷ []) g y
 spawned_last limit events n g y f new =
@@ -74,13 +76,15 @@ spawned_last limit events n g y f new =
     }))
     part of_shown = shown_from (one_more (result_behind n) _ _ events (did (Spawn n g) not_message) (f of_shown).1)
     part of_stop = no_stop limit (events ++ did (Spawn n g) not_message ∷ []) y (ap (λ (l : Standing). is_stopping l.stage) new.0)
+    part of_asks = subst (λ (l : Standing). AsksAt l.stage (events ++ did (Spawn n g) not_message ∷ []) (asks_of l.start (events ++ did (Spawn n g) not_message ∷ [])) y.asks) (sym new.0)
+        (asks_more n events (did (Spawn n g) not_message) refl ∙ (f of_asks).0, new.7)
 
 -- the other groups
 untouched : (limit : ℕ) (origins : List ℕ) (events : List Event) (n g j : ℕ) (z : Start) → n ≡ length origins → OriginsStand origins events → (j ≡ g → ⊥) → LastStands limit events j z → LastStands limit (events ++ did (Spawn n g) not_message ∷ []) j z
 untouched limit origins events n g j z last st h s =
     let k : z.life.start < starts_of events = known limit origins events j z st s in
     let e : starts_of events ≡ n = st.count ∙ sym last in
-    last_stands limit events (did (Spawn n g) not_message) j z (ne_eqb n z.life.start (λ q. absurd (omega (arith, e, k, q)))) (λ o. rw (ne_eqb g j (λ q. h (sym q))) refl) s
+    last_stands limit events (did (Spawn n g) not_message) j z (ne_eqb n z.life.start (λ q. absurd (omega (arith, e, k, q)))) refl (λ o. rw (ne_eqb g j (λ q. h (sym q))) refl) s
 
 module _ (limit : ℕ) (origins : List ℕ) (lasts after : List Start) (events : List Event) (n g : ℕ) (last : n ≡ length origins) (st : OriginsStand origins events) (s : LastsStand limit lasts events) where
   abbrev ev : Event
@@ -94,7 +98,7 @@ module _ (limit : ℕ) (origins : List ℕ) (lasts after : List Start) (events :
     fresh = λ m l p.
         let e : starts_of (events ++ ev ∷ []) ≡ n + 1 = one_more starts_behind _ _ events ev (st.count ∙ sym last) in
         let c : starts_of events ≡ n = st.count ∙ sym last in
-        part_apart p limit (blank limit m) events ev (ne_eqb n m (λ q. absurd (omega (arith, e, l, q)))) (s.fresh m (omega (arith, e, c, l)) p);
+        part_apart p limit (blank limit m) events ev (ne_eqb n m (λ q. absurd (omega (arith, e, l, q)))) refl (s.fresh m (omega (arith, e, c, l)) p);
     old = λ m h w. go m h (compare n m) w;
   }
     where
@@ -181,11 +185,11 @@ spawn_does settings t u xs ys base n g last is go =
     does_look {Stands = λ t events. Stands settings t events} {f = λ events. send (Spawn (starts_of events) g)} (λ s. ap (λ k. send (Spawn k g)) (s.origins.count ∙ sym last)) (does_send settings (Spawn n g) base t u xs ys is go)
 
 pub found_gives : (settings : Settings) (t u : Tables) (xs ys : List Out) (base : List Event) (n g : ℕ) (y : Start) → n ≡ length t.origins.groups.items → IsNew g (behind base xs) → u.editors ≡ t.editors → u.groups ≡ t.groups → u.time ≡ t.time → u.origins.groups.items ≡ t.origins.groups.items ++ g ∷ [] → u.origins.stopping ≡ t.origins.stopping → u.lasts.items ≡ t.lasts.items ++ y ∷ [] → u.requests ≡ t.requests
-    → y.life ≡ spawned n g → y.started ≡ false → y.ids.requests ≡ [] → y.ids.next ≡ 2 → y.ids.limit ≡ t.requests → IsInOrder y.ids → y.shown ≡ None → ys ≡ xs ++ Spawn n g ∷ [] → Does (λ t events. Stands settings t events) (spawn g) base t xs u ys
-found_gives settings t u xs ys base n g y last unfounded es gs now os sk ls r life started requests next ends order blank_shown is =
-    spawn_does settings t u xs ys base n g last is (found_moves settings t u (behind base xs) n g y last es gs now os sk r (life, started, requests, next, ends, order, blank_shown) unfounded ls)
+    → y.life ≡ spawned n g → y.started ≡ false → y.ids.requests ≡ [] → y.ids.next ≡ 2 → y.ids.limit ≡ t.requests → IsInOrder y.ids → y.shown ≡ None → y.asks ≡ [] → ys ≡ xs ++ Spawn n g ∷ [] → Does (λ t events. Stands settings t events) (spawn g) base t xs u ys
+found_gives settings t u xs ys base n g y last unfounded es gs now os sk ls r life started requests next ends order blank_shown blank_asks is =
+    spawn_does settings t u xs ys base n g last is (found_moves settings t u (behind base xs) n g y last es gs now os sk r (life, started, requests, next, ends, order, blank_shown, blank_asks) unfounded ls)
 
 pub respawn_gives : (settings : Settings) (t u : Tables) (xs ys : List Out) (base : List Event) (n g i : ℕ) (x y : Start) → n ≡ length t.origins.groups.items → slice_get t.lasts.items i ≡ Some x → x.life.group ≡ g → x.life.stage ≡ Ended → u.editors ≡ t.editors → u.groups ≡ t.groups → u.time ≡ t.time → u.origins.groups.items ≡ t.origins.groups.items ++ g ∷ [] → u.origins.stopping ≡ t.origins.stopping → u.lasts.items ≡ slice_set t.lasts.items i y → u.requests ≡ t.requests
-    → y.life ≡ spawned n g → y.started ≡ false → y.ids.requests ≡ [] → y.ids.next ≡ 2 → y.ids.limit ≡ t.requests → IsInOrder y.ids → y.shown ≡ None → ys ≡ xs ++ Spawn n g ∷ [] → Does (λ t events. Stands settings t events) (spawn x.life.group) base t xs u ys
-respawn_gives settings t u xs ys base n g i x y last at mine ended es gs now os sk ls r life started requests next ends order blank_shown is =
-    subst (λ k. Does (λ t events. Stands settings t events) (spawn k) base t xs u ys) (sym mine) (spawn_does settings t u xs ys base n g last is (respawn_moves settings t u (behind base xs) n g y last es gs now os sk r (life, started, requests, next, ends, order, blank_shown) i x at mine ended ls))
+    → y.life ≡ spawned n g → y.started ≡ false → y.ids.requests ≡ [] → y.ids.next ≡ 2 → y.ids.limit ≡ t.requests → IsInOrder y.ids → y.shown ≡ None → y.asks ≡ [] → ys ≡ xs ++ Spawn n g ∷ [] → Does (λ t events. Stands settings t events) (spawn x.life.group) base t xs u ys
+respawn_gives settings t u xs ys base n g i x y last at mine ended es gs now os sk ls r life started requests next ends order blank_shown blank_asks is =
+    subst (λ k. Does (λ t events. Stands settings t events) (spawn k) base t xs u ys) (sym mine) (spawn_does settings t u xs ys base n g last is (respawn_moves settings t u (behind base xs) n g y last es gs now os sk r (life, started, requests, next, ends, order, blank_shown, blank_asks) i x at mine ended ls))

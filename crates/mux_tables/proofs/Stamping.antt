@@ -1,13 +1,10 @@
 -- The versions of an editor's documents, by their URIs.
-use Rattle.std.proofs.Common.{◌≡◌, ℕ, Bool, true, false, ◌&&◌, List, [], ◌∷◌, ◌++◌, find, flat_map, map, nat_eq, bytes_eq, refl, sym, ap, subst, ◌∙◌, cond, append_assoc, if◌then◌else◌}
+use Rattle.std.proofs.Common.{◌≡◌, ℕ, Bool, true, false, ◌&&◌, List, [], ◌∷◌, ◌++◌, find, flat_map, map, nat_eq, bytes_eq, refl, sym, ap, ◌∙◌, cond, append_assoc, if◌then◌else◌}
 use Rattle.std.specs.Prelude.{Option, Some, None, option_map}
 use Rattle.std.specs.Option.{option_map_or}
-use Rattle.std.proofs.lemmas.Bool.Decides.{nat_tests}
 use Rattle.std.proofs.lemmas.List.Concat.{flat_map-cons}
 use Rattle.document_model.specs.Opens.{Open, holds_own, is_open_at}
 use Rattle.document_model.proofs.Holders.{bytes_same, find_is}
-use Rattle.event_model.proofs.Frames.{never}
-use Rattle.focus_switch.specs.declared.agreement.Agreement.{Agreement}
 use Rattle.focus_switch.specs.declared.agreement.Agreement.TheVariants.{Agrees, Differs, NotOpen}
 use Rattle.focus_switch.specs.declared.held.Held.{Held}
 use Rattle.focus_switch.specs.declared.version.DocumentVersion.{DocumentVersion}

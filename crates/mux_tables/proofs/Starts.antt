@@ -20,7 +20,10 @@ use Rattle.mux_tables.specs.declared.tables.Start.{Start}
 use Rattle.mux_tables.specs.declared.tables.Tables.{Tables}
 use Rattle.group_rows.specs.Forwarded.{forwarding_behind, forwarding_of}
 use Rattle.group_rows.specs.Ticks.{is_stopping, stop_of}
-use Rattle.mux_tables.specs.Stands.{GroupsStand, IdsAt, IdsStand, Part, of_life, of_ids, of_shown, of_stop, PartStands, ShownAt, StopAt, Stands, house_in, number_in, stage_in}
+use Rattle.ask_route.specs.declared.ask.Ask as route
+use Rattle.group_rows.specs.Asks.{Ask, asks_of}
+use Rattle.mux_tables.specs.Refusals.{asks_in}
+use Rattle.mux_tables.specs.Stands.{AsksAt, GroupsStand, IdsAt, IdsStand, Part, of_life, of_ids, of_shown, of_stop, of_asks, PartStands, ShownAt, StopAt, Stands, house_in, number_in, stage_in}
 use Rattle.mux_tables.proofs.Frames.{names_start, names_editor, spawns, ticks, touches, part_quiet}
 use Rattle.mux_tables.proofs.IdMoves.{ids_more}
 use Rattle.mux_tables.proofs.Moves.{parts_move}
@@ -59,6 +62,11 @@ pub stages_stay : (xs : List Start) (g : ℕ) (z y : Start) → g < length xs �
 stages_stay [] g z y h e k = absurd (omega arith)
 stages_stay (x ∷ xs) zero z y h e k = ap (λ n. n ∷ map stage_in xs) (k ∙ ap stage_in e)
 stages_stay (x ∷ xs) (suc g) z y h e k = ap (λ ns. x.life.stage ∷ ns) (stages_stay xs g z y (omega arith) e k)
+
+pub asks_kept : (xs : List Start) (g : ℕ) (z y : Start) → g < length xs → z ≡ get_or xs g z → y.asks ≡ z.asks → map asks_in (slice_set xs g y) ≡ map asks_in xs
+asks_kept [] g z y h e k = absurd (omega arith)
+asks_kept (x ∷ xs) zero z y h e k = ap (λ n. n ∷ map asks_in xs) (k ∙ ap asks_in e)
+asks_kept (x ∷ xs) (suc g) z y h e k = ap (λ ns. x.asks ∷ ns) (asks_kept xs g z y (omega arith) e k)
 
 pub houses_stay : (xs : List Start) (g : ℕ) (z y : Start) → g < length xs → z ≡ get_or xs g z → y.life.group ≡ z.life.group → map house_in (slice_set xs g y) ≡ map house_in xs
 houses_stay [] g z y h e k = absurd (omega arith)
@@ -99,6 +107,11 @@ still_shown limit events ev x y l b q s =
 pub still_stop : (limit : ℕ) (events : List Event) (ev : Event) (x y : Start) → y.life ≡ x.life → touches of_stop ev ≡ false → PartStands of_stop limit x events → PartStands of_stop limit y (events ++ ev ∷ [])
 still_stop limit events ev x y l q s = subst (λ (z : Standing). StopAt z.stage z.stopping (stop_of z.start (events ++ ev ∷ []))) (sym l) (part_quiet of_stop limit x events ev q s)
 
+pub still_asks : (limit : ℕ) (events : List Event) (ev : Event) (x y : Start) → y.life ≡ x.life → y.asks ≡ x.asks → touches of_asks ev ≡ false → PartStands of_asks limit x events → PartStands of_asks limit y (events ++ ev ∷ [])
+still_asks limit events ev x y l k q s =
+    subst (λ qs. AsksAt y.life.stage (events ++ ev ∷ []) (asks_of y.life.start (events ++ ev ∷ [])) qs) (sym k)
+    (subst (λ (z : Standing). AsksAt z.stage (events ++ ev ∷ []) (asks_of z.start (events ++ ev ∷ [])) x.asks) (sym l) (part_quiet of_asks limit x events ev q s))
+
 -- one whose answer to `shutdown` isn't awaited
 stop_at : (stage : Stage) (kept : Option (ℕ × ℕ)) (since : Option ℕ) → is_stopping stage ≡ false → StopAt stage kept since
 stop_at Stopping kept since h = never h
@@ -125,6 +138,18 @@ shown_late Ready shown given h = never (sym h)
 
 pub late_shown : (limit : ℕ) (events : List Event) (y : Start) → is_late y.life.stage ≡ true → PartStands of_shown limit y events
 late_shown limit events y h = shown_late y.life.stage y.shown (result_of y.life.start events) h
+
+asks_late : (stage : Stage) (events : List Event) (asked : List Ask) (kept : List route.Ask) → is_late stage ≡ true → AsksAt stage events asked kept
+asks_late Stopping events asked kept h = tt
+asks_late Ending events asked kept h = tt
+asks_late Ended events asked kept h = tt
+asks_late Unspawned events asked kept h = never (sym h)
+asks_late Spawning events asked kept h = never (sym h)
+asks_late Initializing events asked kept h = never (sym h)
+asks_late Ready events asked kept h = never (sym h)
+
+pub late_asks : (limit : ℕ) (events : List Event) (y : Start) → is_late y.life.stage ≡ true → PartStands of_asks limit y events
+late_asks limit events y h = asks_late y.life.stage events (asks_of y.life.start events) y.asks h
 
 -- the event `ev n` names start n alone, and start s is the last one of group g, which goes from z to y
 module _ (settings : Settings) (t u : Tables) (events : List Event) (ev : ℕ → Event) (g s : ℕ) (z y : Start) (at : slice_get (map number_in t.lasts.items) g ≡ Some s) (within : g < length t.lasts.items) (read : z ≡ get_or t.lasts.items g z)

@@ -1,17 +1,16 @@
 -- The editors of a group that wait, and the ids of their `initialize`, as the code has them.
-use Rattle.std.proofs.Common.{◌≡◌, ℕ, Bool, ◌<◌, List, length, refl, ap, sym, subst, ◌∙◌, arith}
-use Rattle.std.specs.Prelude.{slice_get, slice_set}
+use Rattle.std.proofs.Common.{◌≡◌, ℕ, Bool, ◌<◌, List, length, ap, sym, subst, ◌∙◌, arith}
+use Rattle.std.specs.Prelude.{Some, slice_get, slice_set}
 use Rattle.std.specs.List.{All, range_with_len}
 use Rattle.std.proofs.lemmas.List.Elements.{All-filter, All-from_get_or}
 use Rattle.std.proofs.lemmas.List.FromFn.{get_or-range_with_len, length-range_with_len}
 use Rattle.std.proofs.lemmas.Option.{slice_get-get_or}
-use Rattle.event_model.specs.declared.phase.Phase.{Phase}
 use Rattle.event_model.specs.Event.{Event}
 use Rattle.event_model.specs.Phases.{is_waiting}
 use Rattle.event_model.specs.Settings.{Settings}
 use Rattle.event_model.proofs.Places.{Same, same, other, compare, get_set_same, get_set_other}
 use Rattle.editor_session.specs.declared.session.Session.{Session}
-use Rattle.editor_session.specs.Sessions.{absent, is_of, numbers_of, session_of, waits_in, with_session}
+use Rattle.editor_session.specs.Sessions.{absent, is_of, numbers_of, runs_in, session_of, waits_in, with_session}
 use Rattle.group_words.specs.Houses.{editors_in, home_of}
 use Rattle.mux_tables.specs.declared.tables.Tables.{Tables}
 use Rattle.mux_tables.specs.Names.{id_in}
@@ -30,6 +29,9 @@ numbers_inside test xs ns is = subst (λ ms. All (λ e. e < length xs) ms) (sym 
 pub waiting_inside : (xs : List Session) (g : ℕ) (ns : List ℕ) → ns ≡ numbers_of (λ s. waits_in g s) xs → All (λ e. e < length xs) ns
 waiting_inside xs g ns is = numbers_inside (λ s. waits_in g s) xs ns is
 
+pub running_inside : (xs : List Session) (g : ℕ) (ns : List ℕ) → ns ≡ numbers_of (λ s. runs_in g s) xs → All (λ e. e < length xs) ns
+running_inside xs g ns is = numbers_inside (λ s. runs_in g s) xs ns is
+
 pub members_inside : (xs : List Session) (g : ℕ) (ns : List ℕ) → ns ≡ numbers_of (λ s. is_of g s) xs → All (λ e. e < length xs) ns
 members_inside xs g ns is = numbers_inside (λ s. is_of g s) xs ns is
 
@@ -41,17 +43,10 @@ ids_kept xs e y l same_id n = go n (compare e n)
     go _ same = ap id_in (get_set_same xs e y l) ∙ (same_id ∙ ap id_in (sym (slice_get-get_or xs e absent l)))
     go n (other h) = ap id_in (get_set_other xs e n y h)
 
--- a phase that changes leaves them
-pub ids_stay : (xs : List Session) (e : ℕ) (p : Phase) → e < length xs → (n : ℕ) → id_in (slice_get (with_session xs e (record (session_of xs e) { phase = p })) n) ≡ id_in (slice_get xs n)
-ids_stay xs e p l n = ids_kept xs e (record (session_of xs e) { phase = p }) l refl n
-
 -- and what is kept of `lspmux/open`
-pub meant_stay : (xs : List Session) (e : ℕ) (p : Phase) → e < length xs → (n : ℕ) → meant_in (slice_get (with_session xs e (record (session_of xs e) { phase = p })) n) ≡ meant_in (slice_get xs n)
-meant_stay xs e p l n = go n (compare e n)
+pub meant_kept : (xs : List Session) (e : ℕ) (y : Session) → e < length xs → meant_in (Some y) ≡ meant_in (Some (session_of xs e)) → (n : ℕ) → meant_in (slice_get (with_session xs e y) n) ≡ meant_in (slice_get xs n)
+meant_kept xs e y l same_meant n = go n (compare e n)
   where
-    y : Session
-    y = record (session_of xs e) { phase = p }
-
     go : (n : ℕ) → Same e n → meant_in (slice_get (slice_set xs e y) n) ≡ meant_in (slice_get xs n)
-    go _ same = ap meant_in (get_set_same xs e y l) ∙ ap meant_in (sym (slice_get-get_or xs e absent l))
+    go _ same = ap meant_in (get_set_same xs e y l) ∙ (same_meant ∙ ap meant_in (sym (slice_get-get_or xs e absent l)))
     go n (other h) = ap meant_in (get_set_other xs e n y h)

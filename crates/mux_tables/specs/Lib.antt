@@ -4,3 +4,4 @@ pub mod Cancels
 pub mod Names
 pub mod Notes
 pub mod Stops
+pub mod Refusals

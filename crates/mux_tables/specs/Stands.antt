@@ -1,9 +1,12 @@
 -- When the tables stand for events: one record for each table.
-use Rattle.std.specs.Prelude.{◌≡◌, ℕ, ◌<◌, ◌≤◌, ◌^◌, nat_eq, not, ◌⊎◌, Bool, true, false, ◌&&◌, List, [], ◌∷◌, ◌++◌, map, length, nat_lt}
-use Rattle.std.specs.List.{filter, range_with_len}
+use Rattle.std.specs.Prelude.{◌≡◌, ℕ, ◌<◌, ◌≤◌, ◌^◌, nat_eq, not, ◌⊎◌, Bool, true, false, ◌&&◌, List, [], ◌∷◌, ◌++◌, map, length, nat_lt, is_some}
+use Rattle.std.specs.List.{AllByRecursion, filter, range_with_len}
 use Rattle.std.specs.Option.{option_and_then}
 use Rattle.std.specs.Prelude.{Option, Some, None, slice_get, slice_set, ◌+◌}
-use Rattle.rpc_message.specs.Message.{Id, result_bytes}
+use Rattle.ask_route.specs.declared.ask.Ask as route
+use Rattle.ask_route.specs.Tables as asks
+use Rattle.rpc_message.specs.Message.{Id, Message, message_of, request, result_bytes, same_id}
+use Rattle.rpc_message.specs.ValueTexts.{IsIdText}
 use Rattle.event_model.specs.declared.phase.Phase.{Phase}
 use Rattle.event_model.specs.declared.phase.Phase.TheVariants.{Absent, Answered, New}
 use Rattle.event_model.specs.declared.stage.Stage.{Stage}
@@ -12,11 +15,12 @@ use Rattle.event_model.specs.Each.{Each}
 use Rattle.event_model.specs.Event.{Event, said}
 use Rattle.mux_history.specs.declared.out.Out.TheVariants.{ToEditor}
 use Rattle.event_model.specs.Phases.{desk_of, editors_of, needs_server}
+use Rattle.event_model.specs.Requests.{answered_id}
 use Rattle.event_model.specs.Settings.{Settings}
 use Rattle.event_model.specs.Spawns.{starts_of, start_of, group_of}
 use Rattle.event_model.specs.Stages.{life_of}
 use Rattle.editor_session.specs.declared.session.Session.{Session}
-use Rattle.editor_session.specs.Sessions.{is_of, numbers_of}
+use Rattle.editor_session.specs.Sessions.{is_gone, is_of, numbers_of}
 use Rattle.group_table.specs.Tables as group_tables
 use Rattle.group_words.specs.declared.kept.Kept.{Kept}
 use Rattle.group_words.specs.Placing.{changed, ended}
@@ -29,6 +33,7 @@ use Rattle.restart_replay.specs.Standings.{Standing, moved}
 use Rattle.mux_tables.specs.declared.tables.Start.{Start}
 use Rattle.mux_tables.specs.declared.tables.Tables.{Tables}
 use Rattle.mux_tables.specs.Names.{NamesStand}
+use Rattle.group_rows.specs.Asks.{Ask, asking_next, asking_of, asks_of, is_seated, next_ask}
 use Rattle.group_rows.specs.Forwarded.{Forwarded, Forwarding, forwarding_of, names}
 use Rattle.group_rows.specs.Ticks.{stop_of, stopping_of}
 
@@ -46,12 +51,22 @@ abbrev pub meant_in : Option Session → Meant
 meant_in None = no_meant
 meant_in (Some s) = record { opened = s.opened; server = s.server }
 
+-- how often an editor was asked
+abbrev pub asked_in : Option Session → ℕ
+asked_in None = 0
+asked_in (Some s) = s.asks
+
+-- the number of the next request to an editor, unless that one is gone
+abbrev pub CountStands : Option Session → ℕ → Type 0
+CountStands kept next = is_gone (phase_in kept) ≡ false → next ≡ asked_in kept + 1
+
 pub record EditorsStand (settings : Settings) (sessions : List Session) (events : List Event) : Type 0 where
   pub count : editors_of events ≡ length sessions
   pub phase : (e : ℕ) → (desk_of e events).phase ≡ phase_in (slice_get sessions e)
   pub home : (e : ℕ) → home_of settings e events ≡ group_in (slice_get sessions e)
   pub names : NamesStand settings sessions events
   pub meant : (e : ℕ) → (desk_of e events).phase ≡ New → meant_in (slice_get sessions e) ≡ meant_of settings.servers e events
+  pub asked : (e : ℕ) → CountStands (slice_get sessions e) (next_ask e events)
 
 -- the groups: the list itself, and its limits
 pub record GroupsStand (settings : Settings) (table : group_tables.Table) (events : List Event) : Type 0 where
@@ -106,15 +121,54 @@ abbrev pub StopAt : Stage → Option (ℕ × ℕ) → Option ℕ → Type 0
 StopAt Stopping kept since = moment_in kept ≡ since
 StopAt other kept since = Unit {0}
 
+-- an ask, as it is kept
+abbrev pub kept_ask : Ask → route.Ask
+kept_ask a = asks.asked a.editor a.number a.bytes
+
+-- its bytes are the text of its id
+abbrev pub HasText : Ask → Type 0
+HasText a = IsIdText a.id a.bytes
+
+-- its number was given to its editor, and is one of 64 bits
+abbrev pub WasAsked : List Event → Ask → Type 0
+WasAsked events a = (a.number < next_ask a.editor events) × (a.number < 2 ^ 64)
+
+-- no other ask of its editor has its number, and none its id
+abbrev pub is_beside : Ask → Ask → Bool
+is_beside a b = nat_eq b.editor a.editor && nat_eq b.number a.number
+
+abbrev pub IsOther : Ask → Ask → Type 0
+IsOther a b = (is_beside a b ≡ false) × (same_id a.id b.id ≡ false)
+
+abbrev pub AreApart : List Ask → Type 0
+AreApart [] = Unit {0}
+AreApart (a ∷ qs) = AllByRecursion (IsOther a) qs × AreApart qs
+
+-- what a start that is ready asked
+pub record AsksStand (events : List Event) (open_asks : List Ask) (kept : List route.Ask) : Type 0 where
+  pub same : kept ≡ map kept_ask open_asks
+  pub texts : AllByRecursion HasText open_asks
+  pub asked : AllByRecursion (WasAsked events) open_asks
+  pub apart : AreApart open_asks
+
+-- by where the start stands: before that it asked nothing, and behind it nothing is kept
+abbrev pub AsksAt : Stage → List Event → List Ask → List route.Ask → Type 0
+AsksAt Unspawned events open_asks kept = (open_asks ≡ []) × (kept ≡ [])
+AsksAt Spawning events open_asks kept = (open_asks ≡ []) × (kept ≡ [])
+AsksAt Initializing events open_asks kept = (open_asks ≡ []) × (kept ≡ [])
+AsksAt Ready events open_asks kept = AsksStand events open_asks kept
+AsksAt other events open_asks kept = Unit {0}
+
 -- the tables of one start; a further one is a name here, and a clause
 pub data Part : Type 0 where
-  of_life of_ids of_shown of_stop : Part
+  of_life of_ids of_shown of_stop of_asks : Part
 
 abbrev pub PartStands : Part → ℕ → Start → List Event → Type 0
 PartStands of_life limit x events = life_of x.life.start events ≡ record { stage = x.life.stage; started = x.started }
 PartStands of_ids limit x events = IdsStand limit x.life.start x.ids events
 PartStands of_shown limit x events = ShownAt x.life.stage x.shown (result_of x.life.start events)
 PartStands of_stop limit x events = StopAt x.life.stage x.life.stopping (stop_of x.life.start events)
+PartStands of_asks limit x events = AsksAt x.life.stage events (asks_of x.life.start events) x.asks
 
 -- what is kept of the last start of group g stands for what the events say of it
 pub record LastStands (limit : ℕ) (events : List Event) (g : ℕ) (x : Start) : Type 0 where
@@ -125,7 +179,7 @@ pub record LastStands (limit : ℕ) (events : List Event) (g : ℕ) (x : Start) 
 
 -- the tables of a start that wasn't spawned
 abbrev pub blank : ℕ → ℕ → Start
-blank limit s = record { life = record { start = s; group = 0; stage = Unspawned; stopping = None }; started = false; ids = record { requests = []; next = 2; limit = limit; spare = 0 }; shown = None }
+blank limit s = record { life = record { start = s; group = 0; stage = Unspawned; stopping = None }; started = false; ids = record { requests = []; next = 2; limit = limit; spare = 0 }; shown = None; asks = [] }
 
 -- its number
 abbrev pub number_in : Start → ℕ
@@ -206,18 +260,43 @@ abbrev pub NamesAt : Option Id → Option ℕ → Type 0
 NamesAt id None = (n : ℕ) → n < 2 ^ 32 → names id n ≡ false
 NamesAt id (Some k) = Names id k
 
+-- the same of a number of 64 bits
+abbrev pub NamesAsk : Option Id → Option ℕ → Type 0
+NamesAsk id None = (n : ℕ) → n < 2 ^ 64 → names id n ≡ false
+NamesAsk id (Some k) = (n : ℕ) → n < 2 ^ 64 → names id n ≡ nat_eq n k
+
+-- an editor's message answers at most asks of start s
+abbrev pub AnswersOne : ℕ → ℕ → Message → List Event → Type 0
+AnswersOne s e m events = (n : ℕ) → nat_eq s n ≡ false → AllByRecursion (λ (a : Ask). is_seated e (answered_id m) a ≡ false) (asks_of n events)
+
 -- its program runs from now on
 abbrev pub begun_at : Stage → Standing → Standing
 begun_at Spawning life = moved Initializing life
 begun_at other life = life
 
--- this body leaves the editor in its phase
-abbrev pub Keeps : ℕ → List ℕ → List Event → Type 0
-Keeps e body events = (desk_of e (events ++ said (ToEditor e body) ∷ [])).phase ≡ (desk_of e events).phase
+-- a message that is a request, and one that answers a request of an id
+abbrev pub is_request : Message → Bool
+is_request (request id method params) = true
+is_request other = false
 
--- this body answers its `initialize`
+abbrev pub is_answer : Message → Bool
+is_answer m = is_some (answered_id m)
+
+-- an event leaves the asks of a start
+abbrev pub AsksStay : ℕ → List Event → Event → Type 0
+AsksStay s events event = (asking_next s events (asking_of s events) event).asks ≡ asks_of s events
+
+-- a message of an editor answers no ask
+abbrev pub AnswersNone : ℕ → Message → List Event → Type 0
+AnswersNone e m events = (s : ℕ) → AllByRecursion (λ (a : Ask). is_seated e (answered_id m) a ≡ false) (asks_of s events)
+
+-- this body is no request, and leaves the editor in its phase
+abbrev pub Keeps : ℕ → List ℕ → List Event → Type 0
+Keeps e body events = ((desk_of e (events ++ said (ToEditor e body) ∷ [])).phase ≡ (desk_of e events).phase) × (is_request (message_of body) ≡ false)
+
+-- this body answers its `initialize`, and is no request
 abbrev pub Welcomes : ℕ → List ℕ → List Event → Type 0
-Welcomes e body events = (desk_of e (events ++ said (ToEditor e body) ∷ [])).phase ≡ Answered
+Welcomes e body events = ((desk_of e (events ++ said (ToEditor e body) ∷ [])).phase ≡ Answered) × (is_request (message_of body) ≡ false)
 
 -- e's request under this id is at work, and goes to start s
 abbrev pub Sends : ℕ → ℕ → List ℕ → List Event → Type 0

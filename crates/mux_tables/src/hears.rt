@@ -16,7 +16,7 @@ ghost use Rattle.json_text.specs.Json.{Json};
 ghost use Rattle.rpc_message.specs.Message.{id_bytes, message_of, notification};
 ghost use Rattle.rpc_message.specs.Parsed.{IsRead};
 ghost use Rattle.mux_tables.specs.Documents.{DocumentsStand, Leaves, Owed, changes_documents, nothing_owed, noticing, owes, to};
-ghost use Rattle.mux_tables.specs.Stands.{Stands, start_for, stays_in};
+ghost use Rattle.mux_tables.specs.Stands.{AnswersNone, Stands, start_for, stays_in};
 
 use crate::documents::{leave, note};
 use crate::seats::{end_all, join, later, lives, seat};
@@ -45,8 +45,8 @@ impl Tables {
         Ok(())
     }
 
-    /// A body came from the editor that places it in no group, doesn't stop all and says of no server that it is meant; behind it the
-    /// editor is in this phase.
+    /// A body came from the editor that places it in no group, doesn't stop all, says of no server that it is meant and answers nothing
+    /// that a start asked of it; behind it the editor is in this phase.
     pub fn hear_editor(&mut self, e: u64, phase: Phase)
         requires editor { e < length self.old.editors }
         requires joined { phase ≢ Absent }
@@ -55,6 +55,7 @@ impl Tables {
         ensures versions { self.new.versions ≡ self.old.versions }
         ensures lasts { self.new.lasts ≡ self.old.lasts }
         ensures stands { (settings : Settings) (events : List Event) (body : List ℕ) → Stands settings self.old events
+            → AnswersNone e (message_of body) events
             → places (desk_of e events).phase (message_of body) ≡ false → stops events e (message_of body) ≡ false
             → is_first_open settings.servers events e (message_of body) ≡ false
             → (desk_of e (events ++ heard (FromEditor e body) ∷ [])).phase ≡ phase → Stands settings self.new (events ++ heard (FromEditor e body) ∷ []) }
@@ -225,6 +226,7 @@ impl Tables {
         ensures versions { self.new.versions ≡ self.old.versions }
         ensures lasts { self.new.lasts ≡ self.old.lasts }
         ensures stands { (settings : Settings) (events : List Event) (body : List ℕ) → Stands settings self.old events
+            → AnswersNone e (message_of body) events
             → places (desk_of e events).phase (message_of body) ≡ false → stops events e (message_of body) ≡ false
             → is_first_open settings.servers events e (message_of body) ≡ false
             → (desk_of e (events ++ heard (FromEditor e body) ∷ [])).phase ≡ phase

@@ -2,11 +2,13 @@
 #![tactic(auto)]
 
 mod answers;
+mod asks;
 mod documents;
 mod hears;
 mod looks;
 mod notes;
 mod places;
+mod puts;
 mod requests;
 mod says;
 mod seats;

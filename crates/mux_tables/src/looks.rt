@@ -98,7 +98,8 @@ impl Tables {
 
     /// The numbers, rising, of the editors of this group that run.
     pub fn running(&self, g: u64) -> Result<Vec<u64>, Memory>
-        ensures { (settings : Settings) (events : List Event) → Stands settings self.now events
+        ensures inside { IfOk result (λ numbers. All (λ e. e < length self.now.editors) numbers.items) }
+        ensures those { (settings : Settings) (events : List Event) → Stands settings self.now events
             → IfOk result (λ numbers. numbers.items ≡ editors_in is_running g (λ e. home_of settings e events) events) }
     {
         let numbers = self.editors.running(g)?;

@@ -1,12 +1,14 @@
 // What each out does to the tables.
 ghost use Rattle.std.specs.Prelude.{◌≡◌, ◌≢◌, ◌<◌, ◌≤◌, ◌^◌, ◌++◌, ◌∷◌, [], ℕ, List, map, Option, Some, false, true, length, IfOk, OnOk, codes, bytes_eq, slice_get, nat_eq};
+ghost use Rattle.std.specs.List.{AllByRecursion};
 ghost use Rattle.event_model.specs.declared.stage.Stage.TheVariants.{Ended, Ready};
 ghost use Rattle.event_model.specs.Does.{Does};
 ghost use Rattle.event_model.specs.Event.{Event, behind, requests};
 ghost use Rattle.event_model.specs.Phases.{desk_of, is_served, phase_closed};
-ghost use Rattle.event_model.specs.Requests.{is_own};
+ghost use Rattle.event_model.specs.Requests.{answered_id, is_own};
 ghost use Rattle.event_model.specs.Row.{look, send, ◌⨾◌};
 ghost use Rattle.event_model.specs.Settings.{Settings};
+ghost use Rattle.event_model.specs.Stages.{is_ready};
 ghost use Rattle.group_words.specs.Houses.{home_of};
 ghost use Rattle.group_words.specs.Rows.{spawn};
 ghost use Rattle.mux_model.specs.Rows.{to_start};
@@ -17,17 +19,20 @@ ghost use Rattle.rpc_message.specs.Message as message;
 ghost use Rattle.rpc_message.specs.Message.{Id, message_of};
 ghost use Rattle.mux_tables.specs.declared.tables.Start.{Start};
 ghost use Rattle.document_model.specs.Sayings.{nothing, saying_of};
+ghost use Rattle.group_rows.specs.Asks.{Ask, asks_of, is_under};
 ghost use Rattle.group_rows.specs.Forwarded.{is_written, moves_ids};
 ghost use Rattle.group_rows.specs.Texts.{is_synced, worker_of};
 ghost use Rattle.mux_tables.specs.Documents.{AllStand, DocumentsStand, Leaves, Owed, nothing_owed, owes, syncing, to};
 ghost use Rattle.mux_tables.specs.Names.{id_in};
-ghost use Rattle.mux_tables.specs.Stands.{IsNew, Keeps, Sends, Stands, Welcomes, house_in, number_in, stage_in, start_for};
+ghost use Rattle.mux_tables.specs.Refusals.{asks_in};
+ghost use Rattle.mux_tables.specs.Stands.{IsNew, Keeps, Sends, Stands, Welcomes, house_in, is_answer, number_in, stage_in, start_for};
 
 use crate::documents::{leave, sync, unready};
 use crate::notes::noted;
 use crate::requests::{keep, mark};
 use crate::stops::{begin_stop, end_stop};
 use crate::tables::{Start, Tables};
+use ask_route::Asks;
 use event_model::Phase;
 use focus_switch::Shared;
 use id_rewrite::{IdTable, Pending};
@@ -47,7 +52,7 @@ fn closed(phase: Phase) -> Phase
 }
 
 impl Tables {
-    /// A body goes to an editor, which it leaves in its phase.
+    /// A body that is no request goes to an editor, which it leaves in its phase.
     #[tactic(auto, using(crate::proofs::Said::told_does))]
     pub fn tell(&self, outs: &mut Outs, e: u64, body: Body) -> Result<(), Memory>
         ensures outs { OnOk result (outs.new ≡ outs.old ++ ToEditor e body ∷ []) }
@@ -120,12 +125,29 @@ impl Tables {
         Ok(())
     }
 
-    /// A body that is no editor's request, no `$/cancelRequest` and no `shutdown` goes to the group's last start.
+    /// A body that is no editor's request, no `$/cancelRequest`, no `shutdown`, and no answer to a start that is ready goes to the group's
+    /// last start.
     pub fn notify(&self, outs: &mut Outs, g: usize, text: Body) -> Result<(), Memory>
         requires { g < length self.now.lasts.items }
         ensures outs { (s : ℕ) → slice_get (map number_in self.now.lasts.items) g ≡ Some s → OnOk result (outs.new ≡ outs.old ++ ToServer s text ∷ []) }
         ensures does { (settings : Settings) (base : List Event) (s : ℕ) → slice_get (map number_in self.now.lasts.items) g ≡ Some s
             → requests (codes "shutdown") (message_of text) ≡ false → moves_ids (message_of text) ≡ false
+            → ((x : Start) → slice_get self.now.lasts.items g ≡ Some x → is_ready x.life.stage ≡ true → is_answer (message_of text) ≡ false)
+            → OnOk result (Does (λ t events. Stands settings t events) (send (ToServer s text)) base self.now outs.old self.now outs.new) }
+        ensures documents { (settings : Settings) (owed : Owed) (base : List Event) → saying_of (message_of text) ≡ nothing
+            → is_synced (message_of text) ≡ false → DocumentsStand settings owed self.now (behind base outs.old)
+            → OnOk result (DocumentsStand settings owed self.now (behind base outs.new)) }
+    {
+        outs.push(Out::ToServer(self.lasts[g].life.start(), text))?;
+        Ok(())
+    }
+
+    /// An answer to a request of the group's last start goes there, under the id of no ask that is left.
+    pub fn respond(&self, outs: &mut Outs, g: usize, text: Body) -> Result<(), Memory>
+        requires { g < length self.now.lasts.items }
+        ensures does { (settings : Settings) (base : List Event) (s : ℕ) → slice_get (map number_in self.now.lasts.items) g ≡ Some s
+            → requests (codes "shutdown") (message_of text) ≡ false → moves_ids (message_of text) ≡ false
+            → AllByRecursion (λ (a : Ask). is_under (answered_id (message_of text)) a ≡ false) (asks_of s (behind base outs.old))
             → OnOk result (Does (λ t events. Stands settings t events) (send (ToServer s text)) base self.now outs.old self.now outs.new) }
         ensures documents { (settings : Settings) (owed : Owed) (base : List Event) → saying_of (message_of text) ≡ nothing
             → is_synced (message_of text) ≡ false → DocumentsStand settings owed self.now (behind base outs.old)
@@ -244,6 +266,7 @@ impl Tables {
         ensures versions { self.new.versions ≡ self.old.versions }
         ensures starts { OnOk result (map number_in self.new.lasts.items ≡ map number_in self.old.lasts.items) }
         ensures stages { OnOk result (map stage_in self.new.lasts.items ≡ map stage_in self.old.lasts.items) }
+        ensures asks { OnOk result (map asks_in self.new.lasts.items ≡ map asks_in self.old.lasts.items) }
         ensures groups { OnOk result (map house_in self.new.lasts.items ≡ map house_in self.old.lasts.items) }
         ensures does { (settings : Settings) (base : List Event) (s : ℕ) (method : List ℕ) (ps : Option Json)
             → slice_get (map number_in self.old.lasts.items) g ≡ Some s → message_of text ≡ message.notification method ps
@@ -322,6 +345,7 @@ impl Tables {
         let s = self.origins.groups.len() as u64;
         let life = Life::new(s, g);
         let ids = IdTable::new(alloc, self.requests);
+        let asks = Asks::new(alloc);
         let documents = Shared::new(alloc, self.versions);
         self.origins.groups.push(g)?;
         self.documents.push(documents)?;
@@ -330,6 +354,7 @@ impl Tables {
             started: false,
             ids,
             shown: None,
+            asks,
         })?;
         outs.push(Out::Spawn(s, g))?;
         Ok(())
@@ -350,12 +375,14 @@ impl Tables {
         let group = self.lasts[g].life.group();
         let life = Life::new(s, group);
         let ids = IdTable::new(alloc, self.requests);
+        let asks = Asks::new(alloc);
         self.origins.groups.push(group)?;
         self.lasts[g] = Start {
             life,
             started: false,
             ids,
             shown: None,
+            asks,
         };
         outs.push(Out::Spawn(s, group))?;
         Ok(())

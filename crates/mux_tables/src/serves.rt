@@ -24,6 +24,7 @@ use crate::requests::{answer, forget};
 use crate::seats::lose;
 use crate::stops::end_stop;
 use crate::tables::Tables;
+use ask_route::Asks;
 use event_model::Stage;
 use id_rewrite::{IdTable, Pending};
 use message_body::{Body, Memory};
@@ -149,10 +150,13 @@ impl Tables {
         let wanted = self.needs_server(group)?;
         lose(&mut self.groups, group, wanted, restarts);
         unready(&mut self.documents, g);
+        let ids = IdTable::new(alloc, self.requests);
+        let asks = Asks::new(alloc);
         let last = &mut self.lasts[g];
         last.life.over();
         last.shown = None;
-        last.ids = IdTable::new(alloc, self.requests);
+        last.ids = ids;
+        last.asks = asks;
         end_stop(&mut self.origins.stopping, last.life.start());
         Ok(())
     }
@@ -218,10 +222,13 @@ impl Tables {
             → DocumentsStand settings owed self.new (events ++ heard (StartFailed s) ∷ []) }
     {
         unready(&mut self.documents, g);
+        let ids = IdTable::new(alloc, self.requests);
+        let asks = Asks::new(alloc);
         let last = &mut self.lasts[g];
         last.life.over();
         last.shown = None;
-        last.ids = IdTable::new(alloc, self.requests);
+        last.ids = ids;
+        last.asks = asks;
         end_stop(&mut self.origins.stopping, last.life.start());
     }
 

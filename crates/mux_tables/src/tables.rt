@@ -4,6 +4,7 @@ ghost use Rattle.event_model.specs.Settings.{Settings};
 ghost use Rattle.mux_tables.specs.Documents.{DocumentsStand, nothing_owed};
 ghost use Rattle.mux_tables.specs.Stands.{Stands};
 
+use ask_route::Asks;
 use editor_session::Editors;
 use focus_switch::Shared;
 use group_table::Groups;
@@ -14,13 +15,15 @@ use std::alloc::Global;
 use text_pieces::PieceText;
 
 /// What is kept of the last start of one group: where it stands, whether its program ever ran, the requests that it has to
-/// answer, and what editors are shown of the result of its `initialize`, where it gave one and isn't to end.
+/// answer, what editors are shown of the result of its `initialize`, where it gave one and isn't to end, and what it asked of
+/// editors that didn't answer yet.
 #[derive(Drop)]
 pub struct Start {
     pub life: Life,
     pub started: bool,
     pub ids: IdTable,
     pub shown: Option<Body>,
+    pub asks: Asks,
 }
 
 /// What is kept of the starts, beside the last ones of groups.

@@ -17,6 +17,7 @@ use Rattle.event_model.specs.Phases.{Desk, desk_behind, desk_hears, desk_of, is_
 use Rattle.event_model.proofs.Frames.{one_more}
 use Rattle.group_facts.specs.Facts.{is_early}
 use Rattle.group_words.specs.Houses.{is_doubled, is_first_open, meant_of, places, stops}
+use Rattle.mux_tables.specs.Stands.{is_answer}
 use Rattle.mux_tables.specs.Documents.{changes_documents}
 use Rattle.mux_tables.proofs.Frames.{itself}
 
@@ -97,6 +98,15 @@ malformed_keeps before e (notification method ps) h = absurd (cc)
 malformed_keeps before e (result id r) h = absurd (cc)
 malformed_keeps before e (error id r) h = absurd (cc)
 
+-- nor does it answer
+pub malformed_silent : (m : Message) → is_malformed m ≡ true → is_answer m ≡ false
+malformed_silent not_json h = refl
+malformed_silent not_message h = refl
+malformed_silent (request id method ps) h = refl
+malformed_silent (notification method ps) h = refl
+malformed_silent (result id r) h = absurd (cc)
+malformed_silent (error id r) h = absurd (cc)
+
 -- `exit` leaves each editor where it is
 pub exit_stays : (p : Phase) (i body : List ℕ) (m : Message) → notifies (codes "exit") m ≡ true → (desk_hears p i body m).phase ≡ p
 exit_stays New i body (notification method ps) h = refl
@@ -129,6 +139,14 @@ exit_silent (result id r) h = absurd (cc)
 exit_silent (error id r) h = absurd (cc)
 exit_silent not_json h = absurd (cc)
 exit_silent not_message h = absurd (cc)
+
+pub exit_answers : (m : Message) → notifies (codes "exit") m ≡ true → is_answer m ≡ false
+exit_answers (notification method ps) h = refl
+exit_answers (request id method ps) h = refl
+exit_answers (result id r) h = absurd (cc)
+exit_answers (error id r) h = absurd (cc)
+exit_answers not_json h = refl
+exit_answers not_message h = refl
 
 pub exit_keeps : (before : List Event) (e : ℕ) (m : Message) → notifies (codes "exit") m ≡ true → changes_documents before e m ≡ false
 exit_keeps before e m h = ap (λ b. is_served (desk_of e before).phase && b) (ap₂ (λ a x. a || speaks x) (no_request m h) (exit_silent m h)) ∙ and_off (is_served (desk_of e before).phase)

@@ -12,7 +12,6 @@ use Rattle.event_model.specs.declared.phase.Phase.{Phase}
 use Rattle.event_model.specs.declared.phase.Phase.TheVariants.{Absent, New, Waiting, Answered, Running, Down, Closed, Gone}
 use Rattle.event_model.specs.Event.{Event}
 use Rattle.event_model.specs.Phases.{desk_of, has_id, is_begun, needs_server}
-use Rattle.event_model.specs.Stages.{life_of}
 use Rattle.event_model.specs.Requests.{is_open, open_of}
 use Rattle.event_model.specs.Settings.{Settings}
 use Rattle.event_model.specs.Spawns.{start_of}

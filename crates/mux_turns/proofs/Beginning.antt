@@ -1,5 +1,5 @@
 -- Where a start's program runs, and where an editor is placed.
-use Rattle.std.proofs.Common.{◌≡◌, ℕ, Bool, true, false, List, [], refl, ap, sym, subst, ◌∙◌, append-nil, codes, length}
+use Rattle.std.proofs.Common.{◌≡◌, ℕ, Bool, true, false, List, [], refl, ap, sym, ◌∙◌, append-nil, codes}
 use Rattle.std.specs.Prelude.{Option, Some, None, slice_get}
 use Rattle.mux_history.specs.declared.cause.Cause.TheVariants.{Started}
 use Rattle.mux_history.specs.declared.out.Out.{Out}
@@ -20,11 +20,10 @@ use Rattle.group_rows.specs.Texts.{is_synced}
 use Rattle.group_words.specs.declared.kept.Kept.{Kept}
 use Rattle.group_words.specs.declared.placed.Placed.TheVariants.{Joins}
 use Rattle.group_words.specs.Houses.{groups_of}
-use Rattle.group_words.specs.Rows.{initialize_of, placed_row, spawn, welcomed}
+use Rattle.group_words.specs.Rows.{initialize_of, placed_row, welcomed}
 use Rattle.group_words.proofs.Frames.{groups_stay}
 use Rattle.mux_tables.specs.declared.tables.Tables.{Tables}
-use Rattle.mux_tables.specs.Stands.{HasEnded, Stands}
-use Rattle.mux_turns.specs.Founding.{IsNext}
+use Rattle.mux_tables.specs.Stands.{HasEnded, Stands, is_answer}
 use Rattle.document_model.specs.Sayings.{saying_of}
 use Rattle.document_model.specs.Sayings.{nothing as no_saying}
 use Rattle.group_facts.specs.Facts.{IsWritten, Known}
@@ -70,14 +69,14 @@ module _ (settings : Settings) (t : Tables) (before : List Event) (s g : ℕ) (x
   begun_none seen = does_alike (λ st. alike (ap opened (here None (seen st)))) does_nothing
 
   pub begun : (x : Kept) (text : List ℕ) (ys : List Out) → (Stands settings t (behind base xs) → Some x ≡ slice_get (groups_of settings (behind base xs)) g) → ((x : Kept) → slice_get (groups_of settings before) g ≡ Some x → IsOpening x)
-      → (AreUtf8 x.key.folders → text ≡ initialize_of x) → (requests (codes "shutdown") (message_of text) ≡ false → moves_ids (message_of text) ≡ false → Does (λ t events. Stands settings t events) (send (ToServer s text)) base t xs t ys)
+      → (AreUtf8 x.key.folders → text ≡ initialize_of x) → (requests (codes "shutdown") (message_of text) ≡ false → moves_ids (message_of text) ≡ false → is_answer (message_of text) ≡ false → Does (λ t events. Stands settings t events) (send (ToServer s text)) base t xs t ys)
       → Does (λ t events. Stands settings t events) (begin_in settings before s g) base t xs t ys
   begun x text ys seen known writes d = does_knowing (λ st.
       let at = here (Some x) (seen st) in
       let k = known x at in
       let is = writes k.folders in
       let says = ap message_of is ∙ k.says in
-      does_alike (λ _. alike (ap opened at ∙ ap (λ w. send (ToServer s w)) (sym is))) (d (ap (requests (codes "shutdown")) says) (ap moves_ids says)))
+      does_alike (λ _. alike (ap opened at ∙ ap (λ w. send (ToServer s w)) (sym is))) (d (ap (requests (codes "shutdown")) says) (ap moves_ids says) (ap is_answer says)))
 
   pub begun_documents : {P : Type 0} (x : Kept) (text : List ℕ) → Some x ≡ slice_get (groups_of settings (behind base xs)) g → ((x : Kept) → slice_get (groups_of settings before) g ≡ Some x → IsOpening x) → (AreUtf8 x.key.folders → text ≡ initialize_of x)
       → (saying_of (message_of text) ≡ no_saying → is_synced (message_of text) ≡ false → P) → P

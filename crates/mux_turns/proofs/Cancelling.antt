@@ -1,7 +1,6 @@
 -- E11: the open request that an editor's cancel names, and the row.
-use Rattle.std.proofs.Common.{◌≡◌, ℕ, ◌+◌, ◌<◌, ◌≤◌, ◌^◌, Bool, true, false, ◌&&◌, cond, List, [], ◌∷◌, map, find, nat_eq, if◌then◌else◌, refl, ap, sym, subst, ◌∙◌, arith, codes, decimal, bytes_eq}
+use Rattle.std.proofs.Common.{◌≡◌, ℕ, ◌+◌, ◌<◌, ◌≤◌, ◌^◌, Bool, true, false, ◌&&◌, cond, List, [], ◌∷◌, map, find, nat_eq, if◌then◌else◌, refl, ap, sym, subst, ◌∙◌, arith, codes, bytes_eq}
 use Rattle.std.specs.Prelude.{Option, Some, None, option_map, slice_get}
-use Rattle.std.specs.List.{AllByRecursion}
 use Rattle.std.specs.Option.{option_and_then, option_map_or}
 use Rattle.std.specs.Str.{chars}
 use Rattle.std.proofs.lemmas.Bool.Decides.{nat_tests}
@@ -231,7 +230,7 @@ module _ (settings : Settings) (base : List Event) (t u : Tables) (xs ys : List 
       let new : Renumbered n body (codes "$/cancelRequest") = renumbered n body (codes "$/cancelRequest") params (omega (arith, low)) says id named in
       let said : message_of text ≡ notification (codes "$/cancelRequest") (Some new.params) = ap message_of is ∙ new.says in
       subst (λ w. Does (λ k events. AllStand settings k events) (send (ToServer s w)) base (t, nothing_owed) xs (u, nothing_owed) ys) is
-      (all_does settings t u nothing_owed nothing_owed base xs ys (does (Some new.params) said (λ k l. ap (λ o. is_written o k) new.names ∙ decimals n k low l)) (λ _ d. documents (Some new.params) said d))
+      (all_does settings t u nothing_owed nothing_owed base xs ys (does (Some new.params) said (λ k l. ap (λ o. is_written o k) new.names ∙ decimals n k (omega (arith, low)) (omega (arith, l)))) (λ _ d. documents (Some new.params) said d))
 
 -- it changes no document
 pub cancel_keeps : (before : List Event) (e : ℕ) (body : List ℕ) (params : Option Json) → message_of body ≡ notification (codes "$/cancelRequest") params → changes_documents before e (message_of body) ≡ false

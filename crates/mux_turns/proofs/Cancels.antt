@@ -20,7 +20,7 @@ use Rattle.mux_turns.proofs.Numbers.{decimals}
 -- it names this number, and no other
 pub cancel_names : (n : ℕ) → n < 2 ^ 32 → (k : ℕ) → k < 2 ^ 32 → is_written (named_of (codes "id") (Some (params_tree n))) k ≡ nat_eq k n
 unfolding named
-cancel_names n h k l = decimals n k h l
+cancel_names n h k l = decimals n k (omega (arith, h)) (omega (arith, l))
 
 -- what is sent where a start is sent this text
 pub cancel_said : (settings : Settings) (base : List Event) (t u : Tables) (xs ys : List Out) (s n : ℕ) (text : List ℕ) → n < 2 ^ 32 → text ≡ cancel_text n

@@ -1,5 +1,5 @@
 -- An editor leaves: its requests are cancelled, and its documents are closed.
-use Rattle.std.proofs.Common.{◌≡◌, ℕ, zero, suc, Bool, true, false, List, [], ◌∷◌, ◌++◌, map, filter, flat_map, nat_eq, refl, ap, ap₂, sym, subst, ◌∙◌, append-nil, if◌then◌else◌}
+use Rattle.std.proofs.Common.{◌≡◌, ℕ, zero, suc, Bool, true, false, List, [], ◌∷◌, ◌++◌, map, filter, flat_map, nat_eq, refl, ap, ap₂, sym, subst, ◌∙◌, append-nil, append_assoc, if◌then◌else◌}
 use Rattle.std.specs.Prelude.{Option, Some, None, slice_get}
 use Rattle.std.specs.Option.{option_and_then}
 use Rattle.document_model.specs.Helds.{HeldText}
@@ -18,10 +18,10 @@ use Rattle.event_model.specs.Spawns.{start_of}
 use Rattle.event_model.specs.Stages.{Life, is_ready, life_behind, life_of}
 use Rattle.event_model.proofs.Frames.{one_more}
 use Rattle.event_model.proofs.Places.{same_item}
-use Rattle.event_model.proofs.Turns.{does_alike}
+use Rattle.event_model.proofs.Turns.{behind_more, does_alike}
 use Rattle.group_words.specs.Houses.{home_of, places}
 use Rattle.group_words.proofs.Frames.{home_more}
-use Rattle.group_rows.specs.Leaves.{cancels, cancels_row, closings, leave_bodies, leave_row, left}
+use Rattle.group_rows.specs.Leaves.{cancels, cancels_row, closings, leave_bodies, leave_row, left, refusals}
 use Rattle.group_rows.specs.Texts.{texts_of}
 use Rattle.mux_model.specs.Documents.{Sent, held_at}
 use Rattle.mux_model.specs.Rows.{to_start}
@@ -63,15 +63,22 @@ behind_first base xs first = ap (behind base) first ∙ append-nil base
 abbrev pub closings_row : Settings → List Event → ℕ → Option ℕ → Row
 closings_row settings before e home = on home nothing (λ g. on (start_of g before) nothing (λ s. closings settings before g s e))
 
+-- three rows, one after the other
+then_then : (p q r : Row) (events : List Event) → outs (p ⨾ (q ⨾ r)) events ≡ outs ((p ⨾ q) ⨾ r) events
+then_then p q r events =
+    let a = outs p events in
+    let b = outs q (behind events a) in
+    sym (append_assoc a b (outs r (behind (behind events a) b))) ∙ ap (λ es. (a ++ b) ++ outs r es) (sym (behind_more events a b))
+
 pub leave_alike : (settings : Settings) (before : List Event) (e : ℕ) → Alike (leave_row settings before e) (cancels_row settings before e ⨾ closings_row settings before e (home_of settings e before))
 leave_alike settings before e = record { sends = λ events. at_home events (home_of settings e before) }
   where
-    at_start : (events : List Event) (g : ℕ) (o : Option ℕ) → outs (on o nothing (λ s. cancels before s e ⨾ closings settings before g s e)) events ≡ outs (on o nothing (λ s. cancels before s e) ⨾ on o nothing (λ s. closings settings before g s e)) events
+    at_start : (events : List Event) (g : ℕ) (o : Option ℕ) → outs (on o nothing (λ s. cancels before s e ⨾ (refusals before s e ⨾ closings settings before g s e))) events ≡ outs (on o nothing (λ s. cancels before s e ⨾ refusals before s e) ⨾ on o nothing (λ s. closings settings before g s e)) events
     at_start events g None = refl
-    at_start events g (Some s) = refl
+    at_start events g (Some s) = then_then (cancels before s e) (refusals before s e) (closings settings before g s e) events
 
-    at_home : (events : List Event) (home : Option ℕ) → outs (on home nothing (λ g. on (start_of g before) nothing (λ s. cancels before s e ⨾ closings settings before g s e))) events
-        ≡ outs (on home nothing (λ g. on (start_of g before) nothing (λ s. cancels before s e)) ⨾ closings_row settings before e home) events
+    at_home : (events : List Event) (home : Option ℕ) → outs (on home nothing (λ g. on (start_of g before) nothing (λ s. cancels before s e ⨾ (refusals before s e ⨾ closings settings before g s e)))) events
+        ≡ outs (on home nothing (λ g. on (start_of g before) nothing (λ s. cancels before s e ⨾ refusals before s e)) ⨾ closings_row settings before e home) events
     at_home events None = refl
     at_home events (Some g) = at_start events g (start_of g before)
 

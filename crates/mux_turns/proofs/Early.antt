@@ -1,9 +1,9 @@
 -- S3 and S4: what a start that gave no result yet says besides.
-use Rattle.std.proofs.Common.{◌≡◌, ℕ, Bool, true, false, ◌&&◌, List, refl, sym, subst, ◌∙◌, ap, codes, decimal, bytes_eq, if◌then◌else◌}
+use Rattle.std.proofs.Common.{◌≡◌, ℕ, Bool, true, false, ◌&&◌, List, map, refl, sym, subst, ◌∙◌, ap, codes, decimal, bytes_eq, if◌then◌else◌}
 use Rattle.std.specs.Fmt.{digits}
-use Rattle.std.specs.Prelude.{Option, Some, None}
+use Rattle.std.specs.Prelude.{Option, Some, None, slice_get}
 use Rattle.json_text.specs.Json.{Json}
-use Rattle.document_model.specs.Sayings.{nothing, saying_of}
+use Rattle.document_model.specs.Sayings.{saying_of}
 use Rattle.rpc_message.specs.declared.sort.Sort.{Sort}
 use Rattle.rpc_message.specs.declared.sort.Sort.TheVariants as sort
 use Rattle.rpc_message.specs.Message.{Message, Id, integer, text, id_bytes, message_of, request, notification, result, error, not_json, not_message}
@@ -16,8 +16,12 @@ use Rattle.group_rows.specs.Rows.{hasty_answer}
 use Rattle.group_rows.specs.Texts.{is_synced}
 use Rattle.group_words.specs.Houses.{is_first_error}
 use Rattle.mux_facts.proofs.Bodies.{refusal_says}
-use Rattle.event_model.specs.Stages.{is_first_result}
-use Rattle.mux_tables.specs.Stands.{NamesAt}
+use Rattle.event_model.specs.declared.stage.Stage.TheVariants.{Initializing}
+use Rattle.event_model.specs.Stages.{is_first_result, is_ready}
+use Rattle.mux_tables.specs.declared.tables.Start.{Start}
+use Rattle.mux_tables.specs.declared.tables.Tables.{Tables}
+use Rattle.mux_tables.specs.Stands.{NamesAt, stage_in}
+use Rattle.mux_turns.proofs.Departing.{mapped_is, mapped_on}
 use Rattle.mux_turns.proofs.Keeping.{null_says, null_tree}
 use Rattle.mux_turns.proofs.Replies.{Quiet}
 
@@ -78,3 +82,12 @@ module _ (m : Message) (id : Id) (method : List ℕ) (params : Option Json) (say
 
   pub asked_named : NamesAt (answered_id m) None
   asked_named = subst (λ n. NamesAt (answered_id n) None) (sym says) (λ n small. refl)
+
+-- a start that heard it isn't ready
+pub hasty_unready : (t u : Tables) (g : ℕ) (z w : Start) → slice_get t.lasts.items g ≡ Some z → slice_get u.lasts.items g ≡ Some w → map stage_in u.lasts.items ≡ map stage_in t.lasts.items → z.life.stage ≡ Initializing → is_ready w.life.stage ≡ false
+hasty_unready t u g z w was here stages stage =
+    ap is_ready (sym (mapped_is stage_in t.lasts.items g z w.life.stage was (ap (λ ks. slice_get ks g) (sym stages) ∙ mapped_on stage_in u.lasts.items g w here)) ∙ stage)
+
+-- a notification answers none
+pub noticed_named : (m : Message) (method : List ℕ) (params : Option Json) → m ≡ notification method params → NamesAt (answered_id m) None
+noticed_named m method params says = subst (λ n. NamesAt (answered_id n) None) (sym says) (λ n small. refl)

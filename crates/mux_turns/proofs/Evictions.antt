@@ -1,5 +1,5 @@
 -- E7: a group ends, and another one is founded in its place.
-use Rattle.std.proofs.Common.{◌≡◌, ℕ, ◌<◌, ◌≤◌, ◌^◌, Bool, true, false, ◌&&◌, List, [], ◌∷◌, ◌++◌, codes, decimal, refl, ap, sym, subst, ◌∙◌, append-nil, arith, nat_lt}
+use Rattle.std.proofs.Common.{◌≡◌, ℕ, ◌≤◌, Bool, true, false, ◌&&◌, List, [], ◌∷◌, ◌++◌, codes, decimal, refl, ap, sym, subst, ◌∙◌, append-nil, arith, nat_lt}
 use Rattle.std.specs.Prelude.{Option, Some, None, slice_get, map}
 use Rattle.std.proofs.lemmas.Bool.Decides.{nat_tests}
 use Rattle.json_text.specs.Json.{Json}

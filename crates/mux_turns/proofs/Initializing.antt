@@ -1,5 +1,5 @@
 -- E7 as a whole entry.
-use Rattle.std.proofs.Common.{◌≡◌, ℕ, zero, suc, ◌<◌, Bool, true, false, List, [], ◌∷◌, length, refl, ap, ap₂, sym, subst, ◌∙◌, append-nil, arith, nat_eq, nat_lt, codes, if◌then◌else◌}
+use Rattle.std.proofs.Common.{◌≡◌, ℕ, zero, suc, ◌<◌, Bool, true, false, List, [], ◌∷◌, length, refl, ap, ap₂, sym, subst, ◌∙◌, append-nil, nat_eq, nat_lt, codes, if◌then◌else◌}
 use Rattle.std.specs.Prelude.{Option, Some, None, IfSome, is_some, map, option_map, slice_get, flat_map, filter}
 use Rattle.std.specs.List.{AllByRecursion}
 use Rattle.std.specs.Option.{option_and_then}
@@ -49,7 +49,6 @@ use Rattle.group_words.specs.Keys.{Common}
 use Rattle.group_words.specs.Placing.{evicting, first_from, founding, idlest_from, joining, live_count, placed_in, takes}
 use Rattle.group_words.specs.Rows.{answer_with, initialize_row, placed_row, result_behind, result_of, welcomed}
 use Rattle.mux_model.specs.Documents.{held_at}
-use Rattle.mux_tables.specs.declared.tables.Start.{Start}
 use Rattle.mux_tables.specs.declared.tables.Tables.{Tables}
 use Rattle.mux_tables.specs.Documents.{AllStand, DocumentsStand, IsOwned, Leaves, SharedStands, leaving, nothing_owed, owes}
 use Rattle.mux_tables.specs.Stands.{Stands, phase_in, start_for}
@@ -252,7 +251,7 @@ turned settings t u before base e body method id params xs ys zs owed says off a
       let last = (does_then answers closes).done k.0 in
       let answer = error_text (id_bytes body) request_failed in
       let keeps = keeps_error e answer (behind base xs) (Some id) (error_tree request_failed) (refused_says answer body (id_bytes body) method id params request_failed refl refl says) in
-      let phase : (desk_of e (behind base ys)).phase ≡ (desk_of e (behind base xs)).phase = ap (λ es. (desk_of e es).phase) (ap (behind base) first.outs ∙ behind_more base xs (ToEditor e answer ∷ [])) ∙ keeps in
+      let phase : (desk_of e (behind base ys)).phase ≡ (desk_of e (behind base xs)).phase = ap (λ es. (desk_of e es).phase) (ap (behind base) first.outs ∙ behind_more base xs (ToEditor e answer ∷ [])) ∙ keeps.0 in
       let ds = stay k.1 in
       record { outs = last.outs; stands = (last.stands, unserved_leaves settings t u (behind base ys) (behind base zs) e owed first.stands ds (ap is_served phase ∙ off) (leaves first.stands ds)) };
 }

@@ -1,13 +1,13 @@
 -- Bodies that leave an editor in its phase.
-use Rattle.std.proofs.Common.{◌≡◌, ℕ, Bool, true, false, List, refl, ap, sym, subst, ◌∙◌, arith, codes}
+use Rattle.std.proofs.Common.{◌≡◌, ℕ, Bool, true, false, List, [], ◌∷◌, ◌++◌, refl, ap, sym, subst, ◌∙◌, codes}
 use Rattle.std.specs.Prelude.{Option, Some, None}
 use Rattle.json_text.specs.declared.kind.Word.TheVariants.{Null}
 use Rattle.json_text.specs.Json.{Json, word}
 use Rattle.mux_history.specs.declared.out.Out.{Out}
 use Rattle.mux_history.specs.declared.out.Out.TheVariants.{ToEditor}
-use Rattle.rpc_message.specs.Message.{Message, error, request, Id, id_bytes, message_of, result}
+use Rattle.rpc_message.specs.Message.{Message, error, notification, request, Id, id_bytes, message_of, result}
 use Rattle.rpc_message.specs.Texts.{Code, error_text, error_tree, ok_text}
-use Rattle.rpc_message.proofs.Fixed.{error_law, id_as_response, null_as_response, ok_law}
+use Rattle.rpc_message.proofs.Fixed.{error_law, id_as_response, null_as_response}
 use Rattle.rpc_message.proofs.Ids.{request_id_bytes}
 use Rattle.event_model.specs.declared.phase.Phase.{Phase}
 use Rattle.event_model.specs.declared.phase.Phase.TheVariants.{Absent, New, Waiting, Answered, Running, Down, Closed, Gone}
@@ -21,7 +21,7 @@ use Rattle.event_model.proofs.Turns.{does_false, does_true}
 use Rattle.group_facts.proofs.OpenByPhase.{reply_told}
 use Rattle.group_facts.proofs.Nulls.{null_said}
 use Rattle.mux_tables.specs.declared.tables.Tables.{Tables}
-use Rattle.mux_tables.specs.Stands.{Keeps, Stands}
+use Rattle.mux_tables.specs.Stands.{Keeps, Stands, is_request}
 use Rattle.mux_tables.proofs.Frames.{itself}
 
 -- an error makes nobody answered
@@ -46,19 +46,33 @@ result_told Down i id x h = refl
 result_told Closed i id x h = refl
 result_told Gone i id x h = refl
 
+notice_told : (p : Phase) (i method : List ℕ) (ps : Option Json) → phase_told p i (notification method ps) ≡ p
+notice_told Waiting i method ps = refl
+notice_told Absent i method ps = refl
+notice_told New i method ps = refl
+notice_told Answered i method ps = refl
+notice_told Running i method ps = refl
+notice_told Down i method ps = refl
+notice_told Closed i method ps = refl
+notice_told Gone i method ps = refl
+
 module _ (e : ℕ) (text : List ℕ) (events : List Event) where
-  told : (m : Message) → message_of text ≡ m → ((p : Phase) (i : List ℕ) → p ≡ (desk_of e events).phase → phase_told p i m ≡ p) → Keeps e text events
+  told : (m : Message) → message_of text ≡ m → ((p : Phase) (i : List ℕ) → p ≡ (desk_of e events).phase → phase_told p i m ≡ p) → (desk_of e (events ++ said (ToEditor e text) ∷ [])).phase ≡ (desk_of e events).phase
   told m says keeps = ap (λ (d : Desk). d.phase) (one_more (desk_behind e) _ _ events (said (ToEditor e text)) refl) ∙ rw (itself e, says) (keeps (desk_of e events).phase (desk_of e events).initialize refl)
 
   pub keeps_error : (id : Option Id) (x : Json) → message_of text ≡ error id x → Keeps e text events
-  keeps_error id x says = told (error id x) says (λ p i h. error_told p i id x)
+  keeps_error id x says = (told (error id x) says (λ p i h. error_told p i id x), ap is_request says)
+
+  -- nor a notification
+  pub keeps_notice : (method : List ℕ) (ps : Option Json) → message_of text ≡ notification method ps → Keeps e text events
+  keeps_notice method ps says = (told (notification method ps) says (λ p i h. notice_told p i method ps), ap is_request says)
 
   pub keeps_result : (id : Option Id) (x : Json) → message_of text ≡ result id x → ((desk_of e events).phase ≡ Waiting → ⊥) → Keeps e text events
-  keeps_result id x says stays = told (result id x) says (λ p i h. result_told p i id x (λ q. stays (sym h ∙ q)))
+  keeps_result id x says stays = (told (result id x) says (λ p i h. result_told p i id x (λ q. stays (sym h ∙ q))), ap is_request says)
 
   -- a result for another request than the `initialize` of an editor that waits
   pub keeps_reply : (id : Id) (x : Json) → message_of text ≡ result (Some id) x → ((desk_of e events).phase ≡ Waiting → has_id id (message_of (desk_of e events).initialize) ≡ false) → Keeps e text events
-  keeps_reply id x says others = ap (λ (d : Desk). d.phase) (one_more (desk_behind e) _ _ events (said (ToEditor e text)) refl) ∙ rw (itself e, says) (reply_told (desk_of e events).phase (desk_of e events).initialize id x others)
+  keeps_reply id x says others = (ap (λ (d : Desk). d.phase) (one_more (desk_behind e) _ _ events (said (ToEditor e text)) refl) ∙ rw (itself e, says) (reply_told (desk_of e events).phase (desk_of e events).initialize id x others), ap is_request says)
 
 -- a text in place of one that it is
 module _ (settings : Settings) (base : List Event) (t u : Tables) (xs ys : List Out) (e : ℕ) (text : List ℕ) where

@@ -1,3 +1,5 @@
+pub mod Stays
+pub mod Handing
 pub mod Answering
 pub mod Asides
 pub mod Asked
@@ -29,3 +31,6 @@ pub mod Synced
 pub mod Welcoming
 mod Telling
 pub mod Ticking
+pub mod Singles
+pub mod Refreshing
+pub mod Recalls

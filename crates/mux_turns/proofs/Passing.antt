@@ -10,20 +10,16 @@ use Rattle.mux_history.specs.declared.out.Out.TheVariants.{ToServer}
 use Rattle.rpc_message.specs.Message.{message_of, notification}
 use Rattle.document_model.specs.Sayings.{saying_of, speaks}
 use Rattle.event_model.specs.declared.stage.Stage.{Stage}
-use Rattle.event_model.specs.declared.stage.Stage.TheVariants.{Ready}
-use Rattle.event_model.specs.Does.{Alike, Does}
+use Rattle.event_model.specs.Does.{Does}
 use Rattle.event_model.specs.Event.{Event, behind, requests, with_cause}
 use Rattle.event_model.specs.Phases.{desk_of, is_served}
-use Rattle.event_model.specs.Row.{look, nothing, outs, send, ◌⨾◌}
+use Rattle.event_model.specs.Row.{look, outs, send, ◌⨾◌}
 use Rattle.event_model.specs.Settings.{Settings}
-use Rattle.event_model.specs.Spawns.{start_of}
-use Rattle.event_model.specs.Stages.{Life, is_ready, life_of}
-use Rattle.mux_model.specs.Documents.{held_at}
+use Rattle.event_model.specs.Stages.{Life, life_of}
 use Rattle.mux_model.specs.Methods.{goes_on}
 use Rattle.mux_model.specs.Rows.{to_start}
-use Rattle.group_words.specs.Houses.{home_of}
-use Rattle.group_rows.specs.Rows.{notice_row, sync_bodies, sync_row}
-use Rattle.group_rows.specs.Texts.{is_synced, texts_of}
+use Rattle.group_rows.specs.Rows.{sync_row}
+use Rattle.group_rows.specs.Texts.{is_synced}
 use Rattle.group_rows.proofs.Going.{going_silent, going_synced}
 use Rattle.mux_tables.specs.declared.tables.Start.{Start}
 use Rattle.mux_tables.specs.declared.tables.Tables.{Tables}

@@ -1,5 +1,5 @@
 -- A group ends whose start refuses its `initialize`.
-use Rattle.std.proofs.Common.{◌≡◌, ℕ, ◌<◌, Bool, true, false, ◌&&◌, List, [], ◌∷◌, ◌++◌, length, map, get_or, nat_eq, codes, refl, ap, sym, subst, ◌∙◌, append-nil, append_assoc, if◌then◌else◌}
+use Rattle.std.proofs.Common.{◌≡◌, ℕ, ◌<◌, Bool, true, false, ◌&&◌, List, [], ◌∷◌, ◌++◌, length, map, get_or, nat_eq, refl, ap, sym, subst, ◌∙◌, append-nil, append_assoc, if◌then◌else◌}
 use Rattle.std.specs.Prelude.{Option, Some, None, slice_get}
 use Rattle.std.specs.List.{All, range_with_len}
 use Rattle.std.specs.Option.{option_and_then}
@@ -8,7 +8,7 @@ use Rattle.std.proofs.lemmas.List.Elements.{All-get_or, filter_passes}
 use Rattle.mux_history.specs.declared.cause.Cause.TheVariants.{FromServer}
 use Rattle.mux_history.specs.declared.out.Out.{Out}
 use Rattle.mux_history.specs.declared.out.Out.TheVariants.{ToEditor, ToServer, Spawn, CloseEditor, EndServer}
-use Rattle.rpc_message.specs.Message.{Message, request, notification, result, error, not_json, not_message, Id, id_bytes, message_of}
+use Rattle.rpc_message.specs.Message.{id_bytes, message_of}
 use Rattle.rpc_message.specs.Texts.{with_id_text}
 use Rattle.rpc_message.proofs.Fixed.{id_as_response}
 use Rattle.rpc_message.proofs.Ids.{error_with_id, request_id_bytes}
@@ -34,7 +34,7 @@ use Rattle.group_facts.proofs.RefusedRow.{IsError, error_is}
 use Rattle.mux_model.specs.Documents.{held_at}
 use Rattle.mux_tables.specs.declared.tables.Start.{Start}
 use Rattle.mux_tables.specs.declared.tables.Tables.{Tables}
-use Rattle.mux_tables.specs.Documents.{AllStand, DocumentsStand, Leaves, leaving, nothing_owed, owes}
+use Rattle.mux_tables.specs.Documents.{AllStand, DocumentsStand, Leaves, nothing_owed, owes}
 use Rattle.mux_tables.specs.Names.{NamesStand, id_in}
 use Rattle.mux_tables.specs.Stands.{Keeps, Rise, Stands, of_life, stage_in, start_for}
 use Rattle.mux_tables.proofs.DocumentOwed.{all_does, owes_nothing}

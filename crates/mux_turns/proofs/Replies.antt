@@ -29,6 +29,7 @@ use Rattle.event_model.proofs.Turns.{alike, behind_more, does_alike, does_then}
 use Rattle.mux_model.specs.Rows.{to_start}
 use Rattle.mux_tables.specs.declared.tables.Tables.{Tables}
 use Rattle.mux_tables.specs.Documents.{AllStand, nothing_owed, owes, replaying, to}
+use Rattle.mux_tables.specs.Stands.{is_answer}
 use Rattle.mux_turns.proofs.Matched.{whole_entry}
 use Rattle.mux_turns.specs.Welcomes.{AllAsking}
 
@@ -52,6 +53,10 @@ pub initialized_quiet : (body : List ℕ) → body ≡ initialized_text → Quie
 initialized_quiet body is =
     let says : message_of body ≡ notification (codes "initialized") (Some (object nowhere no_members)) = ap message_of is ∙ initialized_law in
     record { runs = ap (requests (codes "shutdown")) says; counts = ap moves_ids says; says = ap saying_of says; aside = ap is_synced says }
+
+-- nor does it answer
+pub initialized_silent : (body : List ℕ) → body ≡ initialized_text → is_answer (message_of body) ≡ false
+initialized_silent body is = ap is_answer (ap message_of is ∙ initialized_law)
 
 -- bodies to a start leave each editor where it is
 desk_told : (e s : ℕ) (bodies : List (List ℕ)) (events : List Event) → desk_of e (behind events (to s bodies)) ≡ desk_of e events

@@ -1,5 +1,5 @@
 -- Rows of an editor's group, and of a group's start.
-use Rattle.std.proofs.Common.{◌≡◌, ℕ, Bool, true, false, ◌&&◌, nat_lt, List, refl, ap, sym, ◌∙◌}
+use Rattle.std.proofs.Common.{◌≡◌, ℕ, Bool, true, false, ◌&&◌, nat_lt, cond, List, [], ◌∷◌, filter, map, nat_eq, refl, ap, ap₂, sym, ◌∙◌}
 use Rattle.std.specs.Prelude.{Option, Some, None}
 use Rattle.std.specs.Option.{option_and_then}
 use Rattle.mux_history.specs.declared.out.Out.TheVariants.{ToServer}
@@ -13,10 +13,13 @@ use Rattle.event_model.specs.Spawns.{start_of}
 use Rattle.event_model.specs.Stages.{is_ready, life_of}
 use Rattle.event_model.proofs.Turns.{alike, alike_then, alike_true, alike_false}
 use Rattle.group_rows.specs.Forwarded.{forwarding_of}
-use Rattle.group_rows.specs.Leaves.{cancel, cancels, cancels_row, uncancelled_of}
+use Rattle.ask_route.specs.declared.ask.Ask as route
+use Rattle.group_rows.specs.Asks.{Ask, asks_of, is_with}
+use Rattle.group_rows.specs.Leaves.{cancel, cancels, cancels_row, refusals, refuse, uncancelled_of}
 use Rattle.group_rows.specs.Rows.{answer_error, can_ask, forward, notice_at, notice_row, request_at, request_row, sync_row}
 use Rattle.group_words.specs.Houses.{home_of}
-use Rattle.mux_tables.specs.Stands.{HasEnded, start_for}
+use Rattle.mux_tables.specs.Refusals.{of_editor, refusal}
+use Rattle.mux_tables.specs.Stands.{HasEnded, kept_ask, start_for}
 
 -- where the group has no start, or one that ended, and where it has another
 pub ended_start : (home : Option ℕ) (start : ℕ → Option ℕ) (p : Row) (f : ℕ → ℕ → Row) → ((g s : ℕ) → option_and_then start home ≡ Some s → Alike (f g s) p) → Alike (on home p (λ g. on (start g) p (f g))) p
@@ -39,18 +42,36 @@ is_second {r} {p} {q} e h = alike_then (alike (e ∙ ap (λ c. choose c p q) h))
 
 module _ (settings : Settings) (before : List Event) (e : ℕ) where
   -- L1
-  pub ended_left : HasEnded (start_for settings e before) before → Alike (cancels_row settings before e) nothing
-  ended_left h = ended_start (home_of settings e before) (λ g. start_of g before) nothing (λ g s. cancels before s e) (λ g s at. is_second refl (ap is_ready (h s at)))
+  abbrev by_ready : ℕ → Bool → Row
+  by_ready s b = choose b (each (cancel s) (uncancelled_of e (forwarding_of s before).open_requests)) nothing ⨾ choose b (each (refuse s) (filter (is_with e) (asks_of s before))) nothing
 
-  left_at : (g s : ℕ) → home_of settings e before ≡ Some g → start_of g before ≡ Some s → cancels_row settings before e ≡ cancels before s e
-  left_at g s h k = some_start (home_of settings e before) (λ g. start_of g before) nothing (λ g s. cancels before s e) g s h k
+  -- where it isn't ready
+  unready_both : (s : ℕ) → is_ready (life_of s before).stage ≡ false → Alike (cancels before s e ⨾ refusals before s e) nothing
+  unready_both s h = alike_then (alike (ap (by_ready s) h)) (record { sends = λ events. refl })
+
+  pub ended_left : HasEnded (start_for settings e before) before → Alike (cancels_row settings before e) nothing
+  ended_left h = ended_start (home_of settings e before) (λ g. start_of g before) nothing (λ g s. cancels before s e ⨾ refusals before s e) (λ g s at. unready_both s (ap is_ready (h s at)))
+
+  left_at : (g s : ℕ) → home_of settings e before ≡ Some g → start_of g before ≡ Some s → cancels_row settings before e ≡ (cancels before s e ⨾ refusals before s e)
+  left_at g s h k = some_start (home_of settings e before) (λ g. start_of g before) nothing (λ g s. cancels before s e ⨾ refusals before s e) g s h k
 
   pub unready_left : (g s : ℕ) (stage : Stage) → home_of settings e before ≡ Some g → start_of g before ≡ Some s → stage ≡ (life_of s before).stage → is_ready stage ≡ false → Alike (cancels_row settings before e) nothing
-  unready_left g s stage h k at r = is_second (left_at g s h k) (ap is_ready (sym at) ∙ r)
+  unready_left g s stage h k at r = alike_then (alike (left_at g s h k ∙ ap (by_ready s) (ap is_ready (sym at) ∙ r))) (record { sends = λ events. refl })
 
-  pub ready_left : (g s : ℕ) (stage : Stage) (ns : List ℕ) → home_of settings e before ≡ Some g → start_of g before ≡ Some s → stage ≡ (life_of s before).stage → is_ready stage ≡ true → ns ≡ uncancelled_of e (forwarding_of s before).open_requests
-      → Alike (cancels_row settings before e) (each (cancel s) ns)
-  ready_left g s stage ns h k at r is = alike_then (is_first (left_at g s h k) (ap is_ready (sym at) ∙ r)) (alike (ap (each (cancel s)) (sym is)))
+  -- the asks, by what is kept of them
+  refusal_rows : (s : ℕ) (asked : List Ask) → each (refuse s) (filter (is_with e) asked) ≡ each (refusal s) (of_editor e (map kept_ask asked))
+  refusal_rows s [] = refl
+  refusal_rows s (a ∷ asked) = go (nat_eq a.editor e) (refusal_rows s asked)
+    where
+      go : (b : Bool) → each (refuse s) (filter (is_with e) asked) ≡ each (refusal s) (of_editor e (map kept_ask asked))
+          → each (refuse s) (cond b (a ∷ filter (is_with e) asked) (filter (is_with e) asked)) ≡ each (refusal s) (cond b (kept_ask a ∷ of_editor e (map kept_ask asked)) (of_editor e (map kept_ask asked)))
+      go true h = ap (λ r. refuse s a ⨾ r) h
+      go false h = h
+
+  pub ready_left : (g s : ℕ) (stage : Stage) (ns : List ℕ) (kept : List route.Ask) → kept ≡ map kept_ask (asks_of s before) → home_of settings e before ≡ Some g → start_of g before ≡ Some s → stage ≡ (life_of s before).stage → is_ready stage ≡ true → ns ≡ uncancelled_of e (forwarding_of s before).open_requests
+      → Alike (cancels_row settings before e) (each (cancel s) ns ⨾ each (refusal s) (of_editor e kept))
+  ready_left g s stage ns kept own h k at r is = alike_then (alike (left_at g s h k ∙ ap (by_ready s) (ap is_ready (sym at) ∙ r)))
+      (alike_then (record { sends = λ events. refl }) (alike (ap₂ (λ q w. each (cancel s) q ⨾ w) (sym is) (refusal_rows s (asks_of s before) ∙ ap (λ ks. each (refusal s) (of_editor e ks)) (sym own)))))
 
   -- E16 and E17
   module _ (body : List ℕ) where

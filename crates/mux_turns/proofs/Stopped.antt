@@ -1,6 +1,6 @@
 -- A start that is to end, or ended.
-use Rattle.std.proofs.Common.{◌≡◌, ℕ, ◌+◌, ◌-◌, ◌<◌, ◌^◌, Bool, true, false, not, ◌&&◌, List, [], map, length, nat_eq, refl, ap, sym, subst, ◌∙◌, arith, codes}
-use Rattle.std.specs.Prelude.{Option, Some, None, slice_get}
+use Rattle.std.proofs.Common.{◌≡◌, ℕ, ◌+◌, ◌<◌, ◌^◌, Bool, true, false, not, ◌&&◌, List, map, length, nat_eq, refl, ap, sym, subst, ◌∙◌, arith, codes}
+use Rattle.std.specs.Prelude.{Some, None, slice_get}
 use Rattle.std.proofs.lemmas.Bool.Decides.{nat_tests}
 use Rattle.mux_history.specs.declared.out.Out.{Out}
 use Rattle.mux_history.specs.declared.out.Out.TheVariants.{EndServer, ToServer}
@@ -28,7 +28,7 @@ use Rattle.group_rows.proofs.Exits.{exit_says}
 use Rattle.mux_tables.specs.declared.tables.Start.{Start}
 use Rattle.mux_tables.specs.declared.tables.Tables.{Tables}
 use Rattle.mux_tables.specs.Documents.{AllStand, DocumentsStand, nothing_owed}
-use Rattle.mux_tables.specs.Stands.{NamesAt, Stands, is_early, number_in, of_ids, of_life, stage_in}
+use Rattle.mux_tables.specs.Stands.{NamesAt, Stands, is_answer, is_early, number_in, of_ids, of_life, stage_in}
 use Rattle.mux_tables.proofs.DocumentOwed.{all_does}
 use Rattle.mux_turns.proofs.Departing.{mapped_is, mapped_on}
 use Rattle.mux_tables.proofs.Homes.{group_seen}
@@ -90,14 +90,14 @@ left_dead settings t before g s st within at left z x there here =
 
 -- the bodies that it is sent
 pub exits_by : (settings : Settings) (t u : Tables) (base : List Event) (xs ys zs : List Out) (s : ℕ) (text : List ℕ) → text ≡ exit_text
-    → (requests (codes "shutdown") (message_of text) ≡ false → moves_ids (message_of text) ≡ false → Does (λ k events. Stands settings k events) (send (ToServer s text)) base t xs t ys)
+    → (requests (codes "shutdown") (message_of text) ≡ false → moves_ids (message_of text) ≡ false → is_answer (message_of text) ≡ false → Does (λ k events. Stands settings k events) (send (ToServer s text)) base t xs t ys)
     → (saying_of (message_of text) ≡ no_saying → is_synced (message_of text) ≡ false → DocumentsStand settings nothing_owed t (behind base xs) → DocumentsStand settings nothing_owed t (behind base ys))
     → Does (λ k events. Stands settings k events) (send (EndServer s)) base t ys u zs → (DocumentsStand settings nothing_owed t (behind base ys) → DocumentsStand settings nothing_owed u (behind base zs))
     → Does (λ k events. AllStand settings k events) (exit_server s) base (t, nothing_owed) xs (u, nothing_owed) zs
 exits_by settings t u base xs ys zs s text is sends aside ends after =
     let says = ap message_of is ∙ exit_says in
     does_then (subst (λ w. Does (λ k events. AllStand settings k events) (send (ToServer s w)) base (t, nothing_owed) xs (t, nothing_owed) ys) is
-    (all_does settings t t nothing_owed nothing_owed base xs ys (sends (ap (requests (codes "shutdown")) says) (ap moves_ids says)) (λ _ ds. aside (ap saying_of says) (ap is_synced says) ds)))
+    (all_does settings t t nothing_owed nothing_owed base xs ys (sends (ap (requests (codes "shutdown")) says) (ap moves_ids says) (ap is_answer says)) (λ _ ds. aside (ap saying_of says) (ap is_synced says) ds)))
     (all_does settings t u nothing_owed nothing_owed base ys zs ends (λ _ ds. after ds))
 
 -- the number of `shutdown` is that which comes next by the requests of editors

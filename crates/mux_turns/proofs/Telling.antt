@@ -1,5 +1,5 @@
 -- E5: what `lspmux/status` is answered with.
-use Rattle.std.proofs.Common.{◌≡◌, ℕ, zero, suc, ◌+◌, ◌^◌, ◌<◌, ◌≤◌, Bool, true, false, ◌&&◌, ◌||◌, List, [], ◌∷◌, ◌++◌, length, map, flat_map, drop, get_or, nat_lt, codes, decimal, bytes_eq, if◌then◌else◌, IsUtf8, encode_utf8_all, refl, sym, ap, ap₂, subst, ◌∙◌, append_assoc, append-nil, arith}
+use Rattle.std.proofs.Common.{◌≡◌, ℕ, zero, suc, ◌+◌, ◌^◌, ◌<◌, ◌≤◌, Bool, true, false, List, [], ◌∷◌, ◌++◌, length, map, flat_map, drop, get_or, codes, decimal, bytes_eq, if◌then◌else◌, IsUtf8, encode_utf8_all, refl, sym, ap, ap₂, ◌∙◌, append_assoc, append-nil, arith}
 use Rattle.std.specs.Prelude.{Option, Some, None, slice_get}
 use Rattle.std.specs.List.{AllByRecursion}
 use Rattle.std.proofs.lemmas.List.{length-append}
@@ -19,25 +19,12 @@ use Rattle.std.proofs.lemmas.Bool.{and_from, and_parts, lt-ltb}
 use Rattle.std.proofs.lemmas.Slice.Eq.{bytes_eq-Decides}
 use Rattle.std.proofs.lemmas.Str.{chars-encodes, encodes-chars}
 use Rattle.json.specs.Print.{quoted}
-use Rattle.json_text.specs.Json.{Json}
-use Rattle.mux_history.specs.declared.cause.Cause.TheVariants.{FromEditor}
-use Rattle.rpc_message.specs.Message.{Message, message_of, request, notification, result, error, not_json, not_message, Id}
 use Rattle.capability_meet.specs.Parts.{bracketed, comma, listed}
-use Rattle.event_model.specs.declared.phase.Phase.{Phase}
-use Rattle.event_model.specs.declared.phase.Phase.TheVariants.{Absent, New, Waiting, Answered, Running, Down, Closed, Gone}
-use Rattle.event_model.specs.Event.{Event, heard, requests, same_id, with_cause}
-use Rattle.event_model.specs.Phases.{Desk, desk_behind, desk_hears, desk_of, has_id, is_begun, is_new, is_served}
-use Rattle.event_model.specs.Requests.{is_open, open_of}
+use Rattle.event_model.specs.Event.{Event}
 use Rattle.event_model.specs.Settings.{Settings}
-use Rattle.event_model.proofs.Frames.{one_more}
 use Rattle.event_model.specs.Spawns.{start_of}
-use Rattle.group_facts.specs.Settled.{IsOnly, Settled}
+use Rattle.group_facts.specs.Settled.{Settled}
 use Rattle.group_rows.specs.Status.{Item, is_utf8, item_at, item_in, item_text, name_text, number_text, numbers_text, state_text}
-use Rattle.group_words.specs.Houses.{is_doubled, places, stops}
-use Rattle.mux_facts.proofs.Words.{id_same}
-use Rattle.mux_tables.specs.Documents.{changes_documents}
-use Rattle.mux_tables.proofs.Frames.{itself}
-use Rattle.mux_turns.proofs.Asides.{desk_now}
 use Rattle.mux_turns.proofs.Folders.{drop_one}
 
 -- Texts

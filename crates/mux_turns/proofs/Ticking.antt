@@ -1,5 +1,5 @@
 -- X7: groups end, and then programs.
-use Rattle.std.proofs.Common.{◌≡◌, ℕ, zero, suc, ◌+◌, ◌<◌, ◌≤◌, ◌^◌, Bool, true, false, List, [], ◌∷◌, ◌++◌, length, take, get_or, nat_eq, codes, if◌then◌else◌, refl, ap, sym, subst, ◌∙◌, append-nil, append_assoc, arith}
+use Rattle.std.proofs.Common.{◌≡◌, ℕ, zero, suc, ◌<◌, ◌^◌, Bool, true, false, List, [], ◌∷◌, ◌++◌, length, take, get_or, nat_eq, codes, if◌then◌else◌, refl, ap, sym, subst, ◌∙◌, append-nil, append_assoc, arith}
 use Rattle.std.specs.Prelude.{Option, Some, None, slice_get, map}
 use Rattle.mux_history.specs.declared.cause.Cause.TheVariants.{Tick}
 use Rattle.mux_history.specs.declared.out.Out.{Out}
@@ -7,15 +7,15 @@ use Rattle.mux_history.specs.declared.out.Out.TheVariants.{ToEditor, ToServer, S
 use Rattle.rpc_message.specs.Message.{message_of}
 use Rattle.rpc_message.specs.Texts.{request_text}
 use Rattle.event_model.specs.declared.stage.Stage.{Stage}
-use Rattle.event_model.specs.declared.stage.Stage.TheVariants.{Unspawned, Spawning, Initializing, Ready, Stopping, Ending, Ended}
+use Rattle.event_model.specs.declared.stage.Stage.TheVariants.{Spawning, Initializing, Ready, Stopping, Ended}
 use Rattle.event_model.specs.Does.{Does, Done}
-use Rattle.event_model.specs.Event.{Event, behind, heard, requests, said, with_cause}
-use Rattle.event_model.specs.Requests.{next_number, number_behind}
+use Rattle.event_model.specs.Event.{Event, behind, requests, said, with_cause}
+use Rattle.event_model.specs.Requests.{next_number}
 use Rattle.event_model.specs.Row.{each, nothing, on, outs, send}
 use Rattle.event_model.specs.Settings.{Settings}
 use Rattle.event_model.specs.Spawns.{start_of}
-use Rattle.event_model.specs.Stages.{Life, life_behind, life_of, stage_ending, stage_told}
-use Rattle.event_model.proofs.Frames.{never, one_more}
+use Rattle.event_model.specs.Stages.{Life, life_of, stage_ending, stage_told}
+use Rattle.event_model.proofs.Frames.{never}
 use Rattle.event_model.proofs.Turns.{behind_more, does_entry, does_knowing, does_then}
 use Rattle.mux_facts.proofs.Folds.{life_more, number_more}
 use Rattle.mux_facts.proofs.Reasons.{Because, Reasons}
@@ -31,7 +31,6 @@ use Rattle.mux_tables.specs.declared.tables.Start.{Start}
 use Rattle.mux_tables.specs.declared.tables.Tables.{Tables}
 use Rattle.mux_tables.specs.Documents.{AllStand, DocumentsStand, nothing_owed}
 use Rattle.mux_tables.specs.Stands.{Stands, is_over, number_in, of_ids}
-use Rattle.mux_tables.proofs.DocumentOwed.{all_does}
 use Rattle.mux_turns.specs.Stops.{AreStopping}
 use Rattle.mux_turns.proofs.Evictions.{numbered_ticked, stage_here}
 use Rattle.mux_turns.proofs.Ready.{has_start}

@@ -6,20 +6,23 @@ use Rattle.event_model.specs.declared.stage.Stage.{Stage}
 use Rattle.event_model.specs.declared.stage.Stage.TheVariants.{Ready}
 use Rattle.event_model.specs.Does.{Alike}
 use Rattle.event_model.specs.Event.{Event}
-use Rattle.event_model.specs.Row.{nothing, each}
+use Rattle.event_model.specs.Row.{nothing, each, ◌⨾◌}
 use Rattle.event_model.specs.Settings.{Settings}
 use Rattle.event_model.specs.Stages.{is_ready, life_of}
 use Rattle.group_words.specs.Houses.{home_of}
 use Rattle.group_rows.specs.Leaves.{cancel, cancels_row}
+use Rattle.mux_tables.specs.declared.tables.Start.{Start}
 use Rattle.mux_tables.specs.declared.tables.Tables.{Tables}
 use Rattle.mux_tables.specs.Documents.{Owed, leaving, nothing_owed, owes, to}
+use Rattle.mux_tables.specs.Refusals.{of_editor, refusal}
 use Rattle.mux_tables.specs.Stands.{house_in, number_in, stage_in, start_for}
 use Rattle.mux_turns.specs.declared.leaves.Departure.{Departure}
 
--- the row of e's cancels cancels what was looked up; `starts` are the last starts of the groups
-abbrev pub Leaves : Settings → List Event → ℕ → List ℕ → Option Departure → Type 0
-Leaves settings before e starts None = Alike (cancels_row settings before e) nothing
-Leaves settings before e starts (Some l) = (s : ℕ) → slice_get starts l.group ≡ Some s → Alike (cancels_row settings before e) (each (cancel s) l.requests.items)
+-- the row of e's cancels and refusals cancels what was looked up, and refuses what the start asked of it; `lasts` are the last starts of the groups
+abbrev pub Leaves : Settings → List Event → ℕ → List Start → Option Departure → Type 0
+Leaves settings before e lasts None = Alike (cancels_row settings before e) nothing
+Leaves settings before e lasts (Some l) = (x : Start) → slice_get lasts l.group ≡ Some x → (x.life.stage ≡ Ready)
+    × Alike (cancels_row settings before e) (each (cancel x.life.start) l.requests.items ⨾ each (refusal x.life.start) (of_editor l.editor x.asks))
 
 -- and what the start is owed for its documents is paid: by the group of the editor, and its start; `lasts` are the last starts, `stages`
 -- where they stand, and `groups` their groups

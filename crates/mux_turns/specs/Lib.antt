@@ -8,4 +8,5 @@ pub mod Refusing
 pub mod Replies
 pub mod Welcomes
 pub mod Stops
+pub mod Handing
 pub mod Tellings

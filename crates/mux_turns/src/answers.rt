@@ -1,5 +1,5 @@
 //! S5: the answer of a start to an editor's request.
-ghost use Rattle.std.specs.Prelude.{◌≡◌, ◌<◌, ◌^◌, ℕ, List, [], Option, Some, IfOk, IfSome, OnOk, MatchOption, bytes_eq, decimal, find, length, map, slice_get};
+ghost use Rattle.std.specs.Prelude.{◌≡◌, ◌<◌, ◌^◌, ℕ, List, [], false, Option, Some, IfOk, IfSome, OnOk, MatchOption, bytes_eq, decimal, find, length, map, slice_get};
 ghost use Rattle.event_model.specs.declared.phase.Phase.TheVariants.{Waiting};
 ghost use Rattle.event_model.specs.declared.stage.Stage.TheVariants.{Ready};
 ghost use Rattle.event_model.specs.Does.{Alike, Does, Done};
@@ -7,13 +7,14 @@ ghost use Rattle.event_model.specs.Event.{Event, behind, with_cause};
 ghost use Rattle.event_model.specs.Phases.{desk_of};
 ghost use Rattle.event_model.specs.Requests.{answered_id};
 ghost use Rattle.event_model.specs.Settings.{Settings};
+ghost use Rattle.group_facts.specs.Facts.{Meant};
 ghost use Rattle.group_rows.specs.Answers.{answer_row, hand_on, own_version};
 ghost use Rattle.group_rows.specs.Forwarded.{Forwarded, answered_by, forwarding_of};
 ghost use Rattle.mux_history.specs.declared.cause.Cause.TheVariants.{FromServer};
 ghost use Rattle.mux_tables.specs.declared.tables.Start.{Start};
 ghost use Rattle.mux_tables.specs.Documents.{AllStand, DocumentsStand, Owed, nothing_owed};
 ghost use Rattle.mux_tables.specs.Notes.{IsNoted};
-ghost use Rattle.mux_tables.specs.Stands.{NamesAt, Stands, forwarded_as, number_in};
+ghost use Rattle.mux_tables.specs.Stands.{NamesAsk, NamesAt, Stands, forwarded_as, is_request, number_in};
 ghost use Rattle.mux_turns.specs.Answers.{IsAsked, is_response};
 ghost use Rattle.mux_turns.specs.Replies.{reply_row};
 ghost use Rattle.response_route.specs.Answers.{answer_text};
@@ -31,7 +32,7 @@ use rpc_message::{Message, Sort};
 use std::alloc::Global;
 
 // Whether these bytes write a number.
-fn writes(bytes: &[u8], n: u32) -> bool
+fn writes(bytes: &[u8], n: u64) -> bool
     ensures { result ≡ bytes_eq bytes.now (decimal n) }
 {
     let mut digits = Buffer::new();
@@ -39,20 +40,20 @@ fn writes(bytes: &[u8], n: u32) -> bool
 }
 
 // The number that a text writes, if it writes one.
-fn parsed(text: &str) -> Option<u32>
-    ensures number { (n : ℕ) → n < 2 ^ 32 → text.now ≡ decimal n → result ≡ Some n }
-    ensures bound { IfSome result (λ n. n < 2 ^ 32) }
+fn parsed(text: &str) -> Option<u64>
+    ensures number { (n : ℕ) → n < 2 ^ 64 → text.now ≡ decimal n → result ≡ Some n }
+    ensures bound { IfSome result (λ n. n < 2 ^ 64) }
 {
-    match text.parse::<u32>() {
+    match text.parse::<u64>() {
         Ok(n) => Some(n),
         Err(_) => None,
     }
 }
 
 // The same of bytes.
-fn read(bytes: &[u8]) -> Option<u32>
-    ensures number { (n : ℕ) → n < 2 ^ 32 → bytes.now ≡ decimal n → result ≡ Some n }
-    ensures bound { IfSome result (λ n. n < 2 ^ 32) }
+fn read(bytes: &[u8]) -> Option<u64>
+    ensures number { (n : ℕ) → n < 2 ^ 64 → bytes.now ≡ decimal n → result ≡ Some n }
+    ensures bound { IfSome result (λ n. n < 2 ^ 64) }
 {
     match std::str::from_utf8(bytes) {
         Ok(text) => parsed(text),
@@ -60,9 +61,9 @@ fn read(bytes: &[u8]) -> Option<u32>
     }
 }
 
-// The number that the text of an id writes, where it is one of 32 bits, without a sign and leading zeros.
-fn number_in(id: &[u8]) -> Option<u32>
-    ensures { (i : Option Id) → IsResponseIdText i id.now → NamesAt i result }
+// The number that the text of an id writes, where it is one of 64 bits, without a sign and leading zeros.
+fn number_in(id: &[u8]) -> Option<u64>
+    ensures { (i : Option Id) → IsResponseIdText i id.now → NamesAsk i result }
 {
     let n = read(id)?;
     if writes(id, n) { Some(n) } else { None }
@@ -75,15 +76,42 @@ fn is_response(sort: Sort) -> bool
     matches!(sort, Sort::Result | Sort::Error)
 }
 
-/// The number that the id of a response writes, as those of forwarded requests are written; none of another message.
-pub fn answered_number(message: &Message) -> Option<u32>
-    ensures { (body : List ℕ) → IsRead message.now body → NamesAt (answered_id (message_of body)) result }
+/// The number that the id of a response writes, as those of requests to editors are written; none of another message.
+pub fn answered_ask(message: &Message) -> Option<u64>
+    ensures { (body : List ℕ) → IsRead message.now body → NamesAsk (answered_id (message_of body)) result }
 {
     if is_response(message.sort()) {
         number_in(message.id_bytes())
     } else {
         None
     }
+}
+
+// A number, where it is one of 32 bits.
+fn small(n: u64) -> Option<u32>
+    ensures { (i : Option Id) → NamesAsk i (Some n) → NamesAt i result }
+{
+    match u32::try_from(n) {
+        Ok(n) => Some(n),
+        Err(_) => None,
+    }
+}
+
+// The same, where there is a number.
+fn narrow(n: Option<u64>) -> Option<u32>
+    ensures { (i : Option Id) → NamesAsk i n → NamesAt i result }
+{
+    match n {
+        None => None,
+        Some(n) => small(n),
+    }
+}
+
+/// The number that the id of a response writes, as those of forwarded requests are written; none of another message.
+pub fn answered_number(message: &Message) -> Option<u32>
+    ensures { (body : List ℕ) → IsRead message.now body → NamesAt (answered_id (message_of body)) result }
+{
+    narrow(answered_ask(message))
 }
 
 /// What goes to an editor.
@@ -192,6 +220,7 @@ fn reply_to(
 fn hand_out(tables: &Tables, outs: &mut Outs, reply: Option<Reply>) -> Result<(), Memory>
     ensures does { (settings : Settings) (base : List Event)
         → MatchOption reply (Unit {0}) (λ r. (desk_of r.editor (behind base outs.old)).phase ≡ Waiting → ⊥)
+        → MatchOption reply (Unit {0}) (λ r. is_request (message_of r.body) ≡ false)
         → OnOk result (Does (λ t events. Stands settings t events) (reply_row reply) base tables.now outs.old tables.now outs.new) }
     ensures documents { (settings : Settings) (owed : Owed) (base : List Event) → DocumentsStand settings owed tables.now (behind base outs.old)
         → OnOk result (DocumentsStand settings owed tables.now (behind base outs.new)) }
@@ -217,7 +246,7 @@ pub fn take_answer(
     ensures does { (settings : Settings) (before : List Event) (body : List ℕ) (s : ℕ) (x : Start) → IsRead message.now body → outs.old ≡ []
         → slice_get tables.old.lasts.items g ≡ Some x → x.life.stage ≡ Ready → slice_get (map number_in tables.old.lasts.items) g ≡ Some s
         → ((f : Forwarded) → find (answered_by (answered_id (message_of body))) (forwarding_of s before).open_requests ≡ Some f → IsAsked before f)
-        → Stands settings tables.old before → DocumentsStand settings nothing_owed tables.old before
+        → Meant before → Stands settings tables.old before → DocumentsStand settings nothing_owed tables.old before
         → OnOk result (Done (λ k events. AllStand settings k events) (answer_row settings s before body (message_of body))
         (with_cause before (FromServer s body)) [] (tables.new, nothing_owed) outs.new) }
 {

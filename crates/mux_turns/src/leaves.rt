@@ -6,6 +6,7 @@ ghost use Rattle.event_model.specs.Row.{each};
 ghost use Rattle.event_model.specs.Settings.{Settings};
 ghost use Rattle.group_rows.specs.Leaves.{cancel, cancel_text, cancels_row, leave_row};
 ghost use Rattle.mux_tables.specs.Documents.{AllStand, DocumentsStand, Owed, nothing_owed};
+ghost use Rattle.mux_tables.specs.Refusals.{asks_in};
 ghost use Rattle.mux_tables.specs.Stands.{Stands, house_in, number_in, stage_in};
 ghost use Rattle.mux_turns.specs.Leavings.{Leaves, Pays};
 
@@ -21,12 +22,14 @@ use std::alloc::Global;
 pub struct Departure {
     /// The place of the group.
     pub group: usize,
+    /// Its number.
+    pub editor: u64,
     /// The numbers, rising, of its open requests that it didn't cancel.
     pub requests: Vec<u32>,
 }
 
 // The notification that cancels the request of a number (LSP 3.17, Cancellation Support).
-fn cancel_request(alloc: Global, n: u32) -> Result<Body, Memory>
+pub fn cancel_request(alloc: Global, n: u128) -> Result<Body, Memory>
     ensures { IfOk result (λ body. body ≡ cancel_text n) }
 {
     let mut digits = Buffer::new();
@@ -50,6 +53,7 @@ fn cancel_all(
     ensures versions { tables.new.versions ≡ tables.old.versions }
     ensures starts { OnOk result (map number_in tables.new.lasts.items ≡ map number_in tables.old.lasts.items) }
     ensures stages { OnOk result (map stage_in tables.new.lasts.items ≡ map stage_in tables.old.lasts.items) }
+    ensures asks { OnOk result (map asks_in tables.new.lasts.items ≡ map asks_in tables.old.lasts.items) }
     ensures groups { OnOk result (map house_in tables.new.lasts.items ≡ map house_in tables.old.lasts.items) }
     ensures does { (settings : Settings) (base : List Event) (s : ℕ) → slice_get (map number_in tables.old.lasts.items) g ≡ Some s
         → OnOk result (Does (λ t events. Stands settings t events) (each (cancel s) numbers.now) base tables.old outs.old tables.new outs.new) }
@@ -57,7 +61,7 @@ fn cancel_all(
         → OnOk result (DocumentsStand settings owed tables.new (behind base outs.new)) }
 {
     for n in numbers {
-        let text = cancel_request(alloc, *n)?;
+        let text = cancel_request(alloc, u128::from(*n))?;
         tables.cancel(outs, g, *n, text)?;
     }
     Ok(())
@@ -67,7 +71,7 @@ fn cancel_all(
 pub fn leaving(tables: &Tables, e: u64) -> Result<Option<Departure>, Memory>
     ensures inside { IfOk result (λ o. IfSome o (λ l. l.group < length tables.now.lasts.items)) }
     ensures leaves { (settings : Settings) (before : List Event) → Stands settings tables.now before
-        → IfOk result (λ o. Leaves settings before e (map number_in tables.now.lasts.items) o) }
+        → IfOk result (λ o. Leaves settings before e tables.now.lasts.items o) }
 {
     let Some(group) = tables.place(e) else {
         return Ok(None);
@@ -76,10 +80,14 @@ pub fn leaving(tables: &Tables, e: u64) -> Result<Option<Departure>, Memory>
         return Ok(None);
     }
     let requests = tables.uncancelled_of(group, e)?;
-    Ok(Some(Departure { group, requests }))
+    Ok(Some(Departure {
+        group,
+        editor: e,
+        requests,
+    }))
 }
 
-// L1: the open requests of an editor that leaves are cancelled, numbers rising.
+// L1: the open requests of an editor that leaves are cancelled, numbers rising, and what the start asked of it is refused.
 fn leave(
     tables: &mut Tables,
     alloc: Global,
@@ -93,21 +101,24 @@ fn leave(
     ensures stages { OnOk result (map stage_in tables.new.lasts.items ≡ map stage_in tables.old.lasts.items) }
     ensures groups { OnOk result (map house_in tables.new.lasts.items ≡ map house_in tables.old.lasts.items) }
     ensures does { (settings : Settings) (before base : List Event) (e : ℕ)
-        → Leaves settings before e (map number_in tables.old.lasts.items) leaving.now
+        → Leaves settings before e tables.old.lasts.items leaving.now
         → OnOk result (Does (λ t events. Stands settings t events) (cancels_row settings before e) base tables.old outs.old tables.new outs.new) }
-    ensures documents { (settings : Settings) (owed : Owed) (base : List Event) → DocumentsStand settings owed tables.old (behind base outs.old)
+    ensures documents { (settings : Settings) (owed : Owed) (before base : List Event) (e : ℕ)
+        → Leaves settings before e tables.old.lasts.items leaving.now → Stands settings tables.old (behind base outs.old)
+        → DocumentsStand settings owed tables.old (behind base outs.old)
         → OnOk result (DocumentsStand settings owed tables.new (behind base outs.new)) }
 {
     match leaving {
         None => Ok(()),
         Some(left) => {
             cancel_all(tables, alloc, outs, left.group, &left.requests)?;
+            tables.refuse_asks(alloc, outs, left.group, left.editor)?;
             Ok(())
         }
     }
 }
 
-/// L1: an editor leaves: what was looked up is cancelled, and the last start of its group is sent the bodies that it is owed for the
+/// L1: an editor leaves: what was looked up is cancelled, what the last start of its group asked of it is refused, and that start is sent the bodies that it is owed for the
 /// editor's documents.
 pub fn depart(
     tables: &mut Tables,
@@ -120,7 +131,7 @@ pub fn depart(
     ensures requests { tables.new.requests ≡ tables.old.requests }
     ensures versions { tables.new.versions ≡ tables.old.versions }
     ensures does { (settings : Settings) (before base : List Event) (e : ℕ) (owing : Owed)
-        → Leaves settings before e (map number_in tables.old.lasts.items) leaving.now → Pays settings before e tables.old owed owing
+        → Leaves settings before e tables.old.lasts.items leaving.now → Pays settings before e tables.old owed owing
         → OnOk result (Does (λ k events. AllStand settings k events) (leave_row settings before e) base
         (tables.old, owing) outs.old (tables.new, nothing_owed) outs.new) }
 {

@@ -11,7 +11,7 @@ ghost use Rattle.json_text.specs.Json.{Json};
 ghost use Rattle.mux_history.specs.declared.cause.Cause.TheVariants.{EditorGone, FromEditor};
 ghost use Rattle.mux_history.specs.declared.cause.Why.{Why};
 ghost use Rattle.mux_tables.specs.Documents.{AllStand, DocumentsStand, changes_documents, nothing_owed};
-ghost use Rattle.mux_tables.specs.Stands.{Stands};
+ghost use Rattle.mux_tables.specs.Stands.{AnswersNone, Stands};
 ghost use Rattle.rpc_message.specs.Message.{Id, message_of, request};
 ghost use Rattle.rpc_message.specs.Parsed.{IsRead};
 ghost use Rattle.rpc_message.specs.Texts.{invalid_request};
@@ -49,8 +49,8 @@ pub fn take_gone(tables: &mut Tables, alloc: Global, outs: &mut Outs, e: u64) ->
     }
 }
 
-// E3 and E9: a message that places its editor nowhere, stops nothing, says of no server that it is meant and changes no document ends
-// the editor's link; behind it the editor is in this phase. It leaves.
+// E3 and E9: a message that places its editor nowhere, stops nothing, says of no server that it is meant, answers nothing that a start
+// asked and changes no document ends the editor's link; behind it the editor is in this phase. It leaves.
 pub fn end_link(
     tables: &mut Tables,
     alloc: Global,
@@ -62,7 +62,8 @@ pub fn end_link(
     requires joined { phase ≢ Absent }
     ensures requests { tables.new.requests ≡ tables.old.requests }
     ensures versions { tables.new.versions ≡ tables.old.versions }
-    ensures does { (settings : Settings) (before : List Event) (body : List ℕ) → places (desk_of e before).phase (message_of body) ≡ false
+    ensures does { (settings : Settings) (before : List Event) (body : List ℕ) → AnswersNone e (message_of body) before
+        → places (desk_of e before).phase (message_of body) ≡ false
         → stops before e (message_of body) ≡ false → is_first_open settings.servers before e (message_of body) ≡ false
         → changes_documents before e (message_of body) ≡ false
         → (desk_of e (with_cause before (FromEditor e body))).phase ≡ phase → outs.old ≡ []

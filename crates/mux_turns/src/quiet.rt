@@ -13,7 +13,7 @@ ghost use Rattle.json_text.specs.Json.{Json};
 ghost use Rattle.mux_history.specs.declared.cause.Cause.TheVariants.{FromEditor};
 ghost use Rattle.mux_model.specs.Rows.{malformed_row};
 ghost use Rattle.mux_tables.specs.Documents.{AllStand, DocumentsStand, changes_documents, nothing_owed};
-ghost use Rattle.mux_tables.specs.Stands.{Stands};
+ghost use Rattle.mux_tables.specs.Stands.{AnswersNone, Stands};
 ghost use Rattle.rpc_message.specs.declared.sort.Sort.TheVariants.{Request};
 ghost use Rattle.rpc_message.specs.Message.{Id, message_of, request};
 ghost use Rattle.rpc_message.specs.Parsed.{IsRead};
@@ -113,13 +113,13 @@ pub fn take_wrong(
     Ok(())
 }
 
-/// J2: a message of an editor whose link is to be ended gives nothing.
+/// J2: a message of an editor whose link is to be ended gives nothing; it answers nothing that a start asked.
 pub fn take_closed(tables: &mut Tables, e: u64)
     requires { e < length tables.old.editors }
     ensures requests { tables.new.requests ≡ tables.old.requests }
     ensures versions { tables.new.versions ≡ tables.old.versions }
     ensures does { (settings : Settings) (before : List Event) (body : List ℕ) → (desk_of e before).phase ≡ Closed
-        → Stands settings tables.old before → DocumentsStand settings nothing_owed tables.old before
+        → AnswersNone e (message_of body) before → Stands settings tables.old before → DocumentsStand settings nothing_owed tables.old before
         → Done (λ k events. AllStand settings k events) nothing (with_cause before (FromEditor e body)) [] (tables.new, nothing_owed) [] }
 {
     let phase = phase_of(tables, e);
@@ -140,13 +140,14 @@ fn phase_behind(phase: Phase, message: &Message) -> Phase
     }
 }
 
-/// E15 and E19: a message of an editor that is no request, and changes no document, gives nothing; nothing is asked of editors yet.
+/// E15 and E19: a message of an editor that is no request, changes no document and answers nothing that a start asked, gives nothing.
 pub fn take_quiet(tables: &mut Tables, e: u64, message: &Message)
     requires { e < length tables.old.editors }
     ensures requests { tables.new.requests ≡ tables.old.requests }
     ensures versions { tables.new.versions ≡ tables.old.versions }
     ensures does { (settings : Settings) (before : List Event) (body : List ℕ) → IsRead message.now body → (sort_of (message_of body) ≡ Some Request → ⊥)
-        → changes_documents before e (message_of body) ≡ false → Stands settings tables.old before → DocumentsStand settings nothing_owed tables.old before
+        → changes_documents before e (message_of body) ≡ false → AnswersNone e (message_of body) before
+        → Stands settings tables.old before → DocumentsStand settings nothing_owed tables.old before
         → Done (λ k events. AllStand settings k events) nothing (with_cause before (FromEditor e body)) [] (tables.new, nothing_owed) [] }
 {
     let phase = phase_of(tables, e);

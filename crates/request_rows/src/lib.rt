@@ -1,9 +1,8 @@
-//! Tests of the tables of open requests, of asks and of registrations, through the public calls of id_rewrite, ask_route and registrations.
+//! Tests of the tables of asks and of registrations, of what no session of mux_rows comes to, through the public calls of ask_route and
+//! registrations.
 #![tactic(auto)]
 
 #[cfg(test)]
 mod asks;
 #[cfg(test)]
 mod live;
-#[cfg(test)]
-mod requests;

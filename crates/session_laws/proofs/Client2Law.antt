@@ -3,7 +3,7 @@ use Rattle.std.proofs.Common.{◌≡◌, ℕ, ◌+◌, ◌<◌, ◌≤◌, Bool,
 use Rattle.mux_history.specs.declared.cause.Cause.TheVariants.{Joined, FromEditor, EditorGone, Started, StartFailed, FromServer, ServerGone, Drained, Tick}
 use Rattle.mux_history.specs.declared.out.Out.TheVariants.{ToEditor, ToServer, Spawn, CloseEditor, EndServer}
 use Rattle.json_text.specs.Json.{Json}
-use Rattle.rpc_message.specs.Message.{Message, error, Id, message_of}
+use Rattle.rpc_message.specs.Message.{Message, request, notification, result, error, not_json, not_message, Id, message_of}
 use Rattle.event_model.specs.Event.{Event, took, did, said, heard, with_cause}
 use Rattle.event_model.specs.Phases.{is_malformed}
 use Rattle.event_model.specs.Requests.{answered_id, open_of, open_behind, is_open, with_request, without}
@@ -114,6 +114,12 @@ module _ (e : ℕ) (events : List Event) (event : Event) where
 pub more : (events : List Event) (event : Event) → is_to_editor event ≡ false → Everywhere events → Everywhere (events ++ event ∷ [])
 more events event other h e = more_of e events event (λ same. free e (editor_part e events) event other) (nulls_kept (null_errors_of (editor_part e events)) event other) (h e)
 
+-- a message of the sender's own, a request or a notification
+abbrev pub is_own_word : Message → Bool
+is_own_word (request id method params) = true
+is_own_word (notification method params) = true
+is_own_word _ = false
+
 -- a response to an open request
 answers : (ids : List Id) (sent malformed : ℕ) (id : Id) (m : Message) → IsResponseTo id m → is_open id ids ≡ true → IsAnswer ids sent malformed m
 answers ids sent malformed id m (is_result r e) h = subst (IsAnswer ids sent malformed) (sym e) h
@@ -129,6 +135,28 @@ to_editor events n body id response waits h e = more_of e events (said (ToEditor
     (λ same. answers (open_of e (editor_part e events)) (null_errors_of (editor_part e events)) (malformed_of (editor_part e events)) id (message_of body) response
     (ap (is_open id) (open_by_part e events ∙ ap (λ k. open_of k events) (sym (number_same n e same))) ∙ waits))
     (not_null (null_errors_of (editor_part e events)) n body id (message_of body) response) (h e)
+
+-- a request, or a notification
+pub asks_editor : (events : List Event) (n : ℕ) (body : List ℕ) (m : Message) → message_of body ≡ m → is_own_word m ≡ true → Everywhere events → Everywhere (events ++ said (ToEditor n body) ∷ [])
+asks_editor events n body m says own h e = more_of e events (said (ToEditor n body))
+    (λ same. subst (IsAnswer (open_of e (editor_part e events)) (null_errors_of (editor_part e events)) (malformed_of (editor_part e events))) (sym says) (any_time m own))
+    (ap (λ x. null_errors_behind (null_errors_of (editor_part e events)) (did (ToEditor n body) x)) says ∙ uncounted m own) (h e)
+  where
+    any_time : (m : Message) → is_own_word m ≡ true → IsAnswer (open_of e (editor_part e events)) (null_errors_of (editor_part e events)) (malformed_of (editor_part e events)) m
+    any_time (request id method params) own = tt
+    any_time (notification method params) own = tt
+    any_time (result id r) own = absurd (cc)
+    any_time (error id x) own = absurd (cc)
+    any_time not_json own = absurd (cc)
+    any_time not_message own = absurd (cc)
+
+    uncounted : (m : Message) → is_own_word m ≡ true → null_errors_behind (null_errors_of (editor_part e events)) (did (ToEditor n body) m) ≡ null_errors_of (editor_part e events)
+    uncounted (request id method params) own = refl
+    uncounted (notification method params) own = refl
+    uncounted (result id r) own = absurd (cc)
+    uncounted (error id x) own = absurd (cc)
+    uncounted not_json own = absurd (cc)
+    uncounted not_message own = absurd (cc)
 
 -- a malformed body, and the error under a null id that answers it
 module _ (events : List Event) (n : ℕ) (body text : List ℕ) (x : Json) (malformed : is_malformed (message_of body) ≡ true) (says : message_of text ≡ error None x) where

@@ -1,5 +1,5 @@
 -- An editor hears nothing but responses before its session is open, and one `initialize` of it gets a result.
-use Rattle.std.proofs.Common.{◌≡◌, ℕ, Bool, true, false, not, ◌&&◌, cond, List, [], ◌∷◌, ◌++◌, nat_eq, codes, if◌then◌else◌, Option, Some, refl, sym, ◌∙◌, ap, subst, subst₂, arith}
+use Rattle.std.proofs.Common.{◌≡◌, ℕ, Bool, true, false, not, ◌&&◌, ◌||◌, cond, List, [], ◌∷◌, ◌++◌, nat_eq, codes, if◌then◌else◌, Option, Some, refl, sym, ◌∙◌, ap, ap₂, subst, subst₂, arith}
 use Rattle.std.proofs.lemmas.Slice.Eq.{bytes_eq-Decides}
 use Rattle.json_text.specs.Json.{Json}
 use Rattle.mux_history.specs.declared.cause.Cause.TheVariants.{FromEditor, Joined, EditorGone}
@@ -7,7 +7,7 @@ use Rattle.rpc_message.specs.Message.{Message, request, notification, result, er
 use Rattle.event_model.specs.declared.phase.Phase.{Phase}
 use Rattle.event_model.specs.declared.phase.Phase.TheVariants.{Absent, New, Waiting, Answered, Running, Down, Closed, Gone}
 use Rattle.event_model.specs.Event.{Event, took, requests, heard, with_cause}
-use Rattle.event_model.specs.Phases.{Desk, desk_of, desk_behind, desk_hears, has_id, phase_told, is_new, is_there, makes_running, phase_closed, editors_of}
+use Rattle.event_model.specs.Phases.{is_malformed, Desk, desk_of, desk_behind, desk_hears, has_id, phase_told, is_new, is_there, makes_running, phase_closed, editors_of}
 use Rattle.event_model.specs.Requests.{is_open, with_request, without}
 use Rattle.event_model.specs.Always.{Always}
 use Rattle.session_laws.specs.ClientRules.{Opening, opening_hears, opening_told, opening_behind, opening_of, may_hear, ClientRule3}
@@ -37,8 +37,8 @@ abbrev pub Link : Phase → List ℕ → Opening → Type 0
 Link Absent i o = Fresh o
 Link New i o = Fresh o
 Link Waiting i o = Expects i o
-Link Answered i o = o.initializes ≡ []
-Link Running i o = o.initializes ≡ []
+Link Answered i o = (o.initializes ≡ []) × (o.answered ≡ true)
+Link Running i o = (o.initializes ≡ []) × (o.spoke ≡ true)
 Link Down i o = o.initializes ≡ []
 Link Closed i o = Unit {0}
 Link Gone i o = Unit {0}
@@ -65,6 +65,15 @@ founds body o (error id x) says e h = absurd (cc)
 founds body o not_json says e h = absurd (cc)
 founds body o not_message says e h = absurd (cc)
 
+-- a message behind the result
+pub speaks_now : (a b c : Bool) → b ≡ true → c ≡ false → (a || (b && not c)) ≡ true
+speaks_now true b c h k = refl
+speaks_now false b c h k = ap₂ (λ x y. x && not y) h k
+
+well_formed : (a b : Bool) → not (a || b) ≡ true → a ≡ false
+well_formed false b h = refl
+well_formed true b h = absurd (cc)
+
 -- which isn't a second `initialize`
 hears : (phase : Phase) (i body : List ℕ) (o : Opening) (m : Message) → message_of body ≡ m → (not (is_new phase) && requests (codes "initialize") m) ≡ false → Link phase i o → LinkAt (desk_hears phase i body m) (opening_hears o m)
 hears Absent i body o m says none h = (same_initializes o m [] none h.0, h.1)
@@ -74,17 +83,17 @@ hears New i body o m says none h = go (requests (codes "initialize") m) refl
     go true e = founds body o m says e h
     go false e = (same_initializes o m [] e h.0, h.1)
 hears Waiting i body o m says none h = record { id = h.id; params = h.params; asks = h.asks; only = same_initializes o m (h.id ∷ []) none h.only; not_yet = h.not_yet }
-hears Answered i body o m says none h = go (requests (codes "shutdown") m) (makes_running m) (same_initializes o m [] none h)
+hears Answered i body o m says none h = go (requests (codes "shutdown") m) (makes_running m) refl (same_initializes o m [] none h.0)
   where
-    go : (a b : Bool) → (opening_hears o m).initializes ≡ [] → Link (if a then Down else if b then Running else Answered) i (opening_hears o m)
-    go true b e = e
-    go false true e = e
-    go false false e = e
-hears Running i body o m says none h = go (requests (codes "shutdown") m) (same_initializes o m [] none h)
+    go : (a b : Bool) → makes_running m ≡ b → (opening_hears o m).initializes ≡ [] → Link (if a then Down else if b then Running else Answered) i (opening_hears o m)
+    go true b runs e = e
+    go false true runs e = (e, speaks_now o.spoke o.answered (is_malformed m) h.1 (well_formed (is_malformed m) _ runs))
+    go false false runs e = (e, h.1)
+hears Running i body o m says none h = go (requests (codes "shutdown") m) (same_initializes o m [] none h.0)
   where
     go : (a : Bool) → (opening_hears o m).initializes ≡ [] → Link (if a then Down else Running) i (opening_hears o m)
     go true e = e
-    go false e = e
+    go false e = (e, ap (λ b. b || (o.answered && not (is_malformed m))) h.1)
 hears Down i body o m says none h = same_initializes o m [] none h
 hears Closed i body o m says none h = tt
 hears Gone i body o m says none h = tt
@@ -99,17 +108,21 @@ module _ (i : List ℕ) (o : Opening) (w : Expects i o) (m : Message) (r : Json)
   pub welcomed : Link (phase_told Waiting i m) i (opening_told o m)
   welcomed = subst (λ z. Link (phase_told Waiting i z) i (opening_told o z)) (sym says)
       (subst (λ b. Link (if b then Answered else Waiting) i (opening_told o (result (Some w.id) r))) (sym (ap (has_id w.id) w.asks ∙ same_id_itself w.id))
-      (ap (without (Some w.id)) w.only ∙ ap (λ b. cond (not b) (w.id ∷ []) []) (same_id_itself w.id)))
+      (ap (without (Some w.id)) w.only ∙ ap (λ b. cond (not b) (w.id ∷ []) []) (same_id_itself w.id), or_open o.answered (is_open w.id o.initializes) (ap (is_open w.id) w.only ∙ ap (λ b. b || false) (same_id_itself w.id))))
+    where
+      or_open : (a b : Bool) → b ≡ true → (a || b) ≡ true
+      or_open true b h = refl
+      or_open false b h = h
 
 -- to another request
 pub late_told : (phase : Phase) (i : List ℕ) (o : Opening) (id : Id) (m : Message) → IsResponseTo id m → is_early phase ≡ false → Link phase i o → Link (phase_told phase i m) i (opening_told o m)
 late_told Absent i o id m k late h = absurd (cc)
 late_told New i o id m k late h = absurd (cc)
 late_told Waiting i o id m k late h = absurd (cc)
-late_told Answered i o id m (is_result r e) late h = subst (λ z. (opening_told o z).initializes ≡ []) (sym e) (ap (without (Some id)) h)
-late_told Answered i o id m (is_error x e) late h = subst (λ z. (opening_told o z).initializes ≡ []) (sym e) (ap (without (Some id)) h)
-late_told Running i o id m (is_result r e) late h = subst (λ z. (opening_told o z).initializes ≡ []) (sym e) (ap (without (Some id)) h)
-late_told Running i o id m (is_error x e) late h = subst (λ z. (opening_told o z).initializes ≡ []) (sym e) (ap (without (Some id)) h)
+late_told Answered i o id m (is_result r e) late h = subst (λ z. Link Answered i (opening_told o z)) (sym e) (ap (without (Some id)) h.0, ap (λ b. b || is_open id o.initializes) h.1)
+late_told Answered i o id m (is_error x e) late h = subst (λ z. Link Answered i (opening_told o z)) (sym e) (ap (without (Some id)) h.0, h.1)
+late_told Running i o id m (is_result r e) late h = subst (λ z. Link Running i (opening_told o z)) (sym e) (ap (without (Some id)) h.0, h.1)
+late_told Running i o id m (is_error x e) late h = subst (λ z. Link Running i (opening_told o z)) (sym e) (ap (without (Some id)) h.0, h.1)
 late_told Down i o id m (is_result r e) late h = subst (λ z. (opening_told o z).initializes ≡ []) (sym e) (ap (without (Some id)) h)
 late_told Down i o id m (is_error x e) late h = subst (λ z. (opening_told o z).initializes ≡ []) (sym e) (ap (without (Some id)) h)
 late_told Closed i o id m k late h = tt
@@ -119,8 +132,8 @@ pub none_open : (phase : Phase) (i : List ℕ) (o : Opening) → is_there phase 
 none_open Absent i o there late h = absurd (cc)
 none_open New i o there late h = absurd (cc)
 none_open Waiting i o there late h = absurd (cc)
-none_open Answered i o there late h = h
-none_open Running i o there late h = h
+none_open Answered i o there late h = h.0
+none_open Running i o there late h = h.0
 none_open Down i o there late h = h
 none_open Closed i o there late h = absurd (cc)
 none_open Gone i o there late h = absurd (cc)

@@ -9,3 +9,5 @@ pub mod Server4Law
 pub mod Server6Law
 pub mod Server8Law
 pub mod SpawnedLaw
+pub mod Client4Law
+pub mod Server5Law

@@ -7,9 +7,10 @@ use Rattle.mux_history.specs.declared.out.Out.TheVariants.{ToEditor, CloseEditor
 use Rattle.rpc_message.specs.Message.{Message, request, notification, result, error, not_json, not_message, Id}
 use Rattle.event_model.specs.Event.{Event, took, did, events_of, requests}
 use Rattle.event_model.specs.Phases.{is_malformed}
-use Rattle.event_model.specs.Requests.{open_of, is_open, without, with_request}
+use Rattle.event_model.specs.Requests.{answered_id, open_of, is_open, without, with_request}
 use Rattle.event_model.specs.Always.{Always}
 use Rattle.event_model.specs.Parts.{editor_part}
+use Rattle.session_laws.specs.ServerRules.{HasNumber, may_cancel}
 
 -- Rule 1 (LSP 3.17, Base Protocol: messages go over a connection): nothing goes to an editor whose link ended, or was to be ended.
 abbrev pub ended_behind : Bool → Event → Bool
@@ -96,6 +97,31 @@ abbrev pub ClientRule3 : List Event → Event → Type 0
 ClientRule3 before (did (ToEditor n body) m) = IsTrue (may_hear (opening_of before) m)
 ClientRule3 before other = Unit {0}
 
+-- Rule 4 (JSON-RPC 2.0, section 4: an id is the sender's own): the n-th request has the id n.
+abbrev pub asks_behind : ℕ → Event → ℕ
+asks_behind n (did (ToEditor e body) (request id method params)) = n + 1
+asks_behind n other = n
+
+abbrev pub asks_of : List Event → ℕ
+asks_of part = fold asks_behind 0 part
+
+abbrev pub ClientRule4 : List Event → Event → Type 0
+ClientRule4 before (did (ToEditor n body) m) = HasNumber (asks_of before + 1) m
+ClientRule4 before other = Unit {0}
+
+-- Rule 5 (LSP 3.17, Cancellation Support): `$/cancelRequest` names a request that was sent, and that the editor didn't answer.
+abbrev pub unanswered_behind : List Id → Event → List Id
+unanswered_behind ids (did (ToEditor e body) m) = with_request m ids
+unanswered_behind ids (took (FromEditor e body) m) = without (answered_id m) ids
+unanswered_behind ids other = ids
+
+abbrev pub unanswered_of : List Event → List Id
+unanswered_of part = fold unanswered_behind [] part
+
+abbrev pub ClientRule5 : List Event → Event → Type 0
+ClientRule5 before (did (ToEditor n body) m) = IsTrue (may_cancel (unanswered_of before) m)
+ClientRule5 before other = Unit {0}
+
 -- the parts of all editors keep the rule
 abbrev pub KeepsClient1 : List Entry → Type 0
 KeepsClient1 history = (e : ℕ) → Always ClientRule1 (editor_part e (events_of history))
@@ -105,3 +131,9 @@ KeepsClient2 history = (e : ℕ) → Always (ClientRule2 e) (editor_part e (even
 
 abbrev pub KeepsClient3 : List Entry → Type 0
 KeepsClient3 history = (e : ℕ) → Always ClientRule3 (editor_part e (events_of history))
+
+abbrev pub KeepsClient4 : List Entry → Type 0
+KeepsClient4 history = (e : ℕ) → Always ClientRule4 (editor_part e (events_of history))
+
+abbrev pub KeepsClient5 : List Entry → Type 0
+KeepsClient5 history = (e : ℕ) → Always ClientRule5 (editor_part e (events_of history))

@@ -11,7 +11,7 @@ use Rattle.mux_history.specs.declared.out.Out.TheVariants.{ToServer, EndServer}
 use Rattle.rpc_message.specs.Message.{Message, Id, request, notification, result, error, id_of, integer}
 use Rattle.event_model.specs.Event.{Event, took, did, events_of, same_id, requests, notifies}
 use Rattle.event_model.specs.Members.{named_of}
-use Rattle.event_model.specs.Requests.{answered_id, is_open, without}
+use Rattle.event_model.specs.Requests.{answered_id, is_open, with_request, without}
 use Rattle.event_model.specs.Stages.{is_first_result}
 use Rattle.event_model.specs.Always.{Always}
 use Rattle.event_model.specs.Parts.{server_part}
@@ -106,6 +106,28 @@ abbrev pub ServerRule4 : List Event → Event → Type 0
 ServerRule4 before (did (ToServer s body) m) = AllowsSaying (λ u. version_of u before) (saying_of m)
 ServerRule4 before other = Unit {0}
 
+-- Rule 5 (JSON-RPC 2.0, section 5, and LSP 3.17, Response Message): a response has the id of a request that the start sent, and that has no response yet.
+abbrev pub awaiting_behind : List Id → Event → List Id
+awaiting_behind ids (took (FromServer s body) m) = with_request m ids
+awaiting_behind ids (did (ToServer s body) m) = without (answered_id m) ids
+awaiting_behind ids other = ids
+
+abbrev pub awaiting_of : List Event → List Id
+awaiting_of part = fold awaiting_behind [] part
+
+abbrev pub is_among : Option Id → List Id → Bool
+is_among None ids = false
+is_among (Some id) ids = is_open id ids
+
+abbrev pub answers_one : List Id → Message → Bool
+answers_one ids (result id r) = is_among id ids
+answers_one ids (error id e) = is_among id ids
+answers_one ids other = true
+
+abbrev pub ServerRule5 : List Event → Event → Type 0
+ServerRule5 before (did (ToServer s body) m) = IsTrue (answers_one (awaiting_of before) m)
+ServerRule5 before other = Unit {0}
+
 -- Rule 6 (LSP 3.17, Cancellation Support): `$/cancelRequest` names a request that was sent, and that has no response yet; and each is named once.
 
 -- the id that it names
@@ -129,10 +151,6 @@ waiting_behind ids other = ids
 
 abbrev pub waiting_of : List Event → List Id
 waiting_of part = fold waiting_behind [] part
-
-abbrev pub is_among : Option Id → List Id → Bool
-is_among None ids = false
-is_among (Some id) ids = is_open id ids
 
 abbrev pub may_cancel : List Id → Message → Bool
 may_cancel ids (notification method params) = not (bytes_eq method (codes "$/cancelRequest")) || is_among (cancelled_id params) ids
@@ -200,6 +218,9 @@ KeepsServer3 history = KeepsServer ServerRule3 history
 
 abbrev pub KeepsServer4 : List Entry → Type 0
 KeepsServer4 history = KeepsServer ServerRule4 history
+
+abbrev pub KeepsServer5 : List Entry → Type 0
+KeepsServer5 history = KeepsServer ServerRule5 history
 
 abbrev pub KeepsServer6 : List Entry → Type 0
 KeepsServer6 history = KeepsServer ServerRule6 history

@@ -1,5 +1,5 @@
 -- Whether a request is built in a phase.
-use Rattle.std.proofs.Common.{bytes_eq, codes, false, not, sym, ◌&&◌, ◌||◌, ◌∙◌}
+use Rattle.std.proofs.Common.{false, not, sym, ◌&&◌, ◌||◌, ◌∙◌}
 use Rattle.lsp_method.specs.Class.{class_of}
 use Rattle.lsp_method.specs.declared.variants.Origin.TheVariants.{Editor}
 use Rattle.event_model.specs.Phases.{is_served}

@@ -1,5 +1,5 @@
 -- Whether a notification of an editor that is served cancels the work of a token.
-use Rattle.std.proofs.Common.{true, ap, codes, sym, ◌∙◌}
+use Rattle.std.proofs.Common.{ap, codes, sym, ◌∙◌}
 use Rattle.event_model.specs.Event.{notifies}
 use Rattle.event_model.specs.Phases.{is_served}
 use Rattle.group_facts.specs.Built.{cancels_work}

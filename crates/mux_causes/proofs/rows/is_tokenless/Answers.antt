@@ -1,5 +1,5 @@
 -- A request that goes nowhere, or has no token.
-use Rattle.std.proofs.Common.{ap, not, sym, ◌&&◌, ◌||◌, ◌∙◌}
+use Rattle.std.proofs.Common.{ap, not, ◌&&◌, ◌∙◌}
 use Rattle.event_model.specs.Phases.{is_served}
 use Rattle.group_facts.specs.Built.{is_marked}
 use Rattle.mux_causes.proofs.Meant.{or_first, or_second}

@@ -8,12 +8,12 @@ use Rattle.mux_entries.proofs.EditorRows.{done_alike, done_quietly, exit_named, 
 use Rattle.mux_entries.proofs.editors.from_aside.Goals as goal
 
 pub returns-in_ok-take_exit-clause-does : goal.returns-in_ok-take_exit-clause-does
-returns-in_ok-take_exit-clause-does c = λ settings before body read aside unserved first st ds.
+returns-in_ok-take_exit-clause-does c = λ settings before body read aside unserved silent first st ds.
     let exits : notifies (codes "exit") (message_of body) ≡ true = sym (c.is_exit.ensures body read) ∙ c.if-is_exit.true in
     done_alike (λ k events. AllStand settings k events) (exit_named settings before c.args.e (message_of body) exits) (c.in_ok-take_exit.ensures.does settings before body exits first st ds)
 
 pub returns-else-is_exit-clause-does : goal.returns-else-is_exit-clause-does
-returns-else-is_exit-clause-does c = λ settings before body read aside unserved first st ds.
+returns-else-is_exit-clause-does c = λ settings before body read aside unserved silent first st ds.
     let stays : notifies (codes "exit") (message_of body) ≡ false = sym (c.is_exit.ensures body read) ∙ c.if-is_exit.false in
     done_alike (λ k events. AllStand settings k events) (exit_silent settings before c.args.e (message_of body) stays)
-    (done_quietly (λ k events. AllStand settings k events) first (c.take_quiet.ensures.does settings before body read aside (unserved_keeps before c.args.e (message_of body) unserved) st ds))
+    (done_quietly (λ k events. AllStand settings k events) first (c.take_quiet.ensures.does settings before body read aside (unserved_keeps before c.args.e (message_of body) unserved) silent st ds))

@@ -6,8 +6,9 @@ use Rattle.event_model.specs.Requests.{open_of}
 use Rattle.group_facts.specs.Built.{built_from_editor}
 use Rattle.rpc_message.specs.Message.{message_of, notification, request}
 use Rattle.mux_tables.specs.Documents.{AllStand}
-use Rattle.mux_entries.proofs.EditorBuilt.{answer_keeps, served_standard, served_there, unasked_when}
-use Rattle.mux_entries.proofs.EditorRows.{answered, asks_by_sort, done_alike, done_quietly, notes_by_sort, read_well, served, unasking, unnoting}
+use Rattle.mux_entries.proofs.EditorAsks.{asked_by_one, ended_unasked}
+use Rattle.mux_entries.proofs.EditorBuilt.{served_needs, served_standard, served_there, unasked_when}
+use Rattle.mux_entries.proofs.EditorRows.{answered, asks_by_sort, done_alike, is_answer, notes_by_sort, read_well, served, unasking, unnoting}
 use Rattle.mux_entries.proofs.editors.from_served.Goals as goal
 
 pub returns-in_ok-from_asking-in-Request-clause-does : goal.returns-in_ok-from_asking-in-Request-clause-does
@@ -29,11 +30,13 @@ returns-in_ok-from_noting-in-Notification-clause-does c = λ settings before bod
     done_alike (λ k events. AllStand settings k events) (served settings before e body (notification notes.method notes.params) notes.is serves (read_well c.args.message.now body read) single none)
     (c.in_ok-from_noting-in-Notification.ensures.does settings before body notes.method notes.params read notes.is serves first known settled st ds)
 
-pub returns-in-Result-clause-does : goal.returns-in-Result-clause-does
-returns-in-Result-clause-does c = λ settings before body read serves first known settled built single none st ds.
+pub returns-in_ok-take_reply-in-Result-clause-does : goal.returns-in_ok-take_reply-in-Result-clause-does
+returns-in_ok-take_reply-in-Result-clause-does c = λ settings before body read serves first known settled built single none st ds.
     let e = c.args.e in
     let m = message_of body in
     let unasked = unasking m c.sort.result (c.sort.ensures body read) c.in-Result.is in
     let unnoted = unnoting m c.sort.result (c.sort.ensures body read) c.in-Result.is in
-    done_alike (λ k events. AllStand settings k events) (answered settings before e body unasked unnoted serves (read_well c.args.message.now body read) single none)
-    (done_quietly (λ k events. AllStand settings k events) first (c.take_quiet.ensures.does settings before body read unasked (answer_keeps before e m unasked unnoted) st ds))
+    let well = read_well c.args.message.now body read in
+    let seat = settled.seated e (served_needs (desk_of e before).phase serves) in
+    done_alike (λ k events. AllStand settings k events) (answered settings before e body unasked unnoted serves well single none)
+    (c.in_ok-take_reply-in-Result.ensures.does settings before body seat.group seat.start read (is_answer m unasked unnoted well) serves seat.home seat.last (asked_by_one settings before e seat.group seat.start m settled seat.home seat.last) (ended_unasked settings before seat.start settled) first st ds)

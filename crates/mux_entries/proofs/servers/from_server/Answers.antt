@@ -8,4 +8,4 @@ returns-in-None-clause-does c = λ settings before first known settled fits buil
 
 pub returns-in_ok-take_body-in-Some-clause-does : goal.returns-in_ok-take_body-in-Some-clause-does
 returns-in_ok-take_body-in-Some-clause-does c = λ settings before first known settled fits built st ds.
-    c.in_ok-take_body-in-Some.ensures.does settings before c.args.s first c.in-Some.ensures.found known fits built st ds
+    c.in_ok-take_body-in-Some.ensures.does settings before c.args.s first c.in-Some.ensures.found known settled fits built st ds

@@ -6,35 +6,32 @@ use Rattle.group_facts.specs.Built.{built_from_server}
 use Rattle.rpc_message.specs.Message.{message_of}
 use Rattle.mux_tables.specs.Documents.{AllStand, nothing_owed}
 use Rattle.mux_entries.proofs.EditorRows.{done_alike, done_quietly}
-use Rattle.mux_entries.proofs.Said.{asked, built_elsewhere, read_well, ready_row, stage_here, stopped_row}
+use Rattle.mux_entries.proofs.Said.{built_elsewhere, read_well, stage_here, stopped_row}
 use Rattle.mux_entries.proofs.servers.take_message.Goals as goal
 
 pub returns-in_ok-take_first-in-Initializing-clause-does : goal.returns-in_ok-take_first-in-Initializing-clause-does
-returns-in_ok-take_first-in-Initializing-clause-does c = λ settings before body s read first at known run built st ds. c.in_ok-take_first-in-Initializing.ensures.does settings before body s read first at known run built st ds
+returns-in_ok-take_first-in-Initializing-clause-does c = λ settings before body s read first at known settled run built st ds. c.in_ok-take_first-in-Initializing.ensures.does settings before body s read first at known run built st ds
 
-pub returns-in_ok-take_answer-in-Ready-clause-does : goal.returns-in_ok-take_answer-in-Ready-clause-does
-returns-in_ok-take_answer-in-Ready-clause-does c = λ settings before body s read first at known run built st ds.
-    let t = c.args.tables.now in
-    let x = item_at t.lasts.items c.args.g c.requires in
-    let ready = sym (c.stage_at-stage.ensures x.0 x.1) ∙ c.in-Ready.is in
-    let stage = stage_here settings t before c.args.g s x.0 x.1 at st ∙ ready in
-    let done = c.in_ok-take_answer-in-Ready.ensures.does settings before body s x.0 read first x.1 ready at (asked before s (message_of body) known.asked) st ds in
-    done_alike (λ k events. AllStand settings k events) (ready_row settings before s body stage) done
+pub take_ready-requires-clause-stage : goal.take_ready-requires-clause-stage
+take_ready-requires-clause-stage c = λ x at. sym (c.stage_at-stage.ensures x at) ∙ c.in-Ready.is
+
+pub returns-in_ok-take_ready-in-Ready-clause-does : goal.returns-in_ok-take_ready-in-Ready-clause-does
+returns-in_ok-take_ready-in-Ready-clause-does c = λ settings before body s read first at known settled run built st ds. c.in_ok-take_ready-in-Ready.ensures.does settings before body s read first at known settled built st ds
 
 pub returns-in_default-clause-does : goal.returns-in_default-clause-does
-returns-in_default-clause-does c = λ settings before body s read first at known run built st ds.
+returns-in_default-clause-does c = λ settings before body s read first at known settled run built st ds.
     let t = c.args.tables.now in
     let x = item_at t.lasts.items c.args.g c.requires in
     let here = stage_here settings t before c.args.g s x.0 x.1 at st ∙ sym (c.stage_at-stage.ensures x.0 x.1) in
-    built_elsewhere (life_of s before).stage c.stage_at-stage.result body (message_of body) here c.in_default.not-Initializing c.in_default.not-Ready c.in_default.not-Stopping c.in_default.not-Ending (read_well c.args.message.now body read) built
+    built_elsewhere settings before s (life_of s before).stage c.stage_at-stage.result body (message_of body) here c.in_default.not-Initializing c.in_default.not-Ready c.in_default.not-Stopping c.in_default.not-Ending (read_well c.args.message.now body read) built
 
 pub returns-in_ok-take_stopping-in-Stopping-clause-does : goal.returns-in_ok-take_stopping-in-Stopping-clause-does
-returns-in_ok-take_stopping-in-Stopping-clause-does c = λ settings before body s read first at known run built st ds.
+returns-in_ok-take_stopping-in-Stopping-clause-does c = λ settings before body s read first at known settled run built st ds.
     let t = c.args.tables.now in
     let x = item_at t.lasts.items c.args.g c.requires in
     let stage = stage_here settings t before c.args.g s x.0 x.1 at st ∙ (sym (c.stage_at-stage.ensures x.0 x.1) ∙ c.in-Stopping.is) in
     done_alike (λ k events. AllStand settings k events) (stopped_row settings before s body stage) (c.in_ok-take_stopping-in-Stopping.ensures.does settings before body s read first at (known.stopped s stage) st ds)
 
 pub returns-in-Ending-clause-does : goal.returns-in-Ending-clause-does
-returns-in-Ending-clause-does c = λ settings before body s read first at known run built st ds.
+returns-in-Ending-clause-does c = λ settings before body s read first at known settled run built st ds.
     done_quietly (λ k events. AllStand settings k events) first (c.take_ending.ensures.does settings before body s read at st ds)

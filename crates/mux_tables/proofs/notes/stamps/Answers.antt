@@ -1,5 +1,5 @@
 -- The versions of documents, by their URIs.
-use Rattle.std.proofs.Common.{map, ◌∷◌}
+use Rattle.std.proofs.Common.{◌∷◌}
 use Rattle.mux_tables.proofs.Stamping.{popped, stamped_more}
 use Rattle.mux_tables.proofs.notes.stamps.Goals as goal
 

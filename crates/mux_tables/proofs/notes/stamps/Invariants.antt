@@ -1,7 +1,7 @@
-use Rattle.std.proofs.Common.{◌≡◌, ℕ, List, ◌++◌, length, map}
+use Rattle.std.proofs.Common.{◌≡◌, ℕ, List, ◌++◌, length}
 use Rattle.focus_switch.specs.declared.version.DocumentVersion.{DocumentVersion}
 use Rattle.response_route.specs.Versions.{stamp_of}
-use Rattle.mux_tables.specs.Notes.{now_version, stamp_in}
+use Rattle.mux_tables.specs.Notes.{stamp_in}
 use Rattle.mux_tables.proofs.notes.stamps.Given as goal
 
 -- what was taken from the end is in the table

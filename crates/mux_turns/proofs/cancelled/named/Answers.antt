@@ -1,5 +1,5 @@
 -- What a cancel names.
-use Rattle.std.proofs.Common.{map, refl, subst, sym, ◌∙◌, ap}
+use Rattle.std.proofs.Common.{map, refl, subst, sym, ◌∙◌}
 use Rattle.std.specs.Prelude.{None, Some}
 use Rattle.group_rows.specs.Cancelling.{named_id}
 use Rattle.mux_tables.specs.Stands.{number_in}

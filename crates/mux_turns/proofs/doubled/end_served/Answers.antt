@@ -1,6 +1,6 @@
 -- A `shutdown` under an id that is open.
-use Rattle.std.proofs.Common.{ap, map, subst, sym, ◌≡◌, ◌∙◌}
-use Rattle.event_model.specs.Event.{behind, with_cause}
+use Rattle.std.proofs.Common.{ap, map, subst, sym, ◌∙◌}
+use Rattle.event_model.specs.Event.{with_cause}
 use Rattle.event_model.specs.Phases.{desk_of, is_served}
 use Rattle.event_model.proofs.Turns.{does_then}
 use Rattle.group_rows.specs.Rows.{closing_row}
@@ -29,6 +29,6 @@ returns-clause-does c = λ settings before body asks served first st ds.
     let unserved = ap (λ es. is_served (desk_of e es).phase) there ∙ ap is_served (down_now before e body asks served) in
     let closed = c.in_ok-close.ensures.unserved settings o.0 base (subst (λ es. Stands settings u es) (sym there) heard) unserved (subst (λ es. DocumentsStand settings o.0 u es) (sym there) o.1.1) in
     let pays = pays_later settings before e t v c.in_ok-owed.owed o.0 (ap (λ ls. map number_in ls.items) lasts) (ap (λ ls. map stage_in ls.items) lasts) (ap (λ ls. map house_in ls.items) lasts) o.1.0 in
-    let leaves = subst (λ ns. Leaves settings before e ns c.in_ok-left.left) (sym (ap (λ ls. map number_in ls.items) lasts)) (c.in_ok-left.ensures.leaves settings before st) in
+    let leaves = subst (λ ns. Leaves settings before e ns c.in_ok-left.left) (sym (ap (λ ls. ls.items) lasts)) (c.in_ok-left.ensures.leaves settings before st) in
     whole_entry (λ k events. AllStand settings k events) (closing_row settings before e) base (u, o.0) (c.depart.new.tables, nothing_owed) xs c.depart.new.outs first (heard, o.1.1)
     (does_then (all_does settings u v o.0 o.0 base xs c.close.new.outs (c.in_ok-close.ensures.does settings base) (λ _ _. closed.1)) (c.in_ok-depart.ensures.does settings before base e o.0 leaves pays))

@@ -9,7 +9,6 @@ use Rattle.group_rows.specs.Rows.{stopping_row}
 use Rattle.group_words.specs.Houses.{is_first_error}
 use Rattle.mux_history.specs.declared.cause.Cause.TheVariants.{FromServer}
 use Rattle.mux_tables.specs.Documents.{AllStand, nothing_owed}
-use Rattle.mux_tables.specs.Stands.{stage_in}
 use Rattle.rpc_message.specs.Message.{message_of}
 use Rattle.mux_turns.proofs.Matched.{whole_entry}
 use Rattle.mux_turns.proofs.Ready.{start_from}

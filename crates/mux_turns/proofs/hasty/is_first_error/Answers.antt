@@ -1,5 +1,5 @@
 -- Whether a message is the first error.
-use Rattle.std.proofs.Common.{ap, sym, ◌∙◌}
+use Rattle.std.proofs.Common.{ap, ◌∙◌}
 use Rattle.std.specs.Prelude.{Some}
 use Rattle.rpc_message.specs.Message.{message_of}
 use Rattle.event_model.specs.Requests.{answered_id}

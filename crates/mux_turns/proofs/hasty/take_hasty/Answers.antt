@@ -14,7 +14,8 @@ use Rattle.rpc_message.specs.Message.{message_of, request}
 use Rattle.mux_tables.specs.Documents.{AllStand, nothing_owed}
 use Rattle.mux_tables.specs.Stands.{is_early}
 use Rattle.mux_tables.proofs.DocumentOwed.{all_does}
-use Rattle.mux_turns.proofs.Early.{asked_error, asked_first, asked_named, hasty_quiet}
+use Rattle.event_model.proofs.Frames.{never}
+use Rattle.mux_turns.proofs.Early.{asked_error, asked_first, asked_named, hasty_quiet, hasty_unready}
 use Rattle.mux_turns.proofs.Matched.{whole_entry}
 use Rattle.mux_turns.proofs.hasty.take_hasty.Goals as goal
 
@@ -33,4 +34,4 @@ returns-clause-does c = λ settings before body method id params s read says fir
     let q = hasty_quiet c.in_ok-text.text body method id params says (c.in_ok-text.ensures body method id params read says) in
     whole_entry (λ k events. AllStand settings k events) (hasty_row s body (request id method params)) base (u, nothing_owed) (u, nothing_owed) xs c.notify.new.outs first (heard, docs)
     (subst (λ w. Does (λ k events. AllStand settings k events) (send (ToServer s w)) base (u, nothing_owed) xs (u, nothing_owed) c.notify.new.outs) (c.in_ok-text.ensures body method id params read says)
-    (all_does settings u u nothing_owed nothing_owed base xs c.notify.new.outs (c.in_ok-notify.ensures.does settings base s (ap (λ ns. slice_get ns g) c.hear_answer.ensures.starts ∙ at) q.runs q.counts) (λ _ d. c.in_ok-notify.ensures.documents settings nothing_owed base q.says q.aside d)))
+    (all_does settings u u nothing_owed nothing_owed base xs c.notify.new.outs (c.in_ok-notify.ensures.does settings base s (ap (λ ns. slice_get ns g) c.hear_answer.ensures.starts ∙ at) q.runs q.counts (λ w here ready. never (sym ready ∙ hasty_unready c.args.tables.now u g x.0 w x.1 here c.hear_answer.ensures.stages (c.requires.stage x.0 x.1)))) (λ _ d. c.in_ok-notify.ensures.documents settings nothing_owed base q.says q.aside d)))

@@ -1,12 +1,7 @@
 -- An editor joins a group.
-use Rattle.std.proofs.Common.{ap, subst, sym, ◌∙◌}
-use Rattle.event_model.specs.Does.{Does}
+use Rattle.std.proofs.Common.{ap, sym, ◌∙◌}
 use Rattle.event_model.specs.Event.{with_cause}
-use Rattle.event_model.specs.Spawns.{start_of}
 use Rattle.event_model.specs.Stages.{Life, is_ready}
-use Rattle.group_words.specs.declared.placed.Placed.TheVariants.{Joins}
-use Rattle.group_words.specs.Rows.{placed_row}
-use Rattle.mux_tables.specs.Documents.{AllStand, nothing_owed}
 use Rattle.mux_history.specs.declared.cause.Cause.TheVariants.{FromEditor}
 use Rattle.mux_tables.proofs.Starts.{start_there}
 use Rattle.mux_turns.proofs.Beginning.{joins_ended, joins_unready}

@@ -9,6 +9,6 @@ returns-clause-does c = λ settings before base e owing leaves pays.
     let t = c.args.tables.now in
     let u = c.leave.new.tables in
     does_alike (λ _. leave_alike settings before e) (does_then
-    (all_does settings t u owing owing base c.args.outs.now c.leave.new.outs (c.in_ok-leave.ensures.does settings before base e leaves) (λ _ d. c.in_ok-leave.ensures.documents settings owing base d))
+    (all_does settings t u owing owing base c.args.outs.now c.leave.new.outs (c.in_ok-leave.ensures.does settings before base e leaves) (λ st d. c.in_ok-leave.ensures.documents settings owing before base e leaves st d))
     (closings_paid settings before base e u c.leave.new.outs c.pay.new.outs c.args.owed owing c.in_ok-pay.ensures.outs (λ g z bodies at ready are. c.in_ok-pay.ensures.does settings base g z bodies at ready are)
     (pays_later settings before e t u c.args.owed owing c.in_ok-leave.ensures.starts c.in_ok-leave.ensures.stages c.in_ok-leave.ensures.groups pays)))

@@ -1,4 +1,5 @@
 -- What an editor says by a notification.
+use Rattle.std.proofs.Common.{ap}
 use Rattle.event_model.specs.declared.phase.Phase.TheVariants.{Running}
 use Rattle.document_model.specs.Sayings.{saying_by}
 use Rattle.event_model.specs.Event.{with_cause}
@@ -7,6 +8,8 @@ use Rattle.group_rows.specs.Rows.{document_row}
 use Rattle.mux_history.specs.declared.cause.Cause.TheVariants.{FromEditor}
 use Rattle.rpc_message.specs.Message.{message_of, notification}
 use Rattle.mux_tables.specs.Documents.{AllStand, nothing_owed, noticing, owes}
+use Rattle.mux_tables.specs.Stands.{is_answer}
+use Rattle.mux_tables.proofs.Asking.{answers_none}
 use Rattle.mux_turns.proofs.Asides.{old_unopened}
 use Rattle.mux_turns.proofs.Matched.{whole_entry}
 use Rattle.mux_turns.proofs.Noticing.{noticed}
@@ -19,7 +22,7 @@ returns-clause-does c = λ settings before body method params g s read says stay
     let base = with_cause before (FromEditor e body) in
     let u = c.hear_notice.new.self in
     let what = saying_by method params in
-    let heard = c.in_ok-owed.ensures.stands settings before body st (unplaced (desk_of e before).phase (message_of body) served) (notice_stops before e (message_of body) method params says)
+    let heard = c.in_ok-owed.ensures.stands settings before body st (answers_none e (message_of body) before (ap is_answer says)) (unplaced (desk_of e before).phase (message_of body) served) (notice_stops before e (message_of body) method params says)
     (old_unopened settings.servers before e (message_of body) (not_new (desk_of e before).phase served))
     (stands_so before e body (notification method params) Running says (λ q i h. notice_runs method params stays body q i h) served) in
     let owed = c.in_ok-owed.ensures.documents settings before body method params g s read says served home starts st ds in

@@ -15,14 +15,14 @@ use Rattle.mux_turns.proofs.Matched.{whole_entry}
 use Rattle.mux_turns.proofs.parting.end_link.Goals as goal
 
 pub returns-clause-does : goal.returns-clause-does
-returns-clause-does c = λ settings before body placed stopped unopened quiet stays first st ds.
+returns-clause-does c = λ settings before body silent placed stopped unopened quiet stays first st ds.
     let e = c.args.e in
     let base = with_cause before (FromEditor e body) in
     let t = c.args.tables.now in
     let u = c.hear_editor.new.self in
     let v = c.close.new.self in
     let xs = c.args.outs.now in
-    let heard = c.hear_editor.ensures.stands settings before body st placed stopped unopened stays in
+    let heard = c.hear_editor.ensures.stands settings before body st silent placed stopped unopened stays in
     let docs = c.hear_editor.ensures.documents settings nothing_owed before body quiet ds in
     let lasts = c.close.ensures.lasts ∙ c.hear_editor.ensures.lasts in
     let there = behind_first base xs first in
@@ -30,6 +30,6 @@ returns-clause-does c = λ settings before body placed stopped unopened quiet st
     (c.in_ok-owed.ensures.documents settings base (subst (λ es. Stands settings u es) (sym there) heard) (subst (λ es. DocumentsStand settings nothing_owed u es) (sym there) docs)) in
     let o = owing_of settings before e t st v (behind base c.close.new.outs) c.in_ok-owed.owed (left_before settings before e body placed quiet v (behind base c.close.new.outs) c.in_ok-owed.owed left) in
     let pays = pays_later settings before e t v c.in_ok-owed.owed o.0 (ap (λ ls. map number_in ls.items) lasts) (ap (λ ls. map stage_in ls.items) lasts) (ap (λ ls. map house_in ls.items) lasts) o.1.0 in
-    let leaves = subst (λ ns. Leaves settings before e ns c.in_ok-left.left) (sym (ap (λ ls. map number_in ls.items) lasts)) (c.in_ok-left.ensures.leaves settings before st) in
+    let leaves = subst (λ ns. Leaves settings before e ns c.in_ok-left.left) (sym (ap (λ ls. ls.items) lasts)) (c.in_ok-left.ensures.leaves settings before st) in
     whole_entry (λ k events. AllStand settings k events) (closing_row settings before e) base (u, nothing_owed) (c.depart.new.tables, nothing_owed) xs c.depart.new.outs first (heard, docs)
     (does_then (all_does settings u v nothing_owed o.0 base xs c.close.new.outs (c.in_ok-owed.ensures.does settings base) (λ _ _. o.1.1)) (c.in_ok-depart.ensures.does settings before base e o.0 leaves pays))

@@ -23,7 +23,7 @@ returns-in_ok-depart-clause-does c = λ settings before why first st ds.
     let served = ap is_served (sym (c.phase_of-phase.ensures.stands settings before st)) ∙ (sym c.is_served.ensures ∙ c.if-is_served.true) in
     let o = owing_of settings before e t st u base c.in_ok-owed.owed (c.in_ok-owed.ensures.documents settings before why st ds) in
     let pays = pays_later settings before e t u c.in_ok-owed.owed o.0 (ap (λ ls. map number_in ls.items) lasts) (ap (λ ls. map stage_in ls.items) lasts) (ap (λ ls. map house_in ls.items) lasts) o.1.0 in
-    let leaves = subst (λ ns. Leaves settings before e ns c.in_ok-left.left) (sym (ap (λ ls. map number_in ls.items) lasts)) (c.in_ok-left.ensures.leaves settings before st) in
+    let leaves = subst (λ ns. Leaves settings before e ns c.in_ok-left.left) (sym (ap (λ ls. ls.items) lasts)) (c.in_ok-left.ensures.leaves settings before st) in
     whole_entry (λ k events. AllStand settings k events) (gone_row settings before e (desk_of e before).phase) base (u, o.0) (c.depart.new.tables, nothing_owed) c.args.outs.now c.depart.new.outs first
     (c.in_ok-owed.ensures.stands settings before why st, o.1.1) (does_alike (λ _. is_first refl served) (c.in_ok-depart.ensures.does settings before base e o.0 leaves pays))
 

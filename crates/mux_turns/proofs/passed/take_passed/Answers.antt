@@ -10,7 +10,8 @@ use Rattle.group_rows.proofs.Going.{no_exit}
 use Rattle.mux_history.specs.declared.cause.Cause.TheVariants.{FromEditor}
 use Rattle.rpc_message.specs.Message.{message_of, notification}
 use Rattle.mux_tables.specs.Documents.{AllStand, nothing_owed}
-use Rattle.mux_tables.specs.Stands.{number_in}
+use Rattle.mux_tables.specs.Stands.{is_answer, number_in}
+use Rattle.mux_tables.proofs.Asking.{answers_none}
 use Rattle.mux_tables.proofs.Starts.{start_there}
 use Rattle.mux_turns.proofs.Asides.{old_unopened}
 use Rattle.mux_turns.proofs.Matched.{whole_entry}
@@ -24,7 +25,7 @@ returns-in-None-clause-does c = λ settings before body method params read says 
     let e = c.args.e in
     let base = with_cause before (FromEditor e body) in
     let u = c.hear_editor.new.self in
-    let heard = c.hear_editor.ensures.stands settings before body st (unplaced (desk_of e before).phase (message_of body) served) (notice_stops before e (message_of body) method params says)
+    let heard = c.hear_editor.ensures.stands settings before body st (answers_none e (message_of body) before (ap is_answer says)) (unplaced (desk_of e before).phase (message_of body) served) (notice_stops before e (message_of body) method params says)
     (old_unopened settings.servers before e (message_of body) (not_new (desk_of e before).phase served))
     (stands_so before e body (notification method params) Running says (λ q i h. notice_runs method params (no_exit method going) body q i h) served) in
     let docs = c.hear_editor.ensures.documents settings nothing_owed before body (passed_keeps method params going before e body says) ds in
@@ -38,7 +39,7 @@ returns-in_ok-go_on-in-Some-clause-does c = λ settings before body method param
     let g = c.in-Some.g in
     let s = start_there c.args.tables.now.lasts.items g c.in-Some.ensures.inside in
     let x = item_at c.args.tables.now.lasts.items g c.in-Some.ensures.inside in
-    let heard = c.hear_editor.ensures.stands settings before body st (unplaced (desk_of e before).phase (message_of body) served) (notice_stops before e (message_of body) method params says)
+    let heard = c.hear_editor.ensures.stands settings before body st (answers_none e (message_of body) before (ap is_answer says)) (unplaced (desk_of e before).phase (message_of body) served) (notice_stops before e (message_of body) method params says)
     (old_unopened settings.servers before e (message_of body) (not_new (desk_of e before).phase served))
     (stands_so before e body (notification method params) Running says (λ q i h. notice_runs method params (no_exit method going) body q i h) served) in
     let docs = c.hear_editor.ensures.documents settings nothing_owed before body (passed_keeps method params going before e body says) ds in

@@ -1,4 +1,5 @@
 -- A request that an editor which is served may not send.
+use Rattle.std.proofs.Common.{ap}
 use Rattle.event_model.specs.declared.phase.Phase.TheVariants.{Running}
 use Rattle.event_model.specs.Event.{with_cause}
 use Rattle.event_model.specs.Phases.{desk_of}
@@ -8,6 +9,8 @@ use Rattle.rpc_message.specs.Message.{message_of, request}
 use Rattle.rpc_message.specs.Texts.{invalid_request}
 use Rattle.mux_tables.specs.Documents.{AllStand, nothing_owed}
 use Rattle.mux_tables.proofs.DocumentOwed.{all_does}
+use Rattle.mux_tables.specs.Stands.{is_answer}
+use Rattle.mux_tables.proofs.Asking.{answers_none}
 use Rattle.mux_turns.proofs.Asides.{old_unopened}
 use Rattle.mux_turns.proofs.Classes.{misplaced_serves}
 use Rattle.mux_turns.proofs.Matched.{whole_entry}
@@ -20,7 +23,7 @@ returns-clause-does c = λ settings before body method id params read says wrong
     let base = with_cause before (FromEditor e body) in
     let u = c.hear_editor.new.self in
     let serve = misplaced_serves method wrong in
-    let heard = c.hear_editor.ensures.stands settings before body st (unplaced (desk_of e before).phase (message_of body) served) (request_stops method id params serve before e (message_of body) says)
+    let heard = c.hear_editor.ensures.stands settings before body st (answers_none e (message_of body) before (ap is_answer says)) (unplaced (desk_of e before).phase (message_of body) served) (request_stops method id params serve before e (message_of body) says)
     (old_unopened settings.servers before e (message_of body) (not_new (desk_of e before).phase served))
     (stands_so before e body (request id method params) Running says (λ q i h. request_runs method id params serve body q i h) served) in
     let docs = c.hear_editor.ensures.documents settings nothing_owed before body (request_keeps method id params serve before e (message_of body) says) ds in

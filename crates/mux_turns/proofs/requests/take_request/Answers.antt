@@ -9,7 +9,8 @@ use Rattle.group_rows.specs.Rows.{request_row}
 use Rattle.mux_history.specs.declared.cause.Cause.TheVariants.{FromEditor}
 use Rattle.rpc_message.specs.Message.{message_of, request}
 use Rattle.mux_tables.specs.Documents.{AllStand, nothing_owed}
-use Rattle.mux_tables.specs.Stands.{number_in}
+use Rattle.mux_tables.specs.Stands.{is_answer, number_in}
+use Rattle.mux_tables.proofs.Asking.{answers_none}
 use Rattle.mux_tables.proofs.DocumentOwed.{all_does}
 use Rattle.mux_tables.proofs.Starts.{start_there}
 use Rattle.mux_turns.proofs.Asides.{old_unopened}
@@ -25,7 +26,7 @@ returns-in_ok-refuse_request-in-None-clause-does c = λ settings before body met
     let base = with_cause before (FromEditor e body) in
     let u = c.hear_editor.new.self in
     let serve = serves method (not_own method other) in
-    let heard = c.hear_editor.ensures.stands settings before body st (unplaced (desk_of e before).phase (message_of body) served) (request_stops method id params serve before e (message_of body) says)
+    let heard = c.hear_editor.ensures.stands settings before body st (answers_none e (message_of body) before (ap is_answer says)) (unplaced (desk_of e before).phase (message_of body) served) (request_stops method id params serve before e (message_of body) says)
     (old_unopened settings.servers before e (message_of body) (not_new (desk_of e before).phase served))
     (stands_so before e body (request id method params) Running says (λ q i h. request_runs method id params serve body q i h) served) in
     let docs = c.hear_editor.ensures.documents settings nothing_owed before body (request_keeps method id params serve before e (message_of body) says) ds in
@@ -41,7 +42,7 @@ returns-in_ok-send_on-in-Some-clause-does c = λ settings before body method id 
     let s = start_there c.args.tables.now.lasts.items g c.in-Some.ensures.inside in
     let x = item_at c.args.tables.now.lasts.items g c.in-Some.ensures.inside in
     let serve = serves method (not_own method other) in
-    let heard = c.hear_editor.ensures.stands settings before body st (unplaced (desk_of e before).phase (message_of body) served) (request_stops method id params serve before e (message_of body) says)
+    let heard = c.hear_editor.ensures.stands settings before body st (answers_none e (message_of body) before (ap is_answer says)) (unplaced (desk_of e before).phase (message_of body) served) (request_stops method id params serve before e (message_of body) says)
     (old_unopened settings.servers before e (message_of body) (not_new (desk_of e before).phase served))
     (stands_so before e body (request id method params) Running says (λ q i h. request_runs method id params serve body q i h) served) in
     let docs = c.hear_editor.ensures.documents settings nothing_owed before body (request_keeps method id params serve before e (message_of body) says) ds in

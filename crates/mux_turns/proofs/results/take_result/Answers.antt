@@ -17,7 +17,7 @@ use Rattle.mux_tables.proofs.DocumentOwed.{all_does}
 use Rattle.mux_tables.proofs.Homes.{group_seen}
 use Rattle.mux_tables.proofs.Starts.{start_at_place}
 use Rattle.mux_turns.proofs.Ready.{start_from}
-use Rattle.mux_turns.proofs.Replies.{begun_entry, first_encoding, initialized_quiet, sent_so, still_asking}
+use Rattle.mux_turns.proofs.Replies.{begun_entry, first_encoding, initialized_quiet, initialized_silent, sent_so, still_asking}
 use Rattle.mux_turns.proofs.results.take_result.Goals as goal
 
 pub returns-clause-does : goal.returns-clause-does
@@ -35,7 +35,7 @@ returns-clause-does c = λ settings before body id value s read says first at no
     (c.in_ok-owed.ensures.documents settings before s body at (first_encoding (message_of body) id value c.encoding.result says first (c.encoding.ensures body id value read says)) st ds z.0 z.1) in
     let there = ap (λ ns. slice_get ns i) c.in_ok-owed.ensures.starts ∙ at in
     let q = initialized_quiet c.in_ok-text.text c.in_ok-text.ensures in
-    let begins = all_does settings u u (owes g bodies) (owes g bodies) base c.args.outs.now c.notify.new.outs (c.in_ok-notify.ensures.does settings base s there q.runs q.counts) (λ _ d. c.in_ok-notify.ensures.documents settings (owes g bodies) base q.says q.aside d) in
+    let begins = all_does settings u u (owes g bodies) (owes g bodies) base c.args.outs.now c.notify.new.outs (c.in_ok-notify.ensures.does settings base s there q.runs q.counts (λ _ _ _. initialized_silent c.in_ok-text.text c.in_ok-text.ensures)) (λ _ d. c.in_ok-notify.ensures.documents settings (owes g bodies) base q.says q.aside d) in
     let x = start_from u.lasts.items i s there in
     let own = start_at_place u.lasts.items i s x.0 x.1 there in
     let mine : x.0.life.group ≡ g = same_item (sym (group_seen settings u base i s x.0 stands x.1 there).0 ∙ (one_more (group_behind s) _ _ before (heard (FromServer s body)) refl ∙ home)) in

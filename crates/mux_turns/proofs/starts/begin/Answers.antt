@@ -16,7 +16,7 @@ pub returns-in_ok-notify-in-Some-clause-does : goal.returns-in_ok-notify-in-Some
 returns-in_ok-notify-in-Some-clause-does c = λ settings before s at first z here known.
     let base = with_cause before (Started s) in
     begun settings c.args.tables.now before s z.life.group c.args.outs.now first c.in-Some.kept.now c.in_ok-text-in-Some.text c.notify.new.outs (λ st. c.in-Some.ensures settings (behind base c.args.outs.now) st ∙ ap (slice_get (groups_of settings (behind base c.args.outs.now))) (c.group_number.ensures z here)) known c.in_ok-text-in-Some.ensures
-    (λ still quiet. c.in_ok-notify-in-Some.ensures.does settings base s at still quiet)
+    (λ still quiet silent. c.in_ok-notify-in-Some.ensures.does settings base s at still quiet (λ _ _ _. silent))
 
 pub returns-in_ok-notify-in-Some-clause-documents : goal.returns-in_ok-notify-in-Some-clause-documents
 returns-in_ok-notify-in-Some-clause-documents c = λ settings owed before s first z here known st ds.

@@ -1,6 +1,5 @@
 -- `lspmux/status` is answered.
 use Rattle.std.proofs.Common.{ap, subst, sym, ◌∙◌}
-use Rattle.std.specs.Prelude.{Some}
 use Rattle.event_model.specs.Event.{with_cause}
 use Rattle.group_rows.specs.Rows.{status_row}
 use Rattle.group_rows.specs.Status.{items_of, status_text}
@@ -12,6 +11,8 @@ use Rattle.rpc_message.specs.Texts.{ok_text}
 use Rattle.mux_tables.specs.Documents.{AllStand, nothing_owed}
 use Rattle.mux_tables.specs.Stands.{Keeps}
 use Rattle.mux_tables.proofs.DocumentOwed.{all_does}
+use Rattle.mux_tables.specs.Stands.{is_answer}
+use Rattle.mux_tables.proofs.Asking.{answers_none}
 use Rattle.mux_turns.proofs.Asides.{unnamed_unopened}
 use Rattle.mux_turns.proofs.Departing.{behind_first}
 use Rattle.mux_turns.proofs.Keeping.{keeps_reply, told_as}
@@ -27,7 +28,7 @@ returns-clause-does c = λ settings before body read asks single servers first k
     let xs = c.args.outs.now in
     let own = status_asks (message_of body) asks in
     let k = lspmux_is (message_of body) own in
-    let heard = c.hear_editor.ensures.stands settings before body st (own_placed before e body own) (own_stops before e body own) (unnamed_unopened settings.servers before e (message_of body) (status_unnamed (message_of body) asks))
+    let heard = c.hear_editor.ensures.stands settings before body st (answers_none e (message_of body) before (ap is_answer k.is)) (own_placed before e body own) (own_stops before e body own) (unnamed_unopened settings.servers before e (message_of body) (status_unnamed (message_of body) asks))
     (own_stays before e body own ∙ sym (c.phase_of-phase.ensures.stands settings before st)) in
     let docs = c.hear_editor.ensures.documents settings nothing_owed before body (own_keeps before e body own) ds in
     let told = ok_text (id_bytes body) (status_text (items_of settings before)) in

@@ -1,6 +1,6 @@
 -- A request is cancelled.
 use Rattle.std.proofs.Common.{refl}
-use Rattle.mux_tables.proofs.Starts.{houses_stay, stages_stay, starts_stay}
+use Rattle.mux_tables.proofs.Starts.{asks_kept, houses_stay, stages_stay, starts_stay}
 use Rattle.mux_tables.proofs.Sent.{cancel_does}
 use Rattle.mux_tables.proofs.DocumentSaid.{cancel_documents}
 use Rattle.mux_tables.proofs.tables.Tables.cancel.Goals as goal
@@ -13,6 +13,9 @@ returns-clause-groups c = houses_stay c.args.self.now.lasts.items c.args.g c.ind
 
 pub returns-clause-stages : goal.returns-clause-stages
 returns-clause-stages c = stages_stay c.args.self.now.lasts.items c.args.g c.index_mut-last.result.now (record c.index_mut-last.result.now { ids = c.mark.new.ids }) c.requires c.index_mut-last.ensures.value refl
+
+pub returns-clause-asks : goal.returns-clause-asks
+returns-clause-asks c = asks_kept c.args.self.now.lasts.items c.args.g c.index_mut-last.result.now (record c.index_mut-last.result.now { ids = c.mark.new.ids }) c.requires c.index_mut-last.ensures.value refl
 
 pub returns-clause-does : goal.returns-clause-does
 returns-clause-does c = λ settings base s method ps at says cancels written.

@@ -1,5 +1,4 @@
 -- An editor's group.
-use Rattle.std.proofs.Common.{None, Option, Some, ◌≡◌, subst}
 use Rattle.mux_tables.proofs.Seen.{group_given}
 use Rattle.mux_tables.proofs.tables.Tables.group.Goals as goal
 

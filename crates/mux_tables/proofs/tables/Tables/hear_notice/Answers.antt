@@ -7,7 +7,7 @@ use Rattle.mux_tables.proofs.Heard.{set_moves}
 use Rattle.mux_tables.proofs.tables.Tables.hear_notice.Goals as goal
 
 pub returns-clause-stands : goal.returns-clause-stands
-returns-clause-stands c = λ settings events body st stays goes off step. set_moves settings c.args.self.now _ events c.args.e body c.args.phase c.requires.editor c.set.ensures refl refl refl refl stays step refl goes off st
+returns-clause-stands c = λ settings events body st silent stays goes off step. set_moves settings c.args.self.now _ events c.args.e body c.args.phase c.requires.editor c.set.ensures refl refl refl refl stays step silent refl goes off st
 
 pub returns-clause-documents : goal.returns-clause-documents
 returns-clause-documents c = λ settings events body method params g s read reads served home starts st ds.

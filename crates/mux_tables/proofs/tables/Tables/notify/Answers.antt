@@ -7,7 +7,7 @@ use Rattle.mux_tables.proofs.DocumentSaid.{notified_documents}
 use Rattle.mux_tables.proofs.tables.Tables.notify.Goals as goal
 
 pub returns-clause-does : goal.returns-clause-does
-returns-clause-does c = λ settings base s at runs counts. notify_does settings c.args.self.now c.args.outs.now c.push.new.self base c.args.g s c.start.result c.index.result.now c.args.text at c.requires c.index.ensures runs counts c.start.ensures c.in_ok-push.ensures.ok
+returns-clause-does c = λ settings base s at runs counts silent. notify_does settings c.args.self.now c.args.outs.now c.push.new.self base c.args.g s c.start.result c.index.result.now c.args.text at c.requires c.index.ensures runs counts (silent c.index.result.now (read_here c.args.self.now.lasts.items c.args.g c.index.result.now c.requires c.index.ensures)) c.start.ensures c.in_ok-push.ensures.ok
 
 pub returns-clause-documents : goal.returns-clause-documents
 returns-clause-documents c = λ settings owed base silent aside ds. notified_documents settings owed c.args.self.now c.args.self.now base c.args.outs.now c.push.new.self c.start.result c.args.text silent aside refl refl refl c.in_ok-push.ensures.ok ds

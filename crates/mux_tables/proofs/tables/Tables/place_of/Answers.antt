@@ -1,5 +1,5 @@
 -- A group of which something is kept.
-use Rattle.std.proofs.Common.{◌∙◌, ◌≤◌, ap, arith, length, nat_lt, rules, subst, sym}
+use Rattle.std.proofs.Common.{◌∙◌, ap, arith, nat_lt, rules, sym}
 use Rattle.std.proofs.lemmas.List.Sorted.{IsPartitionPoint-from_clause}
 use Rattle.mux_tables.specs.declared.tables.Start.{Start}
 use Rattle.mux_tables.proofs.Homes.{ended_here, start_seen}

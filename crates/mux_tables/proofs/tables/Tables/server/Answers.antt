@@ -1,7 +1,6 @@
 -- The server that a new editor means.
-use Rattle.std.proofs.Common.{refl, ap}
+use Rattle.std.proofs.Common.{refl}
 use Rattle.mux_tables.proofs.Seen.{server_so}
-use Rattle.group_words.specs.Houses.{given_or}
 use Rattle.mux_tables.proofs.tables.Tables.server.Goals as goal
 use Rattle.std.specs.Prelude.{Some, None}
 

@@ -11,7 +11,7 @@ use Rattle.mux_tables.proofs.DocumentSaid.{told_documents}
 use Rattle.mux_tables.proofs.tables.Tables.welcome.Goals as goal
 
 pub returns-clause-does : goal.returns-clause-does
-returns-clause-does c = λ settings base k. welcome_does settings c.args.self.now _ c.args.outs.now c.push.new.self base c.args.e c.args.body Answered c.requires k c.set.ensures refl refl refl refl refl c.in_ok-push.ensures.ok
+returns-clause-does c = λ settings base k. welcome_does settings c.args.self.now _ c.args.outs.now c.push.new.self base c.args.e c.args.body Answered c.requires k.0 k.1 c.set.ensures refl refl refl refl refl c.in_ok-push.ensures.ok
 
 pub returns-clause-documents : goal.returns-clause-documents
 returns-clause-documents c = λ settings owed base ds. told_documents settings owed c.args.self.now _ base c.args.outs.now c.push.new.self c.args.e c.args.body refl refl refl c.in_ok-push.ensures.ok ds

@@ -1,0 +1,375 @@
+-- S9, S11, S12, S14 and what goes to each editor: why a ready start's requests and notifications are answered and go on; E19: why an editor's response does.
+use Rattle.std.proofs.Common.{◌≡◌, ℕ, ◌^◌, ◌<◌, Bool, true, false, ◌&&◌, ◌||◌, not, cond, List, [], ◌∷◌, ◌++◌, append-nil, filter, find, codes, decimal, nat_eq, if◌then◌else◌, Option, Some, None, refl, sym, ◌∙◌, ap, subst, ltb-true, arith}
+use Rattle.std.specs.List.{AllByRecursion, last_or, list_any, range_with_len}
+use Rattle.std.specs.Option.{option_and_then, option_map}
+use Rattle.std.proofs.lemmas.Bool.{and_parts}
+use Rattle.json_text.specs.Bare.{nowhere}
+use Rattle.json_text.specs.declared.kind.Word.TheVariants.{Null}
+use Rattle.json_text.specs.Json.{Json, number, word}
+use Rattle.mux_history.specs.declared.cause.Cause.TheVariants.{FromEditor, FromServer}
+use Rattle.mux_history.specs.declared.out.Out.{Out}
+use Rattle.mux_history.specs.declared.out.Out.TheVariants.{ToEditor, ToServer}
+use Rattle.lsp_method.specs.Class.{class_of}
+use Rattle.lsp_method.specs.declared.variants.Class.{Class}
+use Rattle.lsp_method.specs.declared.variants.Class.TheVariants.{Broadcast, Cancel, Folders, Focused, Lowest, Refresh}
+use Rattle.lsp_method.specs.declared.variants.Origin.TheVariants.{Server}
+use Rattle.rpc_message.specs.Message.{Message, request, notification, result, error, not_json, not_message, Id, id_bytes, id_of, integer, integer_if, message_of}
+use Rattle.rpc_message.specs.ValueTexts.{IsIdText}
+use Rattle.rpc_message.specs.Texts.{ok_text, request_failed, with_id_text}
+use Rattle.rpc_message.proofs.Decimals.{decimal_integer, decimal_law}
+use Rattle.rpc_message.proofs.Fixed.{id_as_response}
+use Rattle.rpc_message.proofs.Ids.{error_with_id, request_with_id, result_with_id}
+use Rattle.event_model.specs.declared.phase.Phase.{Phase}
+use Rattle.event_model.specs.declared.phase.Phase.TheVariants.{Absent, New, Waiting, Answered, Running, Down, Closed, Gone}
+use Rattle.event_model.specs.declared.stage.Stage.TheVariants.{Ready}
+use Rattle.event_model.specs.Event.{Event, behind, did, heard, said, with_cause}
+use Rattle.event_model.specs.Members.{named_of}
+use Rattle.event_model.specs.Phases.{Desk, desk_of, editors_of, is_running, phase_told}
+use Rattle.event_model.specs.Requests.{answered_id, is_open, with_request}
+use Rattle.event_model.specs.Row.{Row, choose, each, nothing, on, outs, send}
+use Rattle.event_model.specs.Settings.{Settings}
+use Rattle.event_model.specs.Spawns.{group_of, start_of}
+use Rattle.event_model.specs.Stages.{Life, is_initializing, is_ready, life_of, is_first_result, stage_hears}
+use Rattle.event_model.proofs.Frames.{never}
+use Rattle.mux_facts.specs.Allowed.{is_response}
+use Rattle.mux_facts.proofs.Bodies.{refusal_says}
+use Rattle.mux_facts.proofs.DocumentRow.{ready_is}
+use Rattle.mux_facts.proofs.Folds.{desk_more, life_more}
+use Rattle.mux_facts.proofs.Lists.{all_filtered, all_of, found_is}
+use Rattle.mux_facts.proofs.Reasons.{Because, by_choose, by_look, by_nothing, by_on, by_send, by_then}
+use Rattle.mux_facts.proofs.Words.{number_same, open_last, same_number}
+use Rattle.group_words.specs.Houses.{home_of, is_home}
+use Rattle.group_rows.specs.AskRows.{ask, asking_row, broadcast, cancelled_row, else_first, first_in, hand_back, in_focus, is_among, notified_row, question_row, response_at, response_row, running_in}
+use Rattle.group_rows.specs.Asks.{Ask, Asking, asker_of, asking_next, asking_of, asks_of, goes_to_one, has_number, is_seated, is_single, is_under, next_ask}
+use Rattle.group_rows.specs.Forwarded.{Forwarded, forwarding_of, names}
+use Rattle.group_rows.specs.Leaves.{cancel_text}
+use Rattle.group_rows.proofs.Cancels.{cancel_says, params_tree}
+use Rattle.group_facts.specs.Built.{built_asking}
+use Rattle.group_facts.specs.Facts.{Asks, IsAsked, asked_by}
+use Rattle.group_facts.specs.Why.{IsRecall, Why, asks, denied, granted, handed_back, moves, recalls, resolves, spreads}
+use Rattle.group_facts.proofs.Asks.{asked_by_more, asked_of_more, asking_more}
+use Rattle.group_facts.proofs.Forwards.{zip_all}
+use Rattle.group_facts.proofs.Nulls.{null_said}
+use Rattle.group_facts.proofs.Tellings.{cancel_names}
+
+-- Lists
+
+-- the first and the last are among them
+pub first_is : (P : ℕ → Type 0) (es : List ℕ) (e : ℕ) → AllByRecursion P es → first_in es ≡ Some e → P e
+first_is P [] e h at = absurd (cc)
+first_is P (n ∷ es) e h at = subst P (let same : n ≡ e = cc in same) h.0
+
+named_is : (P : ℕ → Type 0) (es : List ℕ) (e : ℕ) → AllByRecursion P es → list_any (nat_eq e) es ≡ true → P e
+named_is P [] e h at = never (sym at)
+named_is P (n ∷ es) e h at = go (nat_eq e n) refl (λ k. named_is P es e h.1 k) at
+  where
+    go : (b : Bool) → nat_eq e n ≡ b → (list_any (nat_eq e) es ≡ true → P e) → (b || list_any (nat_eq e) es) ≡ true → P e
+    go true same rest k = subst P (sym (number_same e n same)) h.0
+    go false other rest k = rest k
+
+last_is : (P : ℕ → Type 0) (best : Option Forwarded) (fs : List Forwarded) → ((f : Forwarded) → best ≡ Some f → P f.editor) → AllByRecursion (λ (f : Forwarded). P f.editor) fs → (f : Forwarded) → last_or best fs ≡ Some f → P f.editor
+last_is P best [] h k f at = h f at
+last_is P best (g ∷ fs) h k f at = last_is P (Some g) fs (λ x same. subst (λ (z : Forwarded). P z.editor) (let is : g ≡ x = cc in is) k.0) k.1 f at
+
+all_among : (P : ℕ → Type 0) (es : List ℕ) → AllByRecursion P es → (fs : List Forwarded) → AllByRecursion (λ (f : Forwarded). is_among es f ≡ true → P f.editor) fs
+all_among P es h [] = tt
+all_among P es h (f ∷ fs) = (λ t. named_is P es f.editor h t, all_among P es h fs)
+
+focus_is : (P : ℕ → Type 0) (es : List ℕ) (fs : List Forwarded) (e : ℕ) → AllByRecursion P es → in_focus es fs ≡ Some e → P e
+focus_is P es fs e h at = go (last_or None (filter (is_among es) fs)) refl at
+  where
+    among : AllByRecursion (λ (f : Forwarded). P f.editor) (filter (is_among es) fs)
+    among = all_filtered (λ (f : Forwarded). is_among es f ≡ true → P f.editor) (λ (f : Forwarded). P f.editor) (is_among es) (λ f t k. k t) fs (all_among P es h fs)
+
+    go : (o : Option Forwarded) → last_or None (filter (is_among es) fs) ≡ o → else_first (option_map (λ (f : Forwarded). f.editor) o) es ≡ Some e → P e
+    go None is k = first_is P es e h k
+    go (Some f) is k = subst P (let same : f.editor ≡ e = cc in same) (last_is P None (filter (is_among es) fs) (λ x none. absurd (cc)) among f is)
+
+find_seated : (test : Ask → Bool) (xs : List Ask) (a : Ask) → find test xs ≡ Some a → test a ≡ true
+find_seated test [] a h = absurd (cc)
+find_seated test (b ∷ xs) a h = go (test b) refl (λ k. find_seated test xs a k) h
+  where
+    go : (c : Bool) → test b ≡ c → (find test xs ≡ Some a → test a ≡ true) → cond c (Some b) (find test xs) ≡ Some a → test a ≡ true
+    go true e rest k = subst (λ z. test z ≡ true) (let same : b ≡ a = cc in same) e
+    go false e rest k = rest k
+
+module _ (settings : Settings) (before : List Event) where
+  abbrev AllRun : List Event → List ℕ → Type 0
+  AllRun events es = AllByRecursion (λ e. (desk_of e events).phase ≡ Running) es
+
+  pub running_is : (phase : Phase) → is_running phase ≡ true → phase ≡ Running
+  running_is Running h = refl
+  running_is Absent h = never (sym h)
+  running_is New h = never (sym h)
+  running_is Waiting h = never (sym h)
+  running_is Answered h = never (sym h)
+  running_is Down h = never (sym h)
+  running_is Closed h = never (sym h)
+  running_is Gone h = never (sym h)
+
+  all_units : (es : List ℕ) → AllByRecursion (λ (e : ℕ). Unit {0}) es
+  all_units [] = tt
+  all_units (e ∷ es) = (tt, all_units es)
+
+  all_run : (g : ℕ) → AllRun before (running_in settings g before)
+  all_run g = all_filtered (λ e. Unit {0}) (λ e. (desk_of e before).phase ≡ Running) (λ e. is_running (desk_of e before).phase && is_home g (home_of settings e before))
+      (λ e t k. running_is (desk_of e before).phase (and_parts (is_running (desk_of e before).phase) (is_home g (home_of settings e before)) t).0) (range_with_len 0 (editors_of before)) (all_units (range_with_len 0 (editors_of before)))
+
+  -- they are in the group
+  record IsIn (g e : ℕ) : Type 0 where
+    ran : (desk_of e before).phase ≡ Running
+    home : home_of settings e before ≡ Some g
+
+  home_is : (g : ℕ) (o : Option ℕ) → is_home g o ≡ true → o ≡ Some g
+  home_is g (Some n) h = ap (λ k. Some k) (number_same n g h)
+  home_is g None h = never (sym h)
+
+  all_in : (g : ℕ) → AllByRecursion (IsIn g) (running_in settings g before)
+  all_in g = all_filtered (λ e. Unit {0}) (IsIn g) (λ e. is_running (desk_of e before).phase && is_home g (home_of settings e before))
+      (λ e t k. let both = and_parts (is_running (desk_of e before).phase) (is_home g (home_of settings e before)) t in record { ran = running_is (desk_of e before).phase both.0; home = home_is g (home_of settings e before) both.1 })
+      (range_with_len 0 (editors_of before)) (all_units (range_with_len 0 (editors_of before)))
+
+-- A body that is no response leaves each editor where it stands, and the request at work
+
+runs_told : (phase : Phase) (initialize : List ℕ) (m : Message) → phase ≡ Running → phase_told phase initialize m ≡ Running
+runs_told phase initialize m at = ap (λ p. phase_told p initialize m) at
+
+pub still_runs : (events : List Event) (n : ℕ) (body : List ℕ) (e : ℕ) → (desk_of e events).phase ≡ Running → (desk_of e (events ++ said (ToEditor n body) ∷ [])).phase ≡ Running
+still_runs events n body e at = ap (λ (d : Desk). d.phase) (desk_more e events (said (ToEditor n body))) ∙ go (nat_eq n e)
+  where
+    go : (b : Bool) → (if b then record { phase = phase_told (desk_of e events).phase (desk_of e events).initialize (message_of body); initialize = (desk_of e events).initialize } else desk_of e events).phase ≡ Running
+    go true = runs_told (desk_of e events).phase (desk_of e events).initialize (message_of body) at
+    go false = at
+
+all_still : (settings : Settings) (before : List Event) (events : List Event) (n : ℕ) (body : List ℕ) (es : List ℕ) → AllRun settings before events es → AllRun settings before (events ++ said (ToEditor n body) ∷ []) es
+all_still settings before events n body es h = all_of (λ e. (desk_of e events).phase ≡ Running) (λ e. (desk_of e (events ++ said (ToEditor n body) ∷ [])).phase ≡ Running) (λ e at. still_runs events n body e at) es h
+
+asker_told : (t : ℕ) (events : List Event) (x : Asking) (e : ℕ) (body : List ℕ) (m : Message) → (asking_next t events x (did (ToEditor e body) m)).asker ≡ x.asker
+asker_told t events x e body (request id method ps) = refl
+asker_told t events x e body (notification method ps) = refl
+asker_told t events x e body (result id r) = refl
+asker_told t events x e body (error id r) = refl
+asker_told t events x e body not_json = refl
+asker_told t events x e body not_message = refl
+
+asker_sent : (t : ℕ) (events : List Event) (x : Asking) (n : ℕ) (body : List ℕ) (m : Message) → (asking_next t events x (did (ToServer n body) m)).asker ≡ x.asker
+asker_sent t events x n body m = go (nat_eq n t)
+  where
+    go : (b : Bool) → (if b then record { asker = x.asker; asks = filter (λ a. not (is_under (answered_id m) a)) x.asks } else x).asker ≡ x.asker
+    go true = refl
+    go false = refl
+
+-- E19
+
+named_response : (m : Message) (n : ℕ) → names (answered_id m) n ≡ true → is_response m ≡ true
+named_response (result id r) n h = refl
+named_response (error id r) n h = refl
+named_response (request id method ps) n h = never (sym h)
+named_response (notification method ps) n h = never (sym h)
+named_response not_json n h = never (sym h)
+named_response not_message n h = never (sym h)
+
+-- a response under another id
+handed_says : (body : List ℕ) (id : Id) (bytes : List ℕ) → IsIdText id bytes → (m : Message) → message_of body ≡ m → is_response m ≡ true → (is_response (message_of (with_id_text body bytes)) ≡ true) × (answered_id (message_of (with_id_text body bytes)) ≡ Some id)
+handed_says body id bytes text (result k r) says h = let is = result_with_id body bytes k (Some id) r says (id_as_response id bytes text) in (ap is_response is, ap answered_id is)
+handed_says body id bytes text (error k r) says h = let is = error_with_id body bytes k (Some id) r says (id_as_response id bytes text) in (ap is_response is, ap answered_id is)
+handed_says body id bytes text (request k method ps) says h = never (sym h)
+handed_says body id bytes text (notification method ps) says h = never (sym h)
+handed_says body id bytes text not_json says h = never (sym h)
+handed_says body id bytes text not_message says h = never (sym h)
+
+module _ (settings : Settings) (before : List Event) (all : Asks before) (e : ℕ) (body : List ℕ) where
+  abbrev heard_now : List Event
+  heard_now = with_cause before (FromEditor e body)
+
+  abbrev Mine : Row → Type 0
+  Mine row = Because (Why settings before (FromEditor e body)) heard_now row
+
+  module _ (s : ℕ) where
+    handed : (a : Ask) → is_ready (life_of s before).stage ≡ true → find (is_seated e (answered_id (message_of body))) (asks_of s before) ≡ Some a → Mine (hand_back s body a)
+    handed a ready found = by_send (resolves (record {
+      id = a.id;
+      resolution = handed_back e body a refl found refl refl;
+      ready = ap (λ (l : Life). l.stage) (life_more s before (heard (FromEditor e body))) ∙ ready_is (life_of s before).stage ready;
+      stays = refl;
+      response = says.0;
+      answers = says.1;
+      waits = ap (is_open a.id) (asked_by_more s before (heard (FromEditor e body))) ∙ k.waits;
+    }))
+      where
+        k : IsAsked s before a
+        k = found_is (IsAsked s before) (is_seated e (answered_id (message_of body))) a (asks_of s before) (all s).asked found
+
+        named : names (answered_id (message_of body)) a.number ≡ true
+        named = (and_parts (nat_eq a.editor e) (names (answered_id (message_of body)) a.number) (find_seated (is_seated e (answered_id (message_of body))) (asks_of s before) a found)).1
+
+        says : (is_response (message_of (with_id_text body a.bytes)) ≡ true) × (answered_id (message_of (with_id_text body a.bytes)) ≡ Some a.id)
+        says = handed_says body a.id a.bytes k.text (message_of body) refl (named_response (message_of body) a.number named)
+
+    at_start : Mine (response_at before e body (message_of body) s)
+    at_start = by_choose (λ ready. by_on (λ none. by_nothing) (λ a found. handed a ready found)) (λ no. by_nothing)
+
+  by_group : (g : ℕ) → Mine (on (start_of g before) nothing (response_at before e body (message_of body)))
+  by_group g = by_on (λ none. by_nothing) (λ s start. at_start s)
+
+  by_home : Mine (response_row settings before e body (message_of body))
+  by_home = by_on (λ none. by_nothing) (λ g home. by_group g)
+
+  pub response_why : (m : Message) → message_of body ≡ m → Mine (response_row settings before e body m)
+  response_why m says = subst (λ z. Mine (response_row settings before e body z)) says by_home
+
+-- Messages of a start that is ready
+
+module _ (settings : Settings) (before : List Event) (s : ℕ) (body : List ℕ) (stage : (life_of s before).stage ≡ Ready) where
+  abbrev now : List Event
+  now = with_cause before (FromServer s body)
+
+  abbrev R : List Event → Out → Type 0
+  R events out = Why settings before (FromServer s body) events out
+
+  still_ready : (life_of s now).stage ≡ Ready
+  still_ready = ap (λ (l : Life). l.stage) (life_more s before (heard (FromServer s body)))
+      ∙ ap (λ b. (if b then record { stage = stage_hears (life_of s before).stage (message_of body); started = (life_of s before).started } else life_of s before).stage) (same_number s)
+      ∙ ap (λ z. stage_hears z (message_of body)) stage
+
+  rests : moves before (FromServer s body) s ≡ false
+  rests = ap (λ b. b && (is_initializing (life_of s before).stage && is_first_result (message_of body))) (same_number s) ∙ ap (λ z. is_initializing z && is_first_result (message_of body)) stage
+
+  run_now : (g : ℕ) → AllRun settings before now (running_in settings g before)
+  run_now g = all_of (λ e. (desk_of e before).phase ≡ Running) (λ e. (desk_of e now).phase ≡ Running) (λ e at. ap (λ (d : Desk). d.phase) (desk_more e before (heard (FromServer s body))) ∙ at) (running_in settings g before) (all_run settings before g)
+
+  -- the request that is at work
+  abbrev AskerIs : List Event → Type 0
+  AskerIs events = (t : ℕ) → (asking_of t events).asker ≡ (if nat_eq s t then asker_of body (message_of body) else None)
+
+  asker_now : AskerIs now
+  asker_now t = ap (λ (x : Asking). x.asker) (asking_more t before (heard (FromServer s body)))
+
+  asker_behind : (events : List Event) (e : ℕ) (text : List ℕ) → AskerIs events → AskerIs (events ++ said (ToEditor e text) ∷ [])
+  asker_behind events e text h t = ap (λ (x : Asking). x.asker) (asking_more t events (said (ToEditor e text))) ∙ asker_told t events (asking_of t events) e text (message_of text) ∙ h t
+
+  asker_answered : (events : List Event) (n : ℕ) (text : List ℕ) → AskerIs events → AskerIs (events ++ said (ToServer n text) ∷ [])
+  asker_answered events n text h t = ap (λ (x : Asking). x.asker) (asking_more t events (said (ToServer n text))) ∙ asker_sent t events (asking_of t events) n text (message_of text) ∙ h t
+
+  -- notifications
+
+  broadcast_why : (method : List ℕ) (params : Option Json) → message_of body ≡ notification method params → class_of method Server true ≡ Broadcast → (es : List ℕ) (events : List Event) → AllRun settings before events es → Because R events (each (broadcast body) es)
+  broadcast_why method params says class [] events run = by_nothing
+  broadcast_why method params says class (e ∷ es) events run = by_then
+      (by_send (spreads (record { start = s; method = method; params = params; source = record { from = refl; ready = stage; running = run.0 }; says = says; class = class })))
+      (broadcast_why method params says class es (events ++ said (ToEditor e body) ∷ []) (all_still settings before events e body es run.1))
+
+  module _ (all : Asks before) where
+    recall_why : (method : List ℕ) (params : Option Json) → message_of body ≡ notification method params → class_of method Server true ≡ Cancel → Because R now (cancelled_row s before params)
+    recall_why method params says class = by_on (λ none. by_nothing) (λ a found. by_choose (λ runs. by_send (recalls (recall a found runs))) (λ no. by_nothing))
+      where
+        recall : (a : Ask) → find (is_under (option_and_then id_of (named_of (codes "id") params))) (asks_of s before) ≡ Some a → is_running (desk_of a.editor before).phase ≡ true → IsRecall settings before (FromServer s body) now a.editor (cancel_text a.number)
+        recall a found runs = let k : IsAsked s before a = found_is (IsAsked s before) (is_under (option_and_then id_of (named_of (codes "id") params))) a (asks_of s before) (all s).asked found in
+            let small : a.number < 2 ^ 64 = k.small in record {
+              start = s;
+              asked = body;
+              method = method;
+              given = params;
+              ask = a;
+              params = params_tree a.number;
+              value = number nowhere (decimal a.number);
+              source = record { from = refl; ready = stage; running = ap (λ (d : Desk). d.phase) (desk_more a.editor before (heard (FromServer s body))) ∙ running_is settings before (desk_of a.editor before).phase runs };
+              asks = says;
+              class = class;
+              found = found;
+              editor = refl;
+              open_there = ap (is_open (integer (decimal a.number))) (asked_of_more a.editor before (heard (FromServer s body))) ∙ k.unanswered;
+              bytes = refl;
+              named = cancel_names a.number;
+              id = ap (λ b. integer_if b (decimal a.number)) (decimal_integer a.number (omega (arith, small)));
+              says = cancel_says a.number k.small;
+            }
+
+    pub notified_why : (method : List ℕ) (params : Option Json) → message_of body ≡ notification method params → Because R now (notified_row settings s before body params (class_of method Server true))
+    notified_why method params says = go (class_of method Server true) refl
+      where
+        go : (c : Class) → class_of method Server true ≡ c → Because R now (notified_row settings s before body params c)
+        go Cancel class = recall_why method params says class
+        go Broadcast class = by_on (λ none. by_nothing) (λ g home. broadcast_why method params says class (running_in settings g before) now (run_now g))
+        go _ class = by_nothing
+
+  -- requests
+
+  module _ (id : Id) (method : List ℕ) (params : Option Json) (says : message_of body ≡ request id method params) (fresh : list_any (is_under (Some id)) (asks_of s before) ≡ false) (g : ℕ) (at_home : group_of s before ≡ Some g) where
+    ask_says : (e : ℕ) (events : List Event) → has_number e events ≡ true → message_of (with_id_text body (decimal (next_ask e events))) ≡ request (integer (decimal (next_ask e events))) method params
+    ask_says e events room = request_with_id body (decimal (next_ask e events)) id (integer (decimal (next_ask e events))) method params says (decimal_law (next_ask e events) (ltb-true (next_ask e events) (2 ^ 64) room))
+
+    asked_why : (e : ℕ) (events : List Event) → IsIn settings before g e → AskerIs events → (is_single method ≡ true → events ≡ now) → (desk_of e events).phase ≡ Running → Because R events (ask body e)
+    asked_why e events seat asker first running = by_look (by_choose
+        (λ room. by_send (asks (record {
+          start = s;
+          asked = body;
+          id = id;
+          method = method;
+          params = params;
+          source = record { from = refl; ready = stage; running = running };
+          asks = says;
+          group = g;
+          kept = at_home;
+          home = seat.home;
+          ran = seat.ran;
+          fresh = fresh;
+          first = first;
+          asker = asker;
+          room = room;
+          bytes = refl;
+          says = ask_says e events room;
+        })))
+        (λ none. by_nothing))
+
+    -- behind it
+    behind_ask : (P : List Event → Type 0) (e : ℕ) (events : List Event) → ((text : List ℕ) → P events → P (events ++ said (ToEditor e text) ∷ [])) → P events → P (behind events (outs (ask body e) events))
+    behind_ask P e events f h = go (has_number e events)
+      where
+        go : (b : Bool) → P (behind events (outs (choose b (send (ToEditor e (with_id_text body (decimal (next_ask e events))))) nothing) events))
+        go true = f (with_id_text body (decimal (next_ask e events))) h
+        go false = subst P (sym (append-nil events)) h
+
+    all_asked : (es : List ℕ) (events : List Event) → AllByRecursion (IsIn settings before g) es → is_single method ≡ false → AskerIs events → AllRun settings before events es → Because R events (each (ask body) es)
+    all_asked [] events seats many asker run = by_nothing
+    all_asked (e ∷ es) events seats many asker run = by_then (asked_why e events seats.0 asker (λ single. never (sym single ∙ many)) run.0)
+        (all_asked es (behind events (outs (ask body e) events)) seats.1 many
+        (behind_ask AskerIs e events (λ text h. asker_behind events e text h) asker)
+        (behind_ask (λ z. AllRun settings before z es) e events (λ text h. all_still settings before events e text es h) run.1))
+
+    waits_now : is_open id (asked_by s now) ≡ true
+    waits_now = ap (is_open id) (asked_by_more s before (heard (FromServer s body)) ∙ ap (λ b. if b then with_request (message_of body) (asked_by s before) else asked_by s before) (same_number s) ∙ ap (λ m. with_request m (asked_by s before)) says) ∙ open_last id (asked_by s before)
+
+    refresh_why : class_of method Server false ≡ Refresh → Because R now (asking_row settings before g s body Refresh)
+    refresh_why class = by_then
+        (by_send (resolves (record { id = id; resolution = granted body method params refl says class refl; ready = still_ready; stays = rests; response = ap is_response said_null; answers = ap answered_id said_null; waits = waits_now })))
+        (all_asked (running_in settings g before) (now ++ said (ToServer s answer) ∷ []) (all_in settings before g) (ap goes_to_one class) (asker_answered now s answer asker_now)
+        (all_of (λ e. (desk_of e now).phase ≡ Running) (λ e. (desk_of e (now ++ said (ToServer s answer) ∷ [])).phase ≡ Running) (λ e at. ap (λ (d : Desk). d.phase) (desk_more e now (said (ToServer s answer))) ∙ at) (running_in settings g before) (run_now g)))
+      where
+        answer : List ℕ
+        answer = ok_text (id_bytes body) (codes "null")
+
+        said_null : message_of (ok_text (id_bytes body) (codes "null")) ≡ result (Some id) (word (record { from = 0; to = 0 }) Null)
+        said_null = null_said body id method params says
+
+    -- of those that run one has this
+    abbrev Here : ℕ → Type 0
+    Here e = ((desk_of e now).phase ≡ Running) × IsIn settings before g e
+
+    all_here : AllByRecursion Here (running_in settings g before)
+    all_here = zip_all (λ e. (desk_of e now).phase ≡ Running) (IsIn settings before g) Here (λ e a b. (a, b)) (running_in settings g before) (run_now g) (all_in settings before g)
+
+    asking_why : (c : Class) → class_of method Server false ≡ c → built_asking settings before s method c ≡ true → Because R now (asking_row settings before g s body c)
+    asking_why Refresh class built = refresh_why class
+    asking_why Focused class built = by_on
+        (λ none. let is = refusal_says body id method params request_failed says in
+        by_send (resolves (record { id = id; resolution = denied body method params refl says class refl; ready = still_ready; stays = rests; response = ap is_response is; answers = ap answered_id is; waits = waits_now })))
+        (λ e found. let k : Here e = focus_is Here (running_in settings g before) (forwarding_of s before).open_requests e all_here found in asked_why e now k.1 asker_now (λ single. refl) k.0)
+    asking_why Lowest class built = by_on (λ none. by_nothing) (λ e found. let k : Here e = first_is Here (running_in settings g before) e all_here found in asked_why e now k.1 asker_now (λ single. refl) k.0)
+    asking_why Folders class built = never (sym built)
+    asking_why _ class built = by_nothing
+
+  pub question_why : (id : Id) (method : List ℕ) (params : Option Json) → message_of body ≡ request id method params
+      → (list_any (is_under (Some id)) (asks_of s before) || built_asking settings before s method (class_of method Server false)) ≡ true → Because R now (question_row settings s before body id method)
+  question_why id method params says built = by_choose (λ twice. by_nothing) (λ fresh. by_on (λ none. by_nothing) (λ g home. asking_why id method params says fresh g home (class_of method Server false) refl
+      (ap (λ b. b || built_asking settings before s method (class_of method Server false)) (sym fresh) ∙ built)))

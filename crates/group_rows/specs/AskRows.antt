@@ -1,0 +1,109 @@
+-- S9 to S12 and S14: what a ready start asks of editors and tells them, and E19: what it gets of their answers.
+use Rattle.std.specs.Prelude.{ℕ, Bool, false, List, [], ◌∷◌, filter, find, codes, decimal, nat_eq}
+use Rattle.std.specs.Prelude.{Option, Some, None, slice_get}
+use Rattle.std.specs.List.{last_or, list_any}
+use Rattle.std.specs.Option.{option_and_then, option_map}
+use Rattle.json_text.specs.Json.{Json}
+use Rattle.mux_history.specs.declared.out.Out.TheVariants.{ToEditor, ToServer}
+use Rattle.lsp_method.specs.Class.{class_of}
+use Rattle.lsp_method.specs.declared.variants.Class.{Class}
+use Rattle.lsp_method.specs.declared.variants.Class.TheVariants.{Broadcast, Cancel, Focused, Folders, Lowest, Refresh}
+use Rattle.lsp_method.specs.declared.variants.Origin.TheVariants.{Server}
+use Rattle.rpc_message.specs.Message.{Id, Message, id_bytes, id_of}
+use Rattle.rpc_message.specs.Texts.{error_text, ok_text, request_failed, with_id_text}
+use Rattle.event_model.specs.Event.{Event}
+use Rattle.event_model.specs.Members.{named_of}
+use Rattle.event_model.specs.Phases.{desk_of, is_running}
+use Rattle.event_model.specs.Requests.{answered_id}
+use Rattle.event_model.specs.Row.{Row, nothing, send, choose, look, each, on, ◌⨾◌}
+use Rattle.event_model.specs.Settings.{Settings}
+use Rattle.event_model.specs.Spawns.{group_of, start_of}
+use Rattle.event_model.specs.Stages.{life_of, is_ready}
+use Rattle.group_words.specs.Houses.{editors_in, groups_of, home_of}
+use Rattle.group_words.specs.Rows.{folders_text}
+use Rattle.group_rows.specs.Asks.{Ask, asks_of, has_number, is_seated, is_under, next_ask}
+use Rattle.group_rows.specs.Forwarded.{Forwarded, forwarding_of}
+use Rattle.group_rows.specs.Leaves.{cancel_text}
+
+-- the editors of a group that run, rising
+abbrev pub running_in : Settings → ℕ → List Event → List ℕ
+running_in settings g events = editors_in is_running g (λ e. home_of settings e events) events
+
+-- the editor is asked what the start asks, under the editor's next number, while one is left
+abbrev pub ask : List ℕ → ℕ → Row
+ask body e = look (λ events. choose (has_number e events) (send (ToEditor e (with_id_text body (decimal (next_ask e events))))) nothing)
+
+-- S9: the start is answered at once, and each editor that runs is asked (LSP 3.17, the refresh requests of Language Features)
+abbrev pub refresh_row : Settings → List Event → ℕ → ℕ → List ℕ → Row
+refresh_row settings before g s body = send (ToServer s (ok_text (id_bytes body) (codes "null"))) ⨾ each (ask body) (running_in settings g before)
+
+-- S10: the folders of the group (LSP 3.17, WorkspaceFolders Request)
+abbrev pub folders_row : Settings → List Event → ℕ → ℕ → List ℕ → Row
+folders_row settings before g s body = on (slice_get (groups_of settings before) g) nothing (λ x. send (ToServer s (ok_text (id_bytes body) (folders_text x.key.folders))))
+
+-- of these editors, the one whose request at the start is the last of those that are open, else the first
+abbrev pub is_among : List ℕ → Forwarded → Bool
+is_among es f = list_any (nat_eq f.editor) es
+
+abbrev pub last_among : List ℕ → List Forwarded → Option ℕ
+last_among es fs = option_map (λ (f : Forwarded). f.editor) (last_or None (filter (is_among es) fs))
+
+abbrev pub first_in : List ℕ → Option ℕ
+first_in [] = None
+first_in (e ∷ es) = Some e
+
+abbrev pub else_first : Option ℕ → List ℕ → Option ℕ
+else_first None es = first_in es
+else_first (Some e) es = Some e
+
+abbrev pub in_focus : List ℕ → List Forwarded → Option ℕ
+in_focus es fs = else_first (last_among es fs) es
+
+-- S11: the editor in focus is asked; where none runs the start is refused
+abbrev pub focused_row : Settings → List Event → ℕ → ℕ → List ℕ → Row
+focused_row settings before g s body = on (in_focus (running_in settings g before) (forwarding_of s before).open_requests) (send (ToServer s (error_text (id_bytes body) request_failed))) (ask body)
+
+-- S12: the lowest editor is asked; a request that none can be asked isn't kept yet
+abbrev pub lowest_row : Settings → List Event → ℕ → List ℕ → Row
+lowest_row settings before g body = on (first_in (running_in settings g before)) nothing (ask body)
+
+abbrev pub asking_row : Settings → List Event → ℕ → ℕ → List ℕ → Class → Row
+asking_row settings before g s body Refresh = refresh_row settings before g s body
+asking_row settings before g s body Folders = folders_row settings before g s body
+asking_row settings before g s body Focused = focused_row settings before g s body
+asking_row settings before g s body Lowest = lowest_row settings before g body
+asking_row settings before g s body _ = nothing
+
+-- a request under the id of an open ask gives nothing
+abbrev pub question_row : Settings → ℕ → List Event → List ℕ → Id → List ℕ → Row
+question_row settings s before body id method = choose (list_any (is_under (Some id)) (asks_of s before)) nothing
+    (on (group_of s before) nothing (λ g. asking_row settings before g s body (class_of method Server false)))
+
+-- S14: the editor that was asked, while it runs, is told that the answer is awaited no more (LSP 3.17, Cancellation Support)
+abbrev pub cancel_ask : List Event → Ask → Row
+cancel_ask before a = choose (is_running (desk_of a.editor before).phase) (send (ToEditor a.editor (cancel_text a.number))) nothing
+
+abbrev pub cancelled_row : ℕ → List Event → Option Json → Row
+cancelled_row s before params = on (find (is_under (option_and_then id_of (named_of (codes "id") params))) (asks_of s before)) nothing (cancel_ask before)
+
+-- a notification without a row of its own goes to each editor that runs
+abbrev pub broadcast : List ℕ → ℕ → Row
+broadcast body e = send (ToEditor e body)
+
+abbrev pub broadcast_row : Settings → List Event → ℕ → List ℕ → Row
+broadcast_row settings before s body = on (group_of s before) nothing (λ g. each (broadcast body) (running_in settings g before))
+
+abbrev pub notified_row : Settings → ℕ → List Event → List ℕ → Option Json → Class → Row
+notified_row settings s before body params Cancel = cancelled_row s before params
+notified_row settings s before body params Broadcast = broadcast_row settings before s body
+notified_row settings s before body params _ = nothing
+
+-- E19: a response under the number of an open ask goes to the start under the start's own id
+abbrev pub hand_back : ℕ → List ℕ → Ask → Row
+hand_back s body a = send (ToServer s (with_id_text body a.bytes))
+
+abbrev pub response_at : List Event → ℕ → List ℕ → Message → ℕ → Row
+response_at before e body m s = choose (is_ready (life_of s before).stage) (on (find (is_seated e (answered_id m)) (asks_of s before)) nothing (hand_back s body)) nothing
+
+abbrev pub response_row : Settings → List Event → ℕ → List ℕ → Message → Row
+response_row settings before e body m = on (home_of settings e before) nothing (λ g. on (start_of g before) nothing (response_at before e body m))

@@ -1,0 +1,106 @@
+use crate::play::{limits, play};
+use crate::tests::{MOST, TWO_EDITORS};
+use std::test::Fail;
+
+// A start asks the first editor twice. Another editor's answer under such a number is none; the answers come in the other order, one of
+// them an error, and each goes back once.
+const ASKING: [(&str, &str); 6] = [
+    (
+        "sv 0 {\"jsonrpc\":\"2.0\",\"id\":\"q\",\"method\":\"workspace/configuration\",\"params\":{\"items\":[]}}\n",
+        ">ed 0 {\"jsonrpc\":\"2.0\",\"id\":1,\"method\":\"workspace/configuration\",\"params\":{\"items\":[]}}\n",
+    ),
+    (
+        "sv 0 {\"jsonrpc\":\"2.0\", \"id\":7,\"method\":\"window/showMessageRequest\"}\n",
+        ">ed 0 {\"jsonrpc\":\"2.0\", \"id\":2,\"method\":\"window/showMessageRequest\"}\n",
+    ),
+    ("ed 1 {\"jsonrpc\":\"2.0\",\"id\":1,\"result\":[]}\n", ""),
+    (
+        "ed 0 {\"jsonrpc\":\"2.0\",\"id\":2,\"error\":{\"code\":1,\"message\":\"m\"}}\n",
+        ">sv 0 {\"jsonrpc\":\"2.0\",\"id\":7,\"error\":{\"code\":1,\"message\":\"m\"}}\n",
+    ),
+    (
+        "ed 0 {\"jsonrpc\":\"2.0\",\"id\":1,\"result\":[]}\n",
+        ">sv 0 {\"jsonrpc\":\"2.0\",\"id\":\"q\",\"result\":[]}\n",
+    ),
+    ("ed 0 {\"jsonrpc\":\"2.0\",\"id\":1,\"result\":[]}\n", ""),
+];
+
+// The second editor has an open request, so it is asked. A request under the same id gives nothing; a cancel goes to the editor that was
+// asked, under the number that it knows; the answer goes back all the same, and a cancel behind it is none.
+const FOCUSED: [(&str, &str); 6] = [
+    (
+        "ed 1 {\"jsonrpc\":\"2.0\",\"id\":5,\"method\":\"textDocument/hover\",\"params\":{}}\n",
+        ">sv 0 {\"jsonrpc\":\"2.0\",\"id\":2,\"method\":\"textDocument/hover\",\"params\":{}}\n",
+    ),
+    (
+        "sv 0 {\"jsonrpc\":\"2.0\",\"id\":8,\"method\":\"window/showDocument\",\"params\":{}}\n",
+        ">ed 1 {\"jsonrpc\":\"2.0\",\"id\":1,\"method\":\"window/showDocument\",\"params\":{}}\n",
+    ),
+    (
+        "sv 0 {\"jsonrpc\":\"2.0\",\"id\":8,\"method\":\"workspace/configuration\"}\n",
+        "",
+    ),
+    (
+        "sv 0 {\"jsonrpc\":\"2.0\",\"method\":\"$/cancelRequest\",\"params\":{\"id\":8}}\n",
+        ">ed 1 {\"jsonrpc\":\"2.0\",\"method\":\"$/cancelRequest\",\"params\":{\"id\":1}}\n",
+    ),
+    (
+        "ed 1 {\"jsonrpc\":\"2.0\",\"id\":1,\"error\":{\"code\":-32800,\"message\":\"Request cancelled\"}}\n",
+        ">sv 0 {\"jsonrpc\":\"2.0\",\"id\":8,\"error\":{\"code\":-32800,\"message\":\"Request cancelled\"}}\n",
+    ),
+    (
+        "sv 0 {\"jsonrpc\":\"2.0\",\"method\":\"$/cancelRequest\",\"params\":{\"id\":8}}\n",
+        "",
+    ),
+];
+
+// A refresh is answered at once, and each editor is asked, whose answers go nowhere; what a start tells goes to each.
+const REFRESHING: [(&str, &str); 3] = [
+    (
+        "sv 0 {\"jsonrpc\":\"2.0\",\"id\":9,\"method\":\"workspace/codeLens/refresh\"}\n",
+        ">sv 0 {\"jsonrpc\":\"2.0\",\"id\":9,\"result\":null}\n>ed 0 {\"jsonrpc\":\"2.0\",\"id\":1,\"method\":\"workspace/codeLens/refresh\"}\n>ed 1 {\"jsonrpc\":\"2.0\",\"id\":1,\"method\":\"workspace/codeLens/refresh\"}\n",
+    ),
+    ("ed 0 {\"jsonrpc\":\"2.0\",\"id\":1,\"result\":null}\n", ""),
+    (
+        "sv 0 {\"jsonrpc\":\"2.0\",\"method\":\"window/logMessage\", \"params\":{\"type\":4,\"message\":\"m\"}}\n",
+        ">ed 0 {\"jsonrpc\":\"2.0\",\"method\":\"window/logMessage\", \"params\":{\"type\":4,\"message\":\"m\"}}\n>ed 1 {\"jsonrpc\":\"2.0\",\"method\":\"window/logMessage\", \"params\":{\"type\":4,\"message\":\"m\"}}\n",
+    ),
+];
+
+// An editor that was asked twice leaves: both asks are refused in order, and its late answer goes nowhere. With the last editor gone a
+// message to be shown to one is refused.
+const LEAVING: [(&str, &str); 6] = [
+    (
+        "sv 0 {\"jsonrpc\":\"2.0\",\"id\":\"q\",\"method\":\"window/showMessageRequest\"}\n",
+        ">ed 0 {\"jsonrpc\":\"2.0\",\"id\":1,\"method\":\"window/showMessageRequest\"}\n",
+    ),
+    (
+        "sv 0 {\"jsonrpc\":\"2.0\",\"id\":7,\"method\":\"workspace/configuration\"}\n",
+        ">ed 0 {\"jsonrpc\":\"2.0\",\"id\":2,\"method\":\"workspace/configuration\"}\n",
+    ),
+    (
+        "ed 0 {\"jsonrpc\":\"2.0\",\"id\":3,\"method\":\"shutdown\"}\n",
+        ">ed 0 {\"jsonrpc\":\"2.0\",\"id\":3,\"result\":null}\n>sv 0 {\"jsonrpc\":\"2.0\",\"id\":\"q\",\"error\":{\"code\":-32803,\"message\":\"Request failed\"}}\n>sv 0 {\"jsonrpc\":\"2.0\",\"id\":7,\"error\":{\"code\":-32803,\"message\":\"Request failed\"}}\n",
+    ),
+    ("ed 0 {\"jsonrpc\":\"2.0\",\"id\":1,\"result\":null}\n", ""),
+    ("gone 1 end\n", ""),
+    (
+        "sv 0 {\"jsonrpc\":\"2.0\",\"id\":8,\"method\":\"window/showMessageRequest\"}\n",
+        ">sv 0 {\"jsonrpc\":\"2.0\",\"id\":8,\"error\":{\"code\":-32803,\"message\":\"Request failed\"}}\n",
+    ),
+];
+
+#[test]
+fn a_start_asks_and_tells_editors(rt: HostRuntime) -> Result<(), Fail> {
+    let alloc = rt.alloc();
+    let sessions: [&[&[(&str, &str)]]; 4] = [
+        &[&TWO_EDITORS, &ASKING],
+        &[&TWO_EDITORS, &FOCUSED],
+        &[&TWO_EDITORS, &REFRESHING],
+        &[&TWO_EDITORS, &LEAVING],
+    ];
+    for parts in sessions {
+        play(&rt, alloc, limits(MOST, MOST), parts, Ok(()))?;
+    }
+    Ok(())
+}

@@ -1,0 +1,76 @@
+//! S9: a start asks all editors of its group to refresh something.
+ghost use Rattle.std.specs.Prelude.{◌≡◌, ◌<◌, ℕ, List, [], None, Option, Some, OnOk, false, length, map, true, slice_get};
+ghost use Rattle.std.specs.List.{All, AllByRecursion, list_any};
+ghost use Rattle.event_model.specs.declared.stage.Stage.TheVariants.{Ready};
+ghost use Rattle.event_model.specs.Does.{Does, Done};
+ghost use Rattle.event_model.specs.Event.{Event, behind, with_cause};
+ghost use Rattle.event_model.specs.Phases.{desk_of, is_running};
+ghost use Rattle.event_model.specs.Row.{each};
+ghost use Rattle.event_model.specs.Settings.{Settings};
+ghost use Rattle.group_rows.specs.AskRows.{ask, refresh_row};
+ghost use Rattle.group_rows.specs.Asks.{asking_of, asks_of, is_single, is_under};
+ghost use Rattle.json_text.specs.Json.{Json};
+ghost use Rattle.mux_history.specs.declared.cause.Cause.TheVariants.{FromServer};
+ghost use Rattle.mux_tables.specs.declared.tables.Start.{Start};
+ghost use Rattle.mux_tables.specs.Documents.{AllStand, DocumentsStand, nothing_owed};
+ghost use Rattle.mux_tables.specs.Stands.{Stands, number_in};
+ghost use Rattle.rpc_message.specs.Message.{Id, message_of, request};
+ghost use Rattle.rpc_message.specs.Parsed.{IsRead};
+
+use message_body::Memory;
+use mux_history::Outs;
+use mux_tables::Tables;
+use rpc_message::{Message, ok_reply};
+use std::alloc::Global;
+
+// Each of these editors, which run, is asked, in this order; their answers end here.
+fn ask_all(
+    tables: &mut Tables,
+    alloc: Global,
+    outs: &mut Outs,
+    numbers: &[u64],
+    message: &Message,
+) -> Result<(), Memory>
+    requires { All (λ e. e < length tables.old.editors) numbers.now }
+    ensures requests { tables.new.requests ≡ tables.old.requests }
+    ensures versions { tables.new.versions ≡ tables.old.versions }
+    ensures does { (settings : Settings) (base : List Event) (body method : List ℕ) (id : Id) (params : Option Json) → IsRead message.now body
+        → message_of body ≡ request id method params
+        → AllByRecursion (λ e. is_running (desk_of e (behind base outs.old)).phase ≡ true) numbers.now
+        → ((s : ℕ) → (asking_of s (behind base outs.old)).asker ≡ None)
+        → OnOk result (Does (λ k events. AllStand settings k events) (each (ask body) numbers.now) base (tables.old, nothing_owed) outs.old (tables.new, nothing_owed) outs.new) }
+{
+    for e in numbers {
+        tables.question(alloc, outs, *e, message)?;
+    }
+    Ok(())
+}
+
+/// S9: a request of class Refresh comes from the group's last start, which is ready, under the id of no open ask: it is answered at once, and
+/// each editor of the group that runs is asked, rising. It takes time in the bytes that it sends, and in how many editors there are.
+pub fn take_refresh(
+    tables: &mut Tables,
+    alloc: Global,
+    outs: &mut Outs,
+    g: usize,
+    message: &Message,
+) -> Result<(), Memory>
+    requires { g < length tables.old.lasts.items }
+    ensures requests { tables.new.requests ≡ tables.old.requests }
+    ensures versions { tables.new.versions ≡ tables.old.versions }
+    ensures does { (settings : Settings) (before : List Event) (body method : List ℕ) (id : Id) (params : Option Json) (s : ℕ) (x : Start)
+        → IsRead message.now body → message_of body ≡ request id method params → is_single method ≡ false
+        → list_any (is_under (Some id)) (asks_of s before) ≡ false → outs.old ≡ []
+        → slice_get tables.old.lasts.items g ≡ Some x → x.life.stage ≡ Ready → slice_get (map number_in tables.old.lasts.items) g ≡ Some s
+        → Stands settings tables.old before → DocumentsStand settings nothing_owed tables.old before
+        → OnOk result (Done (λ k events. AllStand settings k events) (refresh_row settings before x.life.group s body)
+        (with_cause before (FromServer s body)) [] (tables.new, nothing_owed) outs.new) }
+{
+    let group = tables.group_number(g);
+    let numbers = tables.running(group)?;
+    tables.hear_answer(g, None);
+    let text = ok_reply(alloc, message.id_bytes(), b"null")?;
+    tables.respond(outs, g, text)?;
+    ask_all(tables, alloc, outs, &numbers, message)?;
+    Ok(())
+}
