@@ -31,7 +31,7 @@ use Rattle.group_rows.specs.Texts.{is_synced, texts_of, worker_behind, worker_of
 use Rattle.group_facts.specs.Built.{built}
 use Rattle.group_facts.specs.Legal.{Legal}
 use Rattle.group_facts.specs.OwnTexts.{AllHaveHolders, AllOnOwnTexts, HasHolders, OnOwnTexts, OwnTexts, OwnTextsFrom, HasOwn}
-use Rattle.group_facts.specs.Why.{IsBehindSync, Why, WhyToServer, begins, cancels, exits, forwarded, greets, notes, responds, shuts, tells}
+use Rattle.group_facts.specs.Why.{IsBehindSync, Why, WhyToServer, begins, cancels, exits, forwarded, greets, notes, resolves, responds, shuts, tells}
 use Rattle.group_facts.proofs.Asides.{answer_aside, spoken_aside, unsynced}
 use Rattle.group_facts.proofs.Known.{facts_hold}
 use Rattle.group_facts.proofs.Table.{reasons}
@@ -99,6 +99,7 @@ module _ (settings : Settings) (t : Tables) (before : List Event) (st : Stands s
   by_reason cause events s body (shuts k) goes = unsynced body _ k.says refl goes
   by_reason cause events s body (cancels k) goes = unsynced body _ k.says refl goes
   by_reason cause events s body (responds k) goes = never (sym goes ∙ answer_aside (message_of body) k.response)
+  by_reason cause events s body (resolves k) goes = never (sym goes ∙ answer_aside (message_of body) k.response)
   by_reason cause events s body (exits k) goes = unsynced body _ k.says refl goes
 
   by_why : (cause : Cause) (events : List Event) (out : Out) → Why settings before cause events out → OnOwnTexts settings events out
