@@ -24,7 +24,7 @@ use Rattle.group_rows.specs.Rows.{asks_lspmux, names_lspmux}
 use Rattle.group_words.specs.Houses.{is_doubled, stops}
 use Rattle.group_rows.specs.Rows.{is_misplaced}
 use Rattle.mux_tables.specs.Documents.{changes_documents}
-use Rattle.mux_turns.proofs.Classes.{first_named, is_initialize}
+use Rattle.mux_editors.proofs.Classes.{first_named, is_initialize}
 
 pub second_of : (a b : Bool) → (a && b) ≡ true → b ≡ true
 second_of true b h = h

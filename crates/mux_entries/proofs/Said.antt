@@ -44,12 +44,12 @@ use Rattle.mux_tables.specs.declared.tables.Start.{Start}
 use Rattle.mux_tables.specs.declared.tables.Tables.{Tables}
 use Rattle.mux_tables.specs.Stands.{NamesAt, Stands, number_in, of_life}
 use Rattle.mux_tables.proofs.Starts.{start_at_place}
-use Rattle.mux_turns.specs.Answers.{IsAsked}
+use Rattle.mux_starts.specs.Answers.{IsAsked}
 use Rattle.mux_turns.specs.Welcomes.{AllAsking, IsShown}
 use Rattle.mux_turns.proofs.Rows.{is_first, is_second}
 use Rattle.rpc_message.specs.declared.sort.Sort.TheVariants as sort
 use Rattle.rpc_message.specs.Sorts.{sort_of}
-use Rattle.mux_turns.proofs.Asides.{malformed_aside}
+use Rattle.mux_editors.proofs.Asides.{malformed_aside}
 
 -- where the last start of a group stands
 module _ (settings : Settings) (t : Tables) (before : List Event) (g s : ℕ) (x : Start) (here : slice_get t.lasts.items g ≡ Some x) (at : slice_get (map number_in t.lasts.items) g ≡ Some s) (st : Stands settings t before) where

@@ -13,12 +13,12 @@ ghost use Rattle.group_words.specs.Houses.{is_doubled, places, stops};
 ghost use Rattle.json_text.specs.Json.{Json};
 ghost use Rattle.lsp_method.specs.Class.{class_of};
 ghost use Rattle.lsp_method.specs.declared.variants.Origin.TheVariants.{Editor};
+ghost use Rattle.mux_editors.specs.Ceilings.{HaveCeilings};
 ghost use Rattle.mux_history.specs.declared.cause.Cause.TheVariants.{EditorGone, FromEditor, Joined};
 ghost use Rattle.mux_history.specs.declared.cause.Why.{Why};
 ghost use Rattle.mux_model.specs.Fits.{fits_behind};
 ghost use Rattle.mux_tables.specs.Documents.{AllStand, DocumentsStand, nothing_owed};
 ghost use Rattle.mux_tables.specs.Stands.{AnswersNone, Stands};
-ghost use Rattle.mux_turns.specs.Ceilings.{HaveCeilings};
 ghost use Rattle.rpc_message.specs.declared.sort.Sort.TheVariants.{Request};
 ghost use Rattle.rpc_message.specs.Message.{Id, message_of, notification, request};
 ghost use Rattle.rpc_message.specs.Parsed.{IsRead};
@@ -27,14 +27,14 @@ ghost use Rattle.rpc_message.specs.Sorts.{Refuses, sort_of};
 use event_model::{Phase, Server};
 use lsp_method::Class;
 use message_body::{Body, Memory};
-use mux_history::Outs;
-use mux_members::{class_in, goes_on, is_cancel, is_exit, is_initialize, is_open};
-use mux_tables::Tables;
-use mux_turns::{
+use mux_editors::{
     asks_lspmux, doubles, take_cancel, take_closed, take_doubled, take_doubled_own, take_down,
     take_early, take_exit, take_gone, take_initialize, take_malformed, take_notice, take_open,
     take_passed, take_quiet, take_reply, take_request, take_shutdown, take_status, take_wrong,
 };
+use mux_history::Outs;
+use mux_members::{class_in, goes_on, is_cancel, is_exit, is_initialize, is_open};
+use mux_tables::Tables;
 use rpc_message::{Malformed, Message, Sort};
 use std::alloc::Global;
 

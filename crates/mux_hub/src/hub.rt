@@ -1,5 +1,6 @@
 // The hub: the tables, the journal, and whether a step had a fault.
 ghost use Rattle.std.specs.Prelude.{◌≡◌, ℕ, ◌+◌, ◌^◌, ◌≤◌, ◌<◌, ◌↔◌, List, [], ◌∷◌, ◌++◌, Bool, true, false, length, nat_lt, if◌then◌else◌, Some, None, IsTrue, IsNone, IfOk, OnOk, OnErr, IsErrOf, IfErr, slice_get};
+ghost use Rattle.mux_editors.specs.Ceilings.{HaveCeilings};
 ghost use Rattle.outside_io.specs.Faults.{Rose};
 ghost use Rattle.mux_history.specs.declared.entry.Entry.{Entry};
 ghost use Rattle.mux_history.specs.Cores.{body_length, joined, spawns};
@@ -11,7 +12,6 @@ ghost use Rattle.group_rows.specs.Rows.{outs_of};
 ghost use Rattle.group_facts.specs.Built.{built, built_behind};
 ghost use Rattle.group_facts.specs.Facts.{Known};
 ghost use Rattle.group_facts.specs.Settled.{Settled};
-ghost use Rattle.mux_turns.specs.Ceilings.{HaveCeilings};
 ghost use Rattle.mux_hub.specs.Entries.{emits, entry_of, most_events, passes};
 ghost use Rattle.mux_hub.specs.Faults.{Counted};
 ghost use Rattle.mux_hub.specs.Hubs.{HubView, HubStands, TablesStand, Tells};

@@ -20,7 +20,7 @@ use Rattle.rpc_message.proofs.SameIds.{quoted_shape}
 use Rattle.event_model.specs.Requests.{answered_id}
 use Rattle.group_rows.specs.Forwarded.{names}
 use Rattle.mux_tables.specs.Stands.{NamesAsk}
-use Rattle.mux_turns.specs.Answers.{is_response}
+use Rattle.mux_turns.specs.Responses.{is_response}
 
 pub tested : (xs ys : List ℕ) (r : Bool) → Decides r (xs ≡ ys) → r ≡ bytes_eq xs ys
 tested xs ys r h = search (rules, bytes_eq-Decides)

@@ -1,12 +1,4 @@
-pub mod Answers
-pub mod Cancels
-pub mod Ceilings
 pub mod Founding
 pub mod Leavings
-pub mod Openings
-pub mod Refusing
-pub mod Replies
 pub mod Welcomes
-pub mod Stops
-pub mod Handing
-pub mod Tellings
+pub mod Responses

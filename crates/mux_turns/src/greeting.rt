@@ -34,7 +34,7 @@ fn root_of(alloc: Global, folders: &[(Body, Body)]) -> Result<Body, Memory>
     }
 }
 
-// A comma, where something stands in front.
+/// A comma, where something stands in front.
 pub fn add_comma(text: &mut Vec<u8>, started: bool) -> Result<(), Memory>
     ensures { OnOk result (text.new.items ≡ text.old.items ++ comma started) }
 {

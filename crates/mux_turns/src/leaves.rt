@@ -28,7 +28,7 @@ pub struct Departure {
     pub requests: Vec<u32>,
 }
 
-// The notification that cancels the request of a number (LSP 3.17, Cancellation Support).
+/// The notification that cancels the request of a number (LSP 3.17, Cancellation Support).
 pub fn cancel_request(alloc: Global, n: u128) -> Result<Body, Memory>
     ensures { IfOk result (λ body. body ≡ cancel_text n) }
 {

@@ -1,58 +1,16 @@
-//! Rows of the routing table over several editors and groups, as code over the tables.
+//! Parts that rows of the routing table share, as code over the tables: where editors are placed, how groups end, what editors leave, and what is refused.
 #![tactic(auto)]
 
-mod answers;
-mod broadcasts;
-mod cancelled;
-mod doubled;
-mod ends;
+mod answered;
 mod evicting;
 mod greeting;
-mod handed;
-mod hasty;
-mod initializes;
 mod leaves;
-mod notices;
-mod opened;
-mod parting;
-mod passed;
 mod placing;
-mod quiet;
-mod recalled;
-mod refreshed;
 mod refusals;
-mod refused;
-mod requests;
-mod results;
-mod single;
-mod starts;
-mod status;
-mod ticks;
 
-pub use answers::{answered_ask, answered_number, take_answer};
-pub use broadcasts::take_broadcast;
-pub use cancelled::{Target, take_cancel};
-pub use doubled::{doubles, take_doubled, take_doubled_own};
-pub use ends::{take_ending, take_left, take_stopping};
+pub use answered::{answered_ask, answered_number};
 pub use evicting::{evict, replace, stage_at};
-pub use greeting::opening;
-pub use handed::take_reply;
-pub use hasty::{is_first_error, take_hasty};
-pub use initializes::take_initialize;
-pub use leaves::{Departure, depart, leaving};
-pub use notices::take_notice;
-pub use opened::{asks_lspmux, take_open};
-pub use parting::{take_down, take_exit, take_gone, take_shutdown};
-pub use passed::take_passed;
+pub use greeting::{add_comma, bytes_of, opening};
+pub use leaves::{Departure, cancel_request, depart, leaving};
 pub use placing::{found, turn_away, waits, welcome};
-pub use quiet::{take_closed, take_early, take_malformed, take_quiet, take_wrong};
-pub use recalled::take_recall;
-pub use refreshed::take_refresh;
 pub use refusals::{asked_at, refuse, refuse_early, refuse_request, refuse_wrong, reject};
-pub use refused::take_refused;
-pub use requests::take_request;
-pub use results::{shown_of, take_result};
-pub use single::{take_focused, take_lowest, take_repeated};
-pub use starts::take_started;
-pub use status::take_status;
-pub use ticks::take_tick;

@@ -8,7 +8,7 @@ use Rattle.event_model.proofs.Turns.{alike_then}
 use Rattle.group_facts.specs.Built.{is_standard}
 use Rattle.group_rows.specs.Rows.{is_misplaced}
 use Rattle.mux_tables.specs.Documents.{AllStand}
-use Rattle.mux_turns.proofs.Classes.{not_own, shutdown_later, shutdown_named, swapped}
+use Rattle.mux_editors.proofs.Classes.{not_own, shutdown_later, shutdown_named, swapped}
 use Rattle.mux_turns.proofs.Rows.{is_first, is_second}
 use Rattle.mux_entries.proofs.EditorBuilt.{misplaced_class, other_class, other_right}
 use Rattle.mux_entries.proofs.EditorRows.{done_alike}

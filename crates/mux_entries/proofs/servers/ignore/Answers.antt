@@ -4,7 +4,7 @@ use Rattle.event_model.specs.Stages.{life_of}
 use Rattle.event_model.proofs.Frames.{never}
 use Rattle.rpc_message.specs.declared.sort.Malformed.TheVariants.{Memory}
 use Rattle.rpc_message.specs.Message.{message_of}
-use Rattle.mux_turns.proofs.Asides.{refused}
+use Rattle.mux_editors.proofs.Asides.{refused}
 use Rattle.mux_entries.proofs.Said.{malformed_names, malformed_row, unanswered_error, unanswered_first, unanswered_named}
 use Rattle.mux_entries.proofs.servers.ignore.Goals as goal
 use Rattle.mux_entries.proofs.servers.ignore.Goals.{in-Memory, in_default}

@@ -1,6 +1,6 @@
 -- Too many groups have editors.
 use Rattle.mux_tables.specs.Documents.{nothing_owed}
-use Rattle.mux_turns.proofs.Initializing.{turned}
+use Rattle.mux_turns.proofs.Turning.{turned}
 use Rattle.mux_turns.proofs.placing.turn_away.Goals as goal
 
 pub returns-clause-does : goal.returns-clause-does

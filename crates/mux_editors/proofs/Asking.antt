@@ -1,0 +1,102 @@
+-- An editor's request goes on behind a sync.
+use Rattle.std.proofs.Common.{◌≡◌, ℕ, ◌<◌, ◌^◌, true, false, not, List, [], ◌∷◌, ◌++◌, map, refl, ap, sym, subst, ◌∙◌, codes, arith}
+use Rattle.std.specs.Prelude.{Option, Some, decimal, slice_get}
+use Rattle.json_text.specs.Json.{Json}
+use Rattle.mux_history.specs.declared.cause.Cause.TheVariants.{FromEditor}
+use Rattle.mux_history.specs.declared.out.Out.{Out}
+use Rattle.mux_history.specs.declared.out.Out.TheVariants.{ToServer}
+use Rattle.rpc_message.specs.Message.{Id, id_bytes, integer, message_of, request}
+use Rattle.rpc_message.specs.Texts.{with_id_text}
+use Rattle.rpc_message.proofs.Decimals.{decimal_law}
+use Rattle.rpc_message.proofs.Ids.{request_with_id}
+use Rattle.document_model.specs.Sayings.{nothing, saying_of}
+use Rattle.event_model.specs.declared.stage.Stage.TheVariants.{Ready}
+use Rattle.event_model.specs.Does.{Does}
+use Rattle.event_model.specs.Event.{Event, behind, heard, requests, with_cause}
+use Rattle.event_model.specs.Requests.{is_own}
+use Rattle.event_model.specs.Row.{look, outs, send, ◌⨾◌}
+use Rattle.event_model.specs.Settings.{Settings}
+use Rattle.event_model.proofs.Frames.{one_more}
+use Rattle.mux_model.specs.Documents.{held_at}
+use Rattle.mux_model.specs.Rows.{to_start}
+use Rattle.mux_model.proofs.DocumentFolds.{outs_to_start}
+use Rattle.group_rows.specs.Forwarded.{Forwarding, forwarding_behind, forwarding_of, sender_of}
+use Rattle.group_rows.specs.Rows.{forward, sync_bodies, sync_row}
+use Rattle.group_rows.specs.Texts.{is_synced, texts_of, worker_of}
+use Rattle.mux_tables.specs.declared.tables.Start.{Start}
+use Rattle.mux_tables.specs.declared.tables.Tables.{Tables}
+use Rattle.mux_tables.specs.Documents.{AllStand, AllTell, nothing_owed, syncing, to}
+use Rattle.mux_tables.specs.Stands.{Sends, Stands, number_in, of_ids}
+use Rattle.mux_tables.proofs.DocumentAsked.{row_bodies, tell}
+use Rattle.mux_tables.proofs.DocumentMoves.{documents_at}
+use Rattle.mux_tables.proofs.DocumentOwed.{stands_told}
+use Rattle.mux_tables.proofs.Starts.{start_at_place}
+use Rattle.mux_editors.proofs.Classes.{Serves}
+use Rattle.mux_editors.proofs.Synced.{at_work, here_first, same_sync}
+
+module _ (settings : Settings) (t : Tables) (before : List Event) (body method : List ℕ) (id : Id) (params : Option Json) (e i s n : ℕ) (x : Start) (xs : List Out) (first : xs ≡ [])
+    (at : slice_get t.lasts.items i ≡ Some x) (number : slice_get (map number_in t.lasts.items) i ≡ Some s) (ready : x.life.stage ≡ Ready) (next : n ≡ x.ids.next) (left : x.ids.next < x.ids.limit)
+    (says : message_of body ≡ request id method params) (serves : Serves method) (passed : is_own method ≡ false) where
+  abbrev base : List Event
+  base = with_cause before (FromEditor e body)
+
+  abbrev now : List Event
+  now = behind base xs
+
+  abbrev g : ℕ
+  g = x.life.group
+
+  here : now ≡ base
+  here = here_first settings before body e xs first
+
+  -- whose request is at work
+  pub sends : (bytes : List ℕ) → bytes ≡ id_bytes body → Sends s e bytes now
+  sends bytes is = ap (λ es. (forwarding_of s es).sender) here ∙ (ap (λ (f : Forwarding). f.sender) (one_more (forwarding_behind s) _ _ before (heard (FromEditor e body)) refl)
+      ∙ (ap (sender_of e body) says ∙ ap (λ w. Some (record { editor = e; id = w })) (sym is)))
+
+  pub works : worker_of now ≡ Some e
+  works = at_work settings before body e xs first
+
+  abbrev bodies : List (List ℕ)
+  bodies = sync_bodies settings.limits.versions (λ u. held_at s u before) e (texts_of settings g before).opens
+
+  same_bodies : syncing settings now g s e ≡ bodies
+  same_bodies = same_sync settings before body e xs first g s (ap (requests (codes "shutdown")) says ∙ serves.stays) (ap saying_of says)
+
+  own : x.life.start ≡ s
+  own = start_at_place t.lasts.items i s x at number
+
+  bound : Stands settings t now → n < 2 ^ 32
+  bound st =
+      let ends = ((st.lasts.each i x at).parts of_ids).ends in
+      let range = st.range in
+      omega (arith, next, left, ends, range)
+
+  module _ (u : Tables) (text : List ℕ) (ys : List Out) (is : text ≡ with_id_text body (decimal n)) where
+    text_says : n < 2 ^ 32 → message_of text ≡ request (integer (decimal n)) method params
+    text_says l = ap message_of is ∙ request_with_id body (decimal n) id (integer (decimal n)) method params says (decimal_law n (omega (arith, l)))
+
+    -- the number is still the next one behind the sync
+    next_told : AllStand settings (t, nothing_owed) now → (forwarding_of s (behind now (to s bodies))).next ≡ n
+    next_told k =
+        let d = documents_at settings nothing_owed t now i x at k.1 in
+        let goes = text_says (bound k.0) in
+        let silent : saying_of (message_of text) ≡ nothing = ap saying_of goes in
+        let goes_behind : is_synced (message_of text) ≡ true = ap is_synced goes ∙ ap not passed in
+        let row = row_bodies settings t now i e x d.0 text at d.1 ready silent goes_behind works k.0 k.1 in
+        let speak : AllTell (syncing settings now g x.life.start e) = subst AllTell (sym row) (tell settings t now i e x d.0 text at d.1 ready silent goes_behind works k.0 k.1) in
+        let st = stands_told settings t i x at (syncing settings now g x.life.start e) now speak k.0 in
+        let told : (forwarding_of s (behind now (to s (syncing settings now g s e)))).next ≡ x.ids.next = subst (λ m. (forwarding_of m (behind now (to m (syncing settings now g m e)))).next ≡ x.ids.next) own ((st.lasts.each i x at).parts of_ids).next in
+        ap (λ bs. (forwarding_of s (behind now (to s bs))).next) (sym same_bodies) ∙ (told ∙ sym next)
+
+    same_outs : AllStand settings (t, nothing_owed) now → outs (look (λ es. to_start s (syncing settings es g s e) ⨾ send (ToServer s text))) now ≡ outs (sync_row settings before g s e ⨾ forward s body) now
+    same_outs k = ap (λ bs. outs (to_start s bs ⨾ send (ToServer s text)) now) same_bodies
+        ∙ ap (λ w. outs (to_start s bodies) now ++ ToServer s w ∷ []) (is ∙ ap (λ m. with_id_text body (decimal m)) (sym (ap (λ zs. (forwarding_of s (behind now zs)).next) (outs_to_start s bodies now) ∙ next_told k)))
+
+    pub goes_on : ((name : Id) → message_of text ≡ request name method params → Does (λ k events. AllStand settings k events) (look (λ es. to_start s (syncing settings es g s e) ⨾ send (ToServer s text))) base (t, nothing_owed) xs (u, nothing_owed) ys)
+        → Does (λ k events. AllStand settings k events) (sync_row settings before g s e ⨾ forward s body) base (t, nothing_owed) xs (u, nothing_owed) ys
+    goes_on d = record {
+      done = λ k.
+          let one = (d (integer (decimal n)) (text_says (bound k.0))).done k in
+          record { outs = one.outs ∙ ap (λ ws. xs ++ ws) (same_outs k); stands = one.stands };
+    }

@@ -1,0 +1,14 @@
+pub mod Handing
+pub mod Asides
+pub mod Asked
+pub mod Asking
+pub mod Cancelling
+pub mod Classes
+pub mod Doubling
+pub mod Initializing
+pub mod Lspmux
+pub mod Noticing
+pub mod Passing
+pub mod Serving
+pub mod Synced
+mod Telling

@@ -1,0 +1,25 @@
+-- The open request that a cancel names, as the row of cancels reads it.
+use Rattle.std.specs.Prelude.{◌≡◌, ℕ, List}
+use Rattle.std.specs.Prelude.{Option, Some, None, slice_get}
+use Rattle.std.specs.List.{AllByRecursion}
+use Rattle.json_text.specs.Json.{Json}
+use Rattle.mux_history.specs.declared.out.Out.TheVariants.{ToServer}
+use Rattle.rpc_message.specs.Message.{Id}
+use Rattle.rpc_message.specs.ValueTexts.{IsIdText}
+use Rattle.event_model.specs.Does.{Alike}
+use Rattle.event_model.specs.Event.{Event}
+use Rattle.event_model.specs.Row.{nothing, send}
+use Rattle.event_model.specs.Settings.{Settings}
+use Rattle.group_rows.specs.Cancelling.{cancelling_row, named_id, numbered_text}
+use Rattle.group_rows.specs.Forwarded.{Forwarded}
+use Rattle.mux_editors.specs.declared.cancelled.Target.{Target}
+
+-- the bytes that are kept of each request's id are an id's
+abbrev pub HaveIds : List Forwarded → Type 0
+HaveIds fs = AllByRecursion (λ (f : Forwarded). (id : Id) × IsIdText id f.id) fs
+
+-- the row sends the cancel of this request, or nothing; `starts` are the last starts of the groups
+abbrev pub Names : Settings → List Event → ℕ → List ℕ → Option Json → List ℕ → Option Target → Type 0
+Names settings before e body params starts None = Alike (cancelling_row settings before e body params) nothing
+Names settings before e body params starts (Some x) = ((id : Id) × (named_id params ≡ Some id))
+    × ((s : ℕ) → slice_get starts x.group ≡ Some s → Alike (cancelling_row settings before e body params) (send (ToServer s (numbered_text x.number body))))

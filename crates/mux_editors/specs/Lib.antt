@@ -1,0 +1,4 @@
+pub mod Cancels
+pub mod Ceilings
+pub mod Handing
+pub mod Tellings

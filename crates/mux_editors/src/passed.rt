@@ -1,0 +1,101 @@
+//! E16 and E17: a notification of an editor that goes on as it came.
+ghost use Rattle.std.specs.Prelude.{◌≡◌, ◌<◌, ℕ, List, [], Option, Some, true, length, map, IfNone, IfSome, OnOk, slice_get};
+ghost use Rattle.event_model.specs.declared.stage.Stage.TheVariants.{Ready};
+ghost use Rattle.event_model.specs.Does.{Alike, Does, Done};
+ghost use Rattle.event_model.specs.Event.{Event, with_cause};
+ghost use Rattle.event_model.specs.Phases.{desk_of, is_served};
+ghost use Rattle.event_model.specs.Row.{nothing, send, ◌⨾◌};
+ghost use Rattle.event_model.specs.Settings.{Settings};
+ghost use Rattle.group_rows.specs.Rows.{notice_row, sync_row};
+ghost use Rattle.json_text.specs.Json.{Json};
+ghost use Rattle.lsp_method.specs.Class.{class_of};
+ghost use Rattle.lsp_method.specs.declared.variants.Origin.TheVariants.{Editor};
+ghost use Rattle.mux_history.specs.declared.cause.Cause.TheVariants.{FromEditor};
+ghost use Rattle.mux_history.specs.declared.out.Out.TheVariants.{ToServer};
+ghost use Rattle.mux_model.specs.Methods.{goes_on};
+ghost use Rattle.mux_tables.specs.declared.tables.Start.{Start};
+ghost use Rattle.mux_tables.specs.Documents.{AllStand, DocumentsStand, nothing_owed};
+ghost use Rattle.mux_tables.specs.Stands.{Stands, number_in};
+ghost use Rattle.rpc_message.specs.Message.{message_of, notification};
+ghost use Rattle.rpc_message.specs.Parsed.{IsRead};
+
+use event_model::Phase;
+use message_body::{Body, Memory};
+use mux_history::Outs;
+use mux_tables::Tables;
+use mux_turns::stage_at;
+use rpc_message::Message;
+use std::alloc::Global;
+
+// The place of the group whose last start is told; none where the editor is in no group, or the group has no start, or that start
+// isn't ready: then the notification gives nothing.
+fn ready_at(tables: &Tables, e: u64) -> Option<usize>
+    ensures inside { IfSome result (λ g. g < length tables.now.lasts.items) }
+    ensures ready { IfSome result (λ g. (x : Start) → slice_get tables.now.lasts.items g ≡ Some x → x.life.stage ≡ Ready) }
+    ensures silent { IfNone result ((settings : Settings) (before : List Event) (body : List ℕ) → Stands settings tables.now before
+        → Alike (notice_row settings before e body) nothing) }
+    ensures goes { IfSome result (λ g. (settings : Settings) (before : List Event) (body : List ℕ) (s : ℕ) (x : Start)
+        → slice_get tables.now.lasts.items g ≡ Some x → slice_get (map number_in tables.now.lasts.items) g ≡ Some s
+        → Stands settings tables.now before
+        → Alike (notice_row settings before e body) (sync_row settings before x.life.group s e ⨾ send (ToServer s body))) }
+{
+    let g = tables.place(e)?;
+    if stage_at(tables, g).is_ready() {
+        Some(g)
+    } else {
+        None
+    }
+}
+
+// The notification goes to the group's last start, which is ready, behind a sync.
+fn go_on(
+    tables: &mut Tables,
+    alloc: Global,
+    outs: &mut Outs,
+    g: usize,
+    e: u64,
+    message: &Message,
+) -> Result<(), Memory>
+    requires group { g < length tables.old.lasts.items }
+    requires ready { (x : Start) → slice_get tables.old.lasts.items g ≡ Some x → x.life.stage ≡ Ready }
+    ensures requests { tables.new.requests ≡ tables.old.requests }
+    ensures versions { tables.new.versions ≡ tables.old.versions }
+    ensures does { (settings : Settings) (before : List Event) (body method : List ℕ) (params : Option Json) (s : ℕ) → IsRead message.now body
+        → message_of body ≡ notification method params → goes_on (class_of method Editor true) ≡ true → outs.old ≡ []
+        → slice_get (map number_in tables.old.lasts.items) g ≡ Some s → (x : Start) → slice_get tables.old.lasts.items g ≡ Some x
+        → OnOk result (Does (λ k events. AllStand settings k events) (sync_row settings before x.life.group s e ⨾ send (ToServer s body)) (with_cause before (FromEditor e body))
+        (tables.old, nothing_owed) outs.old (tables.new, nothing_owed) outs.new) }
+{
+    let text = Body::new(Vec::from_slice(alloc, message.bytes())?);
+    tables.pass_notice(alloc, outs, g, e, text)?;
+    Ok(())
+}
+
+/// E16 and E17: a notification that goes on comes from an editor that is served. Where the last start of its group is ready, it goes
+/// there as it came, behind a sync; else it gives nothing.
+pub fn take_passed(
+    tables: &mut Tables,
+    alloc: Global,
+    outs: &mut Outs,
+    e: u64,
+    message: &Message,
+) -> Result<(), Memory>
+    requires { e < length tables.old.editors }
+    ensures requests { tables.new.requests ≡ tables.old.requests }
+    ensures versions { tables.new.versions ≡ tables.old.versions }
+    ensures does { (settings : Settings) (before : List Event) (body method : List ℕ) (params : Option Json) → IsRead message.now body
+        → message_of body ≡ notification method params → goes_on (class_of method Editor true) ≡ true → is_served (desk_of e before).phase ≡ true
+        → outs.old ≡ [] → Stands settings tables.old before → DocumentsStand settings nothing_owed tables.old before
+        → OnOk result (Done (λ k events. AllStand settings k events) (notice_row settings before e body)
+        (with_cause before (FromEditor e body)) [] (tables.new, nothing_owed) outs.new) }
+{
+    let place = ready_at(tables, e);
+    tables.hear_editor(e, Phase::Running);
+    match place {
+        None => Ok(()),
+        Some(g) => {
+            go_on(tables, alloc, outs, g, e, message)?;
+            Ok(())
+        }
+    }
+}

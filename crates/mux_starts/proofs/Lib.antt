@@ -1,0 +1,10 @@
+pub mod Answering
+pub mod Beginning
+pub mod Early
+pub mod PutOut
+pub mod Replies
+pub mod Stopped
+pub mod Ticking
+pub mod Singles
+pub mod Refreshing
+pub mod Recalls

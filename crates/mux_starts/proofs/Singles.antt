@@ -1,0 +1,193 @@
+-- S9, S11 and S12: a request of a start that editors are asked.
+use Rattle.std.proofs.Common.{◌≡◌, ℕ, Bool, true, false, ◌&&◌, ◌||◌, cond, List, [], ◌∷◌, filter, map, nat_eq, if◌then◌else◌, refl, ap, sym, subst, ◌∙◌, arith, codes}
+use Rattle.std.specs.Prelude.{Option, Some, None, IfSome, option_map, slice_get}
+use Rattle.std.specs.List.{All, AllByRecursion, Contains, last_or, list_any}
+use Rattle.std.proofs.lemmas.Bool.{and_parts}
+use Rattle.std.proofs.lemmas.Bool.Decides.{nat_tests}
+use Rattle.json_text.specs.Json.{Json}
+use Rattle.mux_history.specs.declared.cause.Cause.TheVariants.{FromServer}
+use Rattle.mux_history.specs.declared.out.Out.{Out}
+use Rattle.rpc_message.specs.Message.{Id, id_bytes, message_of, request}
+use Rattle.rpc_message.specs.Texts.{error_text, ok_text, request_failed}
+use Rattle.document_model.specs.Sayings.{nothing as no_saying, saying_of}
+use Rattle.event_model.specs.declared.stage.Stage.TheVariants.{Ready}
+use Rattle.event_model.specs.Event.{Event, behind, heard, requests, with_cause}
+use Rattle.event_model.specs.Requests.{answered_id}
+use Rattle.event_model.specs.Phases.{desk_of, is_running}
+use Rattle.event_model.specs.Settings.{Settings}
+use Rattle.event_model.proofs.Frames.{never}
+use Rattle.group_rows.specs.AskRows.{else_first, first_in, in_focus, is_among, last_among, running_in}
+use Rattle.group_rows.specs.Asks.{Ask, Asker, Asking, asker_of, asking_of, asks_of, is_single, is_under}
+use Rattle.group_rows.specs.Forwarded.{Forwarded, moves_ids}
+use Rattle.group_rows.specs.Texts.{is_synced}
+use Rattle.mux_tables.specs.declared.tables.Start.{Start}
+use Rattle.mux_tables.specs.declared.tables.Tables.{Tables}
+use Rattle.mux_tables.specs.Stands.{number_in, stage_in}
+use Rattle.mux_tables.proofs.Asking.{asking_more}
+use Rattle.mux_tables.proofs.Frames.{itself}
+use Rattle.mux_tables.proofs.Starts.{start_at_place}
+use Rattle.mux_starts.proofs.Answering.{desk_still}
+use Rattle.mux_turns.proofs.Departing.{behind_first, mapped_is, mapped_on}
+use Rattle.mux_turns.proofs.Keeping.{null_says, refused_says}
+use Rattle.mux_turns.proofs.Ready.{start_from}
+
+-- the first of a list
+pub first_there : (xs : List ℕ) → slice_get xs 0 ≡ first_in xs
+first_there [] = refl
+first_there (x ∷ xs) = refl
+
+module _ (P : ℕ → Type 0) where
+  pub first_has : (xs : List ℕ) (e : ℕ) → AllByRecursion P xs → first_in xs ≡ Some e → P e
+  first_has [] e all is = absurd (cc)
+  first_has (x ∷ xs) e all is = let same : x ≡ e = cc in subst P same all.0
+
+  pub first_within : (xs : List ℕ) (e : ℕ) → All P xs → first_in xs ≡ Some e → P e
+  first_within [] e all is = absurd (cc)
+  first_within (x ∷ xs) e all is = let same : x ≡ e = cc in subst P same (all 0 0 (omega arith))
+
+  -- one of them
+  pub any_has : (n : ℕ) (xs : List ℕ) → AllByRecursion P xs → list_any (nat_eq n) xs ≡ true → P n
+  any_has n [] all h = never (sym h)
+  any_has n (x ∷ xs) all h = go (nat_eq n x) refl h (λ k. any_has n xs all.1 k)
+    where
+      go : (b : Bool) → nat_eq n x ≡ b → (b || list_any (nat_eq n) xs) ≡ true → (list_any (nat_eq n) xs ≡ true → P n) → P n
+      go true is k rest = let same : x ≡ n = grind (arith, nat_tests) in subst P same all.0
+      go false is k rest = rest k
+
+  last_has : (es : List ℕ) (o : Option Forwarded) (fs : List Forwarded) (e : ℕ) → AllByRecursion P es → ((f : Forwarded) → o ≡ Some f → P f.editor) → option_map (λ (f : Forwarded). f.editor) (last_or o (filter (is_among es) fs)) ≡ Some e → P e
+  last_has es None [] e all before is = absurd (cc)
+  last_has es (Some f) [] e all before is = let same : f.editor ≡ e = cc in subst P same (before f refl)
+  last_has es o (f ∷ fs) e all before is = go (is_among es f) refl is (λ k. last_has es o fs e all before k) (λ there k. last_has es (Some f) fs e all (λ g same. let own : f ≡ g = cc in subst (λ (h : Forwarded). P h.editor) own (any_has f.editor es all there)) k)
+    where
+      go : (b : Bool) → is_among es f ≡ b → option_map (λ (f : Forwarded). f.editor) (last_or o (cond b (f ∷ filter (is_among es) fs) (filter (is_among es) fs))) ≡ Some e
+          → (option_map (λ (f : Forwarded). f.editor) (last_or o (filter (is_among es) fs)) ≡ Some e → P e)
+          → (is_among es f ≡ true → option_map (λ (f : Forwarded). f.editor) (last_or (Some f) (filter (is_among es) fs)) ≡ Some e → P e) → P e
+      go true is k without with_it = with_it is k
+      go false is k without with_it = without k
+
+  pub focus_has : (es : List ℕ) (fs : List Forwarded) (e : ℕ) → AllByRecursion P es → in_focus es fs ≡ Some e → P e
+  focus_has es fs e all is = go (last_among es fs) refl is
+    where
+      go : (o : Option ℕ) → last_among es fs ≡ o → else_first o es ≡ Some e → P e
+      go None h k = first_has es e all k
+      go (Some n) h k = let same : n ≡ e = cc in last_has es None fs e all (λ f none. absurd (cc)) (h ∙ ap (λ m. Some m) same)
+
+pub first_some : (P : ℕ → Type 0) (xs : List ℕ) (o : Option ℕ) → All P xs → o ≡ first_in xs → IfSome o P
+first_some P xs None all is = tt
+first_some P xs (Some e) all is = first_within P xs e all (sym is)
+
+pub contains_within : (P : ℕ → Type 0) (xs : List ℕ) (e : ℕ) → All P xs → (ys : List ℕ) → ys ≡ xs → Contains ys e → P e
+contains_within P xs e all ys same has = let k = subst (λ zs. Contains zs e) same has in subst P k.2 (all k.0 e k.1)
+
+-- what is in focus, by what was found
+pub focus_is : (es : List ℕ) (fs : List Forwarded) (o : Option ℕ) (e : ℕ) → o ≡ Some e → o ≡ last_among es fs → ◌≡◌ {A = Option ℕ} (Some e) (in_focus es fs)
+focus_is es fs o e is found = ap (λ q. else_first q es) (sym is ∙ found)
+
+pub focus_none : (es : List ℕ) (fs : List Forwarded) (o : Option ℕ) → o ≡ None → o ≡ last_among es fs → first_in es ≡ in_focus es fs
+focus_none es fs o is found = ap (λ q. else_first q es) (sym is ∙ found)
+
+-- the editors that run do
+filter_has : (test : ℕ → Bool) (other : ℕ → Bool) (xs : List ℕ) → AllByRecursion (λ e. test e ≡ true) (filter (λ e. test e && other e) xs)
+filter_has test other [] = tt
+filter_has test other (x ∷ xs) = go (test x && other x) refl (filter_has test other xs)
+  where
+    go : (b : Bool) → (test x && other x) ≡ b → AllByRecursion (λ e. test e ≡ true) (filter (λ e. test e && other e) xs) → AllByRecursion (λ e. test e ≡ true) (cond b (x ∷ filter (λ e. test e && other e) xs) (filter (λ e. test e && other e) xs))
+    go true is rest = ((and_parts (test x) (other x) is).0, rest)
+    go false is rest = rest
+
+pub all_running : (settings : Settings) (g : ℕ) (events : List Event) → AllByRecursion (λ e. is_running (desk_of e events).phase ≡ true) (running_in settings g events)
+all_running settings g events = filter_has (λ e. is_running (desk_of e events).phase) _ _
+
+-- The last start of a group, where its number and its stage stay
+
+pub record Still (u : Tables) (g s : ℕ) : Type 0 where
+  pub start : Start
+  pub at : slice_get u.lasts.items g ≡ Some start
+  pub own : start.life.start ≡ s
+  pub ready : start.life.stage ≡ Ready
+
+pub still : (t u : Tables) (g s : ℕ) (x : Start) → slice_get t.lasts.items g ≡ Some x → slice_get (map number_in t.lasts.items) g ≡ Some s → x.life.stage ≡ Ready → map number_in u.lasts.items ≡ map number_in t.lasts.items → map stage_in u.lasts.items ≡ map stage_in t.lasts.items → Still u g s
+still t u g s x here at ready numbers stages =
+    let there = ap (λ ns. slice_get ns g) numbers ∙ at in
+    let y = start_from u.lasts.items g s there in
+    record {
+      start = y.0;
+      at = y.1;
+      own = start_at_place u.lasts.items g s y.0 y.1 there;
+      ready = mapped_is stage_in u.lasts.items g y.0 Ready y.1 (ap (λ ns. slice_get ns g) stages ∙ mapped_on stage_in t.lasts.items g x here ∙ ap Some ready);
+    }
+
+-- Behind the request nothing is sent yet
+
+module _ (before : List Event) (s : ℕ) (body : List ℕ) (xs : List Out) (first : xs ≡ []) where
+  abbrev now : List Event
+  now = behind (with_cause before (FromServer s body)) xs
+
+  -- who ran runs
+  pub runs_here : (e : ℕ) → is_running (desk_of e before).phase ≡ true → is_running (desk_of e now).phase ≡ true
+  runs_here e runs = ap is_running (desk_still before s body xs e first) ∙ runs
+
+  pub asks_here : asks_of s now ≡ asks_of s before
+  asks_here = ap (asks_of s) (behind_first (with_cause before (FromServer s body)) xs first) ∙ ap (λ (x : Asking). x.asks) (asking_more s before (heard (FromServer s body)))
+
+  asker_here : (n : ℕ) → (asking_of n now).asker ≡ (if nat_eq s n then asker_of body (message_of body) else None)
+  asker_here n = ap (λ es. (asking_of n es).asker) (behind_first (with_cause before (FromServer s body)) xs first) ∙ ap (λ (x : Asking). x.asker) (asking_more n before (heard (FromServer s body)))
+
+  module _ (method : List ℕ) (id : Id) (params : Option Json) (says : message_of body ≡ request id method params) where
+    abbrev own : Asker
+    own = record { id = id; bytes = id_bytes body }
+
+    asker_is : (n : ℕ) → (asking_of n now).asker ≡ (if nat_eq s n then (if is_single method then Some own else None) else None)
+    asker_is n = asker_here n ∙ ap (λ m. if nat_eq s n then asker_of body m else None) says
+
+    -- its answers end here
+    pub asks_all : is_single method ≡ false → (n : ℕ) → (asking_of n now).asker ≡ None
+    asks_all many n = asker_is n ∙ (ap (λ b. if nat_eq s n then (if b then Some own else None) else None) many ∙ off (nat_eq s n))
+      where
+        off : (b : Bool) → ◌≡◌ {A = Option Asker} (if b then None else None) None
+        off true = refl
+        off false = refl
+
+-- one editor is to answer it, and no ask has its id
+pub record IsAtWork (t : ℕ) (id : Id) (bytes : List ℕ) (events : List Event) : Type 0 where
+  pub asker : (asking_of t events).asker ≡ Some (record { id = id; bytes = bytes })
+  pub others : (n : ℕ) → nat_eq t n ≡ false → (asking_of n events).asker ≡ None
+  pub fresh : list_any (is_under (Some id)) (asks_of t events) ≡ false
+
+pub puts_one : (before : List Event) (s : ℕ) (body method : List ℕ) (id : Id) (params : Option Json) (xs : List Out) → xs ≡ [] → message_of body ≡ request id method params → is_single method ≡ true → list_any (is_under (Some id)) (asks_of s before) ≡ false → (t : ℕ) → t ≡ s
+    → IsAtWork t id (id_bytes body) (behind (with_cause before (FromServer s body)) xs)
+puts_one before s body method id params xs first says one fresh t same = subst (λ n. IsAtWork n id (id_bytes body) (behind (with_cause before (FromServer s body)) xs)) (sym same) (record {
+  asker = asker_is before s body xs first method id params says s ∙ (ap (λ b. if b then (if is_single method then Some (record { id = id; bytes = id_bytes body }) else None) else None) (itself s) ∙ ap (λ b. if b then Some (record { id = id; bytes = id_bytes body }) else None) one);
+  others = λ n away. asker_is before s body xs first method id params says n ∙ ap (λ b. if b then (if is_single method then Some (record { id = id; bytes = id_bytes body }) else None) else None) away;
+  fresh = ap (list_any (is_under (Some id))) (asks_here before s body xs first) ∙ fresh;
+})
+
+-- An answer to the start, under the id of none of its asks
+
+pub record AnswersOne (text : List ℕ) (id : Id) : Type 0 where
+  pub runs : requests (codes "shutdown") (message_of text) ≡ false
+  pub counts : moves_ids (message_of text) ≡ false
+  pub says : saying_of (message_of text) ≡ no_saying
+  pub aside : is_synced (message_of text) ≡ false
+  pub answers : answered_id (message_of text) ≡ Some id
+
+pub refuses_one : (text body method : List ℕ) (id : Id) (params : Option Json) → message_of body ≡ request id method params → text ≡ error_text (id_bytes body) request_failed → AnswersOne text id
+refuses_one text body method id params says is =
+    let e = refused_says text body (id_bytes body) method id params request_failed is refl says in
+    record { runs = ap (requests (codes "shutdown")) e; counts = ap moves_ids e; says = ap saying_of e; aside = ap is_synced e; answers = ap answered_id e }
+
+pub grants_one : (text body method : List ℕ) (id : Id) (params : Option Json) → message_of body ≡ request id method params → text ≡ ok_text (id_bytes body) (codes "null") → AnswersOne text id
+grants_one text body method id params says is =
+    let e = ap message_of is ∙ null_says body id method params says in
+    record { runs = ap (requests (codes "shutdown")) e; counts = ap moves_ids e; says = ap saying_of e; aside = ap is_synced e; answers = ap answered_id e }
+
+none_under : (id : Id) (asks : List Ask) → list_any (is_under (Some id)) asks ≡ false → AllByRecursion (λ (a : Ask). is_under (Some id) a ≡ false) asks
+none_under id [] h = tt
+none_under id (a ∷ asks) h = go (is_under (Some id) a) refl h (λ k. none_under id asks k)
+  where
+    go : (b : Bool) → is_under (Some id) a ≡ b → (b || list_any (is_under (Some id)) asks) ≡ false → (list_any (is_under (Some id)) asks ≡ false → AllByRecursion (λ (a : Ask). is_under (Some id) a ≡ false) asks) → AllByRecursion (λ (a : Ask). is_under (Some id) a ≡ false) (a ∷ asks)
+    go false e k rest = (e, rest k)
+    go true e k rest = never k
+
+pub answers_one : (text : List ℕ) (id : Id) (asks : List Ask) → answered_id (message_of text) ≡ Some id → list_any (is_under (Some id)) asks ≡ false → AllByRecursion (λ (a : Ask). is_under (answered_id (message_of text)) a ≡ false) asks
+answers_one text id asks is fresh = subst (λ o. AllByRecursion (λ (a : Ask). is_under o a ≡ false) asks) (sym is) (none_under id asks fresh)

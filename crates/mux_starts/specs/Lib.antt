@@ -1,0 +1,5 @@
+pub mod Answers
+pub mod Openings
+pub mod Refusing
+pub mod Replies
+pub mod Stops

@@ -1,0 +1,26 @@
+//! Rows of the routing table of what starts say, of their programs, and of ticks, as code over the tables.
+#![tactic(auto)]
+
+mod answers;
+mod broadcasts;
+mod ends;
+mod hasty;
+mod recalled;
+mod refreshed;
+mod refused;
+mod results;
+mod single;
+mod starts;
+mod ticks;
+
+pub use answers::take_answer;
+pub use broadcasts::take_broadcast;
+pub use ends::{take_ending, take_left, take_stopping};
+pub use hasty::{is_first_error, take_hasty};
+pub use recalled::take_recall;
+pub use refreshed::take_refresh;
+pub use refused::take_refused;
+pub use results::{shown_of, take_result};
+pub use single::{take_focused, take_lowest, take_repeated};
+pub use starts::take_started;
+pub use ticks::take_tick;

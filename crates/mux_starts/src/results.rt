@@ -1,0 +1,127 @@
+//! S2: the first result of a start.
+ghost use Rattle.std.specs.Prelude.{◌≡◌, ◌<◌, ℕ, List, [], Option, Some, true, length, map, IfOk, OnOk, slice_get};
+ghost use Rattle.event_model.specs.declared.stage.Stage.TheVariants.{Initializing};
+ghost use Rattle.event_model.specs.Does.{Does, Done};
+ghost use Rattle.event_model.specs.Event.{Event, behind, with_cause};
+ghost use Rattle.event_model.specs.Phases.{desk_of};
+ghost use Rattle.event_model.specs.Row.{each, look};
+ghost use Rattle.event_model.specs.Settings.{Settings};
+ghost use Rattle.event_model.specs.Stages.{is_first_result};
+ghost use Rattle.group_rows.specs.Rows.{first_result, waiting_in, welcome};
+ghost use Rattle.group_words.specs.Rows.{shown_of};
+ghost use Rattle.json_text.specs.Json.{Json};
+ghost use Rattle.mux_history.specs.declared.cause.Cause.TheVariants.{FromServer};
+ghost use Rattle.mux_tables.specs.declared.tables.Start.{Start};
+ghost use Rattle.mux_tables.specs.Documents.{AllStand, DocumentsStand, nothing_owed};
+ghost use Rattle.mux_tables.specs.Names.{id_in};
+ghost use Rattle.mux_tables.specs.Stands.{Stands, number_in};
+ghost use Rattle.mux_turns.specs.Welcomes.{AllAsking, IsGreeted, IsShown, Tells};
+ghost use Rattle.rpc_message.specs.Message.{Id, id_bytes, message_of, result as outcome, result_bytes};
+ghost use Rattle.rpc_message.specs.Parsed.{IsRead};
+
+use capability_meet::{CapFault, shown};
+use message_body::{Body, Memory};
+use mux_history::Outs;
+use mux_members::encoding;
+use mux_tables::Tables;
+use mux_turns::answered_number;
+use rpc_message::{Message, initialized, ok_reply};
+use std::alloc::Global;
+
+/// What editors are shown of the bytes of a start's result; nothing where they are no JSON text. Bytes longer than 268,435,456 are
+/// answered as out of memory.
+pub fn shown_of(alloc: Global, answer: &[u8]) -> Result<Body, Memory>
+    ensures { IfOk result (λ body. body ≡ shown_of answer.now) }
+{
+    if answer.len() > 268_435_456 {
+        return Err(Memory);
+    }
+    match shown(alloc, answer) {
+        Ok(body) => Ok(body),
+        Err(CapFault::NotJson) => Ok(Body::new(Vec::new(alloc))),
+        Err(CapFault::Memory) => Err(Memory),
+    }
+}
+
+// An editor that waits is answered, under the id of its `initialize`.
+fn greet(
+    tables: &mut Tables,
+    alloc: Global,
+    outs: &mut Outs,
+    e: u64,
+    shown: &[u8],
+) -> Result<(), Memory>
+    requires { e < length tables.old.editors }
+    ensures requests { tables.new.requests ≡ tables.old.requests }
+    ensures versions { tables.new.versions ≡ tables.old.versions }
+    ensures count { OnOk result (length tables.new.editors ≡ length tables.old.editors) }
+    ensures ids { OnOk result ((n : ℕ) → id_in (slice_get tables.new.editors n) ≡ id_in (slice_get tables.old.editors n)) }
+    ensures told { OnOk result (Tells outs.old outs.new) }
+    ensures does { (settings : Settings) (base : List Event) (body : List ℕ) → shown.now ≡ shown_of (result_bytes body) → IsShown body
+        → IsGreeted (behind base outs.old) e → id_in (slice_get tables.old.editors e) ≡ Some (id_bytes (desk_of e (behind base outs.old)).initialize)
+        → OnOk result (Does (λ k events. AllStand settings k events)
+        (welcome body e) base (tables.old, nothing_owed) outs.old (tables.new, nothing_owed) outs.new) }
+{
+    match tables.initialize_id(e) {
+        None => Ok(()),
+        Some(id) => {
+            let text = ok_reply(alloc, id.bytes(), shown)?;
+            tables.welcome(outs, e, text)?;
+            Ok(())
+        }
+    }
+}
+
+// The editors of a group that wait are answered, rising.
+fn greet_all(
+    tables: &mut Tables,
+    alloc: Global,
+    outs: &mut Outs,
+    g: u64,
+    shown: &[u8],
+) -> Result<(), Memory>
+    ensures requests { tables.new.requests ≡ tables.old.requests }
+    ensures versions { tables.new.versions ≡ tables.old.versions }
+    ensures does { (settings : Settings) (base : List Event) (body : List ℕ) → shown.now ≡ shown_of (result_bytes body) → IsShown body
+        → AllAsking (behind base outs.old)
+        → OnOk result (Does (λ k events. AllStand settings k events) (look (λ events. each (welcome body)
+        (waiting_in settings g events))) base (tables.old, nothing_owed) outs.old (tables.new, nothing_owed) outs.new) }
+{
+    let numbers = tables.waiting(g)?;
+    for e in &numbers {
+        greet(tables, alloc, outs, *e, shown)?;
+    }
+    Ok(())
+}
+
+/// S2: the group's last start gives the result of its `initialize`: it is told that the session begins, and of each document that is
+/// open; and the editors of the group that wait are answered, rising.
+pub fn take_result(
+    tables: &mut Tables,
+    alloc: Global,
+    outs: &mut Outs,
+    g: usize,
+    message: &Message,
+) -> Result<(), Memory>
+    requires group { g < length tables.old.lasts.items }
+    requires stage { (x : Start) → slice_get tables.old.lasts.items g ≡ Some x → x.life.stage ≡ Initializing }
+    ensures requests { tables.new.requests ≡ tables.old.requests }
+    ensures versions { tables.new.versions ≡ tables.old.versions }
+    ensures does { (settings : Settings) (before : List Event) (body : List ℕ) (id : Option Id) (value : Json) (s : ℕ) → IsRead message.now body
+        → message_of body ≡ outcome id value → is_first_result (message_of body) ≡ true → slice_get (map number_in tables.old.lasts.items) g ≡ Some s
+        → outs.old ≡ []
+        → IsShown body → AllAsking before → Stands settings tables.old before → DocumentsStand settings nothing_owed tables.old before
+        → OnOk result (Done (λ k events. AllStand settings k events) (first_result settings before s body)
+        (with_cause before (FromServer s body)) [] (tables.new, nothing_owed) outs.new) }
+{
+    let group = tables.group_number(g);
+    let n = answered_number(message);
+    let told = shown_of(alloc, message.result_bytes())?;
+    let kept = told.copy(alloc)?;
+    let owed = tables.hear_result(alloc, g, n, encoding(message), kept)?;
+    let text = initialized(alloc)?;
+    tables.notify(outs, g, text)?;
+    tables.pay(outs, owed)?;
+    greet_all(tables, alloc, outs, group, told.bytes())?;
+    Ok(())
+}
