@@ -19,7 +19,7 @@ Linked x = is_linked x.item.phase ≡ true
 abbrev pub none_such : Numbered Session
 none_such = record { number = 0; item = joined }
 
-linked_stays : (p : Phase) → is_linked p ≡ true → is_gone p ≡ false
+pub linked_stays : (p : Phase) → is_linked p ≡ true → is_gone p ≡ false
 linked_stays Absent h = refl
 linked_stays New h = refl
 linked_stays Waiting h = refl

@@ -212,6 +212,17 @@ impl Editors {
         }
     }
 
+    /// The same number, before it is asked.
+    pub fn next_ask(&self, e: u64) -> Option<u64>
+        requires { e < length self.now }
+        ensures { result ≡ next_ask (session_of self.now e) }
+    {
+        match self.find(e) {
+            Some(session) => session.next_ask(),
+            None => None,
+        }
+    }
+
     /// The numbers, rising, of the editors of this group that run.
     pub fn running(&self, group: u64) -> Result<Vec<u64>, Memory>
         ensures { IfOk result (λ numbers. numbers.items ≡ numbers_of (λ s. runs_in group s) self.now) }

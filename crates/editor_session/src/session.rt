@@ -81,6 +81,16 @@ impl Session {
         Some(self.asks)
     }
 
+    /// The number of the next request that it is asked, where one below 2^64 is left.
+    pub fn next_ask(&self) -> Option<u64>
+        ensures { result ≡ number_of self.now }
+    {
+        if self.asks == u64::MAX {
+            return None;
+        }
+        Some(self.asks + 1)
+    }
+
     // Whether it was placed in this group.
     fn is_in(&self, group: u64) -> bool
         ensures { result ≡ is_in group self.now.group }

@@ -1,7 +1,5 @@
 -- S2 to S5 and the start of a program: what an entry of a start sends.
-use Rattle.std.proofs.Common.{◌≡◌, ℕ, zero, suc, true, false, cond, ◌&&◌, List, [], ◌∷◌, ◌++◌, filter, find, nat_eq, codes, if◌then◌else◌, Some, None, refl, sym, ◌∙◌, ap, ap₂, subst, append_assoc, Bool, bytes_eq, Option}
-use Rattle.std.specs.List.{AllByRecursion}
-use Rattle.std.specs.Prelude.{slice_get}
+use Rattle.std.proofs.Common.{◌≡◌, ℕ, true, false, cond, ◌&&◌, List, [], ◌∷◌, ◌++◌, filter, find, nat_eq, codes, if◌then◌else◌, Some, None, refl, sym, ◌∙◌, ap, ap₂, subst, append_assoc, Bool, bytes_eq, Option}
 use Rattle.std.proofs.lemmas.Bool.{and_parts}
 use Rattle.std.proofs.lemmas.List.Elements.{filter-append}
 use Rattle.json_text.specs.Bare.{nowhere}
@@ -55,7 +53,7 @@ use Rattle.group_facts.proofs.AskingRows.{notified_why, question_why}
 use Rattle.group_facts.proofs.Apart.{alone_answered}
 use Rattle.group_rows.proofs.Versions.{AllMeant, own_flat}
 use Rattle.group_facts.proofs.Answered.{answer_says}
-use Rattle.group_facts.proofs.Forwards.{Still, still_notified, still_now}
+use Rattle.group_facts.proofs.Forwards.{Still, get_all, still_notified, still_now}
 use Rattle.group_rows.proofs.Stops.{range_below}
 use Rattle.group_facts.proofs.RefusedRow.{refused_why}
 use Rattle.group_facts.proofs.SharedRows.{AllTold, replay_told}
@@ -81,11 +79,6 @@ answers_only not_message f fs h = absurd (nobody_found fs f h)
 pub response_is : (id : Id) (m : Message) → IsResponseTo id m → (is_response m ≡ true) × (answered_id m ≡ Some id)
 response_is id m (is_result r e) = (ap is_response e, ap answered_id e)
 response_is id m (is_error x e) = (ap is_response e, ap answered_id e)
-
-pub get_all : {X : Type 0} (P : X → Type 0) (xs : List X) (i : ℕ) (x : X) → AllByRecursion P xs → slice_get xs i ≡ Some x → P x
-get_all P [] i x h e = absurd (cc)
-get_all P (y ∷ xs) zero x h e = subst P (let same : y ≡ x = cc in same) h.0
-get_all P (y ∷ xs) (suc i) x h e = get_all P xs i x h.1 e
 
 module _ (settings : Settings) (range : InRange settings) (before : List Event) (s : ℕ) (body : List ℕ) where
   abbrev now : List Event
@@ -255,13 +248,13 @@ module _ (settings : Settings) (range : InRange settings) (before : List Event) 
   hasty_why at other not_json says = by_nothing
   hasty_why at other not_message says = by_nothing
 
-  module _ (opened : Opened settings before) (untold : Untold before) (waiting : AllWaiting before) (all : AllForwarded before) (apart : Apart before) (meant : AllMeant before) (asks : Asks before) where
+  module _ (opened : Opened settings before) (untold : Untold before) (waiting : AllWaiting before) (all : AllForwarded before) (apart : Apart before) (meant : AllMeant before) (asks : Asks settings before) (written : Written settings before) where
     result_why : FirstResult (message_of body) → (life_of s before).stage ≡ Initializing → is_first_result (message_of body) ≡ true → shown_of (result_bytes body) ≡ result_bytes body → Because R now (first_result settings before s body)
     result_why first at is whole = by_on (λ none. by_nothing) (λ g home. greet_why first.r first.is whole at is opened untold waiting g)
 
     -- S5, and what it asks and tells
     ready_why : (life_of s before).stage ≡ Ready → built_ready settings before s (message_of body) ≡ true → (m : Message) → message_of body ≡ m → Because R now (ready_row settings s before body m)
-    ready_why at built (request id method params) says = question_why settings before s body at id method params says (ap (built_ready settings before s) (sym says) ∙ built)
+    ready_why at built (request id method params) says = question_why settings before s body at meant written id method params says (ap (built_ready settings before s) (sym says) ∙ built)
     ready_why at built (notification method params) says = notified_why settings before s body at asks method params says
     ready_why at built (result id r) says = subst (λ m. Because R now (answer_row settings s before body m)) says (response_why all apart meant)
     ready_why at built (error id x) says = subst (λ m. Because R now (answer_row settings s before body m)) says (response_why all apart meant)

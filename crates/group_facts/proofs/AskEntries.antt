@@ -6,7 +6,7 @@ use Rattle.mux_history.specs.declared.cause.Why as link
 use Rattle.mux_history.specs.declared.cause.Cause.TheVariants.{Joined, FromEditor, EditorGone, Started, StartFailed, FromServer, ServerGone, Drained, Tick}
 use Rattle.mux_history.specs.declared.out.Out.{Out}
 use Rattle.mux_history.specs.declared.out.Out.TheVariants.{ToEditor, ToServer, Spawn, CloseEditor, EndServer}
-use Rattle.rpc_message.specs.Message.{Message, message_of}
+use Rattle.rpc_message.specs.Message.{Message, Id, id_bytes, message_of}
 use Rattle.event_model.specs.declared.phase.Phase.{Phase}
 use Rattle.event_model.specs.declared.phase.Phase.TheVariants.{Absent, New, Running, Down, Gone}
 use Rattle.event_model.specs.declared.stage.Stage.{Stage}
@@ -21,19 +21,17 @@ use Rattle.mux_facts.specs.Ranges.{InRange}
 use Rattle.mux_facts.proofs.Editors.{Editors}
 use Rattle.mux_facts.proofs.Starts.{Starts}
 use Rattle.mux_facts.proofs.Folds.{desk_more, life_more}
-use Rattle.mux_facts.proofs.Lists.{all_join}
+use Rattle.mux_facts.proofs.Lists.{all_join, all_of}
 use Rattle.mux_facts.proofs.Reasons.{reasons_keep}
 use Rattle.mux_facts.proofs.Words.{number_same}
-use Rattle.group_words.specs.Houses.{home_of, places}
-use Rattle.group_words.proofs.Frames.{home_more, home_stays}
-use Rattle.group_rows.specs.Asks.{Ask, Asker, asker_of, asks_of, next_ask, put}
+use Rattle.group_rows.specs.Asks.{Ask, Asker, Asking, asker_of, asks_of, next_ask, put}
 use Rattle.group_rows.specs.Rows.{outs_of}
 use Rattle.group_facts.specs.Built.{built_behind}
-use Rattle.group_facts.specs.Facts.{ends_link, is_unready, is_up}
+use Rattle.group_facts.specs.Facts.{ends_link, is_unready, is_up, leaves, shuts}
 use Rattle.group_facts.specs.Settled.{HasSeat}
-use Rattle.group_facts.specs.Why.{IsAsk, Why, WhyToEditor, answers, asks, passes, recalls, refuses, rejects, spreads, turns_away, welcomes}
-use Rattle.group_facts.proofs.Asks.{is_question, listed, response_asks_none}
-use Rattle.group_facts.proofs.AskSeats.{asks_more, did_all, took_all}
+use Rattle.group_facts.specs.Why.{IsAsk, IsResumed, Why, WhyToEditor, answers, asks, passes, recalls, refuses, rejects, resumes, spreads, turns_away, welcomes}
+use Rattle.group_facts.proofs.Asks.{is_question, listed, response_asks_none, resumed_here, resumed_off, taken}
+use Rattle.group_facts.proofs.AskSeats.{MidSeat, asks_more, did_all, took_all}
 use Rattle.group_facts.proofs.AskingRows.{still_runs}
 use Rattle.group_facts.proofs.Facts.{Facts}
 use Rattle.group_facts.proofs.Known.{Here, here_did, here_took}
@@ -43,16 +41,7 @@ use Rattle.group_facts.proofs.OneStart.{OneStart}
 use Rattle.group_facts.proofs.Table.{reasons}
 
 abbrev pub AllSeats : Settings → List Event → Type 0
-AllSeats settings events = (s : ℕ) → AllByRecursion (HasSeat settings events s) (asks_of s events)
-
--- its message is `shutdown`, or its link is gone
-abbrev pub shuts : Cause → ℕ → Bool
-shuts (FromEditor n body) e = nat_eq n e && requests (codes "shutdown") (message_of body)
-shuts (EditorGone n why) e = nat_eq n e
-shuts other e = false
-
-abbrev pub leaves : Settings → List Event → Cause → ℕ → Bool
-leaves settings before cause e = ends_link settings before cause e || shuts cause e
+AllSeats settings events = (s : ℕ) → AllByRecursion (HasSeat settings events s) (asks_of settings s events)
 
 pub off_both : (a b : Bool) → (a || b) ≡ false → (a ≡ false) × (b ≡ false)
 off_both true b h = never h
@@ -90,25 +79,6 @@ module _ (settings : Settings) (before : List Event) (e : ℕ) (at : (desk_of e 
   took_runs (Drained n k) fits absent stays = ap (λ (d : Desk). d.phase) (desk_more e before (heard (Drained n k))) ∙ at
   took_runs (Tick t) fits absent stays = ap (λ (d : Desk). d.phase) (desk_more e before (heard (Tick t))) ∙ at
 
-  -- it places itself no more
-  unplaced : (m : Message) → places (desk_of e before).phase m ≡ false
-  unplaced m = ap (λ p. is_new p && requests (codes "initialize") m) at
-
-  pub took_home : (cause : Cause) → shuts cause e ≡ false → home_of settings e (with_cause before cause) ≡ home_of settings e before
-  took_home (FromEditor n body) stays = go (nat_eq n e) refl
-    where
-      go : (b : Bool) → nat_eq n e ≡ b → home_of settings e (with_cause before (FromEditor n body)) ≡ home_of settings e before
-      go true same = let off : places (desk_of n before).phase (message_of body) ≡ false = ap (λ k. places (desk_of k before).phase (message_of body)) (number_same n e same) ∙ unplaced (message_of body) in home_more settings e before (heard (FromEditor n body)) ∙ rw (same, off) refl
-      go false other = home_more settings e before (heard (FromEditor n body)) ∙ rw other refl
-  took_home (EditorGone n why) stays = home_stays settings e before (heard (EditorGone n why)) stays
-  took_home (Joined n) stays = home_stays settings e before (heard (Joined n)) refl
-  took_home (Started n) stays = home_stays settings e before (heard (Started n)) refl
-  took_home (StartFailed n) stays = home_stays settings e before (heard (StartFailed n)) refl
-  took_home (FromServer n body) stays = home_stays settings e before (heard (FromServer n body)) refl
-  took_home (ServerGone n) stays = home_stays settings e before (heard (ServerGone n)) refl
-  took_home (Drained n k) stays = home_stays settings e before (heard (Drained n k)) refl
-  took_home (Tick t) stays = home_stays settings e before (heard (Tick t)) refl
-
 close_runs : (events : List Event) (n e : ℕ) → nat_eq n e ≡ false → (desk_of e events).phase ≡ Running → (desk_of e (events ++ said (CloseEditor n) ∷ [])).phase ≡ Running
 close_runs events n e other at = ap (λ (d : Desk). d.phase) (desk_more e events (said (CloseEditor n)) ∙ ap (λ b. if b then record { phase = phase_closed (desk_of e events).phase; initialize = (desk_of e events).initialize } else desk_of e events) other) ∙ at
 
@@ -125,13 +95,29 @@ up_ready Stopping up begun = never (sym up)
 up_ready Ending up begun = never (sym up)
 up_ready Ended up begun = never (sym up)
 
+-- what was asked before keeps its seat in the entry
+module _ (settings : Settings) (before : List Event) (facts : Facts settings before) (cause : Cause) (fits : fits_behind before cause ≡ true) where
+  pub seat_now : (s : ℕ) (a : Ask) → HasSeat settings before s a → MidSeat settings before cause s a
+  seat_now s a k = record {
+    running = λ stays. took_runs settings before a.editor k.running cause fits (facts.steady).editors (off_both (ends_link settings before cause a.editor) (shuts cause a.editor) stays).1;
+    ran = λ leaves. k.running;
+    old = ap is_new k.running;
+    group = k.group;
+    home = k.home ∙ k.kept;
+    last = k.last;
+    ready = k.ready;
+  }
+
 module _ (settings : Settings) (range : InRange settings) (before : List Event) (facts : Facts settings before) (one : OneStart before) (seats : AllSeats settings before) (cause : Cause) (built : built_behind settings before cause ≡ true) where
-  -- what is known at a place of the entry: who is asked has had its seat before it
+  abbrev Seat : ℕ → Ask → Type 0
+  Seat s a = MidSeat settings before cause s a
+
+  -- what is known at a place of the entry: who is asked has its seat
   pub record Inner (events : List Event) : Type 0 where
     pub here : Here settings before cause events
-    pub seated : (s : ℕ) → AllByRecursion (HasSeat settings before s) (asks_of s events)
+    pub seated : (s : ℕ) → AllByRecursion (Seat s) (asks_of settings s events)
     pub begun : (s : ℕ) → is_unready (life_of s before).stage ≡ false → is_unready (life_of s events).stage ≡ false
-    pub runs : (e : ℕ) → leaves settings before cause e ≡ false → (desk_of e before).phase ≡ Running → (desk_of e events).phase ≡ Running
+    pub runs : (e : ℕ) → leaves settings before cause e ≡ false → (desk_of e (with_cause before cause)).phase ≡ Running → (desk_of e events).phase ≡ Running
 
   not_back : (s : ℕ) (events : List Event) (event : Event) → Fresh is_unready unready_falls s (life_of s events) event → is_unready (life_of s events).stage ≡ false → is_unready (life_of s (events ++ event ∷ [])).stage ≡ false
   not_back s events event fresh begun = go (is_unready (life_of s (events ++ event ∷ [])).stage) refl
@@ -154,41 +140,71 @@ module _ (settings : Settings) (range : InRange settings) (before : List Event) 
   inner_took : fits_behind before cause ≡ true → Inner (with_cause before cause)
   inner_took fits = record {
     here = here_took settings range before cause fits built facts;
-    seated = λ s. took_all (HasSeat settings before s) s before cause (seats s);
+    seated = λ s. took_all settings (Seat s) s before cause (all_of (HasSeat settings before s) (Seat s) (λ a k. seat_now settings before facts cause fits s a k) (asks_of settings s before) (seats s));
     begun = λ s h. not_back s before (heard cause) (fresh_cause cause s) h;
-    runs = λ e stays at. took_runs settings before e at cause fits (facts.steady).editors (off_both (ends_link settings before cause e) (shuts cause e) stays).1;
+    runs = λ e stays at. at;
   }
 
   -- one that is asked in this entry
-  asked_seat : (events : List Event) (e : ℕ) (body : List ℕ) (k : IsAsk settings before cause events e body) (a : Asker) (n : ℕ) → HasSeat settings before k.start (record { id = a.id; bytes = a.bytes; editor = e; number = n })
-  asked_seat events e body k a n = record { running = k.ran; home = k.home ∙ sym k.kept; group = k.group; kept = k.kept; last = one k.start k.group k.kept; ready = (k.source).ready }
+  asked_seat : (events : List Event) (e : ℕ) (body : List ℕ) (k : IsAsk settings before cause events e body) (a : Asker) (n : ℕ) → Seat k.start (record { id = a.id; bytes = a.bytes; editor = e; number = n })
+  asked_seat events e body k a n = record {
+    running = λ stays. ap (λ c. (desk_of e (with_cause before c)).phase) (k.source).from ∙ (ap (λ (d : Desk). d.phase) (desk_more e before (heard (FromServer k.start k.asked))) ∙ k.ran);
+    ran = λ leaves. k.ran;
+    old = ap is_new k.ran;
+    group = k.group;
+    home = k.home;
+    last = one k.start k.group k.kept;
+    ready = (k.source).ready;
+  }
 
-  asked_more : (events : List Event) (e : ℕ) (body : List ℕ) → IsAsk settings before cause events e body → (s : ℕ) → AllByRecursion (HasSeat settings before s) (asks_of s events) → AllByRecursion (HasSeat settings before s) (asks_of s (events ++ said (ToEditor e body) ∷ []))
-  asked_more events e body k s h = asks_more (HasSeat settings before s) s events (said (ToEditor e body)) _ (listed events e body settings before cause k s)
-      (all_join (HasSeat settings before s) (asks_of s events) (put (if nat_eq k.start s then asker_of k.asked (message_of k.asked) else None) e (next_ask e events)) h (go (nat_eq k.start s) refl))
+  resumed_seat : (events : List Event) (e : ℕ) (body : List ℕ) (k : IsResumed settings before cause events e body) (id : Id) (bytes : List ℕ) (n : ℕ) → Seat k.start (record { id = id; bytes = bytes; editor = e; number = n })
+  resumed_seat events e body k id bytes n = record {
+    running = λ stays. k.began;
+    ran = λ leaves. never (sym leaves ∙ k.stays);
+    old = ap is_new k.waited;
+    group = k.group;
+    home = k.home;
+    last = k.last;
+    ready = k.ready;
+  }
+
+  resumed_more : (events : List Event) (e : ℕ) (body : List ℕ) → IsResumed settings before cause events e body → (s : ℕ) → AllByRecursion (Seat s) (asks_of settings s events) → AllByRecursion (Seat s) (asks_of settings s (events ++ said (ToEditor e body) ∷ []))
+  resumed_more events e body k s h = go (nat_eq k.start s) refl
     where
-      go : (b : Bool) → nat_eq k.start s ≡ b → AllByRecursion (HasSeat settings before s) (put (if b then asker_of k.asked (message_of k.asked) else None) e (next_ask e events))
-      go true same = put_all (HasSeat settings before s) (asker_of k.asked (message_of k.asked)) e (next_ask e events)
-          (λ a is. subst (λ z. HasSeat settings before z (record { id = a.id; bytes = a.bytes; editor = e; number = next_ask e events })) (number_same k.start s same) (asked_seat events e body k a (next_ask e events)))
+      go : (b : Bool) → nat_eq k.start s ≡ b → AllByRecursion (Seat s) (asks_of settings s (events ++ said (ToEditor e body) ∷ []))
+      go true same = subst (λ z. AllByRecursion (Seat z) (asks_of settings z (events ++ said (ToEditor e body) ∷ []))) (number_same k.start s same)
+          (asks_more settings (Seat k.start) k.start events (said (ToEditor e body)) _ (ap (λ (x : Asking). x.asks) (resumed_here settings events e body before cause k))
+          (all_join (Seat k.start) (asks_of settings k.start events) (taken settings events e body before cause k ∷ []) (subst (λ z. AllByRecursion (Seat z) (asks_of settings z events)) (sym (number_same k.start s same)) h)
+          (resumed_seat events e body k (k.first).id (id_bytes (k.first).body) (next_ask e events), tt)))
+      go false other = asks_more settings (Seat s) s events (said (ToEditor e body)) _ (ap (λ (x : Asking). x.asks) (resumed_off settings events e body before cause k s other)) h
+
+  asked_more : (events : List Event) (e : ℕ) (body : List ℕ) → IsAsk settings before cause events e body → (s : ℕ) → AllByRecursion (Seat s) (asks_of settings s events) → AllByRecursion (Seat s) (asks_of settings s (events ++ said (ToEditor e body) ∷ []))
+  asked_more events e body k s h = asks_more settings (Seat s) s events (said (ToEditor e body)) _ (listed settings events e body before cause k s)
+      (all_join (Seat s) (asks_of settings s events) (put (if nat_eq k.start s then asker_of k.asked (message_of k.asked) else None) e (next_ask e events)) h (go (nat_eq k.start s) refl))
+    where
+      go : (b : Bool) → nat_eq k.start s ≡ b → AllByRecursion (Seat s) (put (if b then asker_of k.asked (message_of k.asked) else None) e (next_ask e events))
+      go true same = put_all (Seat s) (asker_of k.asked (message_of k.asked)) e (next_ask e events)
+          (λ a is. subst (λ z. Seat z (record { id = a.id; bytes = a.bytes; editor = e; number = next_ask e events })) (number_same k.start s same) (asked_seat events e body k a (next_ask e events)))
       go false other = tt
 
-  told_seated : (events : List Event) (e : ℕ) (body : List ℕ) → WhyToEditor settings before cause events e body → (s : ℕ) → AllByRecursion (HasSeat settings before s) (asks_of s events) → AllByRecursion (HasSeat settings before s) (asks_of s (events ++ said (ToEditor e body) ∷ []))
+  told_seated : (events : List Event) (e : ℕ) (body : List ℕ) → WhyToEditor settings before cause events e body → (s : ℕ) → AllByRecursion (Seat s) (asks_of settings s events) → AllByRecursion (Seat s) (asks_of settings s (events ++ said (ToEditor e body) ∷ []))
   told_seated events e body (asks k) s h = asked_more events e body k s h
-  told_seated events e body (rejects k) s h = did_all (HasSeat settings before s) s events (ToEditor e body) (ap is_question k.says) h
-  told_seated events e body (refuses k) s h = did_all (HasSeat settings before s) s events (ToEditor e body) (ap is_question k.says) h
-  told_seated events e body (answers k) s h = did_all (HasSeat settings before s) s events (ToEditor e body) (ap is_question k.says) h
-  told_seated events e body (turns_away k) s h = did_all (HasSeat settings before s) s events (ToEditor e body) (ap is_question k.says) h
-  told_seated events e body (welcomes k) s h = did_all (HasSeat settings before s) s events (ToEditor e body) (ap is_question k.says) h
-  told_seated events e body (passes k) s h = did_all (HasSeat settings before s) s events (ToEditor e body) (response_asks_none (message_of body) k.response) h
-  told_seated events e body (spreads k) s h = did_all (HasSeat settings before s) s events (ToEditor e body) (ap is_question k.says) h
-  told_seated events e body (recalls k) s h = did_all (HasSeat settings before s) s events (ToEditor e body) (ap is_question k.says) h
+  told_seated events e body (resumes k) s h = resumed_more events e body k s h
+  told_seated events e body (rejects k) s h = did_all settings (Seat s) s events (ToEditor e body) (ap is_question k.says) h
+  told_seated events e body (refuses k) s h = did_all settings (Seat s) s events (ToEditor e body) (ap is_question k.says) h
+  told_seated events e body (answers k) s h = did_all settings (Seat s) s events (ToEditor e body) (ap is_question k.says) h
+  told_seated events e body (turns_away k) s h = did_all settings (Seat s) s events (ToEditor e body) (ap is_question k.says) h
+  told_seated events e body (welcomes k) s h = did_all settings (Seat s) s events (ToEditor e body) (ap is_question k.says) h
+  told_seated events e body (passes k) s h = did_all settings (Seat s) s events (ToEditor e body) (response_asks_none (message_of body) k.response) h
+  told_seated events e body (spreads k) s h = did_all settings (Seat s) s events (ToEditor e body) (ap is_question k.says) h
+  told_seated events e body (recalls k) s h = did_all settings (Seat s) s events (ToEditor e body) (ap is_question k.says) h
 
-  did_seated : (events : List Event) (out : Out) → Why settings before cause events out → (s : ℕ) → AllByRecursion (HasSeat settings before s) (asks_of s events) → AllByRecursion (HasSeat settings before s) (asks_of s (events ++ said out ∷ []))
+  did_seated : (events : List Event) (out : Out) → Why settings before cause events out → (s : ℕ) → AllByRecursion (Seat s) (asks_of settings s events) → AllByRecursion (Seat s) (asks_of settings s (events ++ said out ∷ []))
   did_seated events (ToEditor e body) why s h = told_seated events e body why s h
-  did_seated events (ToServer n body) why s h = did_all (HasSeat settings before s) s events (ToServer n body) tt h
-  did_seated events (Spawn n g) why s h = did_all (HasSeat settings before s) s events (Spawn n g) tt h
-  did_seated events (CloseEditor n) why s h = did_all (HasSeat settings before s) s events (CloseEditor n) tt h
-  did_seated events (EndServer n) why s h = did_all (HasSeat settings before s) s events (EndServer n) tt h
+  did_seated events (ToServer n body) why s h = did_all settings (Seat s) s events (ToServer n body) tt h
+  did_seated events (Spawn n g) why s h = did_all settings (Seat s) s events (Spawn n g) tt h
+  did_seated events (CloseEditor n) why s h = did_all settings (Seat s) s events (CloseEditor n) tt h
+  did_seated events (EndServer n) why s h = did_all settings (Seat s) s events (EndServer n) tt h
 
   did_runs : (events : List Event) (out : Out) → Why settings before cause events out → (e : ℕ) → leaves settings before cause e ≡ false → (desk_of e events).phase ≡ Running → (desk_of e (events ++ said out ∷ [])).phase ≡ Running
   did_runs events (ToEditor n body) why e stays at = still_runs events n body e at

@@ -31,17 +31,18 @@ use Rattle.group_rows.specs.Asks.{Ask, asks_of, is_with}
 use Rattle.group_rows.specs.Leaves.{leave_row}
 use Rattle.group_rows.specs.Rows.{closing_row, from_editor, gone_row, outs_of, shutdown_row}
 use Rattle.group_facts.specs.Built.{built_behind}
-use Rattle.group_facts.specs.Facts.{is_in, is_parting, is_refusing, is_too_many, is_unready, ends_link, turned_away}
+use Rattle.group_facts.specs.Facts.{is_in, is_parting, is_refusing, is_too_many, is_unready, ends_link, leaves, shuts, turned_away}
 use Rattle.group_facts.specs.Lively.{Lively}
 use Rattle.group_facts.specs.Settled.{HasSeat, is_answered}
 use Rattle.group_facts.proofs.Asks.{is_question}
-use Rattle.group_facts.proofs.AskEntries.{AllSeats, Inner, inner_rests, leaves, off_both, on_either, shuts, took_home, up_ready}
+use Rattle.group_facts.proofs.AskEntries.{AllSeats, Inner, inner_rests, off_both, on_either, seat_now, up_ready}
 use Rattle.group_facts.proofs.AskRest.{all_pending, leave_clean, none_with, seat_home}
-use Rattle.group_facts.proofs.AskSeats.{Away, Pending, Unsaid, did_all, took_all}
+use Rattle.group_facts.proofs.AskSeats.{Away, MidSeat, Pending, Unsaid, did_all, took_all}
 use Rattle.group_facts.proofs.AskingRows.{running_is}
 use Rattle.group_facts.proofs.Begun.{Begun}
 use Rattle.group_facts.proofs.Facts.{Facts}
 use Rattle.group_facts.proofs.Forwards.{zip_all}
+use Rattle.group_facts.proofs.Homes.{took_home}
 use Rattle.group_facts.proofs.Lively.{up_of}
 use Rattle.group_facts.proofs.Nulls.{null_said}
 use Rattle.group_facts.proofs.OneStart.{OneStart, start_kept}
@@ -83,18 +84,22 @@ module _ (settings : Settings) (range : InRange settings) (before : List Event) 
   abbrev later : Cause → List Event
   later cause = behind (with_cause before cause) (outs_of settings before cause)
 
-  -- none of an editor that doesn't run
-  unrun_away : (e s : ℕ) (xs : List Ask) → AllByRecursion (HasSeat settings before s) xs → is_running (desk_of e before).phase ≡ false → AllByRecursion (Away e) xs
-  unrun_away e s xs h off = none_with settings before e s xs h (λ a k same. never (sym (ap (λ i. is_running (desk_of i before).phase) (sym same) ∙ ap is_running k.running) ∙ off))
+  -- none of an editor that leaves and didn't run
+  unrun_away : (cause : Cause) (e s : ℕ) (xs : List Ask) → AllByRecursion (MidSeat settings before cause s) xs → leaves settings before cause e ≡ true → is_running (desk_of e before).phase ≡ false → AllByRecursion (Away e) xs
+  unrun_away cause e s xs h left off = none_with settings before cause e s xs h (λ a k same. never (sym (ap (λ i. is_running (desk_of i before).phase) (sym same) ∙ ap is_running (k.ran (ap (leaves settings before cause) same ∙ left))) ∙ off))
+
+  -- those that were asked before the entry have their seats in it
+  seats_in : (cause : Cause) → fits_behind before cause ≡ true → (s : ℕ) → AllByRecursion (MidSeat settings before cause s) (asks_of settings s before)
+  seats_in cause fits s = all_of (HasSeat settings before s) (MidSeat settings before cause s) (λ a k. seat_now settings before facts cause fits s a k) (asks_of settings s before) (seats s)
 
   -- where the row is an out and the leave
-  module _ (n : ℕ) (body : List ℕ) where
-    parted : (out : Out) → Unsaid out → outs_of settings before (FromEditor n body) ≡ out ∷ outs (leave_row settings before n) (with_cause before (FromEditor n body) ++ said out ∷ []) → (s : ℕ) → AllByRecursion (Away n) (asks_of s (later (FromEditor n body)))
-    parted out none is s = subst (λ xs. AllByRecursion (Away n) (asks_of s (behind heard_now xs))) (sym is)
-        (subst (λ z. AllByRecursion (Away n) (asks_of s z)) (append_assoc heard_now (said out ∷ []) (map said (outs (leave_row settings before n) (heard_now ++ said out ∷ []))))
-        (leave_clean settings before (facts.steady).asks n (heard_now ++ said out ∷ [])
-        (λ t. did_all (HasSeat settings before t) t heard_now out none (took_all (HasSeat settings before t) t before (FromEditor n body) (seats t)))
-        (λ t. did_all (Pending n (filter (is_with n) (asks_of t before))) t heard_now out none (took_all (Pending n (filter (is_with n) (asks_of t before))) t before (FromEditor n body) (all_pending n (asks_of t before)))) s))
+  module _ (n : ℕ) (body : List ℕ) (fits : fits_behind before (FromEditor n body) ≡ true) where
+    parted : (out : Out) → Unsaid out → outs_of settings before (FromEditor n body) ≡ out ∷ outs (leave_row settings before n) (with_cause before (FromEditor n body) ++ said out ∷ []) → (s : ℕ) → AllByRecursion (Away n) (asks_of settings s (later (FromEditor n body)))
+    parted out none is s = subst (λ xs. AllByRecursion (Away n) (asks_of settings s (behind heard_now xs))) (sym is)
+        (subst (λ z. AllByRecursion (Away n) (asks_of settings s z)) (append_assoc heard_now (said out ∷ []) (map said (outs (leave_row settings before n) (heard_now ++ said out ∷ []))))
+        (leave_clean settings before (FromEditor n body) (facts.steady).asks n (heard_now ++ said out ∷ [])
+        (λ t. did_all settings (MidSeat settings before (FromEditor n body) t) t heard_now out none (took_all settings (MidSeat settings before (FromEditor n body) t) t before (FromEditor n body) (seats_in (FromEditor n body) fits t)))
+        (λ t. did_all settings (Pending n (filter (is_with n) (asks_of settings t before))) t heard_now out none (took_all settings (Pending n (filter (is_with n) (asks_of settings t before))) t before (FromEditor n body) (all_pending n (asks_of settings t before)))) s))
       where
         heard_now : List Event
         heard_now = with_cause before (FromEditor n body)
@@ -103,13 +108,13 @@ module _ (settings : Settings) (range : InRange settings) (before : List Event) 
       row_is : outs_of settings before (FromEditor n body) ≡ outs (from_editor settings before n body (message_of body) Running) (with_cause before (FromEditor n body))
       row_is = ap (λ p. outs (from_editor settings before n body (message_of body) p) (with_cause before (FromEditor n body))) at
 
-      closed_away : outs (from_editor settings before n body (message_of body) Running) (with_cause before (FromEditor n body)) ≡ outs (closing_row settings before n) (with_cause before (FromEditor n body)) → (s : ℕ) → AllByRecursion (Away n) (asks_of s (later (FromEditor n body)))
+      closed_away : outs (from_editor settings before n body (message_of body) Running) (with_cause before (FromEditor n body)) ≡ outs (closing_row settings before n) (with_cause before (FromEditor n body)) → (s : ℕ) → AllByRecursion (Away n) (asks_of settings s (later (FromEditor n body)))
       closed_away is = parted (CloseEditor n) tt (row_is ∙ is)
 
-      shut_away : (m : Message) → message_of body ≡ m → requests (codes "shutdown") m ≡ true → (s : ℕ) → AllByRecursion (Away n) (asks_of s (later (FromEditor n body)))
+      shut_away : (m : Message) → message_of body ≡ m → requests (codes "shutdown") m ≡ true → (s : ℕ) → AllByRecursion (Away n) (asks_of settings s (later (FromEditor n body)))
       shut_away (request id method params) says h = go (is_open id (open_of n before)) refl
         where
-          go : (b : Bool) → is_open id (open_of n before) ≡ b → (s : ℕ) → AllByRecursion (Away n) (asks_of s (later (FromEditor n body)))
+          go : (b : Bool) → is_open id (open_of n before) ≡ b → (s : ℕ) → AllByRecursion (Away n) (asks_of settings s (later (FromEditor n body)))
           go true twice = closed_away (doubled_outs settings before n body (message_of body) (ap (is_doubled before n) says ∙ twice))
           go false fresh = parted (ToEditor n (ok_text (id_bytes body) (codes "null"))) (ap is_question (null_said body id method params says))
               (row_is ∙ ap (λ m. outs (from_editor settings before n body m Running) (with_cause before (FromEditor n body))) says ∙ shut_outs settings before n body id method params h fresh)
@@ -119,26 +124,26 @@ module _ (settings : Settings) (range : InRange settings) (before : List Event) 
       shut_away not_json says h = never (sym h)
       shut_away not_message says h = never (sym h)
 
-      parting_away : is_parting before n (message_of body) ≡ true → (s : ℕ) → AllByRecursion (Away n) (asks_of s (later (FromEditor n body)))
+      parting_away : is_parting before n (message_of body) ≡ true → (s : ℕ) → AllByRecursion (Away n) (asks_of settings s (later (FromEditor n body)))
       parting_away parts = go (on_either (notifies (codes "exit") (message_of body)) (is_doubled before n (message_of body)) parts)
         where
-          go : (notifies (codes "exit") (message_of body) ≡ true) ⊎ (is_doubled before n (message_of body) ≡ true) → (s : ℕ) → AllByRecursion (Away n) (asks_of s (later (FromEditor n body)))
+          go : (notifies (codes "exit") (message_of body) ≡ true) ⊎ (is_doubled before n (message_of body) ≡ true) → (s : ℕ) → AllByRecursion (Away n) (asks_of settings s (later (FromEditor n body)))
           go (inl is) = closed_away (exit_outs settings before n body (message_of body) is)
           go (inr twice) = closed_away (doubled_outs settings before n body (message_of body) twice)
 
-      own_away : (e : ℕ) → leaves settings before (FromEditor n body) e ≡ true → (s : ℕ) → AllByRecursion (Away n) (asks_of s (later (FromEditor n body)))
+      own_away : (e : ℕ) → leaves settings before (FromEditor n body) e ≡ true → (s : ℕ) → AllByRecursion (Away n) (asks_of settings s (later (FromEditor n body)))
       own_away e h = go (on_either (ends_link settings before (FromEditor n body) e) (shuts (FromEditor n body) e) h)
         where
-          turned : turned_away settings before (FromEditor n body) e ≡ true → (s : ℕ) → AllByRecursion (Away n) (asks_of s (later (FromEditor n body)))
+          turned : turned_away settings before (FromEditor n body) e ≡ true → (s : ℕ) → AllByRecursion (Away n) (asks_of settings s (later (FromEditor n body)))
           turned t = let p = and_parts (nat_eq n e) (places (desk_of n before).phase (message_of body) && is_too_many (placed_for settings before n body (groups_of settings before))) t in
               let q = and_parts (places (desk_of n before).phase (message_of body)) (is_too_many (placed_for settings before n body (groups_of settings before))) p.1 in
               never (sym q.0 ∙ ap (λ p. is_new p && requests (codes "initialize") (message_of body)) at)
 
-          ending : (turned_away settings before (FromEditor n body) e ≡ true) ⊎ ((nat_eq n e && is_parting before n (message_of body)) ≡ true) → (s : ℕ) → AllByRecursion (Away n) (asks_of s (later (FromEditor n body)))
+          ending : (turned_away settings before (FromEditor n body) e ≡ true) ⊎ ((nat_eq n e && is_parting before n (message_of body)) ≡ true) → (s : ℕ) → AllByRecursion (Away n) (asks_of settings s (later (FromEditor n body)))
           ending (inl t) = turned t
           ending (inr p) = parting_away (and_parts (nat_eq n e) (is_parting before n (message_of body)) p).1
 
-          go : (ends_link settings before (FromEditor n body) e ≡ true) ⊎ (shuts (FromEditor n body) e ≡ true) → (s : ℕ) → AllByRecursion (Away n) (asks_of s (later (FromEditor n body)))
+          go : (ends_link settings before (FromEditor n body) e ≡ true) ⊎ (shuts (FromEditor n body) e ≡ true) → (s : ℕ) → AllByRecursion (Away n) (asks_of settings s (later (FromEditor n body)))
           go (inl ends) = ending (on_either (turned_away settings before (FromEditor n body) e) (nat_eq n e && is_parting before n (message_of body)) ends)
           go (inr shut) = shut_away (message_of body) refl (and_parts (nat_eq n e) (requests (codes "shutdown") (message_of body)) shut).1
 
@@ -154,18 +159,18 @@ module _ (settings : Settings) (range : InRange settings) (before : List Event) 
         go (inl ends) = ending (on_either (turned_away settings before (FromEditor n body) e) (nat_eq n e && is_parting before n (message_of body)) ends)
         go (inr shut) = (and_parts (nat_eq n e) (requests (codes "shutdown") (message_of body)) shut).0
 
-  gone_away : (n : ℕ) (why : link.Why) → (desk_of n before).phase ≡ Running → (s : ℕ) → AllByRecursion (Away n) (asks_of s (later (EditorGone n why)))
-  gone_away n why at s = subst (λ xs. AllByRecursion (Away n) (asks_of s (behind (with_cause before (EditorGone n why)) xs))) (sym (ap (λ p. outs (gone_row settings before n p) (with_cause before (EditorGone n why))) at))
-      (leave_clean settings before (facts.steady).asks n (with_cause before (EditorGone n why)) (λ t. took_all (HasSeat settings before t) t before (EditorGone n why) (seats t))
-      (λ t. took_all (Pending n (filter (is_with n) (asks_of t before))) t before (EditorGone n why) (all_pending n (asks_of t before))) s)
+  gone_away : (n : ℕ) (why : link.Why) → fits_behind before (EditorGone n why) ≡ true → (desk_of n before).phase ≡ Running → (s : ℕ) → AllByRecursion (Away n) (asks_of settings s (later (EditorGone n why)))
+  gone_away n why fits at s = subst (λ xs. AllByRecursion (Away n) (asks_of settings s (behind (with_cause before (EditorGone n why)) xs))) (sym (ap (λ p. outs (gone_row settings before n p) (with_cause before (EditorGone n why))) at))
+      (leave_clean settings before (EditorGone n why) (facts.steady).asks n (with_cause before (EditorGone n why)) (λ t. took_all settings (MidSeat settings before (EditorGone n why) t) t before (EditorGone n why) (seats_in (EditorGone n why) fits t))
+      (λ t. took_all settings (Pending n (filter (is_with n) (asks_of settings t before))) t before (EditorGone n why) (all_pending n (asks_of settings t before))) s)
 
   -- S3: no start that gave no result asked
-  refused_none : (t : ℕ) (body : List ℕ) (e : ℕ) → leaves settings before (FromServer t body) e ≡ true → (s : ℕ) (a : Ask) → HasSeat settings before s a → a.editor ≡ e → ⊥
+  refused_none : (t : ℕ) (body : List ℕ) (e : ℕ) → leaves settings before (FromServer t body) e ≡ true → (s : ℕ) (a : Ask) → MidSeat settings before (FromServer t body) s a → a.editor ≡ e → ⊥
   refused_none t body e h s a k same = go (on_either (ends_link settings before (FromServer t body) e) false h)
     where
       in_group : (o : Option ℕ) → group_of t before ≡ o → option_map_or (λ g. is_home g (home_of settings e before)) o false ≡ true → group_of t before ≡ Some k.group
       in_group None none is = never (sym is)
-      in_group (Some g) at is = at ∙ ap (λ i. Some i) (sym (number_same k.group g (sym (ap (is_home g) (seat_home settings before s a k e same)) ∙ is)))
+      in_group (Some g) at is = at ∙ ap (λ i. Some i) (sym (number_same k.group g (sym (ap (is_home g) (seat_home settings before (FromServer t body) s a k e same)) ∙ is)))
 
       go : (ends_link settings before (FromServer t body) e ≡ true) ⊎ (false ≡ true) → ⊥
       go (inl ends) =
@@ -181,16 +186,16 @@ module _ (settings : Settings) (range : InRange settings) (before : List Event) 
     inside = inner_rests settings range before facts one seats cause built fits
 
     abbrev AllAway : ℕ → Type 0
-    AllAway e = (s : ℕ) → AllByRecursion (Away e) (asks_of s (later cause))
+    AllAway e = (s : ℕ) → AllByRecursion (Away e) (asks_of settings s (later cause))
 
     by_cause : (c : Cause) → cause ≡ c → (e : ℕ) → leaves settings before c e ≡ true → is_running (desk_of e before).phase ≡ true → AllAway e
-    by_cause (FromEditor n body) is e h runs = subst (λ c. (s : ℕ) → AllByRecursion (Away e) (asks_of s (later c))) (sym is)
-        (let same : n ≡ e = leaves_itself n body e h in subst (λ k. (s : ℕ) → AllByRecursion (Away k) (asks_of s (later (FromEditor n body)))) same
-        (own_away n body (running_is settings before (desk_of n before).phase (ap (λ k. is_running (desk_of k before).phase) same ∙ runs)) e h))
-    by_cause (EditorGone n why) is e h runs = subst (λ c. (s : ℕ) → AllByRecursion (Away e) (asks_of s (later c))) (sym is)
-        (let same : n ≡ e = number_same n e h in subst (λ k. (s : ℕ) → AllByRecursion (Away k) (asks_of s (later (EditorGone n why)))) same
-        (gone_away n why (running_is settings before (desk_of n before).phase (ap (λ k. is_running (desk_of k before).phase) same ∙ runs))))
-    by_cause (FromServer t body) is e h runs = λ s. none_with settings before e s (asks_of s (later cause)) (inside.seated s) (refused_none t body e h s)
+    by_cause (FromEditor n body) is e h runs = subst (λ c. (s : ℕ) → AllByRecursion (Away e) (asks_of settings s (later c))) (sym is)
+        (let same : n ≡ e = leaves_itself n body (ap (fits_behind before) (sym is) ∙ fits) e h in subst (λ k. (s : ℕ) → AllByRecursion (Away k) (asks_of settings s (later (FromEditor n body)))) same
+        (own_away n body (ap (fits_behind before) (sym is) ∙ fits) (running_is settings before (desk_of n before).phase (ap (λ k. is_running (desk_of k before).phase) same ∙ runs)) e h))
+    by_cause (EditorGone n why) is e h runs = subst (λ c. (s : ℕ) → AllByRecursion (Away e) (asks_of settings s (later c))) (sym is)
+        (let same : n ≡ e = number_same n e h in subst (λ k. (s : ℕ) → AllByRecursion (Away k) (asks_of settings s (later (EditorGone n why)))) same
+        (gone_away n why (ap (fits_behind before) (sym is) ∙ fits) (running_is settings before (desk_of n before).phase (ap (λ k. is_running (desk_of k before).phase) same ∙ runs))))
+    by_cause (FromServer t body) is e h runs = λ s. none_with settings before (FromServer t body) e s (asks_of settings s (later cause)) (subst (λ c. AllByRecursion (MidSeat settings before c s) (asks_of settings s (later cause))) is (inside.seated s)) (refused_none t body e h s)
     by_cause (Joined n) is e h runs = never (sym h)
     by_cause other is e h runs = never (sym h)
 
@@ -199,18 +204,18 @@ module _ (settings : Settings) (range : InRange settings) (before : List Event) 
       where
         go : (b : Bool) → is_running (desk_of e before).phase ≡ b → AllAway e
         go true runs = by_cause cause refl e h runs
-        go false off = λ s. unrun_away e s (asks_of s (later cause)) (inside.seated s) off
+        go false off = λ s. unrun_away cause e s (asks_of settings s (later cause)) (inside.seated s) h off
 
     -- so each of them stays
     all_stay : (xs : List Ask) → AllByRecursion (λ (a : Ask). AllByRecursion (Away a.editor) xs → ⊥) xs
     all_stay [] = tt
     all_stay (a ∷ xs) = (λ h. never (sym (same_number a.editor) ∙ h.0), all_of (λ (b : Ask). AllByRecursion (Away b.editor) xs → ⊥) (λ (b : Ask). AllByRecursion (Away b.editor) (a ∷ xs) → ⊥) (λ b f h. f h.1) xs (all_stay xs))
 
-    one_seat : Lively settings (later cause) → (s : ℕ) (a : Ask) → HasSeat settings before s a → leaves settings before cause a.editor ≡ false → HasSeat settings (later cause) s a
+    one_seat : Lively settings (later cause) → (s : ℕ) (a : Ask) → MidSeat settings before cause s a → leaves settings before cause a.editor ≡ false → HasSeat settings (later cause) s a
     one_seat lively s a k stays =
-        let running : (desk_of a.editor (later cause)).phase ≡ Running = inside.runs a.editor stays k.running in
+        let running : (desk_of a.editor (later cause)).phase ≡ Running = inside.runs a.editor stays (k.running stays) in
         let home : home_of settings a.editor (later cause) ≡ Some k.group = homes_stay settings a.editor (with_cause before cause) (outs_of settings before cause)
-        ∙ took_home settings before a.editor k.running cause (off_both (ends_link settings before cause a.editor) (shuts cause a.editor) stays).1 ∙ (k.home ∙ k.kept) in
+        ∙ took_home settings before a.editor k.old cause (off_both (ends_link settings before cause a.editor) (shuts cause a.editor) stays).1 ∙ k.home in
         let last : start_of k.group (later cause) ≡ Some s = start_kept settings before cause begun built k.group s k.last in
         let kept : group_of s (later cause) ≡ Some k.group = (lively.last k.group s last).0 in
         record {
@@ -223,17 +228,17 @@ module _ (settings : Settings) (range : InRange settings) (before : List Event) 
         }
 
     pub seats_rest : Lively settings (later cause) → AllSeats settings (later cause)
-    seats_rest lively s = go (asks_of s (later cause)) (inside.seated s) (all_stay (asks_of s (later cause)))
+    seats_rest lively s = go (asks_of settings s (later cause)) (inside.seated s) (all_stay (asks_of settings s (later cause)))
       where
-        stays : (a : Ask) → (AllByRecursion (Away a.editor) (asks_of s (later cause)) → ⊥) → (b : Bool) → leaves settings before cause a.editor ≡ b → b ≡ false
+        stays : (a : Ask) → (AllByRecursion (Away a.editor) (asks_of settings s (later cause)) → ⊥) → (b : Bool) → leaves settings before cause a.editor ≡ b → b ≡ false
         stays a here true h = absurd (here (left_away a.editor h s))
         stays a here false h = refl
 
-        seat : (a : Ask) → HasSeat settings before s a → (AllByRecursion (Away a.editor) (asks_of s (later cause)) → ⊥) → HasSeat settings (later cause) s a
+        seat : (a : Ask) → MidSeat settings before cause s a → (AllByRecursion (Away a.editor) (asks_of settings s (later cause)) → ⊥) → HasSeat settings (later cause) s a
         seat a k here = one_seat lively s a k (stays a here (leaves settings before cause a.editor) refl)
 
-        go : (xs : List Ask) → AllByRecursion (HasSeat settings before s) xs → AllByRecursion (λ (a : Ask). AllByRecursion (Away a.editor) (asks_of s (later cause)) → ⊥) xs → AllByRecursion (HasSeat settings (later cause) s) xs
-        go xs h f = zip_all (HasSeat settings before s) (λ (a : Ask). AllByRecursion (Away a.editor) (asks_of s (later cause)) → ⊥) (HasSeat settings (later cause) s) seat xs h f
+        go : (xs : List Ask) → AllByRecursion (MidSeat settings before cause s) xs → AllByRecursion (λ (a : Ask). AllByRecursion (Away a.editor) (asks_of settings s (later cause)) → ⊥) xs → AllByRecursion (HasSeat settings (later cause) s) xs
+        go xs h f = zip_all (MidSeat settings before cause s) (λ (a : Ask). AllByRecursion (Away a.editor) (asks_of settings s (later cause)) → ⊥) (HasSeat settings (later cause) s) seat xs h f
 
 pub no_seats : (settings : Settings) → AllSeats settings []
 no_seats settings s = tt

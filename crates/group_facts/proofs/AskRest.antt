@@ -1,7 +1,7 @@
 -- Behind every entry each editor that a start asked runs, in the group whose last start it is.
 use Rattle.std.proofs.Common.{◌≡◌, ℕ, Bool, true, false, cond, ◌||◌, List, [], ◌∷◌, ◌++◌, filter, map, nat_eq, Option, Some, None, refl, sym, ◌∙◌, ap, ap₂, subst, append-nil}
 use Rattle.std.specs.List.{AllByRecursion, list_any}
-use Rattle.mux_history.specs.declared.cause.Why as link
+use Rattle.mux_history.specs.declared.cause.Cause.{Cause}
 use Rattle.mux_history.specs.declared.out.Out.{Out}
 use Rattle.mux_history.specs.declared.out.Out.TheVariants.{ToServer}
 use Rattle.rpc_message.specs.Message.{same_id}
@@ -24,8 +24,7 @@ use Rattle.group_rows.specs.Forwarded.{forwarding_of}
 use Rattle.group_rows.specs.Leaves.{cancel, cancel_text, cancels, closings, leave_bodies, leave_row, refusals, refuse, uncancelled_of}
 use Rattle.group_rows.specs.Texts.{texts_of}
 use Rattle.group_facts.specs.Facts.{Asks, IsAsked}
-use Rattle.group_facts.specs.Settled.{HasSeat}
-use Rattle.group_facts.proofs.AskSeats.{Away, Pending, bodies_all, refused_all}
+use Rattle.group_facts.proofs.AskSeats.{Away, MidSeat, Pending, bodies_all, refused_all}
 use Rattle.group_facts.proofs.LeaveRows.{cancels_outs, refusal_of, refusals_outs}
 
 the : {v w : ℕ} → ◌≡◌ {A = Option ℕ} (Some v) (Some w) → v ≡ w
@@ -53,9 +52,9 @@ all_pending e (a ∷ xs) = (first, all_of (Pending e (filter (is_with e) xs)) (P
 
 -- An editor that leaves
 
-module _ (settings : Settings) (before : List Event) where
+module _ (settings : Settings) (before : List Event) (cause : Cause) where
   abbrev Seat : ℕ → Ask → Type 0
-  Seat s a = HasSeat settings before s a
+  Seat s a = MidSeat settings before cause s a
 
   pub none_with : (e s : ℕ) (xs : List Ask) → AllByRecursion (Seat s) xs → ((a : Ask) → Seat s a → a.editor ≡ e → ⊥) → AllByRecursion (Away e) xs
   none_with e s xs h f = all_of (Seat s) (Away e) (λ a k. go a k (nat_eq a.editor e) refl) xs h
@@ -66,18 +65,18 @@ module _ (settings : Settings) (before : List Event) where
 
   -- the group of an ask's editor
   pub seat_home : (s : ℕ) (a : Ask) (k : Seat s a) (e : ℕ) → a.editor ≡ e → home_of settings e before ≡ Some k.group
-  seat_home s a k e same = ap (λ n. home_of settings n before) (sym same) ∙ (k.home ∙ k.kept)
+  seat_home s a k e same = ap (λ n. home_of settings n before) (sym same) ∙ k.home
 
-  module _ (facts : Asks before) (e : ℕ) (place : List Event) (seated : (s : ℕ) → AllByRecursion (Seat s) (asks_of s place)) (pending : (s : ℕ) → AllByRecursion (Pending e (filter (is_with e) (asks_of s before))) (asks_of s place)) (s : ℕ) where
-    at_place : AllByRecursion (Away e) (asks_of s place) → AllByRecursion (Away e) (asks_of s (behind place []))
-    at_place h = subst (λ z. AllByRecursion (Away e) (asks_of s z)) (sym (append-nil place)) h
+  module _ (facts : Asks settings before) (e : ℕ) (place : List Event) (seated : (s : ℕ) → AllByRecursion (Seat s) (asks_of settings s place)) (pending : (s : ℕ) → AllByRecursion (Pending e (filter (is_with e) (asks_of settings s before))) (asks_of settings s place)) (s : ℕ) where
+    at_place : AllByRecursion (Away e) (asks_of settings s place) → AllByRecursion (Away e) (asks_of settings s (behind place []))
+    at_place h = subst (λ z. AllByRecursion (Away e) (asks_of settings s z)) (sym (append-nil place)) h
 
     module _ (g t : ℕ) where
       abbrev ns : List ℕ
       ns = uncancelled_of e (forwarding_of t before).open_requests
 
       abbrev asked : List Ask
-      asked = filter (is_with e) (asks_of t before)
+      asked = filter (is_with e) (asks_of settings t before)
 
       abbrev bodies : List (List ℕ)
       bodies = leave_bodies settings.limits.versions (λ u. held_at t u before) e (texts_of settings g before).opens (texts_of settings g before).opens
@@ -91,40 +90,40 @@ module _ (settings : Settings) (before : List Event) where
           let second = outs (each (refuse t) asked) (behind place first) in
           ap₂ (λ x y. x ++ y) (cancels_outs t ns place) (ap₂ (λ x y. x ++ y) (refusals_outs t asked (behind place first)) (outs_to_start t bodies (behind (behind place first) second)))
 
-      by_start : home_of settings e before ≡ Some g → start_of g before ≡ Some t → (c : Bool) → nat_eq t s ≡ c → AllByRecursion (Away e) (asks_of s (behind place (to (map cancel_text ns) ++ (to (map refusal_of asked) ++ to bodies))))
-      by_start home start c is = subst (λ z. AllByRecursion (Away e) (asks_of s z)) (sym (behind_both place (to (map cancel_text ns)) (to (map refusal_of asked) ++ to bodies) ∙ behind_both (behind place (to (map cancel_text ns))) (to (map refusal_of asked)) (to bodies)))
-          (bodies_all (Away e) s t (behind (behind place (to (map cancel_text ns))) (to (map refusal_of asked))) bodies (go c is))
+      by_start : home_of settings e before ≡ Some g → start_of g before ≡ Some t → (c : Bool) → nat_eq t s ≡ c → AllByRecursion (Away e) (asks_of settings s (behind place (to (map cancel_text ns) ++ (to (map refusal_of asked) ++ to bodies))))
+      by_start home start c is = subst (λ z. AllByRecursion (Away e) (asks_of settings s z)) (sym (behind_both place (to (map cancel_text ns)) (to (map refusal_of asked) ++ to bodies) ∙ behind_both (behind place (to (map cancel_text ns))) (to (map refusal_of asked)) (to bodies)))
+          (bodies_all settings (Away e) s t (behind (behind place (to (map cancel_text ns))) (to (map refusal_of asked))) bodies (go c is))
         where
-          go : (c : Bool) → nat_eq t s ≡ c → AllByRecursion (Away e) (asks_of s (behind (behind place (to (map cancel_text ns))) (to (map refusal_of asked))))
+          go : (c : Bool) → nat_eq t s ≡ c → AllByRecursion (Away e) (asks_of settings s (behind (behind place (to (map cancel_text ns))) (to (map refusal_of asked))))
           go true same = let is : t ≡ s = number_same t s same in
-              subst (λ n. AllByRecursion (Away e) (asks_of n (behind (behind place (to (map cancel_text ns))) (to (map refusal_of asked))))) is
-              (refused_all e t asked (all_filtered (IsAsked t before) (λ (a : Ask). IsIdText a.id a.bytes) (is_with e) (λ a w k. k.text) (asks_of t before) (facts t).asked)
-              (behind place (to (map cancel_text ns))) (bodies_all (Pending e asked) t t place (map cancel_text ns) (pending t)))
-          go false other = bodies_all (Away e) s t (behind place (to (map cancel_text ns))) (map refusal_of asked) (bodies_all (Away e) s t place (map cancel_text ns)
-              (none_with e s (asks_of s place) (seated s) (λ a k same. never (sym (apart a k same) ∙ other))))
+              subst (λ n. AllByRecursion (Away e) (asks_of settings n (behind (behind place (to (map cancel_text ns))) (to (map refusal_of asked))))) is
+              (refused_all settings e t asked (all_filtered (IsAsked t before) (λ (a : Ask). IsIdText a.id a.bytes) (is_with e) (λ a w k. k.text) (asks_of settings t before) (facts t).asked)
+              (behind place (to (map cancel_text ns))) (bodies_all settings (Pending e asked) t t place (map cancel_text ns) (pending t)))
+          go false other = bodies_all settings (Away e) s t (behind place (to (map cancel_text ns))) (map refusal_of asked) (bodies_all settings (Away e) s t place (map cancel_text ns)
+              (none_with e s (asks_of settings s place) (seated s) (λ a k same. never (sym (apart a k same) ∙ other))))
             where
               apart : (a : Ask) (k : Seat s a) → a.editor ≡ e → nat_eq t s ≡ true
               apart a k same = let in_group : k.group ≡ g = the (sym (seat_home s a k e same) ∙ home) in
                   let is : s ≡ t = the (sym k.last ∙ (ap (λ i. start_of i before) in_group ∙ start)) in subst (λ n. nat_eq t n ≡ true) (sym is) (same_number t)
 
       by_ready : home_of settings e before ≡ Some g → start_of g before ≡ Some t → (b : Bool) → is_ready (life_of t before).stage ≡ b
-          → AllByRecursion (Away e) (asks_of s (behind place (outs (choose b (each (cancel t) ns) nothing ⨾ (choose b (each (refuse t) asked) nothing ⨾ choose b (to_start t bodies) nothing)) place)))
-      by_ready home start true ready = subst (λ xs. AllByRecursion (Away e) (asks_of s (behind place xs))) (sym parted_outs) (by_start home start (nat_eq t s) refl)
-      by_ready home start false off = at_place (none_with e s (asks_of s place) (seated s) (λ a k same.
+          → AllByRecursion (Away e) (asks_of settings s (behind place (outs (choose b (each (cancel t) ns) nothing ⨾ (choose b (each (refuse t) asked) nothing ⨾ choose b (to_start t bodies) nothing)) place)))
+      by_ready home start true ready = subst (λ xs. AllByRecursion (Away e) (asks_of settings s (behind place xs))) (sym parted_outs) (by_start home start (nat_eq t s) refl)
+      by_ready home start false off = at_place (none_with e s (asks_of settings s place) (seated s) (λ a k same.
           let in_group : k.group ≡ g = the (sym (seat_home s a k e same) ∙ home) in
           let is : s ≡ t = the (sym k.last ∙ (ap (λ i. start_of i before) in_group ∙ start)) in
           never (sym (ap (λ n. is_ready (life_of n before).stage) (sym is) ∙ ap is_ready k.ready) ∙ off)))
 
     by_group : (g : ℕ) → home_of settings e before ≡ Some g → (o : Option ℕ) → start_of g before ≡ o
-        → AllByRecursion (Away e) (asks_of s (behind place (outs (on o nothing (λ t. cancels before t e ⨾ (refusals before t e ⨾ closings settings before g t e))) place)))
+        → AllByRecursion (Away e) (asks_of settings s (behind place (outs (on o nothing (λ t. cancels before t e ⨾ (refusals settings before t e ⨾ closings settings before g t e))) place)))
     by_group g home (Some t) start = by_ready g t home start (is_ready (life_of t before).stage) refl
-    by_group g home None none = at_place (none_with e s (asks_of s place) (seated s) (λ a k same.
+    by_group g home None none = at_place (none_with e s (asks_of settings s place) (seated s) (λ a k same.
         let in_group : k.group ≡ g = the (sym (seat_home s a k e same) ∙ home) in none_some (sym none ∙ (ap (λ i. start_of i before) (sym in_group) ∙ k.last))))
 
     by_home : (o : Option ℕ) → home_of settings e before ≡ o
-        → AllByRecursion (Away e) (asks_of s (behind place (outs (on o nothing (λ g. on (start_of g before) nothing (λ t. cancels before t e ⨾ (refusals before t e ⨾ closings settings before g t e)))) place)))
+        → AllByRecursion (Away e) (asks_of settings s (behind place (outs (on o nothing (λ g. on (start_of g before) nothing (λ t. cancels before t e ⨾ (refusals settings before t e ⨾ closings settings before g t e)))) place)))
     by_home (Some g) home = by_group g home (start_of g before) refl
-    by_home None none = at_place (none_with e s (asks_of s place) (seated s) (λ a k same. none_some (sym none ∙ seat_home s a k e same)))
+    by_home None none = at_place (none_with e s (asks_of settings s place) (seated s) (λ a k same. none_some (sym none ∙ seat_home s a k e same)))
 
-    pub leave_clean : AllByRecursion (Away e) (asks_of s (behind place (outs (leave_row settings before e) place)))
+    pub leave_clean : AllByRecursion (Away e) (asks_of settings s (behind place (outs (leave_row settings before e) place)))
     leave_clean = by_home (home_of settings e before) refl

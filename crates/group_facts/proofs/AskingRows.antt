@@ -1,15 +1,16 @@
 -- S9, S11, S12, S14 and what goes to each editor: why a ready start's requests and notifications are answered and go on; E19: why an editor's response does.
-use Rattle.std.proofs.Common.{◌≡◌, ℕ, ◌^◌, ◌<◌, Bool, true, false, ◌&&◌, ◌||◌, not, cond, List, [], ◌∷◌, ◌++◌, append-nil, filter, find, codes, decimal, nat_eq, if◌then◌else◌, Option, Some, None, refl, sym, ◌∙◌, ap, subst, ltb-true, arith}
+use Rattle.std.proofs.Common.{◌≡◌, ℕ, ◌^◌, ◌<◌, Bool, true, false, ◌&&◌, ◌||◌, not, cond, List, [], ◌∷◌, ◌++◌, append-nil, filter, find, codes, decimal, nat_eq, if◌then◌else◌, Option, Some, None, is_some, refl, sym, ◌∙◌, ap, subst, ltb-true, arith}
 use Rattle.std.specs.List.{AllByRecursion, last_or, list_any, range_with_len}
-use Rattle.std.specs.Option.{option_and_then, option_map}
+use Rattle.std.specs.Option.{option_and_then, option_map, option_map_or}
 use Rattle.std.proofs.lemmas.Bool.{and_parts}
+use Rattle.std.proofs.lemmas.Slice.Eq.{bytes_eq-Decides}
 use Rattle.json_text.specs.Bare.{nowhere}
 use Rattle.json_text.specs.declared.kind.Word.TheVariants.{Null}
 use Rattle.json_text.specs.Json.{Json, number, word}
 use Rattle.mux_history.specs.declared.cause.Cause.TheVariants.{FromEditor, FromServer}
 use Rattle.mux_history.specs.declared.out.Out.{Out}
 use Rattle.mux_history.specs.declared.out.Out.TheVariants.{ToEditor, ToServer}
-use Rattle.lsp_method.specs.Class.{class_of}
+use Rattle.lsp_method.specs.Class.{class_of, goes_nowhere, is_focused, is_refresh, own_notification, own_request, server_request}
 use Rattle.lsp_method.specs.declared.variants.Class.{Class}
 use Rattle.lsp_method.specs.declared.variants.Class.TheVariants.{Broadcast, Cancel, Folders, Focused, Lowest, Refresh}
 use Rattle.lsp_method.specs.declared.variants.Origin.TheVariants.{Server}
@@ -17,8 +18,8 @@ use Rattle.rpc_message.specs.Message.{Message, request, notification, result, er
 use Rattle.rpc_message.specs.ValueTexts.{IsIdText}
 use Rattle.rpc_message.specs.Texts.{ok_text, request_failed, with_id_text}
 use Rattle.rpc_message.proofs.Decimals.{decimal_integer, decimal_law}
-use Rattle.rpc_message.proofs.Fixed.{id_as_response}
-use Rattle.rpc_message.proofs.Ids.{error_with_id, request_with_id, result_with_id}
+use Rattle.rpc_message.proofs.Fixed.{id_as_response, ok_law}
+use Rattle.rpc_message.proofs.Ids.{error_with_id, request_id_bytes, request_with_id, result_with_id}
 use Rattle.event_model.specs.declared.phase.Phase.{Phase}
 use Rattle.event_model.specs.declared.phase.Phase.TheVariants.{Absent, New, Waiting, Answered, Running, Down, Closed, Gone}
 use Rattle.event_model.specs.declared.stage.Stage.TheVariants.{Ready}
@@ -31,6 +32,8 @@ use Rattle.event_model.specs.Settings.{Settings}
 use Rattle.event_model.specs.Spawns.{group_of, start_of}
 use Rattle.event_model.specs.Stages.{Life, is_initializing, is_ready, life_of, is_first_result, stage_hears}
 use Rattle.event_model.proofs.Frames.{never}
+use Rattle.response_route.specs.Asked.{asked_text, not_applied, refusal_tree}
+use Rattle.response_route.proofs.Asking.{refusal_result, request_asks}
 use Rattle.mux_facts.specs.Allowed.{is_response}
 use Rattle.mux_facts.proofs.Bodies.{refusal_says}
 use Rattle.mux_facts.proofs.DocumentRow.{ready_is}
@@ -38,17 +41,19 @@ use Rattle.mux_facts.proofs.Folds.{desk_more, life_more}
 use Rattle.mux_facts.proofs.Lists.{all_filtered, all_of, found_is}
 use Rattle.mux_facts.proofs.Reasons.{Because, by_choose, by_look, by_nothing, by_on, by_send, by_then}
 use Rattle.mux_facts.proofs.Words.{number_same, open_last, same_number}
-use Rattle.group_words.specs.Houses.{home_of, is_home}
-use Rattle.group_rows.specs.AskRows.{ask, asking_row, broadcast, cancelled_row, else_first, first_in, hand_back, in_focus, is_among, notified_row, question_row, response_at, response_row, running_in}
-use Rattle.group_rows.specs.Asks.{Ask, Asking, asker_of, asking_next, asking_of, asks_of, goes_to_one, has_number, is_seated, is_single, is_under, next_ask}
+use Rattle.group_words.specs.Houses.{groups_of, home_of, is_home}
+use Rattle.group_words.specs.Rows.{folders_text}
+use Rattle.group_rows.specs.AskRows.{ask, ask_edit, asking_row, broadcast, cancelled_row, current_version, edited, else_first, hand_back, in_focus, is_among, is_edit, notified_row, question_row, response_at, response_row}
+use Rattle.group_rows.specs.Asks.{Ask, Asker, Asking, Parked, asked_next, asker_of, asking_next, asking_of, asks_of, first_in, goes_to_one, has_number, has_running, idle_asking, is_own_work, is_patient, is_seated, is_single, is_taken, is_under, may_wait, next_ask, parks, running_in, serves, unparked, waits_under}
 use Rattle.group_rows.specs.Forwarded.{Forwarded, forwarding_of, names}
 use Rattle.group_rows.specs.Leaves.{cancel_text}
+use Rattle.group_rows.proofs.Versions.{AllMeant, current_flat}
 use Rattle.group_rows.proofs.Cancels.{cancel_says, params_tree}
 use Rattle.group_facts.specs.Built.{built_asking}
-use Rattle.group_facts.specs.Facts.{Asks, IsAsked, asked_by}
-use Rattle.group_facts.specs.Why.{IsRecall, Why, asks, denied, granted, handed_back, moves, recalls, resolves, spreads}
+use Rattle.group_facts.specs.Facts.{Asks, IsAsked, IsWritten, Written, asked_by}
+use Rattle.group_facts.specs.Why.{IsRecall, Why, asks, denied, granted, handed_back, listed, moves, recalls, resolves, spreads, unapplied}
 use Rattle.group_facts.proofs.Asks.{asked_by_more, asked_of_more, asking_more}
-use Rattle.group_facts.proofs.Forwards.{zip_all}
+use Rattle.group_facts.proofs.Forwards.{get_all, zip_all}
 use Rattle.group_facts.proofs.Nulls.{null_said}
 use Rattle.group_facts.proofs.Tellings.{cancel_names}
 
@@ -144,20 +149,43 @@ still_runs events n body e at = ap (λ (d : Desk). d.phase) (desk_more e events 
 all_still : (settings : Settings) (before : List Event) (events : List Event) (n : ℕ) (body : List ℕ) (es : List ℕ) → AllRun settings before events es → AllRun settings before (events ++ said (ToEditor n body) ∷ []) es
 all_still settings before events n body es h = all_of (λ e. (desk_of e events).phase ≡ Running) (λ e. (desk_of e (events ++ said (ToEditor n body) ∷ [])).phase ≡ Running) (λ e at. still_runs events n body e at) es h
 
-asker_told : (t : ℕ) (events : List Event) (x : Asking) (e : ℕ) (body : List ℕ) (m : Message) → (asking_next t events x (did (ToEditor e body) m)).asker ≡ x.asker
-asker_told t events x e body (request id method ps) = refl
-asker_told t events x e body (notification method ps) = refl
-asker_told t events x e body (result id r) = refl
-asker_told t events x e body (error id r) = refl
-asker_told t events x e body not_json = refl
-asker_told t events x e body not_message = refl
+-- what is at work
+abbrev SameWork : Asking → Asking → Type 0
+SameWork y x = (y.asker ≡ x.asker) × (y.runs ≡ x.runs)
 
-asker_sent : (t : ℕ) (events : List Event) (x : Asking) (n : ℕ) (body : List ℕ) (m : Message) → (asking_next t events x (did (ToServer n body) m)).asker ≡ x.asker
-asker_sent t events x n body m = go (nat_eq n t)
+unparked_work : (e n : ℕ) (x : Asking) (ps : List Parked) → SameWork (unparked e n x ps) x
+unparked_work e n x [] = (refl, refl)
+unparked_work e n x (p ∷ ps) = (refl, refl)
+
+asked_work : (resumes : Bool) (e n : ℕ) (x : Asking) (o : Option Asker) → SameWork (asked_next resumes e n x o) x
+asked_work resumes e n x (Some a) = (refl, refl)
+asked_work true e n x None = unparked_work e n x x.parked
+asked_work false e n x None = (refl, refl)
+
+pub work_told : (settings : Settings) (t : ℕ) (events : List Event) (x : Asking) (e : ℕ) (body : List ℕ) (m : Message) → SameWork (asking_next settings t events x (did (ToEditor e body) m)) x
+work_told settings t events x e body (request id method ps) = asked_work (is_own_work e x.runs && (is_patient method && serves settings events t e)) e (next_ask e events) x x.asker
+work_told settings t events x e body (notification method ps) = (refl, refl)
+work_told settings t events x e body (result id r) = (refl, refl)
+work_told settings t events x e body (error id r) = (refl, refl)
+work_told settings t events x e body not_json = (refl, refl)
+work_told settings t events x e body not_message = (refl, refl)
+
+work_sent : (settings : Settings) (t : ℕ) (events : List Event) (x : Asking) (n : ℕ) (body : List ℕ) (m : Message) → SameWork (asking_next settings t events x (did (ToServer n body) m)) x
+work_sent settings t events x n body m = go (nat_eq n t)
   where
-    go : (b : Bool) → (if b then record { asker = x.asker; asks = filter (λ a. not (is_under (answered_id m) a)) x.asks } else x).asker ≡ x.asker
-    go true = refl
-    go false = refl
+    go : (b : Bool) → SameWork (if b then record { asker = x.asker; runs = x.runs; asks = filter (λ a. not (is_under (answered_id m) a)) x.asks; parked = filter (λ p. not (waits_under (answered_id m) p)) x.parked } else x) x
+    go true = (refl, refl)
+    go false = (refl, refl)
+
+-- V3: an edit is of class Focused
+
+abbrev is_focused_class : Class → Bool
+is_focused_class Focused = true
+is_focused_class _ = false
+
+pub edit_class : (method : List ℕ) → is_edit method ≡ true → class_of method Server false ≡ Focused
+unfolding is_focused is_refresh server_request own_request own_notification goes_nowhere
+edit_class method h = ap (λ m. class_of m Server false) (sym ((bytes_eq-Decides (codes "workspace/applyEdit") method).0 h))
 
 -- E19
 
@@ -178,7 +206,7 @@ handed_says body id bytes text (notification method ps) says h = never (sym h)
 handed_says body id bytes text not_json says h = never (sym h)
 handed_says body id bytes text not_message says h = never (sym h)
 
-module _ (settings : Settings) (before : List Event) (all : Asks before) (e : ℕ) (body : List ℕ) where
+module _ (settings : Settings) (before : List Event) (all : Asks settings before) (e : ℕ) (body : List ℕ) where
   abbrev heard_now : List Event
   heard_now = with_cause before (FromEditor e body)
 
@@ -186,7 +214,7 @@ module _ (settings : Settings) (before : List Event) (all : Asks before) (e : �
   Mine row = Because (Why settings before (FromEditor e body)) heard_now row
 
   module _ (s : ℕ) where
-    handed : (a : Ask) → is_ready (life_of s before).stage ≡ true → find (is_seated e (answered_id (message_of body))) (asks_of s before) ≡ Some a → Mine (hand_back s body a)
+    handed : (a : Ask) → is_ready (life_of s before).stage ≡ true → find (is_seated e (answered_id (message_of body))) (asks_of settings s before) ≡ Some a → Mine (hand_back s body a)
     handed a ready found = by_send (resolves (record {
       id = a.id;
       resolution = handed_back e body a refl found refl refl;
@@ -198,18 +226,18 @@ module _ (settings : Settings) (before : List Event) (all : Asks before) (e : �
     }))
       where
         k : IsAsked s before a
-        k = found_is (IsAsked s before) (is_seated e (answered_id (message_of body))) a (asks_of s before) (all s).asked found
+        k = found_is (IsAsked s before) (is_seated e (answered_id (message_of body))) a (asks_of settings s before) (all s).asked found
 
         named : names (answered_id (message_of body)) a.number ≡ true
-        named = (and_parts (nat_eq a.editor e) (names (answered_id (message_of body)) a.number) (find_seated (is_seated e (answered_id (message_of body))) (asks_of s before) a found)).1
+        named = (and_parts (nat_eq a.editor e) (names (answered_id (message_of body)) a.number) (find_seated (is_seated e (answered_id (message_of body))) (asks_of settings s before) a found)).1
 
         says : (is_response (message_of (with_id_text body a.bytes)) ≡ true) × (answered_id (message_of (with_id_text body a.bytes)) ≡ Some a.id)
         says = handed_says body a.id a.bytes k.text (message_of body) refl (named_response (message_of body) a.number named)
 
-    at_start : Mine (response_at before e body (message_of body) s)
+    at_start : Mine (response_at settings before e body (message_of body) s)
     at_start = by_choose (λ ready. by_on (λ none. by_nothing) (λ a found. handed a ready found)) (λ no. by_nothing)
 
-  by_group : (g : ℕ) → Mine (on (start_of g before) nothing (response_at before e body (message_of body)))
+  by_group : (g : ℕ) → Mine (on (start_of g before) nothing (response_at settings before e body (message_of body)))
   by_group g = by_on (λ none. by_nothing) (λ s start. at_start s)
 
   by_home : Mine (response_row settings before e body (message_of body))
@@ -238,18 +266,30 @@ module _ (settings : Settings) (before : List Event) (s : ℕ) (body : List ℕ)
   run_now : (g : ℕ) → AllRun settings before now (running_in settings g before)
   run_now g = all_of (λ e. (desk_of e before).phase ≡ Running) (λ e. (desk_of e now).phase ≡ Running) (λ e at. ap (λ (d : Desk). d.phase) (desk_more e before (heard (FromServer s body))) ∙ at) (running_in settings g before) (all_run settings before g)
 
-  -- the request that is at work
-  abbrev AskerIs : List Event → Type 0
-  AskerIs events = (t : ℕ) → (asking_of t events).asker ≡ (if nat_eq s t then asker_of body (message_of body) else None)
+  -- the request that is at work, and that no editor's message is
+  abbrev AtWork : List Event → Type 0
+  AtWork events = (t : ℕ) → ((asking_of settings t events).asker ≡ (if nat_eq s t then asker_of body (message_of body) else None)) × ((asking_of settings t events).runs ≡ None)
 
-  asker_now : AskerIs now
-  asker_now t = ap (λ (x : Asking). x.asker) (asking_more t before (heard (FromServer s body)))
+  work_now : AtWork now
+  work_now t = let same = asking_more settings t before (heard (FromServer s body)) in let here = go (nat_eq s t) in (ap (λ (x : Asking). x.asker) same ∙ here.0, ap (λ (x : Asking). x.runs) same ∙ here.1)
+    where
+      x : Asking
+      x = asking_of settings t before
 
-  asker_behind : (events : List Event) (e : ℕ) (text : List ℕ) → AskerIs events → AskerIs (events ++ said (ToEditor e text) ∷ [])
-  asker_behind events e text h t = ap (λ (x : Asking). x.asker) (asking_more t events (said (ToEditor e text))) ∙ asker_told t events (asking_of t events) e text (message_of text) ∙ h t
+      heard_by : Bool → Asking
+      heard_by b = if b then record { asker = asker_of body (message_of body); runs = None; asks = x.asks; parked = x.parked ++ parks settings t before x body (message_of body) } else idle_asking x
 
-  asker_answered : (events : List Event) (n : ℕ) (text : List ℕ) → AskerIs events → AskerIs (events ++ said (ToServer n text) ∷ [])
-  asker_answered events n text h t = ap (λ (x : Asking). x.asker) (asking_more t events (said (ToServer n text))) ∙ asker_sent t events (asking_of t events) n text (message_of text) ∙ h t
+      go : (b : Bool) → ((heard_by b).asker ≡ (if b then asker_of body (message_of body) else None)) × ((heard_by b).runs ≡ None)
+      go true = (refl, refl)
+      go false = (refl, refl)
+
+  work_behind : (events : List Event) (e : ℕ) (text : List ℕ) → AtWork events → AtWork (events ++ said (ToEditor e text) ∷ [])
+  work_behind events e text h t = let same = asking_more settings t events (said (ToEditor e text)) in let kept = work_told settings t events (asking_of settings t events) e text (message_of text) in
+      (ap (λ (x : Asking). x.asker) same ∙ kept.0 ∙ (h t).0, ap (λ (x : Asking). x.runs) same ∙ kept.1 ∙ (h t).1)
+
+  work_answered : (events : List Event) (n : ℕ) (text : List ℕ) → AtWork events → AtWork (events ++ said (ToServer n text) ∷ [])
+  work_answered events n text h t = let same = asking_more settings t events (said (ToServer n text)) in let kept = work_sent settings t events (asking_of settings t events) n text (message_of text) in
+      (ap (λ (x : Asking). x.asker) same ∙ kept.0 ∙ (h t).0, ap (λ (x : Asking). x.runs) same ∙ kept.1 ∙ (h t).1)
 
   -- notifications
 
@@ -259,12 +299,12 @@ module _ (settings : Settings) (before : List Event) (s : ℕ) (body : List ℕ)
       (by_send (spreads (record { start = s; method = method; params = params; source = record { from = refl; ready = stage; running = run.0 }; says = says; class = class })))
       (broadcast_why method params says class es (events ++ said (ToEditor e body) ∷ []) (all_still settings before events e body es run.1))
 
-  module _ (all : Asks before) where
-    recall_why : (method : List ℕ) (params : Option Json) → message_of body ≡ notification method params → class_of method Server true ≡ Cancel → Because R now (cancelled_row s before params)
+  module _ (all : Asks settings before) where
+    recall_why : (method : List ℕ) (params : Option Json) → message_of body ≡ notification method params → class_of method Server true ≡ Cancel → Because R now (cancelled_row settings s before params)
     recall_why method params says class = by_on (λ none. by_nothing) (λ a found. by_choose (λ runs. by_send (recalls (recall a found runs))) (λ no. by_nothing))
       where
-        recall : (a : Ask) → find (is_under (option_and_then id_of (named_of (codes "id") params))) (asks_of s before) ≡ Some a → is_running (desk_of a.editor before).phase ≡ true → IsRecall settings before (FromServer s body) now a.editor (cancel_text a.number)
-        recall a found runs = let k : IsAsked s before a = found_is (IsAsked s before) (is_under (option_and_then id_of (named_of (codes "id") params))) a (asks_of s before) (all s).asked found in
+        recall : (a : Ask) → find (is_under (option_and_then id_of (named_of (codes "id") params))) (asks_of settings s before) ≡ Some a → is_running (desk_of a.editor before).phase ≡ true → IsRecall settings before (FromServer s body) now a.editor (cancel_text a.number)
+        recall a found runs = let k : IsAsked s before a = found_is (IsAsked s before) (is_under (option_and_then id_of (named_of (codes "id") params))) a (asks_of settings s before) (all s).asked found in
             let small : a.number < 2 ^ 64 = k.small in record {
               start = s;
               asked = body;
@@ -295,17 +335,18 @@ module _ (settings : Settings) (before : List Event) (s : ℕ) (body : List ℕ)
 
   -- requests
 
-  module _ (id : Id) (method : List ℕ) (params : Option Json) (says : message_of body ≡ request id method params) (fresh : list_any (is_under (Some id)) (asks_of s before) ≡ false) (g : ℕ) (at_home : group_of s before ≡ Some g) where
+  module _ (meant : AllMeant before) (written : Written settings before) (id : Id) (method : List ℕ) (params : Option Json) (says : message_of body ≡ request id method params) (fresh : is_taken (Some id) (asking_of settings s before) ≡ false) (g : ℕ) (at_home : group_of s before ≡ Some g) where
     ask_says : (e : ℕ) (events : List Event) → has_number e events ≡ true → message_of (with_id_text body (decimal (next_ask e events))) ≡ request (integer (decimal (next_ask e events))) method params
     ask_says e events room = request_with_id body (decimal (next_ask e events)) id (integer (decimal (next_ask e events))) method params says (decimal_law (next_ask e events) (ltb-true (next_ask e events) (2 ^ 64) room))
 
-    asked_why : (e : ℕ) (events : List Event) → IsIn settings before g e → AskerIs events → (is_single method ≡ true → events ≡ now) → (desk_of e events).phase ≡ Running → Because R events (ask body e)
-    asked_why e events seat asker first running = by_look (by_choose
+    asked_why : is_edit method ≡ false → (is_patient method ≡ true → has_running settings before s ≡ true) → (e : ℕ) (events : List Event) → IsIn settings before g e → AtWork events → (is_single method ≡ true → events ≡ now) → (desk_of e events).phase ≡ Running → Because R events (ask body e)
+    asked_why plain attended e events seat asker first running = by_look (by_choose
         (λ room. by_send (asks (record {
           start = s;
           asked = body;
           id = id;
           method = method;
+          given = params;
           params = params;
           source = record { from = refl; ready = stage; running = running };
           asks = says;
@@ -315,9 +356,11 @@ module _ (settings : Settings) (before : List Event) (s : ℕ) (body : List ℕ)
           ran = seat.ran;
           fresh = fresh;
           first = first;
-          asker = asker;
+          attended = attended;
+          quiet = λ t. (asker t).1;
+          asker = λ t. (asker t).0;
           room = room;
-          bytes = refl;
+          bytes = ap (λ b. if b then asked_text (current_version settings before s e) body (decimal (next_ask e events)) else Some (with_id_text body (decimal (next_ask e events)))) plain;
           says = ask_says e events room;
         })))
         (λ none. by_nothing))
@@ -330,20 +373,32 @@ module _ (settings : Settings) (before : List Event) (s : ℕ) (body : List ℕ)
         go true = f (with_id_text body (decimal (next_ask e events))) h
         go false = subst P (sym (append-nil events)) h
 
-    all_asked : (es : List ℕ) (events : List Event) → AllByRecursion (IsIn settings before g) es → is_single method ≡ false → AskerIs events → AllRun settings before events es → Because R events (each (ask body) es)
-    all_asked [] events seats many asker run = by_nothing
-    all_asked (e ∷ es) events seats many asker run = by_then (asked_why e events seats.0 asker (λ single. never (sym single ∙ many)) run.0)
-        (all_asked es (behind events (outs (ask body e) events)) seats.1 many
-        (behind_ask AskerIs e events (λ text h. asker_behind events e text h) asker)
+    all_asked : is_edit method ≡ false → is_patient method ≡ false → (es : List ℕ) (events : List Event) → AllByRecursion (IsIn settings before g) es → is_single method ≡ false → AtWork events → AllRun settings before events es → Because R events (each (ask body) es)
+    all_asked plain hurried [] events seats many asker run = by_nothing
+    all_asked plain hurried (e ∷ es) events seats many asker run = by_then (asked_why plain (λ patient. never (sym patient ∙ hurried)) e events seats.0 asker (λ single. never (sym single ∙ many)) run.0)
+        (all_asked plain hurried es (behind events (outs (ask body e) events)) seats.1 many
+        (behind_ask AtWork e events (λ text h. work_behind events e text h) asker)
         (behind_ask (λ z. AllRun settings before z es) e events (λ text h. all_still settings before events e text es h) run.1))
+
+    -- only an edit is of its class
+    other_method : (c : Class) → class_of method Server false ≡ c → is_focused_class c ≡ false → is_edit method ≡ false
+    other_method c class other = go (is_edit method) refl
+      where
+        go : (b : Bool) → is_edit method ≡ b → b ≡ false
+        go false e = refl
+        go true e = never (sym (ap is_focused_class (sym class ∙ edit_class method e)) ∙ other)
+
+    -- and only of class Lowest one that may wait
+    unhurried : (c : Class) → class_of method Server false ≡ c → may_wait c ≡ false → is_patient method ≡ false
+    unhurried c class off = ap may_wait class ∙ off
 
     waits_now : is_open id (asked_by s now) ≡ true
     waits_now = ap (is_open id) (asked_by_more s before (heard (FromServer s body)) ∙ ap (λ b. if b then with_request (message_of body) (asked_by s before) else asked_by s before) (same_number s) ∙ ap (λ m. with_request m (asked_by s before)) says) ∙ open_last id (asked_by s before)
 
-    refresh_why : class_of method Server false ≡ Refresh → Because R now (asking_row settings before g s body Refresh)
+    refresh_why : class_of method Server false ≡ Refresh → Because R now (asking_row settings before g s body method Refresh)
     refresh_why class = by_then
         (by_send (resolves (record { id = id; resolution = granted body method params refl says class refl; ready = still_ready; stays = rests; response = ap is_response said_null; answers = ap answered_id said_null; waits = waits_now })))
-        (all_asked (running_in settings g before) (now ++ said (ToServer s answer) ∷ []) (all_in settings before g) (ap goes_to_one class) (asker_answered now s answer asker_now)
+        (all_asked (other_method Refresh class refl) (unhurried Refresh class refl) (running_in settings g before) (now ++ said (ToServer s answer) ∷ []) (all_in settings before g) (ap goes_to_one class) (work_answered now s answer work_now)
         (all_of (λ e. (desk_of e now).phase ≡ Running) (λ e. (desk_of e (now ++ said (ToServer s answer) ∷ [])).phase ≡ Running) (λ e at. ap (λ (d : Desk). d.phase) (desk_more e now (said (ToServer s answer))) ∙ at) (running_in settings g before) (run_now g)))
       where
         answer : List ℕ
@@ -359,17 +414,58 @@ module _ (settings : Settings) (before : List Event) (s : ℕ) (body : List ℕ)
     all_here : AllByRecursion Here (running_in settings g before)
     all_here = zip_all (λ e. (desk_of e now).phase ≡ Running) (IsIn settings before g) Here (λ e a b. (a, b)) (running_in settings g before) (run_now g) (all_in settings before g)
 
-    asking_why : (c : Class) → class_of method Server false ≡ c → built_asking settings before s method c ≡ true → Because R now (asking_row settings before g s body c)
+    folders_why : class_of method Server false ≡ Folders → Because R now (asking_row settings before g s body method Folders)
+    folders_why class = by_on (λ none. by_nothing) (λ x found.
+        let k : IsWritten x = get_all IsWritten (groups_of settings before) g x written found in
+        let is : message_of (ok_text (id_bytes body) (folders_text x.key.folders)) ≡ result (Some id) k.folders =
+        ok_law (Some id) k.folders (id_bytes body) (folders_text x.key.folders) (id_as_response id (id_bytes body) (request_id_bytes body id method params says)) (k.listed).text (k.listed).shallow in
+        by_send (resolves (record { id = id; resolution = listed body method params g x refl says class at_home found refl; ready = still_ready; stays = rests; response = ap is_response is; answers = ap answered_id is; waits = waits_now })))
+
+    -- V3
+    edit_why : class_of method Server false ≡ Focused → (e : ℕ) → is_edit method ≡ true → Here e → Because R now (ask_edit settings before s body e)
+    edit_why class e edit k = by_look (by_choose (λ room. go room (asked_text (current_version settings before s e) body (decimal (next_ask e now))) refl) (λ none. by_nothing))
+      where
+        go : has_number e now ≡ true → (o : Option (List ℕ)) → asked_text (current_version settings before s e) body (decimal (next_ask e now)) ≡ o → Because R now (edited s body e o)
+        go room None none =
+            let is : message_of (ok_text (id_bytes body) not_applied) ≡ result (Some id) refusal_tree = refusal_result (Some id) (id_bytes body) (id_as_response id (id_bytes body) (request_id_bytes body id method params says)) in
+            by_send (resolves (record { id = id; resolution = unapplied body method (decimal (next_ask e now)) params e refl says edit none refl; ready = still_ready; stays = rests; response = ap is_response is; answers = ap answered_id is; waits = waits_now }))
+        go room (Some text) is =
+            let made : (ps : Option Json) × (message_of text ≡ request (integer (decimal (next_ask e now))) method ps) =
+            request_asks body (decimal (next_ask e now)) id (integer (decimal (next_ask e now))) method params says (decimal_law (next_ask e now) (ltb-true (next_ask e now) (2 ^ 64) room)) (current_version settings before s e) (current_flat settings before s e meant) text is in
+            by_send (asks (record {
+              start = s;
+              asked = body;
+              id = id;
+              method = method;
+              given = params;
+              params = made.0;
+              source = record { from = refl; ready = stage; running = k.0 };
+              asks = says;
+              group = g;
+              kept = at_home;
+              home = (k.1).home;
+              ran = (k.1).ran;
+              fresh = fresh;
+              first = λ single. refl;
+              attended = λ patient. never (sym patient ∙ unhurried Focused class refl);
+              quiet = λ t. (work_now t).1;
+              asker = λ t. (work_now t).0;
+              room = room;
+              bytes = ap (λ b. if b then asked_text (current_version settings before s e) body (decimal (next_ask e now)) else Some (with_id_text body (decimal (next_ask e now)))) edit ∙ is;
+              says = made.1;
+            }))
+
+    asking_why : (c : Class) → class_of method Server false ≡ c → built_asking c ≡ true → Because R now (asking_row settings before g s body method c)
     asking_why Refresh class built = refresh_why class
     asking_why Focused class built = by_on
         (λ none. let is = refusal_says body id method params request_failed says in
         by_send (resolves (record { id = id; resolution = denied body method params refl says class refl; ready = still_ready; stays = rests; response = ap is_response is; answers = ap answered_id is; waits = waits_now })))
-        (λ e found. let k : Here e = focus_is Here (running_in settings g before) (forwarding_of s before).open_requests e all_here found in asked_why e now k.1 asker_now (λ single. refl) k.0)
-    asking_why Lowest class built = by_on (λ none. by_nothing) (λ e found. let k : Here e = first_is Here (running_in settings g before) e all_here found in asked_why e now k.1 asker_now (λ single. refl) k.0)
-    asking_why Folders class built = never (sym built)
+        (λ e found. let k : Here e = focus_is Here (running_in settings g before) (forwarding_of s before).open_requests e all_here found in by_choose (λ edit. edit_why class e edit k) (λ plain. asked_why plain (λ patient. never (sym patient ∙ unhurried Focused class refl)) e now k.1 work_now (λ single. refl) k.0))
+    asking_why Lowest class built = by_on (λ none. by_nothing) (λ e found. let k : Here e = first_is Here (running_in settings g before) e all_here found in asked_why (other_method Lowest class refl) (λ patient. ap (λ o. option_map_or (λ h. is_some (first_in (running_in settings h before))) o false) at_home ∙ ap is_some found) e now k.1 work_now (λ single. refl) k.0)
+    asking_why Folders class built = folders_why class
     asking_why _ class built = by_nothing
 
-  pub question_why : (id : Id) (method : List ℕ) (params : Option Json) → message_of body ≡ request id method params
-      → (list_any (is_under (Some id)) (asks_of s before) || built_asking settings before s method (class_of method Server false)) ≡ true → Because R now (question_row settings s before body id method)
-  question_why id method params says built = by_choose (λ twice. by_nothing) (λ fresh. by_on (λ none. by_nothing) (λ g home. asking_why id method params says fresh g home (class_of method Server false) refl
-      (ap (λ b. b || built_asking settings before s method (class_of method Server false)) (sym fresh) ∙ built)))
+  pub question_why : AllMeant before → Written settings before → (id : Id) (method : List ℕ) (params : Option Json) → message_of body ≡ request id method params
+      → (is_taken (Some id) (asking_of settings s before) || built_asking (class_of method Server false)) ≡ true → Because R now (question_row settings s before body id method)
+  question_why meant written id method params says built = by_choose (λ twice. by_nothing) (λ fresh. by_on (λ none. by_nothing) (λ g home. asking_why meant written id method params says fresh g home (class_of method Server false) refl
+      (ap (λ b. b || built_asking (class_of method Server false)) (sym fresh) ∙ built)))

@@ -1,5 +1,5 @@
 -- A group is founded in the entry that spawns its first start, and nothing else founds or spawns.
-use Rattle.std.proofs.Common.{◌≡◌, ℕ, max, ◌+◌, ◌≤◌, Bool, true, false, not, ◌&&◌, List, [], ◌∷◌, ◌++◌, filter, map, length, nat_eq, codes, if◌then◌else◌, Option, Some, None, refl, sym, ◌∙◌, ap, subst, arith, append-nil, append_assoc}
+use Rattle.std.proofs.Common.{◌≡◌, ℕ, max, ◌+◌, ◌≤◌, Bool, true, false, not, ◌&&◌, List, [], ◌∷◌, ◌++◌, filter, map, length, nat_eq, codes, decimal, if◌then◌else◌, Option, Some, None, refl, sym, ◌∙◌, ap, subst, arith, append-nil, append_assoc}
 use Rattle.std.specs.Prelude.{◌↔◌}
 use Rattle.std.specs.List.{AllByRecursion}
 use Rattle.std.proofs.lemmas.Bool.{and_parts}
@@ -23,8 +23,8 @@ use Rattle.event_model.specs.declared.phase.Phase.TheVariants.{New, Waiting, Ans
 use Rattle.event_model.specs.declared.stage.Stage.{Stage}
 use Rattle.event_model.specs.declared.stage.Stage.TheVariants.{Spawning, Initializing, Ready, Stopping}
 use Rattle.event_model.specs.Event.{Event, behind, heard, requests, said, with_cause}
-use Rattle.event_model.specs.Phases.{desk_of, is_new}
-use Rattle.event_model.specs.Row.{Row, each, look, nothing, on, outs, send, ◌⨾◌}
+use Rattle.event_model.specs.Phases.{desk_of, is_new, makes_running}
+use Rattle.event_model.specs.Row.{Row, choose, each, look, nothing, on, outs, send, ◌⨾◌}
 use Rattle.event_model.specs.Settings.{Settings}
 use Rattle.event_model.specs.Spawns.{group_of, start_behind, start_of, starts_of}
 use Rattle.event_model.specs.Stages.{is_initializing, life_of}
@@ -34,6 +34,7 @@ use Rattle.mux_model.specs.Rows.{malformed_row, to_start}
 use Rattle.mux_facts.proofs.Keeps.{behind_both}
 use Rattle.mux_facts.proofs.Reasons.{Because, Reasons, by_nothing, by_send, by_then, by_choose, by_look, by_on}
 use Rattle.mux_facts.proofs.Words.{number_same, same_number}
+use Rattle.response_route.specs.Asked.{asked_text}
 use Rattle.group_words.specs.declared.kept.Kept.{Kept}
 use Rattle.group_words.specs.declared.placed.Placed.{Placed}
 use Rattle.group_words.specs.declared.placed.Placed.TheVariants.{Joins, New as Founds, Evicts, TooMany}
@@ -44,10 +45,10 @@ use Rattle.group_words.proofs.Frames.{changed_length, groups_more, groups_stay, 
 use Rattle.group_rows.specs.Cancelling.{cancelling_at, cancelling_row}
 use Rattle.group_rows.specs.Forwarded.{Forwarded, forwarding_of}
 use Rattle.group_rows.specs.Leaves.{cancel, cancel_text, cancels, closings, leave_bodies, leave_row, refusals, refuse, uncancelled_of}
-use Rattle.group_rows.specs.AskRows.{ask, asking_row, broadcast, notified_row, response_at, response_row, running_in}
-use Rattle.group_rows.specs.Asks.{Ask, asks_of, is_with}
+use Rattle.group_rows.specs.AskRows.{ask, ask_edit, asking_row, broadcast, current_version, edited, notified_row, response_at, response_row, run_at, run_row}
+use Rattle.group_rows.specs.Asks.{Ask, Parked, asks_of, is_with, next_ask, parked_of, running_in}
 use Rattle.group_rows.specs.Answers.{answer_row, hand_on}
-use Rattle.group_rows.specs.Rows.{answer_error, begin_in, closing_row, document_at, document_bodies, document_row, down_row, early_row, exit_row, first_result, from_server, gone_row, lspmux_row, message_row, named_row, notice_at, notice_row, open_row, outs_of, ready_row, replay_bodies, request_at, request_row, result_in, row_of, served_request, served_row, started, sync_bodies, taken_row, waiting_in, welcome, hasty_row, close_all, refusal, refused_row}
+use Rattle.group_rows.specs.Rows.{answer_error, begin_in, begun_row, closing_row, document_at, document_bodies, document_row, down_row, early_row, exit_row, first_result, from_server, gone_row, lspmux_row, message_row, named_row, notice_at, notice_row, open_row, outs_of, ready_row, replay_bodies, request_at, request_row, result_in, row_of, served_request, served_row, started, sync_bodies, taken_row, waiting_in, welcome, hasty_row, close_all, refusal, refused_row}
 use Rattle.group_rows.specs.Texts.{encoding_of, texts_of}
 use Rattle.group_rows.specs.Ticks.{due_of, overdue_of, tick_row}
 use Rattle.group_facts.specs.Built.{built_behind}
@@ -108,10 +109,10 @@ module _ (R : List Event → Out → Type 0) (sends : (events : List Event) (s :
 
   -- and of the answer that an editor gives (E19)
   module _ (settings : Settings) (before : List Event) (e : ℕ) (body : List ℕ) (m : Message) (events : List Event) where
-    handed_at : (s : ℕ) → Because R events (response_at before e body m s)
+    handed_at : (s : ℕ) → Because R events (response_at settings before e body m s)
     handed_at s = by_choose (λ ready. by_on (λ none. by_nothing) (λ a found. by_send (sends events s (with_id_text body a.bytes)))) (λ off. by_nothing)
 
-    handed_in : (g : ℕ) → Because R events (on (start_of g before) nothing (response_at before e body m))
+    handed_in : (g : ℕ) → Because R events (on (start_of g before) nothing (response_at settings before e body m))
     handed_in g = by_on (λ none. by_nothing) (λ s start. handed_at s)
 
     pub handed_by : Because R events (response_row settings before e body m)
@@ -124,14 +125,14 @@ module _ (R : List Event → Out → Type 0) (sends : (events : List Event) (s :
     closings_by : (g s : ℕ) (events : List Event) → Because R events (closings settings before g s e)
     closings_by g s events = by_choose (λ ready. bodies_by s (leave_bodies settings.limits.versions (λ u. held_at s u before) e (texts_of settings g before).opens (texts_of settings g before).opens) events) (λ off. by_nothing)
 
-    refusals_by : (s : ℕ) (events : List Event) → Because R events (refusals before s e)
-    refusals_by s events = by_choose (λ ready. refused_by s (filter (is_with e) (asks_of s before)) events) (λ off. by_nothing)
+    refusals_by : (s : ℕ) (events : List Event) → Because R events (refusals settings before s e)
+    refusals_by s events = by_choose (λ ready. refused_by s (filter (is_with e) (asks_of settings s before)) events) (λ off. by_nothing)
 
-    leaves_by : (g s : ℕ) (events : List Event) → Because R events (cancels before s e ⨾ (refusals before s e ⨾ closings settings before g s e))
+    leaves_by : (g s : ℕ) (events : List Event) → Because R events (cancels before s e ⨾ (refusals settings before s e ⨾ closings settings before g s e))
     leaves_by g s events = by_then (cancelled_by s events) (by_then (refusals_by s (behind events (outs (cancels before s e) events)))
-        (closings_by g s (behind (behind events (outs (cancels before s e) events)) (outs (refusals before s e) (behind events (outs (cancels before s e) events))))))
+        (closings_by g s (behind (behind events (outs (cancels before s e) events)) (outs (refusals settings before s e) (behind events (outs (cancels before s e) events))))))
 
-    group_by : (g : ℕ) (events : List Event) → Because R events (on (start_of g before) nothing (λ s. cancels before s e ⨾ (refusals before s e ⨾ closings settings before g s e)))
+    group_by : (g : ℕ) (events : List Event) → Because R events (on (start_of g before) nothing (λ s. cancels before s e ⨾ (refusals settings before s e ⨾ closings settings before g s e)))
     group_by g events = by_on (λ none. by_nothing) (λ s start. leaves_by g s events)
 
     pub leave_by : (events : List Event) → Because R events (leave_row settings before e)
@@ -236,10 +237,26 @@ module _ (settings : Settings) (before : List Event) where
   quiet_served e body not_json events = quiet_handed e body not_json events
   quiet_served e body not_message events = quiet_handed e body not_message events
 
+  quiet_parked : (e : ℕ) (ps : List Parked) (events : List Event) → Quiet events (each (λ (p : Parked). ask p.body e) ps)
+  quiet_parked e [] events = by_nothing
+  quiet_parked e (p ∷ ps) events = by_then (by_look (by_choose (λ room. by_send tt) (λ none. by_nothing))) (quiet_parked e ps (behind events (outs (ask p.body e) events)))
+
+  quiet_run_at : (e s : ℕ) (events : List Event) → Quiet events (run_at settings before e s)
+  quiet_run_at e s events = by_choose (λ ready. quiet_parked e (parked_of settings s before) events) (λ off. by_nothing)
+
+  quiet_run_in : (e g : ℕ) (events : List Event) → Quiet events (on (start_of g before) nothing (run_at settings before e))
+  quiet_run_in e g events = by_on (λ none. by_nothing) (λ s start. quiet_run_at e s events)
+
+  quiet_run : (e : ℕ) (events : List Event) → Quiet events (run_row settings before e)
+  quiet_run e events = by_on (λ none. by_nothing) (λ g home. quiet_run_in e g events)
+
+  quiet_begun : (e : ℕ) (body : List ℕ) (m : Message) (events : List Event) → Quiet events (begun_row settings before e body m)
+  quiet_begun e body m events = by_then (by_choose (λ runs. quiet_run e events) (λ stops. by_nothing)) (quiet_served e body m (behind events (outs (choose (makes_running m) (run_row settings before e) nothing) events)))
+
   quiet_taken : (e : ℕ) (body : List ℕ) (m : Message) (phase : Phase) (events : List Event) → places phase m ≡ false → Quiet events (taken_row settings before e body m phase)
   quiet_taken e body m New events h = by_choose (λ yes. never (sym yes ∙ h)) (λ no. quiet_early e body m events)
   quiet_taken e body m Waiting events h = quiet_early e body m events
-  quiet_taken e body m Answered events h = quiet_served e body m events
+  quiet_taken e body m Answered events h = quiet_begun e body m events
   quiet_taken e body m Running events h = quiet_served e body m events
   quiet_taken e body m Down events h = quiet_down e body m events
   quiet_taken e body m other events h = by_nothing
@@ -300,12 +317,19 @@ module _ (settings : Settings) (before : List Event) where
   quiet_spread body [] events = by_nothing
   quiet_spread body (e ∷ es) events = by_then (by_send tt) (quiet_spread body es (behind events (ToEditor e body ∷ [])))
 
-  quiet_asking : (g s : ℕ) (body : List ℕ) (c : Class) (events : List Event) → Quiet events (asking_row settings before g s body c)
-  quiet_asking g s body Refresh events = by_then (by_send tt) (quiet_each body (running_in settings g before) (behind events (ToServer s (ok_text (id_bytes body) (codes "null")) ∷ [])))
-  quiet_asking g s body Folders events = by_on (λ none. by_nothing) (λ x found. by_send tt)
-  quiet_asking g s body Focused events = by_on (λ none. by_send tt) (λ e found. quiet_ask body e events)
-  quiet_asking g s body Lowest events = by_on (λ none. by_nothing) (λ e found. quiet_ask body e events)
-  quiet_asking g s body _ events = by_nothing
+  quiet_edited : (s e : ℕ) (body : List ℕ) (o : Option (List ℕ)) (events : List Event) → Quiet events (edited s body e o)
+  quiet_edited s e body None events = by_send tt
+  quiet_edited s e body (Some text) events = by_send tt
+
+  quiet_edit : (s e : ℕ) (body : List ℕ) (events : List Event) → Quiet events (ask_edit settings before s body e)
+  quiet_edit s e body events = by_look (by_choose (λ room. quiet_edited s e body (asked_text (current_version settings before s e) body (decimal (next_ask e events))) events) (λ none. by_nothing))
+
+  quiet_asking : (g s : ℕ) (body method : List ℕ) (c : Class) (events : List Event) → Quiet events (asking_row settings before g s body method c)
+  quiet_asking g s body method Refresh events = by_then (by_send tt) (quiet_each body (running_in settings g before) (behind events (ToServer s (ok_text (id_bytes body) (codes "null")) ∷ [])))
+  quiet_asking g s body method Folders events = by_on (λ none. by_nothing) (λ x found. by_send tt)
+  quiet_asking g s body method Focused events = by_on (λ none. by_send tt) (λ e found. by_choose (λ edit. quiet_edit s e body events) (λ plain. quiet_ask body e events))
+  quiet_asking g s body method Lowest events = by_on (λ none. by_nothing) (λ e found. quiet_ask body e events)
+  quiet_asking g s body method _ events = by_nothing
 
   quiet_notified : (s : ℕ) (body : List ℕ) (params : Option Json) (c : Class) (events : List Event) → Quiet events (notified_row settings s before body params c)
   quiet_notified s body params Cancel events = by_on (λ none. by_nothing) (λ a found. by_choose (λ runs. by_send tt) (λ no. by_nothing))
@@ -313,7 +337,7 @@ module _ (settings : Settings) (before : List Event) where
   quiet_notified s body params _ events = by_nothing
 
   quiet_ready : (s : ℕ) (body : List ℕ) (m : Message) (events : List Event) → Quiet events (ready_row settings s before body m)
-  quiet_ready s body (request id method params) events = by_choose (λ twice. by_nothing) (λ fresh. by_on (λ none. by_nothing) (λ g home. quiet_asking g s body (class_of method Server false) events))
+  quiet_ready s body (request id method params) events = by_choose (λ twice. by_nothing) (λ fresh. by_on (λ none. by_nothing) (λ g home. quiet_asking g s body method (class_of method Server false) events))
   quiet_ready s body (notification method params) events = quiet_notified s body params (class_of method Server true) events
   quiet_ready s body (result id r) events = quiet_response s body (result id r) events
   quiet_ready s body (error id x) events = quiet_response s body (error id x) events

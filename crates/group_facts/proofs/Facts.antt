@@ -30,7 +30,7 @@ pub record Steady (settings : Settings) (events : List Event) : Type 0 where
   pub editors : Editors events
   pub asked : AllForwarded events
   pub apart : Apart events
-  pub asks : Asks events
+  pub asks : Asks settings events
   pub housed : Housed settings events
 
 -- the next number of all requests to a start, and of those of editors

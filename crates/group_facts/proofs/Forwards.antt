@@ -1,5 +1,6 @@
 -- The requests that were sent on to a start, behind one more event; and what the bodies to a start that are notifications leave alone.
-use Rattle.std.proofs.Common.{◌≡◌, ℕ, Bool, true, false, List, [], ◌∷◌, ◌++◌, map, codes, bytes_eq, if◌then◌else◌, Option, refl, ◌∙◌, ap, ap₂, nat_eq, sym, subst, ◌+◌}
+use Rattle.std.proofs.Common.{◌≡◌, ℕ, zero, suc, Bool, true, false, List, [], ◌∷◌, ◌++◌, map, codes, bytes_eq, if◌then◌else◌, Option, Some, refl, ◌∙◌, ap, ap₂, nat_eq, sym, subst, ◌+◌}
+use Rattle.std.specs.Prelude.{slice_get}
 use Rattle.std.specs.List.{AllByRecursion}
 use Rattle.std.proofs.lemmas.List.Sums.{fold-append}
 use Rattle.json_text.specs.Json.{Json}
@@ -25,6 +26,12 @@ more_requests x = record { sender = x.sender; next = x.next + 1; open_requests =
 pub zip_all : {X : Type 0} (P Q R : X → Type 0) → ((x : X) → P x → Q x → R x) → (xs : List X) → AllByRecursion P xs → AllByRecursion Q xs → AllByRecursion R xs
 zip_all P Q R f [] h k = tt
 zip_all P Q R f (x ∷ xs) h k = (f x h.0 k.0, zip_all P Q R f xs h.1 k.1)
+
+-- and what holds of one of them
+pub get_all : {X : Type 0} (P : X → Type 0) (xs : List X) (i : ℕ) (x : X) → AllByRecursion P xs → slice_get xs i ≡ Some x → P x
+get_all P [] i x h e = absurd (cc)
+get_all P (y ∷ xs) zero x h e = subst P (let same : y ≡ x = cc in same) h.0
+get_all P (y ∷ xs) (suc i) x h e = get_all P xs i x h.1 e
 
 pub forwarding_more : (s : ℕ) (events : List Event) (event : Event) → forwarding_of s (events ++ event ∷ []) ≡ forwarding_behind s (forwarding_of s events) event
 forwarding_more s events event = fold-append (forwarding_behind s) no_forwarding events (event ∷ [])

@@ -83,7 +83,7 @@ module _ (settings : Settings) where
     editors = editors_took events cause fits h.editors;
     asked = asked_took settings events cause built fits h.editors h.asked;
     apart = apart_fewer events (with_cause events cause) (fewer_took settings events cause built) h.apart;
-    asks = asks_took events cause h.asks;
+    asks = asks_took settings events cause h.asks;
     housed = housed_took settings events cause built h.housed;
   }
     where
@@ -111,7 +111,7 @@ module _ (settings : Settings) where
       editors = editors.to_editor events n body h.editors;
       asked = asked_told settings before cause events n body why h.asked;
       apart = apart_said events (ToEditor n body) (λ s. refl) h.apart;
-      asks = asks_told events n body settings before cause why h.asks;
+      asks = asks_told settings events n body before cause why h.asks;
       housed = housed_did settings events (ToEditor n body) refl (λ s. refl) h.housed;
     }
       where
@@ -133,7 +133,7 @@ module _ (settings : Settings) where
       editors = editors.more events (said (Spawn (starts_of events) g)) h.editors refl (λ e absent. absent);
       asked = asked_said events (Spawn (starts_of events) g) (λ s. refl) (λ e. refl) h.asked;
       apart = apart_said events (Spawn (starts_of events) g) (λ s. refl) h.apart;
-      asks = asks_spawned events (starts_of events) g h.asks;
+      asks = asks_spawned settings events (starts_of events) g h.asks;
       housed = housed_spawn settings events g inside h.housed;
     }
       where
@@ -156,7 +156,7 @@ module _ (settings : Settings) where
           (λ same. there_not events n e absent same there)) ∙ absent);
       asked = asked_said events (CloseEditor n) (λ s. refl) (λ e. refl) h.asked;
       apart = apart_said events (CloseEditor n) (λ s. refl) h.apart;
-      asks = asks_closed events n h.asks;
+      asks = asks_closed settings events n h.asks;
       housed = housed_did settings events (CloseEditor n) refl (λ s. refl) h.housed;
     }
       where
@@ -179,7 +179,7 @@ module _ (settings : Settings) where
       editors = editors.more events (said (EndServer n)) h.editors refl (λ e absent. absent);
       asked = asked_said events (EndServer n) (λ s. refl) (λ e. refl) h.asked;
       apart = apart_said events (EndServer n) (λ s. refl) h.apart;
-      asks = asks_ended events n h.asks;
+      asks = asks_ended settings events n h.asks;
       housed = housed_did settings events (EndServer n) refl (λ s. refl) h.housed;
     }
       where
@@ -215,7 +215,7 @@ module _ (settings : Settings) where
         editors = editors.to_server events n body (h.steady).editors;
         asked = asked_sent settings before cause events n body why (h.steady).asked;
         apart = apart_sent settings before cause events n body why (h.steady).apart;
-        asks = asks_sent events n body (h.steady).asks;
+        asks = asks_sent settings events n body (h.steady).asks;
         housed = housed_did settings events (ToServer n body) refl (λ s. refl) (h.steady).housed;
       };
       tied = tied_sent settings cause events n body before why h.tied;
@@ -252,7 +252,7 @@ module _ (settings : Settings) where
     pub no_facts : Facts settings []
     no_facts = record {
       base = record { opened = opened_none settings; plain = plain_none; written = tt; meant = tt };
-      steady = record { starts = λ s le. refl; unbegun = λ s un. (refl, refl); untold = λ s un u. refl; bounded = λ s up. (omega arith, omega arith); editors = λ e le. refl; asked = λ s. tt; apart = λ s. tt; asks = no_asks; housed = λ s below. absurd (omega (arith, below)) };
+      steady = record { starts = λ s le. refl; unbegun = λ s un. (refl, refl); untold = λ s un u. refl; bounded = λ s up. (omega arith, omega arith); editors = λ e le. refl; asked = λ s. tt; apart = λ s. tt; asks = no_asks settings; housed = λ s below. absurd (omega (arith, below)) };
       tied = λ s. tt;
       waiting = λ e. tt;
     }

@@ -159,7 +159,7 @@ each_listed (a ∷ xs) = (
 
 module _ (settings : Settings) (range : InRange settings) (before : List Event) (cause : Cause) (opened : Opened settings before) (bounded : Bounded settings before) (place : List Event)
     (rests : (s : ℕ) → moves before cause s ≡ false) (stage_still : (s : ℕ) → (life_of s place).stage ≡ (life_of s before).stage) (held_still : (s : ℕ) (u : List ℕ) → held_at s u place ≡ held_at s u before)
-    (open_still : (s : ℕ) → (forwarding_of s place).open_requests ≡ (forwarding_of s before).open_requests) (asks : Asks before) (asked_still : (s : ℕ) → asked_by s place ≡ asked_by s before) (e : ℕ) where
+    (open_still : (s : ℕ) → (forwarding_of s place).open_requests ≡ (forwarding_of s before).open_requests) (asks : Asks settings before) (asked_still : (s : ℕ) → asked_by s place ≡ asked_by s before) (e : ℕ) where
   abbrev R : List Event → Out → Type 0
   R events out = Why settings before cause events out
 
@@ -212,7 +212,7 @@ module _ (settings : Settings) (range : InRange settings) (before : List Event) 
         ∙ asked_by_more s events (said (ToServer s (cancel_text n))) ∙ ap₂ (λ b m. if b then without (answered_id m) (asked_by s events) else asked_by s events) (same_number s) (cancel_says n small.0)
 
     abbrev asked : List Ask
-    asked = filter (is_with e) (asks_of s before)
+    asked = filter (is_with e) (asks_of settings s before)
 
     -- behind the refusal of another one
     still_asked : (events : List Event) (a b : Ask) → IsIdText a.id a.bytes → same_id a.id b.id ≡ false → is_open b.id (asked_by s events) ≡ true → is_open b.id (asked_by s (behind events (sends (refusal_of a ∷ [])))) ≡ true
@@ -220,7 +220,7 @@ module _ (settings : Settings) (range : InRange settings) (before : List Event) 
         ∙ ap₂ (λ c m. if c then without (answered_id m) (asked_by s events) else asked_by s events) (same_number s) (error_law (Some a.id) a.bytes request_failed (id_as_response a.id a.bytes text)))
         ∙ still_open a.id b.id (asked_by s events) waits other
 
-    refusals_told : (xs : List Ask) → AllDiffer xs → AllByRecursion (IsListed (asks_of s before)) xs → (events : List Event) → AllByRecursion (λ (a : Ask). is_open a.id (asked_by s events) ≡ true) xs → Mine events → AllAlone events (map refusal_of xs)
+    refusals_told : (xs : List Ask) → AllDiffer xs → AllByRecursion (IsListed (asks_of settings s before)) xs → (events : List Event) → AllByRecursion (λ (a : Ask). is_open a.id (asked_by s events) ≡ true) xs → Mine events → AllAlone events (map refusal_of xs)
     refusals_told [] differ listed events waits calm = tells_none settings range before cause place s events calm
     refusals_told (a ∷ xs) differ listed events waits calm =
         let one : AllAlone events (refusal_of a ∷ []) = refuse_told settings range before cause place s events a (listed.0).text (listed.0).listed (rests s) waits.0 calm in
@@ -248,14 +248,14 @@ module _ (settings : Settings) (range : InRange settings) (before : List Event) 
       abbrev cancelled : List Event
       cancelled = behind place (sends (map cancel_text ns))
 
-      listed_all : AllByRecursion (λ (a : Ask). IsListed (asks_of s before) a × (is_open a.id (asked_by s cancelled) ≡ true)) asked
-      listed_all = all_filtered (λ (a : Ask). IsListed (asks_of s before) a × (is_open a.id (asked_by s cancelled) ≡ true)) (λ (a : Ask). IsListed (asks_of s before) a × (is_open a.id (asked_by s cancelled) ≡ true)) (is_with e) (λ a t k. k) (asks_of s before)
-          (zip_all (IsAsked s before) (λ (a : Ask). list_any (is_under (Some a.id)) (asks_of s before) ≡ true) (λ (a : Ask). IsListed (asks_of s before) a × (is_open a.id (asked_by s cancelled) ≡ true))
-          (λ a k l. (record { text = k.text; listed = l }, ap (is_open a.id) (asked_cancelled ns small place ∙ asked_still s) ∙ k.waits)) (asks_of s before) (asks s).asked (each_listed (asks_of s before)))
+      listed_all : AllByRecursion (λ (a : Ask). IsListed (asks_of settings s before) a × (is_open a.id (asked_by s cancelled) ≡ true)) asked
+      listed_all = all_filtered (λ (a : Ask). IsListed (asks_of settings s before) a × (is_open a.id (asked_by s cancelled) ≡ true)) (λ (a : Ask). IsListed (asks_of settings s before) a × (is_open a.id (asked_by s cancelled) ≡ true)) (is_with e) (λ a t k. k) (asks_of settings s before)
+          (zip_all (IsAsked s before) (λ (a : Ask). list_any (is_under (Some a.id)) (asks_of settings s before) ≡ true) (λ (a : Ask). IsListed (asks_of settings s before) a × (is_open a.id (asked_by s cancelled) ≡ true))
+          (λ a k l. (record { text = k.text; listed = l }, ap (is_open a.id) (asked_cancelled ns small place ∙ asked_still s) ∙ k.waits)) (asks_of settings s before) (asks s).asked (each_listed (asks_of settings s before)))
 
       refused : AllAlone cancelled (map refusal_of asked)
-      refused = refusals_told asked (differ_filtered (is_with e) (asks_of s before) (asks s).differ) (all_of (λ (a : Ask). IsListed (asks_of s before) a × (is_open a.id (asked_by s cancelled) ≡ true)) (IsListed (asks_of s before)) (λ a k. k.0) asked listed_all) cancelled
-          (all_of (λ (a : Ask). IsListed (asks_of s before) a × (is_open a.id (asked_by s cancelled) ≡ true)) (λ (a : Ask). is_open a.id (asked_by s cancelled) ≡ true) (λ a k. k.1) asked listed_all) told.calm
+      refused = refusals_told asked (differ_filtered (is_with e) (asks_of settings s before) (asks s).differ) (all_of (λ (a : Ask). IsListed (asks_of settings s before) a × (is_open a.id (asked_by s cancelled) ≡ true)) (IsListed (asks_of settings s before)) (λ a k. k.0) asked listed_all) cancelled
+          (all_of (λ (a : Ask). IsListed (asks_of settings s before) a × (is_open a.id (asked_by s cancelled) ≡ true)) (λ (a : Ask). is_open a.id (asked_by s cancelled) ≡ true) (λ a k. k.1) asked listed_all) told.calm
 
       abbrev parted : List Event
       parted = behind cancelled (sends (map refusal_of asked))
@@ -281,7 +281,7 @@ module _ (settings : Settings) (range : InRange settings) (before : List Event) 
     by_ready true ready = record { why = (all_why ready).why }
     by_ready false not_ready = record { why = tt }
 
-  by_group : (g : ℕ) → Right (on (start_of g before) nothing (λ s. cancels before s e ⨾ (refusals before s e ⨾ closings settings before g s e)))
+  by_group : (g : ℕ) → Right (on (start_of g before) nothing (λ s. cancels before s e ⨾ (refusals settings before s e ⨾ closings settings before g s e)))
   by_group g = by_on (λ none. by_nothing) (λ s start. by_ready g s (is_ready (life_of s before).stage) refl)
 
   pub leave_why : Right (leave_row settings before e)

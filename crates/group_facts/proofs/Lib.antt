@@ -53,6 +53,11 @@ mod Worked
 pub mod Written
 pub mod Asks
 pub mod AskingRows
+pub mod Same
+pub mod Still
+pub mod Moved
+pub mod Homes
+pub mod Resuming
 pub mod Spreads
 pub mod OneStart
 pub mod AskSeats

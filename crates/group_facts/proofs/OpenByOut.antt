@@ -21,10 +21,12 @@ use Rattle.mux_facts.proofs.Why.{is_early}
 use Rattle.group_rows.specs.Rows.{outs_of}
 use Rattle.group_facts.specs.Built.{built_behind}
 use Rattle.group_facts.specs.Facts.{turned_away}
-use Rattle.group_facts.specs.Why.{Why, WhyToEditor, rejects, refuses, answers, turns_away, welcomes, passes, asks, recalls, spreads}
+use Rattle.group_facts.specs.Why.{Why, WhyToEditor, rejects, resumes, refuses, answers, turns_away, welcomes, passes, asks, recalls, spreads}
 use Rattle.group_facts.proofs.Begun.{Begun, Founding, NoSpawn, founding_of, founds, quiet, starts_stay, start_took}
 use Rattle.group_facts.proofs.Facts.{Facts}
-use Rattle.group_facts.proofs.Sent.{SentAt, sent_did, sent_spawn}
+use Rattle.group_facts.proofs.Same.{Same}
+use Rattle.group_facts.proofs.Sent.{IsOf, OneOf, SentAt, sent_did, sent_spawn}
+use Rattle.group_rows.specs.Forwarded.{Forwarding}
 use Rattle.group_facts.proofs.RequestRow.{beside_other}
 use Rattle.group_facts.proofs.Table.{reasons}
 use Rattle.group_facts.proofs.OpenByPhase.{OpenDesk, OpenIf, if_closed, if_null, if_other, if_passed, if_refused, if_replied, if_welcomed}
@@ -59,6 +61,16 @@ module _ (settings : Settings) (e : ℕ) (E : Id → Type 0) where
   pub open_still : (events later : List Event) → ((id : Id) → SentAt settings events e id → SentAt settings later e id) → OpenAt events → OpenIf (S later) (desk_of e events).phase (desk_of e events).initialize (open_of e events)
   open_still events later f h = if_other (S events) (S later) (desk_of e events).phase (desk_of e events).initialize (open_of e events) (λ served id is. or_later events later id (f id)) h
 
+  -- at a place that differs in what editors were asked
+  pub open_moved : (x y : List Event) → Same settings y x → OpenAt x → OpenAt y
+  open_moved x y same h = subst₂ (OpenDesk (S y)) (sym (same.desk e)) (sym (same.opens e)) (open_still x y (λ id k. record {
+    group = k.group;
+    start = k.start;
+    home = same.home e ∙ k.home;
+    last = same.start k.group ∙ k.last;
+    among = subst (λ (f : Forwarding). OneOf (IsOf e id) f.open_requests) (sym (same.forwarding k.start)) k.among;
+  }) h)
+
   -- a body to a start
   pub open_sent : (events : List Event) (s : ℕ) (body : List ℕ) → OpenAt events → OpenAt (events ++ said (ToServer s body) ∷ [])
   open_sent events s body h = open_at events (said (ToServer s body)) (open_still events (events ++ said (ToServer s body) ∷ []) (λ id. sent_did settings e id events (ToServer s body) tt) h)
@@ -89,6 +101,7 @@ module _ (settings : Settings) (e : ℕ) (E : Id → Type 0) where
         (if_welcomed T (desk_of e events).phase (desk_of e events).initialize (open_of e events) k.id (k.waiting).params k.r (k.waiting).phase (k.waiting).asks h)
     told_by T events body (passes k) h = if_passed T (desk_of e events).phase (desk_of e events).initialize (open_of e events) (message_of body) k.late h
     told_by T events body (asks k) h = if_passed T (desk_of e events).phase (desk_of e events).initialize (open_of e events) (message_of body) (ap is_early (k.source).running) h
+    told_by T events body (resumes k) h = if_passed T (desk_of e events).phase (desk_of e events).initialize (open_of e events) (message_of body) (ap is_early k.running) h
     told_by T events body (spreads k) h = if_passed T (desk_of e events).phase (desk_of e events).initialize (open_of e events) (message_of body) (ap is_early (k.source).running) h
     told_by T events body (recalls k) h = if_passed T (desk_of e events).phase (desk_of e events).initialize (open_of e events) (message_of body) (ap is_early (k.source).running) h
 

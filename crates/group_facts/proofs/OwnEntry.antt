@@ -17,7 +17,7 @@ use Rattle.rpc_message.proofs.Ids.{request_id_bytes}
 use Rattle.event_model.specs.declared.phase.Phase.{Phase}
 use Rattle.event_model.specs.declared.phase.Phase.TheVariants.{Absent, New, Waiting, Answered, Running, Down, Closed, Gone}
 use Rattle.event_model.specs.Event.{Event, behind, heard, requests, said, with_cause}
-use Rattle.event_model.specs.Phases.{Desk, desk_hears, desk_of, has_id, is_begun, is_linked, is_new, is_there, phase_told}
+use Rattle.event_model.specs.Phases.{Desk, desk_hears, desk_of, has_id, is_begun, is_linked, is_new, is_there, makes_running, phase_told}
 use Rattle.event_model.specs.Requests.{answered_id, with_request, is_open, is_own, open_of, without}
 use Rattle.event_model.specs.Row.{Row, choose, nothing, on, outs, send, ◌⨾◌}
 use Rattle.event_model.specs.Settings.{Settings}
@@ -30,6 +30,7 @@ use Rattle.mux_facts.specs.Ranges.{InRange}
 use Rattle.mux_facts.proofs.Bodies.{malformed_says, refusal_says}
 use Rattle.mux_facts.proofs.Folds.{opens_more}
 use Rattle.mux_facts.proofs.Keeps.{behind_both}
+use Rattle.mux_facts.proofs.Lists.{all_of}
 use Rattle.mux_facts.proofs.Late.{error_told, told_late}
 use Rattle.mux_facts.proofs.Reasons.{Because, by_nothing, by_send, by_then, by_choose, by_on}
 use Rattle.mux_facts.proofs.Table.{late_taken}
@@ -39,16 +40,16 @@ use Rattle.group_words.specs.Houses.{home_of, house_of, is_doubled, is_first_ope
 use Rattle.group_words.specs.Placing.{home_by}
 use Rattle.group_words.specs.Rows.{initialize_row}
 use Rattle.group_words.proofs.Frames.{home_more}
-use Rattle.group_rows.specs.AskRows.{response_row}
+use Rattle.group_rows.specs.AskRows.{response_row, run_row}
 use Rattle.group_rows.specs.Cancelling.{cancelling_at, cancelling_row}
 use Rattle.group_rows.specs.Forwarded.{Forwarding, forwarding_of, numbered}
 use Rattle.group_rows.specs.Leaves.{leave_row}
-use Rattle.group_rows.specs.Rows.{answer_error, asks_lspmux, can_ask, closing_row, document_at, document_bodies, document_row, early_code, early_row, exit_row, forward, from_editor, is_misplaced, lspmux_row, message_row, named_row, names_lspmux, notice_at, notice_row, open_row, outs_of, request_at, request_row, served_request, served_row, shutdown_row, status_row, sync_bodies, sync_row, taken_row, told_row, wrong_code}
+use Rattle.group_rows.specs.Rows.{answer_error, asks_lspmux, begun_row, can_ask, closing_row, document_at, document_bodies, document_row, early_code, early_row, exit_row, forward, from_editor, is_misplaced, lspmux_row, message_row, named_row, names_lspmux, notice_at, notice_row, open_row, outs_of, request_at, request_row, served_request, served_row, shutdown_row, status_row, sync_bodies, sync_row, taken_row, told_row, wrong_code}
 use Rattle.group_rows.specs.Status.{items_of, status_text}
 use Rattle.group_rows.proofs.Statuses.{told_tree}
 use Rattle.group_rows.specs.Texts.{encoding_of, texts_of}
 use Rattle.group_facts.specs.Facts.{turned_away}
-use Rattle.group_facts.specs.Why.{IsForward}
+use Rattle.group_facts.specs.Why.{IsForward, IsQuestion}
 use Rattle.group_facts.specs.Settled.{is_answered}
 use Rattle.group_facts.proofs.Apart.{alone_by}
 use Rattle.group_facts.proofs.Begun.{NoSpawn, all_outs, bodies_by, handed_by, leave_by, quiet_bodies, start_did, start_took, starts_stay}
@@ -58,12 +59,15 @@ use Rattle.group_facts.proofs.Numbers.{forwarding_sent}
 use Rattle.group_facts.proofs.Multiplexer.{lspmux_apart}
 use Rattle.group_facts.proofs.Nulls.{null_said}
 use Rattle.group_facts.proofs.RequestRow.{beside, beside_other, desk_taken, is_forward, not_own, status_said, synced_sender}
+use Rattle.group_facts.proofs.Resuming.{run_questions, stays_there}
+use Rattle.group_facts.proofs.Same.{IsBody, same_behind, same_questions, sym_same}
+use Rattle.group_facts.proofs.Still.{Goes, Still, goes_body, still_served}
 use Rattle.group_facts.proofs.Sent.{IsOf, OneOf, SentAt, one_last, sent_did, sent_heard}
 use Rattle.group_facts.proofs.PutOut.{home_did, homes_stay}
 use Rattle.group_facts.proofs.OpenByPhase.{OpenDesk, OpenIf, if_asked, if_hears, if_null, if_other, reply_told, without_last}
 use Rattle.group_facts.proofs.SharedRows.{off_first}
 use Rattle.group_facts.proofs.Waiting.{new_is, turned_outs}
-use Rattle.group_facts.proofs.OpenByOut.{OpenAt, S, open_at, open_closed, open_sent, open_still, or_later, told}
+use Rattle.group_facts.proofs.OpenByOut.{OpenAt, S, open_at, open_closed, open_moved, open_sent, open_still, or_later, told}
 
 -- no request is excused
 abbrev pub Nobody : Id → Type 0
@@ -344,17 +348,17 @@ module _ (settings : Settings) (before : List Event) (n : ℕ) (body : List ℕ)
     handed : (m : Message) → AllByRecursion ToStart (outs (response_row settings before n body m) now)
     handed m = all_outs ToStart now (outs (response_row settings before n body m) now) (handed_by (λ places out. ToStart out) (λ places s b. tt) settings before n body m now).why
 
-    result_handed : (id : Option Id) (r : Json) (phase : Phase) → AllByRecursion ToStart (outs (taken_row settings before n body (result id r) phase) now)
-    result_handed id r New = tt
-    result_handed id r Answered = handed (result id r)
-    result_handed id r Running = handed (result id r)
-    result_handed id r other = tt
+    result_handed : (id : Option Id) (r : Json) (phase : Phase) → (phase ≡ Answered → ⊥) → AllByRecursion ToStart (outs (taken_row settings before n body (result id r) phase) now)
+    result_handed id r Answered other = absurd (other refl)
+    result_handed id r Running other = handed (result id r)
+    result_handed id r New other = tt
+    result_handed id r rest other = tt
 
-    error_handed : (id : Option Id) (x : Json) (phase : Phase) → AllByRecursion ToStart (outs (taken_row settings before n body (error id x) phase) now)
-    error_handed id x New = tt
-    error_handed id x Answered = handed (error id x)
-    error_handed id x Running = handed (error id x)
-    error_handed id x other = tt
+    error_handed : (id : Option Id) (x : Json) (phase : Phase) → (phase ≡ Answered → ⊥) → AllByRecursion ToStart (outs (taken_row settings before n body (error id x) phase) now)
+    error_handed id x Answered other = absurd (other refl)
+    error_handed id x Running other = handed (error id x)
+    error_handed id x New other = tt
+    error_handed id x rest other = tt
 
     response_rests : (m : Message) → message_of body ≡ m → with_request m ids ≡ ids → requests (codes "initialize") m ≡ false → (phase : Phase) → outs (message_row settings before n body m phase) now ≡ outs (taken_row settings before n body m phase) now
         → AllByRecursion ToStart (outs (taken_row settings before n body m phase) now) → Rests (outs (message_row settings before n body m phase) now)
@@ -415,22 +419,47 @@ module _ (settings : Settings) (before : List Event) (n : ℕ) (body : List ℕ)
         go false false true = cancelling_rests method params says
         go false false false = document_rests method params says
 
-    notified_rests : (method : List ℕ) (params : Option Json) → message_of body ≡ notification method params → (phase : Phase) → Rests (outs (message_row settings before n body (notification method params) phase) now)
-    notified_rests method params says phase = subst (λ xs. Rests xs) (sym (by_single (notification method params) phase refl refl)) (go phase)
+    notified_rests : (method : List ℕ) (params : Option Json) → message_of body ≡ notification method params → (phase : Phase) → (phase ≡ Answered → ⊥) → Rests (outs (message_row settings before n body (notification method params) phase) now)
+    notified_rests method params says phase other = subst (λ xs. Rests xs) (sym (by_single (notification method params) phase refl refl)) (go phase other)
       where
-        go : (phase : Phase) → Rests (outs (taken_row settings before n body (notification method params) phase) now)
-        go Answered = served_rests method params says
-        go Running = served_rests method params says
-        go New = exit_rests method params says
-        go Waiting = exit_rests method params says
-        go Down = exit_rests method params says
-        go Absent = rests_here (no_request (notification method params) says refl refl)
-        go Closed = rests_here (no_request (notification method params) says refl refl)
-        go Gone = rests_here (no_request (notification method params) says refl refl)
+        go : (phase : Phase) → (phase ≡ Answered → ⊥) → Rests (outs (taken_row settings before n body (notification method params) phase) now)
+        go Answered other = absurd (other refl)
+        go Running other = served_rests method params says
+        go New other = exit_rests method params says
+        go Waiting other = exit_rests method params says
+        go Down other = exit_rests method params says
+        go Absent other = rests_here (no_request (notification method params) says refl refl)
+        go Closed other = rests_here (no_request (notification method params) says refl refl)
+        go Gone other = rests_here (no_request (notification method params) says refl refl)
 
     -- Any message that doesn't place it
 
     module _ (range : InRange settings) (facts : Facts settings before) (linked : is_linked (desk_of n before).phase ≡ true) where
+      -- it begins to run
+      begun_rests : (m : Message) → message_of body ≡ m → (desk_of n before).phase ≡ Answered → is_doubled before n m ≡ false → Rests (outs (served_row settings before n body m) now) → Rests (outs (begun_row settings before n body m) now)
+      begun_rests m says at single rest = go (makes_running m) refl
+        where
+          served : Row
+          served = served_row settings before n body m
+
+          go : (b : Bool) → makes_running m ≡ b → Rests (outs (choose (makes_running m) (run_row settings before n) nothing ⨾ served) now)
+          go false stops = subst (λ c. Rests (outs (choose c (run_row settings before n) nothing ⨾ served) now)) (sym stops) (subst (λ z. Rests (outs served z)) (sym (append-nil now)) rest)
+          go true runs = subst (λ c. Rests (outs (choose c (run_row settings before n) nothing ⨾ served) now)) (sym runs) (subst Rests (ap (λ zs. asked ++ zs) (still.same now (behind now asked) (sym_same settings (behind now asked) now (same_questions settings now asked questions))))
+              (subst (OpenAt settings n Nobody) (sym (behind_both now asked (outs served now)))
+              (open_moved settings n Nobody (behind now (outs served now)) (behind (behind now asked) (outs served now)) (same_behind settings (behind now asked) now (outs served now) (all_of Goes IsBody goes_body (outs served now) (still.goes now)) (same_questions settings now asked questions)) rest)))
+            where
+              running : makes_running (message_of body) ≡ true
+              running = ap makes_running says ∙ runs
+
+              asked : List Out
+              asked = outs (run_row settings before n) now
+
+              questions : AllByRecursion IsQuestion asked
+              questions = run_questions settings before n body at running (stays_there settings before n body at running (ap (is_doubled before n) says ∙ single)) (facts.steady).asks
+
+              still : Still settings served
+              still = still_served settings before n body m says runs
+
       asked_rests : (id : Id) (method : List ℕ) (params : Option Json) → message_of body ≡ request id method params → (phase : Phase) → (desk_of n before).phase ≡ phase → places phase (request id method params) ≡ false
           → Rests (outs (message_row settings before n body (request id method params) phase) now)
       asked_rests id method params says phase at off = go phase at off
@@ -470,23 +499,43 @@ module _ (settings : Settings) (before : List Event) (n : ℕ) (body : List ℕ)
               none : is_open id ids ≡ false
               none = ap (is_open id) (subst (λ p. OpenIf (S settings n Nobody before) p (desk_of n before).initialize ids) at h)
           go Waiting at off = by_double (is_open id ids) refl (or_lspmux id method params (answer_error n body (early_code method))) (λ fresh. by_lspmux fresh (ap is_there at) (answer_error n body (early_code method)) (refused id method params says fresh (early_old Waiting at refl) (early_code method)))
-          go Answered at off = by_double (is_open id ids) refl (or_lspmux id method params (served_request settings before n body method)) (λ fresh. by_lspmux fresh (ap is_there at) (served_request settings before n body method) (late_request fresh (ap is_there at) (ap is_early at)))
+          go Answered at off = by_double (is_open id ids) refl (or_lspmux id method params (begun_row settings before n body (request id method params)))
+              (λ fresh. by_lspmux fresh (ap is_there at) (begun_row settings before n body (request id method params)) (begun_rests (request id method params) says at fresh (late_request fresh (ap is_there at) (ap is_early at))))
           go Running at off = by_double (is_open id ids) refl (or_lspmux id method params (served_request settings before n body method)) (λ fresh. by_lspmux fresh (ap is_there at) (served_request settings before n body method) (late_request fresh (ap is_there at) (ap is_early at)))
           go Down at off = by_double (is_open id ids) refl (or_lspmux id method params (answer_error n body (wrong_code method invalid_request))) (λ fresh. by_lspmux fresh (ap is_there at) (answer_error n body (wrong_code method invalid_request)) (refused id method params says fresh (early_old Down at refl) (wrong_code method invalid_request)))
           go Absent at off = never (sym linked ∙ ap is_linked at)
           go Closed at off = rests_here (asked_closed Closed at (λ i m. tt))
           go Gone at off = rests_here (asked_closed Gone at (λ i m. tt))
 
-      own_rests : (m : Message) → message_of body ≡ m → places (desk_of n before).phase m ≡ false → Rests (outs (from_editor settings before n body m (desk_of n before).phase) now)
-      own_rests (request id method params) says off = asked_rests id method params says (desk_of n before).phase refl off
-      own_rests (notification method params) says off = notified_rests method params says (desk_of n before).phase
-      own_rests not_json says off = malformed_rests not_json (desk_of n before).phase says refl refl
-      own_rests not_message says off = malformed_rests not_message (desk_of n before).phase says refl refl
-      own_rests (result id r) says off = response_rests (result id r) says refl refl (desk_of n before).phase (by_single (result id r) (desk_of n before).phase refl refl) (result_handed id r (desk_of n before).phase)
-      own_rests (error id x) says off = response_rests (error id x) says refl refl (desk_of n before).phase (by_single (error id x) (desk_of n before).phase refl refl) (error_handed id x (desk_of n before).phase)
+      -- in phase Answered, and in another one
+      answered_rests : (m : Message) → message_of body ≡ m → (desk_of n before).phase ≡ Answered → places Answered m ≡ false → Rests (outs (from_editor settings before n body m Answered) now)
+      answered_rests (request id method params) says at off = asked_rests id method params says Answered at off
+      answered_rests (notification method params) says at off = begun_rests (notification method params) says at refl (served_rests method params says)
+      answered_rests not_json says at off = malformed_rests not_json Answered says refl refl
+      answered_rests not_message says at off = malformed_rests not_message Answered says refl refl
+      answered_rests (result id r) says at off = begun_rests (result id r) says at refl (open_bodies settings n Nobody now (outs (response_row settings before n body (result id r)) now) (handed (result id r)) (no_request (result id r) says refl refl))
+      answered_rests (error id x) says at off = begun_rests (error id x) says at refl (open_bodies settings n Nobody now (outs (response_row settings before n body (error id x)) now) (handed (error id x)) (no_request (error id x) says refl refl))
+
+      other_rests : (m : Message) → message_of body ≡ m → (phase : Phase) → (desk_of n before).phase ≡ phase → (phase ≡ Answered → ⊥) → places phase m ≡ false → Rests (outs (from_editor settings before n body m phase) now)
+      other_rests (request id method params) says phase at other off = asked_rests id method params says phase at off
+      other_rests (notification method params) says phase at other off = notified_rests method params says phase other
+      other_rests not_json says phase at other off = malformed_rests not_json phase says refl refl
+      other_rests not_message says phase at other off = malformed_rests not_message phase says refl refl
+      other_rests (result id r) says phase at other off = response_rests (result id r) says refl refl phase (by_single (result id r) phase refl refl) (result_handed id r phase other)
+      other_rests (error id x) says phase at other off = response_rests (error id x) says refl refl phase (by_single (error id x) phase refl refl) (error_handed id x phase other)
+
+      own_rests : (m : Message) → message_of body ≡ m → (phase : Phase) → (desk_of n before).phase ≡ phase → places phase m ≡ false → Rests (outs (from_editor settings before n body m phase) now)
+      own_rests m says Answered at off = answered_rests m says at off
+      own_rests m says Absent at off = other_rests m says Absent at (λ same. absurd (cc)) off
+      own_rests m says New at off = other_rests m says New at (λ same. absurd (cc)) off
+      own_rests m says Waiting at off = other_rests m says Waiting at (λ same. absurd (cc)) off
+      own_rests m says Running at off = other_rests m says Running at (λ same. absurd (cc)) off
+      own_rests m says Down at off = other_rests m says Down at (λ same. absurd (cc)) off
+      own_rests m says Closed at off = other_rests m says Closed at (λ same. absurd (cc)) off
+      own_rests m says Gone at off = other_rests m says Gone at (λ same. absurd (cc)) off
 
       pub message_rests : places (desk_of n before).phase (message_of body) ≡ false → OpenAt settings n Nobody (behind now (outs_of settings before (FromEditor n body)))
-      message_rests off = own_rests (message_of body) refl off
+      message_rests off = own_rests (message_of body) refl (desk_of n before).phase refl off
 
     -- Its first `initialize`
 

@@ -38,14 +38,14 @@ or_second false b h = h
 
 -- X5
 
-pub gone_why : (settings : Settings) → InRange settings → (before : List Event) → Opened settings before → Bounded settings before → Asks before → (e : ℕ) (why : link.Why) (phase : Phase)
+pub gone_why : (settings : Settings) → InRange settings → (before : List Event) → Opened settings before → Bounded settings before → Asks settings before → (e : ℕ) (why : link.Why) (phase : Phase)
     → Because (Why settings before (EditorGone e why)) (with_cause before (EditorGone e why)) (gone_row settings before e phase)
 gone_why settings range before opened bounded asks e why phase = by_choose
     (λ served. leave_why settings range before (EditorGone e why) opened bounded (with_cause before (EditorGone e why)) (λ s. refl) (λ s. ap (λ (l : Life). l.stage) (life_more s before (heard (EditorGone e why))))
     (λ s u. ap (λ (x : Sent). x.held) (sent_more s u before (heard (EditorGone e why)))) (λ s. ap (λ (x : Forwarding). x.open_requests) (forwarding_more s before (heard (EditorGone e why)))) asks (λ s. asked_by_more s before (heard (EditorGone e why))) e)
     (λ off. by_nothing)
 
-module _ (settings : Settings) (range : InRange settings) (before : List Event) (opened : Opened settings before) (bounded : Bounded settings before) (asks : Asks before) (e : ℕ) (body : List ℕ) where
+module _ (settings : Settings) (range : InRange settings) (before : List Event) (opened : Opened settings before) (bounded : Bounded settings before) (asks : Asks settings before) (e : ℕ) (body : List ℕ) where
   abbrev asked : List Event
   asked = with_cause before (FromEditor e body)
 

@@ -178,7 +178,7 @@ module _ (settings : Settings) (before : List Event) (cause : Cause) (events : L
     ev = did (ToServer n body) (request (integer (decimal next)) k.method k.params)
 
     abbrev bodies : List Out
-    bodies = map (λ text. ToServer n text) (sync_bodies settings.limits.versions (λ u. held_at n u before) (k.sender).editor (texts_of settings (k.synced).group before).opens)
+    bodies = (k.synced).questions ++ map (λ text. ToServer n text) (sync_bodies settings.limits.versions (λ u. held_at n u before) (k.sender).editor (texts_of settings (k.synced).group before).opens)
 
     is_ev : said (ToServer n body) ≡ ev
     is_ev = ap (λ m. did (ToServer n body) m) k.says

@@ -21,7 +21,7 @@ use Rattle.group_facts.proofs.Everywhere.{reasons_hold}
 
 module _ (settings : Settings) (before : List Event) (cause : Cause) where
   switched : (events : List Event) (s e : ℕ) (asked : List ℕ) → cause ≡ FromEditor e asked → IsBehindSync settings before events s e asked → IsSwitched settings before cause events s
-  switched events s e asked from k = record { editor = e; asked = asked; from = from; group = k.group; start = k.start; place = subst (λ c. events ≡ behind (with_cause before c) (map (λ text. ToServer s text) (sync_bodies settings.limits.versions (λ u. held_at s u before) e (texts_of settings k.group before).opens))) (sym from) k.place }
+  switched events s e asked from k = record { editor = e; asked = asked; from = from; group = k.group; start = k.start; questions = k.questions; asks = k.asks; place = subst (λ c. events ≡ behind (with_cause before c) (k.questions ++ map (λ text. ToServer s text) (sync_bodies settings.limits.versions (λ u. held_at s u before) e (texts_of settings k.group before).opens))) (sym from) k.place }
 
   by_reason : (events : List Event) (s : ℕ) (body : List ℕ) → WhyToServer settings before cause events s body → is_synced (message_of body) ≡ true → IsSwitched settings before cause events s
   by_reason events s body (begins k) goes = unsynced body _ k.says refl goes

@@ -49,4 +49,4 @@ module _ (settings : Settings) (range : InRange settings) (before : List Event) 
 
   -- nothing else was sent
   pub behind_sync : start_of g before ≡ Some s → requests (codes "shutdown") (message_of body) ≡ false → speaks (saying_of (message_of body)) ≡ false → IsBehindSync settings before synced s e body
-  behind_sync start stays silent = record { group = g; start = start; ready = ready; stays = stays; silent = silent; place = ap (behind now) (outs_to_start s bodies now) }
+  behind_sync start stays silent = record { group = g; start = start; ready = ready; stays = stays; silent = silent; questions = []; asks = tt; place = ap (behind now) (outs_to_start s bodies now) }

@@ -1,5 +1,5 @@
 -- The routing table over several editors and groups, walked once: each out of every row has its reason.
-use Rattle.std.proofs.Common.{◌≡◌, ℕ, true, false, ◌&&◌, ◌||◌, List, codes, bytes_eq, Option, refl, sym, ◌∙◌, ap, not, Bool}
+use Rattle.std.proofs.Common.{◌≡◌, ℕ, true, false, ◌&&◌, ◌||◌, List, codes, bytes_eq, Option, refl, sym, ◌∙◌, ap, append-nil, not, subst, Bool}
 use Rattle.std.proofs.lemmas.Bool.{and_parts}
 use Rattle.std.proofs.lemmas.Slice.Eq.{bytes_eq-Decides}
 use Rattle.json_text.specs.Json.{Json}
@@ -9,10 +9,10 @@ use Rattle.rpc_message.specs.Message.{Message, request, notification, result, er
 use Rattle.rpc_message.specs.Texts.{error_tree, invalid_request}
 use Rattle.event_model.specs.declared.phase.Phase.{Phase}
 use Rattle.event_model.specs.declared.phase.Phase.TheVariants.{Absent, New, Waiting, Answered, Running, Down, Closed, Gone}
-use Rattle.event_model.specs.Event.{Event, notifies, requests, with_cause}
-use Rattle.event_model.specs.Phases.{desk_of, is_begun, is_malformed, is_served, is_there}
+use Rattle.event_model.specs.Event.{Event, behind, notifies, requests, with_cause}
+use Rattle.event_model.specs.Phases.{desk_of, is_begun, is_malformed, is_served, is_there, makes_running}
 use Rattle.event_model.specs.Requests.{is_open, open_of}
-use Rattle.event_model.specs.Row.{Row}
+use Rattle.event_model.specs.Row.{Row, choose, nothing, outs, ◌⨾◌}
 use Rattle.event_model.specs.Settings.{Settings}
 use Rattle.event_model.specs.Stages.{is_first_result, life_of}
 use Rattle.event_model.specs.declared.stage.Stage.TheVariants.{Initializing}
@@ -22,13 +22,15 @@ use Rattle.mux_model.specs.Methods.{is_wrong}
 use Rattle.mux_model.specs.Rows.{malformed_code, malformed_row}
 use Rattle.mux_facts.specs.Ranges.{InRange}
 use Rattle.mux_facts.proofs.Bodies.{malformed_says}
-use Rattle.mux_facts.proofs.Reasons.{Because, by_nothing, by_send, by_choose}
+use Rattle.event_model.proofs.Frames.{never}
+use Rattle.mux_facts.proofs.Reasons.{Because, by_nothing, by_send, by_choose, by_then}
 use Rattle.mux_facts.proofs.Why.{is_early}
 use Rattle.group_words.specs.Houses.{is_doubled}
 use Rattle.group_words.specs.Rows.{shown_of}
+use Rattle.group_rows.specs.AskRows.{run_row}
 use Rattle.group_rows.specs.Rows.{asks_lspmux, closing_row, down_row, early_code, early_row, exit_row, from_editor, lspmux_row, message_row, row_of, served_notice, served_request, served_row, taken_row, wrong_code}
 use Rattle.group_facts.specs.Built.{built_behind, built_early, built_from_server, is_shown_whole}
-use Rattle.group_facts.specs.Facts.{IsAlone, is_parting}
+use Rattle.group_facts.specs.Facts.{IsAlone, is_parting, leaves}
 use Rattle.group_facts.proofs.AskingRows.{response_why}
 use Rattle.group_facts.proofs.AnswerRows.{server_why, start_why}
 use Rattle.group_facts.proofs.Apart.{alone_by, alone_early}
@@ -36,11 +38,14 @@ use Rattle.group_facts.proofs.CancelRow.{cancelling_why}
 use Rattle.group_facts.proofs.DocumentRow.{document_why}
 use Rattle.group_facts.proofs.Facts.{Facts}
 use Rattle.group_facts.proofs.Multiplexer.{lspmux_apart}
+use Rattle.group_facts.proofs.Moved.{row_moved}
 use Rattle.group_facts.proofs.NoticeRow.{notice_why}
 use Rattle.group_facts.proofs.PartingRows.{closing_why, gone_why, or_second, shutdown_why}
 use Rattle.group_facts.proofs.PlacingRow.{initialize_why}
 use Rattle.group_facts.proofs.RequestRow.{R, asked, early_new, early_waiting, late_refused, not_own, open_why, request_why, status_why}
+use Rattle.group_facts.proofs.Resuming.{run_questions, run_why, stays_there}
 use Rattle.group_facts.proofs.SharedRows.{off_first}
+use Rattle.group_facts.proofs.Still.{still_served}
 use Rattle.group_facts.proofs.TickRow.{tick_why}
 use Rattle.group_facts.specs.Why.{Why, rejects}
 
@@ -163,7 +168,21 @@ module _ (settings : Settings) (range : InRange settings) (before : List Event) 
   taken_why : (phase : Phase) → (desk_of e before).phase ≡ phase → (is_begun phase && is_doubled before e (message_of body)) ≡ false → Mine (taken_row settings before e body (message_of body) phase)
   taken_why New at single = new_why (message_of body) refl at
   taken_why Waiting at single = waiting_why (message_of body) refl at single
-  taken_why Answered at single = served_why (message_of body) refl (ap is_served at) (ap is_early at) (ap is_there at) single
+  taken_why Answered at single = begun_why (makes_running (message_of body)) refl
+    where
+      here : Mine (served_row settings before e body (message_of body))
+      here = served_why (message_of body) refl (ap is_served at) (ap is_early at) (ap is_there at) single
+
+      stays : makes_running (message_of body) ≡ true → leaves settings before (FromEditor e body) e ≡ false
+      stays runs = stays_there settings before e body at runs single
+
+      begun_why : (b : Bool) → makes_running (message_of body) ≡ b → Mine (choose (makes_running (message_of body)) (run_row settings before e) nothing ⨾ served_row settings before e body (message_of body))
+      begun_why true runs = by_then (subst (λ c. Mine (choose c (run_row settings before e) nothing)) (sym runs) (by_choose (λ yes. run_why settings before e body at runs (stays runs) (facts.steady).asks) (λ no. by_nothing)))
+          (subst (λ c. Because (R settings before e body) (behind (asked settings before e body) (outs (choose c (run_row settings before e) nothing) (asked settings before e body))) (served_row settings before e body (message_of body))) (sym runs)
+          (row_moved settings before e body runs (outs (run_row settings before e) (asked settings before e body)) (run_questions settings before e body at runs (stays runs) (facts.steady).asks) (served_row settings before e body (message_of body)) (still_served settings before e body (message_of body) refl runs) here))
+      begun_why false stops = by_then (by_choose (λ yes. never (sym yes ∙ stops)) (λ no. by_nothing))
+          (subst (λ c. Because (R settings before e body) (behind (asked settings before e body) (outs (choose c (run_row settings before e) nothing) (asked settings before e body))) (served_row settings before e body (message_of body))) (sym stops)
+          (subst (λ z. Because (R settings before e body) z (served_row settings before e body (message_of body))) (sym (append-nil (asked settings before e body))) here))
   taken_why Running at single = served_why (message_of body) refl (ap is_served at) (ap is_early at) (ap is_there at) single
   taken_why Down at single = down_why (message_of body) refl at single
   taken_why Absent at single = by_nothing
@@ -207,7 +226,7 @@ module _ (settings : Settings) (range : InRange settings) (before : List Event) 
   pub reasons : (cause : Cause) → built_behind settings before cause ≡ true → Because (Why settings before cause) (with_cause before cause) (row_of settings before cause)
   reasons (FromEditor e body) built = editor_why settings range before facts e body
   reasons (EditorGone e why) built = gone_why settings range before (facts.base).opened (facts.steady).bounded (facts.steady).asks e why (desk_of e before).phase
-  reasons (FromServer s body) built = server_why settings range before s body (facts.base).opened (facts.steady).untold facts.waiting (facts.steady).asked (facts.steady).apart (facts.base).meant (facts.steady).asks (first_shown settings before s body built)
+  reasons (FromServer s body) built = server_why settings range before s body (facts.base).opened (facts.steady).untold facts.waiting (facts.steady).asked (facts.steady).apart (facts.base).meant (facts.steady).asks (facts.base).written (first_shown settings before s body built)
       (λ at. ap (λ stage. built_from_server settings before s stage body (message_of body)) (sym at) ∙ built) (life_of s before).stage refl
   reasons (Started s) built = start_why settings before s (facts.base).written (life_of s before).stage refl
   reasons (Tick t) built = tick_why settings range.requests before (facts.steady).bounded t

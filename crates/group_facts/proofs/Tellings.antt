@@ -118,7 +118,7 @@ module _ (settings : Settings) (range : InRange settings) (before : List Event) 
   }
 
   -- nor does it speak of one that a request of the start is refused
-  pub refuse_told : {K : List ℕ → Type 0} (events : List Event) (a : Ask) → IsIdText a.id a.bytes → list_any (is_under (Some a.id)) (asks_of s before) ≡ true → moves before cause s ≡ false → is_open a.id (asked_by s events) ≡ true → Calm events
+  pub refuse_told : {K : List ℕ → Type 0} (events : List Event) (a : Ask) → IsIdText a.id a.bytes → list_any (is_under (Some a.id)) (asks_of settings s before) ≡ true → moves before cause s ≡ false → is_open a.id (asked_by s events) ≡ true → Calm events
       → Tells K events (error_text a.bytes request_failed ∷ [])
   refuse_told events a text listed rests waits calm =
       let is : message_of (error_text a.bytes request_failed) ≡ error (Some a.id) (error_tree request_failed) = error_law (Some a.id) a.bytes request_failed (id_as_response a.id a.bytes text) in

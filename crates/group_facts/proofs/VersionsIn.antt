@@ -11,7 +11,8 @@ use Rattle.json_text.specs.Tree.{tree_of}
 use Rattle.json_text.proofs.Put.{same_name}
 use Rattle.json_nodes.specs.Puts.{put_edits}
 use Rattle.rpc_message.specs.Message.{is_integer_value, is_string_value, message_of}
-use Rattle.rpc_message.specs.Parsed.{result_in}
+use Rattle.rpc_message.specs.Changed.{changed_text}
+use Rattle.rpc_message.specs.Parsed.{params_in, result_in}
 use Rattle.doc_text.specs.Changes.{string_text}
 use Rattle.document_model.specs.Helds.{HeldText}
 use Rattle.document_model.specs.Notices.{integer_text, new_version}
@@ -23,13 +24,14 @@ use Rattle.event_model.specs.Event.{Event}
 use Rattle.event_model.specs.Members.{has_version, listed, named_of}
 use Rattle.event_model.specs.Settings.{Settings}
 use Rattle.response_route.specs.Answers.{answer_text, answer_with}
+use Rattle.response_route.specs.Asked.{asked_text, documents_asked, edit_documents}
 use Rattle.response_route.specs.Edits.{Renaming, action_documents, all_edits, change_documents, document_edits, documents_of, in_front, joined, object_documents, renamed, versioned, workspace_documents}
 use Rattle.response_route.specs.Results.{documents_in, value_documents}
 use Rattle.response_route.specs.Versions.{is_held, version_now, version_then}
 use Rattle.mux_model.specs.Documents.{held_at}
 use Rattle.mux_facts.proofs.Lists.{all_join}
 use Rattle.group_rows.specs.Answers.{agreed_version, held_version, shared_texts, stamp_at, stamped}
-use Rattle.group_facts.specs.OwnVersions.{AreOwn, HasOther, IsAgreed, IsOwn, IsOwnAnswer, IsUnder, OwnVersion, version_edits, current, former, modified, neither, passed, unopened}
+use Rattle.group_facts.specs.OwnVersions.{AreOwn, CurrentVersion, HasOther, IsAgreed, IsOwn, IsOwnAnswer, IsOwnEdit, IsUnder, OwnVersion, version_edits, current, current_now, former, modified, neither, outdated, passed, unopened, unopened_now}
 
 -- V1 of one document
 
@@ -98,6 +100,23 @@ module _ (settings : Settings) (s e : ℕ) (u digits : List ℕ) where
         go (Some o) opened = now_there o opened (is_held digits (agreed_version o (held_at s u events))) refl
         go None opened = unopened opened refl
 
+-- V3 of one document
+
+module _ (settings : Settings) (s e : ℕ) (u digits : List ℕ) (events : List Event) where
+  abbrev Now : Option (List ℕ) → Type 0
+  Now text = CurrentVersion settings s e events u digits text
+
+  pub current_means : Now (version_now digits (stamp_at agreed_version settings s e events u) None)
+  current_means = go (found e u (shared_texts settings s events)) refl
+    where
+      there : (o : Open) → found e u (shared_texts settings s events) ≡ Some o → (b : Bool) → is_held digits (agreed_version o (held_at s u events)) ≡ b → Now (if b then Some o.version else None)
+      there o opened true is = let k = agreed_by settings s e u digits events o opened (held_at s u events) refl is in current_now k.0 (ap (λ (z : Open). Some z.version) (sym k.1))
+      there o opened false is = outdated (ap is_some opened) (λ k. let clash : true ≡ false = sym (agreed_held settings s e u digits events o opened k) ∙ is in cc) refl
+
+      go : (p : Option Open) → found e u (shared_texts settings s events) ≡ p → Now (version_now digits (option_map (λ o. stamped (agreed_version o (held_at s u events)) o) p) None)
+      go (Some o) opened = there o opened (is_held digits (agreed_version o (held_at s u events))) refl
+      go None opened = unopened_now opened refl
+
 -- The documents of a result have a version and a uri
 
 abbrev Versioned : Json → Type 0
@@ -150,13 +169,13 @@ integer_there (Some (array s js)) h = absurd (cc)
 integer_there (Some (object s ms)) h = absurd (cc)
 integer_there None h = absurd (cc)
 
--- All documents of an answer
+-- All documents of an answer, or of an edit
 
-module _ (settings : Settings) (s e : ℕ) (moment events : List Event) (r : Renaming) (means : (u digits : List ℕ) → OwnVersion settings s e moment events u digits (r u digits)) where
+module _ (V : List ℕ → List ℕ → Option (List ℕ) → Type 0) (r : Renaming) (means : (u digits : List ℕ) → V u digits (r u digits)) where
   -- one document: its edits, or none where it is refused
   data OneOwn (j : Json) (o : Option (List Edit)) : Type 0 where
-    one_put : (text : List ℕ) → IsOwn settings s e moment events j (Some text) → o ≡ Some (put_edits (new_version text) j) → OneOwn j o
-    one_other : IsOwn settings s e moment events j None → o ≡ None → OneOwn j o
+    one_put : (text : List ℕ) → IsOwn V j (Some text) → o ≡ Some (put_edits (new_version text) j) → OneOwn j o
+    one_other : IsOwn V j None → o ≡ None → OneOwn j o
 
   one_own : (j : Json) → Versioned j → OneOwn j (document_edits r j)
   one_own j has =
@@ -167,12 +186,12 @@ module _ (settings : Settings) (s e : ℕ) (moment events : List Event) (r : Ren
     where
       go : (u digits : List ℕ) → option_and_then string_text (named_in (codes "uri") j) ≡ Some u → option_and_then integer_text (named_in (codes "version") j) ≡ Some digits → (text : Option (List ℕ)) → r u digits ≡ text
           → document_edits r j ≡ option_map (λ text. put_edits (new_version text) j) (r u digits) → OneOwn j (document_edits r j)
-      go u digits named given (Some text) is put = one_put text (record { uri = u; digits = digits; named = named; given = given; own = subst (OwnVersion settings s e moment events u digits) is (means u digits) }) (put ∙ ap (λ o. option_map (λ text. put_edits (new_version text) j) o) is)
-      go u digits named given None is put = one_other (record { uri = u; digits = digits; named = named; given = given; own = subst (OwnVersion settings s e moment events u digits) is (means u digits) }) (put ∙ ap (λ o. option_map (λ text. put_edits (new_version text) j) o) is)
+      go u digits named given (Some text) is put = one_put text (record { uri = u; digits = digits; named = named; given = given; own = subst (V u digits) is (means u digits) }) (put ∙ ap (λ o. option_map (λ text. put_edits (new_version text) j) o) is)
+      go u digits named given None is put = one_other (record { uri = u; digits = digits; named = named; given = given; own = subst (V u digits) is (means u digits) }) (put ∙ ap (λ o. option_map (λ text. put_edits (new_version text) j) o) is)
 
   data AllOwn (js : List Json) (o : Option (List Edit)) : Type 0 where
-    all_put : (texts : List (List ℕ)) → AreOwn settings s e moment events js texts → o ≡ Some (version_edits js texts) → AllOwn js o
-    some_other : HasOther settings s e moment events js → o ≡ None → AllOwn js o
+    all_put : (texts : List (List ℕ)) → AreOwn V js texts → o ≡ Some (version_edits js texts) → AllOwn js o
+    some_other : HasOther V js → o ≡ None → AllOwn js o
 
   both_own : (j : Json) (js : List Json) (o p : Option (List Edit)) → OneOwn j o → AllOwn js p → AllOwn (j ∷ js) (joined o p)
   both_own j js o p (one_put text own is) (all_put texts owns are) = all_put (text ∷ texts) (own, owns) (ap₂ joined is are)
@@ -183,9 +202,33 @@ module _ (settings : Settings) (s e : ℕ) (moment events : List Event) (r : Ren
   all_own [] has = all_put [] tt refl
   all_own (j ∷ js) has = both_own j js (document_edits r j) (all_edits r js) (one_own j has.0) (all_own js has.1)
 
+module _ (settings : Settings) (s e : ℕ) (moment events : List Event) (r : Renaming) (means : (u digits : List ℕ) → OwnVersion settings s e moment events u digits (r u digits)) where
+  abbrev V : List ℕ → List ℕ → Option (List ℕ) → Type 0
+  V u digits text = OwnVersion settings s e moment events u digits text
+
   pub own_answer : (answer id : List ℕ) → IsOwnAnswer settings s e moment events answer id (answer_text r answer id)
-  own_answer answer id = go (all_own (documents_in answer) (value_all (option_and_then (result_in (message_of answer)) (tree_of answer))))
+  own_answer answer id = go (all_own V r means (documents_in answer) (value_all (option_and_then (result_in (message_of answer)) (tree_of answer))))
     where
-      go : AllOwn (documents_in answer) (all_edits r (documents_in answer)) → IsOwnAnswer settings s e moment events answer id (answer_text r answer id)
+      go : AllOwn V r means (documents_in answer) (all_edits r (documents_in answer)) → IsOwnAnswer settings s e moment events answer id (answer_text r answer id)
       go (all_put texts owns are) = passed texts owns (ap (λ o. answer_with o answer id) are)
       go (some_other other none) = modified other (ap (λ o. answer_with o answer id) none)
+
+-- an edit, where it isn't refused
+module _ (settings : Settings) (s e : ℕ) (events : List Event) where
+  abbrev W : List ℕ → List ℕ → Option (List ℕ) → Type 0
+  W u digits text = CurrentVersion settings s e events u digits text
+
+  abbrev new : Renaming
+  new u digits = version_now digits (stamp_at agreed_version settings s e events u) None
+
+  edit_all : (o : Option Json) → AllByRecursion Versioned (edit_documents o)
+  edit_all (Some j) = workspace_all (named_in (codes "edit") j)
+  edit_all None = tt
+
+  pub own_edit : (asked digits text : List ℕ) → asked_text new asked digits ≡ Some text → IsOwnEdit settings events s asked e text
+  own_edit asked digits text is = go (all_own W new (λ u digits. current_means settings s e u digits events) (documents_asked asked) (edit_all (option_and_then (params_in (message_of asked)) (tree_of asked))))
+    where
+      go : AllOwn W new (λ u digits. current_means settings s e u digits events) (documents_asked asked) (all_edits new (documents_asked asked)) → IsOwnEdit settings events s asked e text
+      go (all_put texts owns are) = let same : Some (changed_text asked digits (version_edits (documents_asked asked) texts)) ≡ Some text = sym (ap (option_map (λ es. changed_text asked digits es)) are) ∙ is in
+          record { number = digits; texts = texts; own = owns; bytes = cc }
+      go (some_other other none) = let clash : ◌≡◌ {A = Option (List ℕ)} None (Some text) = sym (ap (option_map (λ es. changed_text asked digits es)) none) ∙ is in absurd (cc)

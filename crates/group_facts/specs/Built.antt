@@ -1,10 +1,9 @@
 -- Which causes meet only rows of the table over several editors and groups that are built, until all are.
 -- Not built of an editor: `lspmux/stop` (E6), and while it is served requests that go on with tokens (E10), and the notification that cancels the work of one (E11).
--- Not built of a start while it is ready: the edits that it asks for (V3), what it asks of one editor where none runs (S12), and the classes of S6 to S8, S10, S13 and S15. Nor the end of a program whose group lives.
+-- Not built of a start while it is ready: the classes of S6 to S8, S13 and S15. Nor the end of a program whose group lives.
 -- Of S2, what is read back must be what was meant: editors are shown all of the result.
-use Rattle.std.specs.Prelude.{ℕ, Bool, true, false, not, ◌&&◌, ◌||◌, List, bytes_eq, codes, is_some}
+use Rattle.std.specs.Prelude.{ℕ, Bool, true, false, not, ◌&&◌, ◌||◌, List, bytes_eq, codes}
 use Rattle.std.specs.Prelude.{Option, Some}
-use Rattle.std.specs.List.{list_any}
 use Rattle.std.specs.Option.{option_map_or}
 use Rattle.mux_history.specs.declared.cause.Cause.{Cause}
 use Rattle.mux_history.specs.declared.cause.Cause.TheVariants.{Joined, FromEditor, EditorGone, Started, StartFailed, FromServer, ServerGone, Drained, Tick}
@@ -12,7 +11,7 @@ use Rattle.mux_history.specs.declared.entry.Entry.{Entry}
 use Rattle.json_text.specs.Json.{Json}
 use Rattle.lsp_method.specs.Class.{class_of}
 use Rattle.lsp_method.specs.declared.variants.Class.{Class}
-use Rattle.lsp_method.specs.declared.variants.Class.TheVariants.{Broadcast, Cancel, Focused, Initialize, Lowest, Other, Refresh, Shutdown, Wrong}
+use Rattle.lsp_method.specs.declared.variants.Class.TheVariants.{Broadcast, Cancel, Focused, Folders, Initialize, Lowest, Other, Refresh, Shutdown, Wrong}
 use Rattle.lsp_method.specs.declared.variants.Origin.TheVariants.{Editor, Server}
 use Rattle.rpc_message.specs.Message.{Message, request, notification, result, Id, message_of, result_bytes}
 use Rattle.event_model.specs.declared.phase.Phase.{Phase}
@@ -28,8 +27,7 @@ use Rattle.event_model.specs.Stages.{life_of, is_first_result}
 use Rattle.mux_model.specs.Built.{is_other}
 use Rattle.group_words.specs.Houses.{groups_of}
 use Rattle.group_words.specs.Rows.{shown_of}
-use Rattle.group_rows.specs.AskRows.{first_in, running_in}
-use Rattle.group_rows.specs.Asks.{asks_of, is_under}
+use Rattle.group_rows.specs.Asks.{asking_of, is_taken}
 use Rattle.group_rows.specs.Rows.{names_lspmux}
 use Rattle.group_facts.specs.Lively.{lives_at}
 
@@ -79,16 +77,13 @@ abbrev pub built_early : List ℕ → Message → Bool
 built_early body (result id r) = not (is_first_result (result id r)) || is_shown_whole body
 built_early body other = true
 
--- an editor of the start's group runs
-abbrev pub has_running : Settings → List Event → ℕ → Bool
-has_running settings before s = option_map_or (λ g. is_some (first_in (running_in settings g before))) (group_of s before) false
-
--- S9, S11 and S12
-abbrev pub built_asking : Settings → List Event → ℕ → List ℕ → Class → Bool
-built_asking settings before s method Refresh = true
-built_asking settings before s method Focused = not (bytes_eq (codes "workspace/applyEdit") method)
-built_asking settings before s method Lowest = has_running settings before s
-built_asking settings before s method _ = false
+-- S9 to S12
+abbrev pub built_asking : Class → Bool
+built_asking Refresh = true
+built_asking Folders = true
+built_asking Focused = true
+built_asking Lowest = true
+built_asking _ = false
 
 -- S14, and what goes to each editor
 abbrev pub built_telling : Class → Bool
@@ -98,7 +93,7 @@ built_telling _ = false
 
 -- of a start that is ready: a request under the id of an open ask, and those; S5
 abbrev pub built_ready : Settings → List Event → ℕ → Message → Bool
-built_ready settings before s (request id method params) = list_any (is_under (Some id)) (asks_of s before) || built_asking settings before s method (class_of method Server false)
+built_ready settings before s (request id method params) = is_taken (Some id) (asking_of settings s before) || built_asking (class_of method Server false)
 built_ready settings before s (notification method params) = built_telling (class_of method Server true)
 built_ready settings before s other = true
 

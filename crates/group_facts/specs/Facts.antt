@@ -1,21 +1,21 @@
 -- What holds of every legal history of several editors and groups, and is no rule of a session.
 use Rattle.std.specs.Prelude.{◌≡◌, ℕ, ◌+◌, ◌^◌, ◌<◌, ◌≤◌, Bool, true, false, ◌&&◌, ◌||◌, List, [], ◌∷◌, decimal, fold, length, nat_eq, codes, is_some, if◌then◌else◌}
 use Rattle.std.specs.Prelude.{Option, Some, None}
-use Rattle.std.specs.List.{AllByRecursion}
+use Rattle.std.specs.List.{AllByRecursion, list_any}
 use Rattle.std.specs.Option.{option_map_or}
 use Rattle.json_text.specs.Json.{Json}
 use Rattle.document_model.specs.Orderly.{AllSpelt, Orderly}
 use Rattle.document_model.specs.Texts.{Texts}
 use Rattle.mux_history.specs.declared.cause.Cause.{Cause}
-use Rattle.mux_history.specs.declared.cause.Cause.TheVariants.{FromEditor, FromServer}
+use Rattle.mux_history.specs.declared.cause.Cause.TheVariants.{EditorGone, FromEditor, FromServer}
 use Rattle.mux_history.specs.declared.out.Out.TheVariants.{ToEditor, ToServer}
 use Rattle.rpc_message.specs.Message.{Id, Message, integer, request, result, message_of, result_bytes, same_id}
-use Rattle.rpc_message.specs.ValueTexts.{IsIdText}
+use Rattle.rpc_message.specs.ValueTexts.{IsIdText, IsShallowText}
 use Rattle.event_model.specs.declared.phase.Phase.{Phase}
 use Rattle.event_model.specs.declared.phase.Phase.TheVariants.{Absent, New, Waiting}
 use Rattle.event_model.specs.declared.stage.Stage.{Stage}
 use Rattle.event_model.specs.declared.stage.Stage.TheVariants.{Unspawned, Spawning, Initializing, Ready, Stopping}
-use Rattle.event_model.specs.Event.{Event, took, did, notifies}
+use Rattle.event_model.specs.Event.{Event, took, did, notifies, requests}
 use Rattle.event_model.specs.Phases.{desk_of, editors_of, is_begun, is_waiting}
 use Rattle.event_model.specs.Requests.{answered_id, next_number, is_open, open_of, with_request, without}
 use Rattle.event_model.specs.Settings.{Settings}
@@ -26,8 +26,8 @@ use Rattle.group_words.specs.declared.kept.Kept.{Kept}
 use Rattle.group_words.specs.declared.placed.Placed.{Placed}
 use Rattle.group_words.specs.declared.placed.Placed.TheVariants.{TooMany}
 use Rattle.group_words.specs.Houses.{groups_of, home_of, is_doubled, is_first_error, is_home, places, placed_for}
-use Rattle.group_words.specs.Rows.{initialize_of, result_of, shown_of}
-use Rattle.group_rows.specs.Asks.{Ask, asks_of}
+use Rattle.group_words.specs.Rows.{folders_text, initialize_of, result_of, shown_of}
+use Rattle.group_rows.specs.Asks.{Ask, Parked, asks_of, is_patient, is_under, parked_of, waits_under}
 use Rattle.group_rows.specs.Forwarded.{Forwarded, forwarding_of}
 use Rattle.group_rows.specs.Texts.{texts_of}
 
@@ -79,10 +79,12 @@ pub record Plain (events : List Event) : Type 0 where
   pub whole : (s : ℕ) (body : List ℕ) → is_up (life_of s events).stage ≡ true → result_of s events ≡ Some body → IsPlain body
   pub given : (s : ℕ) → is_ready (life_of s events).stage ≡ true → is_some (result_of s events) ≡ true
 
--- the daemon's own `initialize` to the starts of a group is a request with the number 1
+-- the daemon's own `initialize` to the starts of a group is a request with the number 1, and its folders are a value's text
 pub record IsWritten (x : Kept) : Type 0 where
   pub params : Option Json
   pub says : message_of (initialize_of x) ≡ request (integer (codes "1")) (codes "initialize") params
+  pub folders : Json
+  pub listed : IsShallowText 1023 folders (folders_text x.key.folders)
 
 abbrev pub Written : Settings → List Event → Type 0
 Written settings events = AllByRecursion IsWritten (groups_of settings events)
@@ -192,12 +194,27 @@ abbrev pub AllDiffer : List Ask → Type 0
 AllDiffer [] = Unit {0}
 AllDiffer (a ∷ asks) = AllByRecursion (λ (b : Ask). same_id a.id b.id ≡ false) asks × AllDiffer asks
 
-pub record AreAsks (s : ℕ) (events : List Event) : Type 0 where
-  pub asked : AllByRecursion (IsAsked s events) (asks_of s events)
-  pub differ : AllDiffer (asks_of s events)
+-- a request of start s that waits until an editor runs is open, and one that one editor answers
+pub record IsParked (s : ℕ) (events : List Event) (p : Parked) : Type 0 where
+  pub method : List ℕ
+  pub params : Option Json
+  pub says : message_of p.body ≡ request p.id method params
+  pub patient : is_patient method ≡ true
+  pub waits : is_open p.id (asked_by s events) ≡ true
 
-abbrev pub Asks : List Event → Type 0
-Asks events = (s : ℕ) → AreAsks s events
+-- no two of these have the same id, nor has one of these asks it
+abbrev pub AllApart : List Ask → List Parked → Type 0
+AllApart asks [] = Unit {0}
+AllApart asks (p ∷ ps) = (list_any (is_under (Some p.id)) asks ≡ false) × ((list_any (waits_under (Some p.id)) ps ≡ false) × AllApart asks ps)
+
+pub record AreAsks (settings : Settings) (s : ℕ) (events : List Event) : Type 0 where
+  pub asked : AllByRecursion (IsAsked s events) (asks_of settings s events)
+  pub differ : AllDiffer (asks_of settings s events)
+  pub parked : AllByRecursion (IsParked s events) (parked_of settings s events)
+  pub apart : AllApart (asks_of settings s events) (parked_of settings s events)
+
+abbrev pub Asks : Settings → List Event → Type 0
+Asks settings events = (s : ℕ) → AreAsks settings s events
 
 -- Editors that wait
 
@@ -243,6 +260,15 @@ abbrev pub ends_link : Settings → List Event → Cause → ℕ → Bool
 ends_link settings before (FromEditor n body) e = turned_away settings before (FromEditor n body) e || (nat_eq n e && is_parting before n (message_of body))
 ends_link settings before other e = is_put_out settings before other e
 
+-- its message is `shutdown`, or its link is gone
+abbrev pub shuts : Cause → ℕ → Bool
+shuts (FromEditor n body) e = nat_eq n e && requests (codes "shutdown") (message_of body)
+shuts (EditorGone n why) e = nat_eq n e
+shuts other e = false
+
+abbrev pub leaves : Settings → List Event → Cause → ℕ → Bool
+leaves settings before cause e = ends_link settings before cause e || shuts cause e
+
 -- All of it
 
 pub record Known (settings : Settings) (events : List Event) : Type 0 where
@@ -253,7 +279,7 @@ pub record Known (settings : Settings) (events : List Event) : Type 0 where
   pub bounded : Bounded settings events
   pub asked : AllForwarded events
   pub apart : Apart events
-  pub asks : Asks events
+  pub asks : Asks settings events
   pub housed : Housed settings events
   pub numbered : Numbered events
   pub stopped : Stopped events

@@ -1,5 +1,5 @@
 -- The answer that an editor gets from a start has the editor's own versions of documents, or is an error (V1 and V2; LSP 3.17, WorkspaceEdit, OptionalVersionedTextDocumentIdentifier and ContentModified).
-use Rattle.std.specs.Prelude.{◌≡◌, ◌⊎◌, ℕ, true, false, List, [], ◌∷◌, ◌++◌, codes, decimal, find, is_some}
+use Rattle.std.specs.Prelude.{◌≡◌, ◌⊎◌, ℕ, Bool, true, false, List, [], ◌∷◌, ◌++◌, codes, decimal, find, is_some}
 use Rattle.std.specs.Prelude.{Option, Some, None}
 use Rattle.std.specs.List.{AllByRecursion}
 use Rattle.std.specs.Option.{option_and_then}
@@ -13,7 +13,7 @@ use Rattle.mux_history.specs.declared.entry.Entry.{Entry}
 use Rattle.mux_history.specs.declared.out.Out.{Out}
 use Rattle.mux_history.specs.declared.out.Out.TheVariants.{ToEditor, ToServer}
 use Rattle.rpc_message.specs.Changed.{changed_text}
-use Rattle.rpc_message.specs.Message.{Id, id_bytes, integer, message_of, request}
+use Rattle.rpc_message.specs.Message.{Message, Id, id_bytes, integer, message_of, request}
 use Rattle.rpc_message.specs.Texts.{content_modified, error_text, with_id_text}
 use Rattle.rpc_message.specs.ValueTexts.{IsIdText}
 use Rattle.doc_text.specs.Changes.{string_text}
@@ -27,10 +27,12 @@ use Rattle.event_model.specs.Event.{Event, behind, events_of, said, with_cause}
 use Rattle.event_model.specs.Requests.{answered_id, is_open, is_own, open_of}
 use Rattle.event_model.specs.Settings.{Settings}
 use Rattle.event_model.specs.Stages.{life_of}
+use Rattle.response_route.specs.Asked.{documents_asked}
 use Rattle.response_route.specs.Results.{documents_in}
 use Rattle.mux_facts.specs.Allowed.{is_response}
 use Rattle.mux_model.specs.Documents.{held_at}
 use Rattle.group_rows.specs.Answers.{shared_texts}
+use Rattle.group_rows.specs.AskRows.{is_edit}
 use Rattle.group_rows.specs.Forwarded.{Forwarded, answered_by, forwarding_of}
 use Rattle.group_facts.specs.OwnTexts.{HasOwn}
 
@@ -71,25 +73,31 @@ pub data OwnVersion (settings : Settings) (s e : ℕ) (moment events : List Even
   former : is_some (found e u (shared_texts settings s events)) ≡ true → (IsAgreed settings s e events u digits → ⊥) → (k : IsUnder settings s e moment u digits) → text ≡ Some (k.own).version → OwnVersion settings s e moment events u digits text
   neither : is_some (found e u (shared_texts settings s events)) ≡ true → (IsAgreed settings s e events u digits → ⊥) → (IsUnder settings s e moment u digits → ⊥) → text ≡ None → OwnVersion settings s e moment events u digits text
 
--- a document with a version in s's answer, and what e gets in its place
-pub record IsOwn (settings : Settings) (s e : ℕ) (moment events : List Event) (document : Json) (text : Option (List ℕ)) : Type 0 where
+-- V3: what e gets in place of a version of u in an edit that s asks for: null where u isn't open at e; e's version; or nothing, where it stands for no text that e has
+pub data CurrentVersion (settings : Settings) (s e : ℕ) (events : List Event) (u digits : List ℕ) (text : Option (List ℕ)) : Type 0 where
+  unopened_now : found e u (shared_texts settings s events) ≡ None → text ≡ Some (codes "null") → CurrentVersion settings s e events u digits text
+  current_now : (k : IsAgreed settings s e events u digits) → text ≡ Some ((k.under).own).version → CurrentVersion settings s e events u digits text
+  outdated : is_some (found e u (shared_texts settings s events)) ≡ true → (IsAgreed settings s e events u digits → ⊥) → text ≡ None → CurrentVersion settings s e events u digits text
+
+-- a document with a version in what s says, and what stands in its place, as V says by its uri and the version's digits
+pub record IsOwn (V : List ℕ → List ℕ → Option (List ℕ) → Type 0) (document : Json) (text : Option (List ℕ)) : Type 0 where
   pub uri : List ℕ
   pub digits : List ℕ
   pub named : option_and_then string_text (named_in (codes "uri") document) ≡ Some uri
   pub given : option_and_then integer_text (named_in (codes "version") document) ≡ Some digits
-  pub own : OwnVersion settings s e moment events uri digits text
+  pub own : V uri digits text
 
--- of each of these documents e gets these bytes in place of its version
-abbrev pub AreOwn : Settings → ℕ → ℕ → List Event → List Event → List Json → List (List ℕ) → Type 0
-AreOwn settings s e moment events [] [] = Unit {0}
-AreOwn settings s e moment events (j ∷ js) (text ∷ texts) = IsOwn settings s e moment events j (Some text) × AreOwn settings s e moment events js texts
-AreOwn settings s e moment events [] (text ∷ texts) = ⊥
-AreOwn settings s e moment events (j ∷ js) [] = ⊥
+-- in place of the version of each of these documents stand these bytes
+abbrev pub AreOwn : (List ℕ → List ℕ → Option (List ℕ) → Type 0) → List Json → List (List ℕ) → Type 0
+AreOwn V [] [] = Unit {0}
+AreOwn V (j ∷ js) (text ∷ texts) = IsOwn V j (Some text) × AreOwn V js texts
+AreOwn V [] (text ∷ texts) = ⊥
+AreOwn V (j ∷ js) [] = ⊥
 
--- one of them stands for no text that e has, or had as it asked
-abbrev pub HasOther : Settings → ℕ → ℕ → List Event → List Event → List Json → Type 0
-HasOther settings s e moment events [] = ⊥
-HasOther settings s e moment events (j ∷ js) = IsOwn settings s e moment events j None ⊎ HasOther settings s e moment events js
+-- one of them stands for no text of the editor
+abbrev pub HasOther : (List ℕ → List ℕ → Option (List ℕ) → Type 0) → List Json → Type 0
+HasOther V [] = ⊥
+HasOther V (j ∷ js) = IsOwn V j None ⊎ HasOther V js
 
 -- these bytes in place of each `version` of these documents
 abbrev pub version_edits : List Json → List (List ℕ) → List Edit
@@ -98,8 +106,8 @@ version_edits js texts = []
 
 -- the body that e gets of s's answer: all as s gave it, but for the id and the versions, which are its own; or, V2, an error
 pub data IsOwnAnswer (settings : Settings) (s e : ℕ) (moment events : List Event) (answer id body : List ℕ) : Type 0 where
-  passed : (texts : List (List ℕ)) → AreOwn settings s e moment events (documents_in answer) texts → body ≡ changed_text answer id (version_edits (documents_in answer) texts) → IsOwnAnswer settings s e moment events answer id body
-  modified : HasOther settings s e moment events (documents_in answer) → body ≡ error_text id content_modified → IsOwnAnswer settings s e moment events answer id body
+  passed : (texts : List (List ℕ)) → AreOwn (OwnVersion settings s e moment events) (documents_in answer) texts → body ≡ changed_text answer id (version_edits (documents_in answer) texts) → IsOwnAnswer settings s e moment events answer id body
+  modified : HasOther (OwnVersion settings s e moment events) (documents_in answer) → body ≡ error_text id content_modified → IsOwnAnswer settings s e moment events answer id body
 
 -- A body that e gets in the entry of an answer of s: it answers an open request of e, by e's own id, which was sent on to s.
 pub record IsHandedOn (settings : Settings) (before : List Event) (s : ℕ) (answer : List ℕ) (e : ℕ) (body : List ℕ) : Type 0 where
@@ -113,9 +121,22 @@ pub record IsHandedOn (settings : Settings) (before : List Event) (s : ℕ) (ans
   pub answered : answered_id (message_of body) ≡ Some id
   pub own : IsOwnAnswer settings s e sent.moment before answer request.id body
 
--- at an out of the entry of a response of a start that is ready
+-- V3: an edit that s asks for, as e gets it: all as s gave it, but for the id and the versions, which are its own
+pub record IsOwnEdit (settings : Settings) (before : List Event) (s : ℕ) (asked : List ℕ) (e : ℕ) (body : List ℕ) : Type 0 where
+  pub number : List ℕ
+  pub texts : List (List ℕ)
+  pub own : AreOwn (CurrentVersion settings s e before) (documents_asked asked) texts
+  pub bytes : body ≡ changed_text asked number (version_edits (documents_asked asked) texts)
+
+-- a request that an edit be applied (LSP 3.17, ApplyWorkspaceEdit Request)
+abbrev pub asks_edit : Message → Bool
+asks_edit (request id method params) = is_edit method
+asks_edit other = false
+
+-- at an out of the entry of a response, or of such a request, of a start that is ready
 abbrev pub OnOwnVersions : Settings → List Event → Cause → Out → Type 0
-OnOwnVersions settings before (FromServer s answer) (ToEditor e body) = (life_of s before).stage ≡ Ready → is_response (message_of answer) ≡ true → IsHandedOn settings before s answer e body
+OnOwnVersions settings before (FromServer s heard) (ToEditor e body) = (life_of s before).stage ≡ Ready
+    → (is_response (message_of heard) ≡ true → IsHandedOn settings before s heard e body) × (asks_edit (message_of heard) ≡ true → IsOwnEdit settings before s heard e body)
 OnOwnVersions settings before cause out = Unit {0}
 
 -- at each out of these entries, behind those before them

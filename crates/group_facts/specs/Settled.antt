@@ -73,5 +73,5 @@ pub record Settled (settings : Settings) (events : List Event) : Type 0 where
   pub unasked : (e : ℕ) → (desk_of e events).phase ≡ New → open_of e events ≡ []
   pub waiting : (e : ℕ) → (desk_of e events).phase ≡ Waiting → IsOnly events e
   pub sent : (e : ℕ) (id : Id) → is_answered (desk_of e events).phase ≡ true → is_open id (open_of e events) ≡ true → IsSent settings events e id
-  pub asks : (s : ℕ) → AllByRecursion (HasSeat settings events s) (asks_of s events)
+  pub asks : (s : ℕ) → AllByRecursion (HasSeat settings events s) (asks_of settings s events)
   pub seated : (e : ℕ) → needs_server (desk_of e events).phase ≡ true → IsSeated settings events e

@@ -1,6 +1,7 @@
 -- What a server is told before a message of an editor goes on to it: of just the documents that are open at the editor and on which the server doesn't agree with it, in the order of their opening, the editor's language and text (LSP 3.17, Text Document Synchronization).
 use Rattle.std.specs.Prelude.{◌≡◌, ℕ, true, List, [], ◌∷◌, ◌++◌, map}
 use Rattle.std.specs.Prelude.{Some}
+use Rattle.std.specs.List.{AllByRecursion}
 use Rattle.mux_history.specs.declared.cause.Cause.{Cause}
 use Rattle.mux_history.specs.declared.cause.Cause.TheVariants.{FromEditor}
 use Rattle.mux_history.specs.declared.entry.Entry.{Entry}
@@ -13,15 +14,18 @@ use Rattle.event_model.specs.Spawns.{start_of}
 use Rattle.mux_model.specs.Documents.{held_at}
 use Rattle.group_rows.specs.Rows.{sync_bodies}
 use Rattle.group_rows.specs.Texts.{is_synced, texts_of}
+use Rattle.group_facts.specs.Why.{IsQuestion}
 
--- s is the last start of an editor's group; in this entry, which is about a message of that editor, it was sent just the switches of the editor's documents, and nothing else went out
+-- s is the last start of an editor's group; in this entry, which is about a message of that editor, it was sent just the switches of the editor's documents, and nothing else went out but requests to the editor before it
 pub record IsSwitched (settings : Settings) (before : List Event) (cause : Cause) (events : List Event) (s : ℕ) : Type 0 where
   pub editor : ℕ
   pub asked : List ℕ
   pub from : cause ≡ FromEditor editor asked
   pub group : ℕ
   pub start : start_of group before ≡ Some s
-  pub place : events ≡ behind (with_cause before cause) (map (λ text. ToServer s text) (sync_bodies settings.limits.versions (λ u. held_at s u before) editor (texts_of settings group before).opens))
+  pub questions : List Out
+  pub asks : AllByRecursion IsQuestion questions
+  pub place : events ≡ behind (with_cause before cause) (questions ++ map (λ text. ToServer s text) (sync_bodies settings.limits.versions (λ u. held_at s u before) editor (texts_of settings group before).opens))
 
 -- at a body that goes behind a sync
 abbrev pub OnSwitches : Settings → List Event → Cause → List Event → Out → Type 0

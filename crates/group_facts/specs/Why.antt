@@ -1,22 +1,22 @@
 -- Why each out of the routing table over several editors and groups is sent, with what is known at its place: `before` are the events before the entry, `events` those before the out.
 use Rattle.std.specs.Prelude.{◌≡◌, ℕ, ◌<◌, Bool, true, false, not, ◌&&◌, List, [], ◌∷◌, ◌++◌, find, if◌then◌else◌, length, map, nat_eq, nat_lt, codes, decimal}
-use Rattle.std.specs.Prelude.{Option, Some, None}
-use Rattle.std.specs.List.{list_any}
+use Rattle.std.specs.Prelude.{Option, Some, None, slice_get}
+use Rattle.std.specs.List.{AllByRecursion, list_any}
 use Rattle.std.specs.Option.{option_and_then, option_map}
 use Rattle.json_text.specs.Json.{Json}
 use Rattle.document_model.specs.Sayings.{saying_of, speaks}
 use Rattle.mux_history.specs.declared.cause.Cause.{Cause}
 use Rattle.mux_history.specs.declared.cause.Cause.TheVariants.{Started, FromServer, FromEditor}
 use Rattle.lsp_method.specs.Class.{class_of}
-use Rattle.lsp_method.specs.declared.variants.Class.TheVariants.{Broadcast, Cancel, Focused, Refresh}
+use Rattle.lsp_method.specs.declared.variants.Class.TheVariants.{Broadcast, Cancel, Focused, Folders, Refresh}
 use Rattle.lsp_method.specs.declared.variants.Origin.TheVariants.{Editor, Server}
 use Rattle.mux_history.specs.declared.entry.Entry.{Entry}
 use Rattle.mux_history.specs.declared.out.Out.{Out}
 use Rattle.mux_history.specs.declared.out.Out.TheVariants.{ToEditor, ToServer, Spawn, CloseEditor, EndServer}
-use Rattle.rpc_message.specs.Message.{request, Id, id_bytes, id_of, message_of, notification, result, error, integer}
+use Rattle.rpc_message.specs.Message.{Message, request, Id, id_bytes, id_of, message_of, notification, result, error, integer}
 use Rattle.rpc_message.specs.Texts.{error_text, initialized_text, ok_text, request_failed, with_id_text}
 use Rattle.rpc_message.specs.ValueTexts.{IsIdText}
-use Rattle.event_model.specs.declared.phase.Phase.TheVariants.{Running, Waiting}
+use Rattle.event_model.specs.declared.phase.Phase.TheVariants.{Answered, Running, Waiting}
 use Rattle.event_model.specs.declared.stage.Stage.{Stage}
 use Rattle.event_model.specs.declared.stage.Stage.TheVariants.{Spawning, Initializing, Ready, Stopping}
 use Rattle.event_model.specs.Event.{Event, behind, events_of, heard, requests, said, with_cause, same_id}
@@ -28,13 +28,17 @@ use Rattle.event_model.specs.Settings.{Settings}
 use Rattle.event_model.specs.Spawns.{group_of, start_of, starts_of}
 use Rattle.event_model.specs.Stages.{is_first_result, is_initializing, is_ready, is_spawning, life_of}
 use Rattle.response_route.specs.Answers.{answer_text}
+use Rattle.response_route.specs.Asked.{asked_text, not_applied}
 use Rattle.mux_facts.specs.Allowed.{AllowsSaying, is_response}
 use Rattle.mux_model.specs.Documents.{held_at}
 use Rattle.mux_model.specs.Methods.{goes_on}
 use Rattle.document_model.specs.Helds.{HeldText}
+use Rattle.group_words.specs.declared.kept.Kept.{Kept}
 use Rattle.group_words.specs.Houses.{groups_of, home_of}
+use Rattle.group_words.specs.Rows.{folders_text}
 use Rattle.group_rows.specs.Answers.{own_version}
-use Rattle.group_rows.specs.Asks.{Ask, asker_of, asking_of, asks_of, has_number, is_seated, is_single, is_under, next_ask}
+use Rattle.group_rows.specs.AskRows.{current_version, is_edit}
+use Rattle.group_rows.specs.Asks.{Ask, Parked, asker_of, asking_of, asks_of, has_number, has_running, is_patient, is_seated, is_single, is_taken, is_under, next_ask, parked_of, serves}
 use Rattle.group_rows.specs.Cancelling.{number_named, numbered_text}
 use Rattle.group_rows.specs.Ends.{answers_shutdown}
 use Rattle.group_rows.specs.Forwarded.{Forwarded, Sender, answered_by, forwarding_of}
@@ -42,7 +46,7 @@ use Rattle.group_rows.specs.Leaves.{cancel_text}
 use Rattle.group_rows.specs.Rows.{sync_bodies}
 use Rattle.group_rows.specs.Texts.{texts_of}
 use Rattle.group_facts.specs.Built.{is_left}
-use Rattle.group_facts.specs.Facts.{IsAlone, IsWaiting, asked_by, asked_of, ends_link, is_early, turned_away}
+use Rattle.group_facts.specs.Facts.{IsAlone, IsWaiting, asked_by, asked_of, ends_link, is_early, leaves, turned_away}
 use Rattle.group_facts.specs.Lively.{IsDying}
 
 -- Bodies to a start
@@ -83,14 +87,25 @@ pub record IsGreeting (before : List Event) (cause : Cause) (events : List Event
   pub part : server_part s events ≡ server_part s before ++ heard cause ∷ []
   pub says : message_of body ≡ notification (codes "initialized") params
 
--- s, the ready start of e's group, was told of e's documents and of nothing else in this entry, which is about a message of e that changes no document (LSP 3.17, Text Document Synchronization)
+-- a request to an editor
+abbrev pub asks_something : Message → Bool
+asks_something (request id method params) = true
+asks_something other = false
+
+abbrev pub IsQuestion : Out → Type 0
+IsQuestion (ToEditor e body) = asks_something (message_of body) ≡ true
+IsQuestion other = ⊥
+
+-- s, the ready start of e's group, was told of e's documents and of nothing else in this entry, which is about a message of e that changes no document (LSP 3.17, Text Document Synchronization); before it e may have been asked, as it begins to run
 pub record IsBehindSync (settings : Settings) (before : List Event) (events : List Event) (s e : ℕ) (asked : List ℕ) : Type 0 where
   pub group : ℕ
   pub start : start_of group before ≡ Some s
   pub ready : is_ready (life_of s before).stage ≡ true
   pub stays : requests (codes "shutdown") (message_of asked) ≡ false
   pub silent : speaks (saying_of (message_of asked)) ≡ false
-  pub place : events ≡ behind (with_cause before (FromEditor e asked)) (map (λ text. ToServer s text) (sync_bodies settings.limits.versions (λ u. held_at s u before) e (texts_of settings group before).opens))
+  pub questions : List Out
+  pub asks : AllByRecursion IsQuestion questions
+  pub place : events ≡ behind (with_cause before (FromEditor e asked)) (questions ++ map (λ text. ToServer s text) (sync_bodies settings.limits.versions (λ u. held_at s u before) e (texts_of settings group before).opens))
 
 -- the request of an editor, which is at work, goes under the next number to s, which is ready
 pub record IsForward (settings : Settings) (before : List Event) (cause : Cause) (events : List Event) (s : ℕ) (body : List ℕ) : Type 0 where
@@ -186,17 +201,19 @@ pub record IsReply (before : List Event) (cause : Cause) (events : List Event) (
   pub stays : moves before cause s ≡ false
   pub response : is_response (message_of body) ≡ true
 
--- what answers it: the response of the editor that was asked (E19), a refusal since that editor left (L1), null since each editor is asked (S9), or a refusal since none runs (S11)
-pub data Resolution (before : List Event) (cause : Cause) (s : ℕ) (id : Id) (body : List ℕ) : Type 0 where
-  handed_back : (e : ℕ) (answer : List ℕ) (a : Ask) → cause ≡ FromEditor e answer → find (is_seated e (answered_id (message_of answer))) (asks_of s before) ≡ Some a → a.id ≡ id → body ≡ with_id_text answer a.bytes → Resolution before cause s id body
-  refused_for : (a : Ask) → list_any (is_under (Some id)) (asks_of s before) ≡ true → a.id ≡ id → body ≡ error_text a.bytes request_failed → Resolution before cause s id body
-  granted : (asked method : List ℕ) (params : Option Json) → cause ≡ FromServer s asked → message_of asked ≡ request id method params → class_of method Server false ≡ Refresh → body ≡ ok_text (id_bytes asked) (codes "null") → Resolution before cause s id body
-  denied : (asked method : List ℕ) (params : Option Json) → cause ≡ FromServer s asked → message_of asked ≡ request id method params → class_of method Server false ≡ Focused → body ≡ error_text (id_bytes asked) request_failed → Resolution before cause s id body
+-- what answers it: the response of the editor that was asked (E19), a refusal since that editor left (L1), null since each editor is asked (S9), the folders of the group (S10), a refusal since none runs (S11), or that an edit wasn't applied, since a version in it stands for no text that the editor in focus has (V3)
+pub data Resolution (settings : Settings) (before : List Event) (cause : Cause) (s : ℕ) (id : Id) (body : List ℕ) : Type 0 where
+  handed_back : (e : ℕ) (answer : List ℕ) (a : Ask) → cause ≡ FromEditor e answer → find (is_seated e (answered_id (message_of answer))) (asks_of settings s before) ≡ Some a → a.id ≡ id → body ≡ with_id_text answer a.bytes → Resolution settings before cause s id body
+  refused_for : (a : Ask) → list_any (is_under (Some id)) (asks_of settings s before) ≡ true → a.id ≡ id → body ≡ error_text a.bytes request_failed → Resolution settings before cause s id body
+  granted : (asked method : List ℕ) (params : Option Json) → cause ≡ FromServer s asked → message_of asked ≡ request id method params → class_of method Server false ≡ Refresh → body ≡ ok_text (id_bytes asked) (codes "null") → Resolution settings before cause s id body
+  listed : (asked method : List ℕ) (params : Option Json) (g : ℕ) (x : Kept) → cause ≡ FromServer s asked → message_of asked ≡ request id method params → class_of method Server false ≡ Folders → group_of s before ≡ Some g → slice_get (groups_of settings before) g ≡ Some x → body ≡ ok_text (id_bytes asked) (folders_text x.key.folders) → Resolution settings before cause s id body
+  denied : (asked method : List ℕ) (params : Option Json) → cause ≡ FromServer s asked → message_of asked ≡ request id method params → class_of method Server false ≡ Focused → body ≡ error_text (id_bytes asked) request_failed → Resolution settings before cause s id body
+  unapplied : (asked method number : List ℕ) (params : Option Json) (e : ℕ) → cause ≡ FromServer s asked → message_of asked ≡ request id method params → is_edit method ≡ true → asked_text (current_version settings before s e) asked number ≡ None → body ≡ ok_text (id_bytes asked) not_applied → Resolution settings before cause s id body
 
 -- an open request of s, which is ready, is answered
-pub record IsResolving (before : List Event) (cause : Cause) (events : List Event) (s : ℕ) (body : List ℕ) : Type 0 where
+pub record IsResolving (settings : Settings) (before : List Event) (cause : Cause) (events : List Event) (s : ℕ) (body : List ℕ) : Type 0 where
   pub id : Id
-  pub resolution : Resolution before cause s id body
+  pub resolution : Resolution settings before cause s id body
   pub ready : (life_of s events).stage ≡ Ready
   pub stays : moves before cause s ≡ false
   pub response : is_response (message_of body) ≡ true
@@ -222,7 +239,7 @@ pub data WhyToServer (settings : Settings) (before : List Event) (cause : Cause)
   shuts : IsShutting settings before cause events s body → WhyToServer settings before cause events s body
   cancels : IsCancel before cause events s body → WhyToServer settings before cause events s body
   responds : IsReply before cause events s body → WhyToServer settings before cause events s body
-  resolves : IsResolving before cause events s body → WhyToServer settings before cause events s body
+  resolves : IsResolving settings before cause events s body → WhyToServer settings before cause events s body
   exits : IsExit before cause events s body → WhyToServer settings before cause events s body
 
 -- Bodies to an editor
@@ -302,24 +319,58 @@ pub record IsFromStart (settings : Settings) (before : List Event) (cause : Caus
   pub ready : (life_of s before).stage ≡ Ready
   pub running : (desk_of e events).phase ≡ Running
 
+-- a request of the start under this number: an edit with the editor's own versions (V3), another one as it came
+abbrev pub asked_as : Settings → List Event → ℕ → ℕ → List ℕ → List ℕ → List ℕ → Option (List ℕ)
+asked_as settings before s e method asked number = if is_edit method then asked_text (current_version settings before s e) asked number else Some (with_id_text asked number)
+
 -- a request of the start, under the editor's next number (S9, S11, S12); of two asks of the start none has the same id
 pub record IsAsk (settings : Settings) (before : List Event) (cause : Cause) (events : List Event) (e : ℕ) (body : List ℕ) : Type 0 where
   pub start : ℕ
   pub asked : List ℕ
   pub id : Id
   pub method : List ℕ
+  pub given : Option Json
   pub params : Option Json
   pub source : IsFromStart settings before cause events e start asked
-  pub asks : message_of asked ≡ request id method params
+  pub asks : message_of asked ≡ request id method given
   pub group : ℕ
   pub kept : group_of start before ≡ Some group
   pub home : home_of settings e before ≡ Some group
   pub ran : (desk_of e before).phase ≡ Running
-  pub fresh : list_any (is_under (Some id)) (asks_of start before) ≡ false
+  pub fresh : is_taken (Some id) (asking_of settings start before) ≡ false
   pub first : is_single method ≡ true → events ≡ with_cause before cause
-  pub asker : (t : ℕ) → (asking_of t events).asker ≡ (if nat_eq start t then asker_of asked (message_of asked) else None)
+  pub attended : is_patient method ≡ true → has_running settings before start ≡ true
+  pub quiet : (t : ℕ) → (asking_of settings t events).runs ≡ None
+  pub asker : (t : ℕ) → (asking_of settings t events).asker ≡ (if nat_eq start t then asker_of asked (message_of asked) else None)
   pub room : has_number e events ≡ true
-  pub bytes : body ≡ with_id_text asked (decimal (next_ask e events))
+  pub bytes : asked_as settings before start e method asked (decimal (next_ask e events)) ≡ Some body
+  pub says : message_of body ≡ request (integer (decimal (next_ask e events))) method params
+
+-- what waited first at the last start of the editor's group, as the editor begins to run (L2), under its next number
+pub record IsResumed (settings : Settings) (before : List Event) (cause : Cause) (events : List Event) (e : ℕ) (body : List ℕ) : Type 0 where
+  pub start : ℕ
+  pub text : List ℕ
+  pub from : cause ≡ FromEditor e text
+  pub began : (desk_of e (with_cause before cause)).phase ≡ Running
+  pub waited : (desk_of e before).phase ≡ Answered
+  pub stays : leaves settings before cause e ≡ false
+  pub group : ℕ
+  pub home : home_of settings e before ≡ Some group
+  pub last : start_of group before ≡ Some start
+  pub ready : (life_of start before).stage ≡ Ready
+  pub served : serves settings events start e ≡ true
+  pub own : (s : ℕ) → (asking_of settings s events).runs ≡ Some e
+  pub idle : (s : ℕ) → (asking_of settings s events).asker ≡ None
+  pub running : (desk_of e events).phase ≡ Running
+  pub first : Parked
+  pub rest : List Parked
+  pub waits : parked_of settings start events ≡ first ∷ rest
+  pub method : List ℕ
+  pub params : Option Json
+  pub patient : is_patient method ≡ true
+  pub asks : message_of first.body ≡ request first.id method params
+  pub room : has_number e events ≡ true
+  pub bytes : body ≡ with_id_text first.body (decimal (next_ask e events))
   pub says : message_of body ≡ request (integer (decimal (next_ask e events))) method params
 
 -- a notification of the start without a row of its own, as it came
@@ -343,7 +394,7 @@ pub record IsRecall (settings : Settings) (before : List Event) (cause : Cause) 
   pub source : IsFromStart settings before cause events e start asked
   pub asks : message_of asked ≡ notification method given
   pub class : class_of method Server true ≡ Cancel
-  pub found : find (is_under (option_and_then id_of (named_of (codes "id") given))) (asks_of start before) ≡ Some ask
+  pub found : find (is_under (option_and_then id_of (named_of (codes "id") given))) (asks_of settings start before) ≡ Some ask
   pub editor : ask.editor ≡ e
   pub open_there : is_open (integer (decimal ask.number)) (asked_of e events) ≡ true
   pub bytes : body ≡ cancel_text ask.number
@@ -359,6 +410,7 @@ pub data WhyToEditor (settings : Settings) (before : List Event) (cause : Cause)
   welcomes : IsWelcome events e body → WhyToEditor settings before cause events e body
   passes : IsPassing settings before cause events e body → WhyToEditor settings before cause events e body
   asks : IsAsk settings before cause events e body → WhyToEditor settings before cause events e body
+  resumes : IsResumed settings before cause events e body → WhyToEditor settings before cause events e body
   spreads : IsSpread settings before cause events e body → WhyToEditor settings before cause events e body
   recalls : IsRecall settings before cause events e body → WhyToEditor settings before cause events e body
 

@@ -37,7 +37,8 @@ pub fn switches()
 /// A law: an answer of a ready start that goes to an editor is that to an open request of it which was sent on to the start, under the
 /// editor's own id, and each version of a document in it is the editor's own, or null where the document isn't open there; where one stands
 /// for no text that the editor has, or had as it asked, the editor gets the error ContentModified instead (LSP 3.17,
-/// OptionalVersionedTextDocumentIdentifier).
+/// OptionalVersionedTextDocumentIdentifier). An edit that a ready start asks an editor to apply goes there with the editor's own versions,
+/// or null where a document isn't open there, and all else as the start gave it but for the id (LSP 3.17, ApplyWorkspaceEditParams).
 pub fn own_versions()
     ensures { (settings : Settings) → InRange settings → (history : List Entry) → Legal settings history → OwnVersions settings history }
 {}

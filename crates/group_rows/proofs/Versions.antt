@@ -28,6 +28,7 @@ use Rattle.response_route.specs.Versions.{is_held, version_now, version_then}
 use Rattle.mux_model.specs.Documents.{held_at, without_editor}
 use Rattle.group_words.specs.Houses.{home_of, is_home}
 use Rattle.group_words.specs.Past.{past}
+use Rattle.group_rows.specs.AskRows.{current_version}
 use Rattle.group_rows.specs.Answers.{agreed_version, held_version, moment_next, moment_of, own_version, sends_on, shared_texts, stamp_at, stamped}
 use Rattle.group_rows.specs.Forwarded.{Forwarded}
 use Rattle.group_rows.specs.Texts.{encoding_of, is_synced, texts_heard, texts_next, texts_of, touch_all, touched_at, worker_of}
@@ -179,3 +180,6 @@ pub own_flat : (settings : Settings) (before : List Event) (s : ℕ) (f : Forwar
 own_flat settings before s f told u digits text is =
     now_flat digits text (stamp_at agreed_version settings s f.editor before u) (option_and_then (λ m. stamp_at held_version settings s f.editor m u) (moment_of s f.number before))
     (λ x e. stamp_numbered settings agreed_version s f.editor before u x told e) (λ x e. noted_numbered settings s f.number f.editor before u told (moment_of s f.number before) refl x e) is
+
+pub current_flat : (settings : Settings) (before : List Event) (s e : ℕ) → AllMeant before → GivesFlat (current_version settings before s e)
+current_flat settings before s e told u digits text is = now_flat digits text (stamp_at agreed_version settings s e before u) None (λ x h. stamp_numbered settings agreed_version s e before u x told h) (λ x h. absurd (cc)) is

@@ -1,5 +1,5 @@
--- S9 to S12 and S14: what a ready start asks of editors and tells them, and E19: what it gets of their answers.
-use Rattle.std.specs.Prelude.{ℕ, Bool, false, List, [], ◌∷◌, filter, find, codes, decimal, nat_eq}
+-- S9 to S12, S14 and L2: what a ready start asks of editors and tells them, and E19: what it gets of their answers.
+use Rattle.std.specs.Prelude.{ℕ, Bool, false, List, bytes_eq, filter, find, codes, decimal, nat_eq}
 use Rattle.std.specs.Prelude.{Option, Some, None, slice_get}
 use Rattle.std.specs.List.{last_or, list_any}
 use Rattle.std.specs.Option.{option_and_then, option_map}
@@ -19,15 +19,15 @@ use Rattle.event_model.specs.Row.{Row, nothing, send, choose, look, each, on, �
 use Rattle.event_model.specs.Settings.{Settings}
 use Rattle.event_model.specs.Spawns.{group_of, start_of}
 use Rattle.event_model.specs.Stages.{life_of, is_ready}
-use Rattle.group_words.specs.Houses.{editors_in, groups_of, home_of}
+use Rattle.response_route.specs.Asked.{asked_text, not_applied}
+use Rattle.response_route.specs.Edits.{Renaming}
+use Rattle.response_route.specs.Versions.{version_now}
+use Rattle.group_words.specs.Houses.{groups_of, home_of}
 use Rattle.group_words.specs.Rows.{folders_text}
-use Rattle.group_rows.specs.Asks.{Ask, asks_of, has_number, is_seated, is_under, next_ask}
+use Rattle.group_rows.specs.Answers.{agreed_version, stamp_at}
+use Rattle.group_rows.specs.Asks.{Ask, Parked, asking_of, asks_of, first_in, has_number, is_seated, is_taken, is_under, next_ask, parked_of, running_in}
 use Rattle.group_rows.specs.Forwarded.{Forwarded, forwarding_of}
 use Rattle.group_rows.specs.Leaves.{cancel_text}
-
--- the editors of a group that run, rising
-abbrev pub running_in : Settings → ℕ → List Event → List ℕ
-running_in settings g events = editors_in is_running g (λ e. home_of settings e events) events
 
 -- the editor is asked what the start asks, under the editor's next number, while one is left
 abbrev pub ask : List ℕ → ℕ → Row
@@ -48,10 +48,6 @@ is_among es f = list_any (nat_eq f.editor) es
 abbrev pub last_among : List ℕ → List Forwarded → Option ℕ
 last_among es fs = option_map (λ (f : Forwarded). f.editor) (last_or None (filter (is_among es) fs))
 
-abbrev pub first_in : List ℕ → Option ℕ
-first_in [] = None
-first_in (e ∷ es) = Some e
-
 abbrev pub else_first : Option ℕ → List ℕ → Option ℕ
 else_first None es = first_in es
 else_first (Some e) es = Some e
@@ -59,32 +55,57 @@ else_first (Some e) es = Some e
 abbrev pub in_focus : List ℕ → List Forwarded → Option ℕ
 in_focus es fs = else_first (last_among es fs) es
 
--- S11: the editor in focus is asked; where none runs the start is refused
-abbrev pub focused_row : Settings → List Event → ℕ → ℕ → List ℕ → Row
-focused_row settings before g s body = on (in_focus (running_in settings g before) (forwarding_of s before).open_requests) (send (ToServer s (error_text (id_bytes body) request_failed))) (ask body)
+-- V3: the version that an editor knows a document by, in place of its start's
+abbrev pub current_version : Settings → List Event → ℕ → ℕ → Renaming
+current_version settings before s e u digits = version_now digits (stamp_at agreed_version settings s e before u) None
 
--- S12: the lowest editor is asked; a request that none can be asked isn't kept yet
+-- an edit that is to be applied (LSP 3.17, ApplyWorkspaceEdit Request) is asked with the editor's own versions; where one stands for no text that it has, the start is told that it wasn't applied
+abbrev pub is_edit : List ℕ → Bool
+is_edit method = bytes_eq (codes "workspace/applyEdit") method
+
+abbrev pub edited : ℕ → List ℕ → ℕ → Option (List ℕ) → Row
+edited s body e None = send (ToServer s (ok_text (id_bytes body) not_applied))
+edited s body e (Some text) = send (ToEditor e text)
+
+abbrev pub ask_edit : Settings → List Event → ℕ → List ℕ → ℕ → Row
+ask_edit settings before s body e = look (λ events. choose (has_number e events) (edited s body e (asked_text (current_version settings before s e) body (decimal (next_ask e events)))) nothing)
+
+-- S11: the editor in focus is asked; where none runs the start is refused
+abbrev pub ask_in_focus : Settings → List Event → ℕ → List ℕ → List ℕ → ℕ → Row
+ask_in_focus settings before s body method e = choose (is_edit method) (ask_edit settings before s body e) (ask body e)
+
+abbrev pub focused_row : Settings → List Event → ℕ → ℕ → List ℕ → List ℕ → Row
+focused_row settings before g s body method = on (in_focus (running_in settings g before) (forwarding_of s before).open_requests) (send (ToServer s (error_text (id_bytes body) request_failed))) (ask_in_focus settings before s body method)
+
+-- S12: the lowest editor is asked; where none runs the request waits
 abbrev pub lowest_row : Settings → List Event → ℕ → List ℕ → Row
 lowest_row settings before g body = on (first_in (running_in settings g before)) nothing (ask body)
 
-abbrev pub asking_row : Settings → List Event → ℕ → ℕ → List ℕ → Class → Row
-asking_row settings before g s body Refresh = refresh_row settings before g s body
-asking_row settings before g s body Folders = folders_row settings before g s body
-asking_row settings before g s body Focused = focused_row settings before g s body
-asking_row settings before g s body Lowest = lowest_row settings before g body
-asking_row settings before g s body _ = nothing
+abbrev pub asking_row : Settings → List Event → ℕ → ℕ → List ℕ → List ℕ → Class → Row
+asking_row settings before g s body method Refresh = refresh_row settings before g s body
+asking_row settings before g s body method Folders = folders_row settings before g s body
+asking_row settings before g s body method Focused = focused_row settings before g s body method
+asking_row settings before g s body method Lowest = lowest_row settings before g body
+asking_row settings before g s body method _ = nothing
+
+-- L2: an editor begins to run: what waited at its group's start is asked of it
+abbrev pub run_at : Settings → List Event → ℕ → ℕ → Row
+run_at settings before e s = choose (is_ready (life_of s before).stage) (each (λ (p : Parked). ask p.body e) (parked_of settings s before)) nothing
+
+abbrev pub run_row : Settings → List Event → ℕ → Row
+run_row settings before e = on (home_of settings e before) nothing (λ g. on (start_of g before) nothing (run_at settings before e))
 
 -- a request under the id of an open ask gives nothing
 abbrev pub question_row : Settings → ℕ → List Event → List ℕ → Id → List ℕ → Row
-question_row settings s before body id method = choose (list_any (is_under (Some id)) (asks_of s before)) nothing
-    (on (group_of s before) nothing (λ g. asking_row settings before g s body (class_of method Server false)))
+question_row settings s before body id method = choose (is_taken (Some id) (asking_of settings s before)) nothing
+    (on (group_of s before) nothing (λ g. asking_row settings before g s body method (class_of method Server false)))
 
 -- S14: the editor that was asked, while it runs, is told that the answer is awaited no more (LSP 3.17, Cancellation Support)
 abbrev pub cancel_ask : List Event → Ask → Row
 cancel_ask before a = choose (is_running (desk_of a.editor before).phase) (send (ToEditor a.editor (cancel_text a.number))) nothing
 
-abbrev pub cancelled_row : ℕ → List Event → Option Json → Row
-cancelled_row s before params = on (find (is_under (option_and_then id_of (named_of (codes "id") params))) (asks_of s before)) nothing (cancel_ask before)
+abbrev pub cancelled_row : Settings → ℕ → List Event → Option Json → Row
+cancelled_row settings s before params = on (find (is_under (option_and_then id_of (named_of (codes "id") params))) (asks_of settings s before)) nothing (cancel_ask before)
 
 -- a notification without a row of its own goes to each editor that runs
 abbrev pub broadcast : List ℕ → ℕ → Row
@@ -94,7 +115,7 @@ abbrev pub broadcast_row : Settings → List Event → ℕ → List ℕ → Row
 broadcast_row settings before s body = on (group_of s before) nothing (λ g. each (broadcast body) (running_in settings g before))
 
 abbrev pub notified_row : Settings → ℕ → List Event → List ℕ → Option Json → Class → Row
-notified_row settings s before body params Cancel = cancelled_row s before params
+notified_row settings s before body params Cancel = cancelled_row settings s before params
 notified_row settings s before body params Broadcast = broadcast_row settings before s body
 notified_row settings s before body params _ = nothing
 
@@ -102,8 +123,8 @@ notified_row settings s before body params _ = nothing
 abbrev pub hand_back : ℕ → List ℕ → Ask → Row
 hand_back s body a = send (ToServer s (with_id_text body a.bytes))
 
-abbrev pub response_at : List Event → ℕ → List ℕ → Message → ℕ → Row
-response_at before e body m s = choose (is_ready (life_of s before).stage) (on (find (is_seated e (answered_id m)) (asks_of s before)) nothing (hand_back s body)) nothing
+abbrev pub response_at : Settings → List Event → ℕ → List ℕ → Message → ℕ → Row
+response_at settings before e body m s = choose (is_ready (life_of s before).stage) (on (find (is_seated e (answered_id m)) (asks_of settings s before)) nothing (hand_back s body)) nothing
 
 abbrev pub response_row : Settings → List Event → ℕ → List ℕ → Message → Row
-response_row settings before e body m = on (home_of settings e before) nothing (λ g. on (start_of g before) nothing (response_at before e body m))
+response_row settings before e body m = on (home_of settings e before) nothing (λ g. on (start_of g before) nothing (response_at settings before e body m))

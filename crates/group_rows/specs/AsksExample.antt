@@ -138,3 +138,41 @@ abbrev pub unfocused_outs : List (List Out)
 unfocused_outs = (ToServer 0 (codes "{\"jsonrpc\":\"2.0\",\"id\":7,\"error\":{\"code\":-32803,\"message\":\"Request failed\"}}") ∷ [])
     ∷ (ToServer 0 (codes "{\"jsonrpc\":\"2.0\",\"id\":8,\"result\":null}") ∷ [])
     ∷ []
+
+-- what it asks of one editor waits until one runs; its id is taken, to cancel it gives nothing, and the message by which the editor begins to run answers nothing of it
+abbrev pub parked : List Cause
+parked = FromServer 0 (codes "{\"jsonrpc\":\"2.0\",\"id\":3,\"method\":\"workspace/configuration\"}")
+    ∷ FromServer 0 (codes "{\"jsonrpc\":\"2.0\",\"id\":3,\"method\":\"workspace/codeLens/refresh\"}")
+    ∷ FromServer 0 (codes "{\"jsonrpc\":\"2.0\",\"id\":4,\"method\":\"x\"}")
+    ∷ FromServer 0 (codes "{\"jsonrpc\":\"2.0\",\"method\":\"$/cancelRequest\",\"params\":{\"id\":3}}")
+    ∷ FromEditor 0 (codes "{\"jsonrpc\":\"2.0\",\"id\":1,\"result\":null}")
+    ∷ FromEditor 0 (codes "{\"jsonrpc\":\"2.0\",\"id\":2,\"result\":2}")
+    ∷ FromEditor 0 (codes "{\"jsonrpc\":\"2.0\",\"id\":1,\"result\":1}")
+    ∷ []
+
+abbrev pub parked_outs : List (List Out)
+parked_outs = []
+    ∷ []
+    ∷ []
+    ∷ []
+    ∷ (ToEditor 0 (codes "{\"jsonrpc\":\"2.0\",\"id\":1,\"method\":\"workspace/configuration\"}") ∷ ToEditor 0 (codes "{\"jsonrpc\":\"2.0\",\"id\":2,\"method\":\"x\"}") ∷ [])
+    ∷ (ToServer 0 (codes "{\"jsonrpc\":\"2.0\",\"id\":4,\"result\":2}") ∷ [])
+    ∷ (ToServer 0 (codes "{\"jsonrpc\":\"2.0\",\"id\":3,\"result\":1}") ∷ [])
+    ∷ []
+
+-- an edit has the editor's own versions, and null for a document that isn't open there; one that stands for a text that the editor doesn't have isn't applied; and the folders of the group
+abbrev pub one_opens : List Cause
+one_opens = FromEditor 0 (codes "{\"jsonrpc\":\"2.0\",\"method\":\"textDocument/didOpen\",\"params\":{\"textDocument\":{\"uri\":\"u\",\"languageId\":\"l\",\"version\":7,\"text\":\"a\"}}}") ∷ []
+
+abbrev pub edits : List Cause
+edits = FromServer 0 (codes "{\"jsonrpc\":\"2.0\",\"id\":3,\"method\":\"workspace/applyEdit\",\"params\":{\"edit\":{\"documentChanges\":[{\"textDocument\":{\"uri\":\"u\",\"version\":1},\"edits\":[]},{\"textDocument\":{\"uri\":\"v\",\"version\":1}}]}}}")
+    ∷ FromServer 0 (codes "{\"jsonrpc\":\"2.0\",\"id\":4,\"method\":\"workspace/applyEdit\",\"params\":{\"edit\":{\"documentChanges\":[{\"textDocument\":{\"uri\":\"u\",\"version\":7}}]}}}")
+    ∷ FromServer 0 (codes "{\"jsonrpc\":\"2.0\",\"id\":5,\"method\":\"workspace/workspaceFolders\"}")
+    ∷ []
+
+abbrev pub edits_outs : List (List Out)
+edits_outs =
+    (ToEditor 0 (codes "{\"jsonrpc\":\"2.0\",\"id\":1,\"method\":\"workspace/applyEdit\",\"params\":{\"edit\":{\"documentChanges\":[{\"textDocument\":{\"uri\":\"u\",\"version\":7},\"edits\":[]},{\"textDocument\":{\"uri\":\"v\",\"version\":null}}]}}}") ∷ [])
+    ∷ (ToServer 0 (codes "{\"jsonrpc\":\"2.0\",\"id\":4,\"result\":{\"applied\":false,\"failureReason\":\"Content modified\"}}") ∷ [])
+    ∷ (ToServer 0 (codes "{\"jsonrpc\":\"2.0\",\"id\":5,\"result\":[{\"uri\":\"file:///w\",\"name\":\"file:///w\"}]}") ∷ [])
+    ∷ []

@@ -40,8 +40,8 @@ cancels before s e = choose (is_ready (life_of s before).stage) (each (cancel s)
 abbrev pub refuse : ℕ → Ask → Row
 refuse s a = send (ToServer s (error_text a.bytes request_failed))
 
-abbrev pub refusals : List Event → ℕ → ℕ → Row
-refusals before s e = choose (is_ready (life_of s before).stage) (each (refuse s) (filter (is_with e) (asks_of s before))) nothing
+abbrev pub refusals : Settings → List Event → ℕ → ℕ → Row
+refusals settings before s e = choose (is_ready (life_of s before).stage) (each (refuse s) (filter (is_with e) (asks_of settings s before))) nothing
 
 -- it closes each of its documents, in the order of opening
 abbrev pub left : ℕ → ℕ → List Open → Option HeldText → Open → List (List ℕ)
@@ -56,7 +56,7 @@ closings settings before g s e = choose (is_ready (life_of s before).stage)
     (to_start s (leave_bodies settings.limits.versions (λ u. held_at s u before) e (texts_of settings g before).opens (texts_of settings g before).opens)) nothing
 
 abbrev pub cancels_row : Settings → List Event → ℕ → Row
-cancels_row settings before e = on (home_of settings e before) nothing (λ g. on (start_of g before) nothing (λ s. cancels before s e ⨾ refusals before s e))
+cancels_row settings before e = on (home_of settings e before) nothing (λ g. on (start_of g before) nothing (λ s. cancels before s e ⨾ refusals settings before s e))
 
 abbrev pub leave_row : Settings → List Event → ℕ → Row
-leave_row settings before e = on (home_of settings e before) nothing (λ g. on (start_of g before) nothing (λ s. cancels before s e ⨾ (refusals before s e ⨾ closings settings before g s e)))
+leave_row settings before e = on (home_of settings e before) nothing (λ g. on (start_of g before) nothing (λ s. cancels before s e ⨾ (refusals settings before s e ⨾ closings settings before g s e)))

@@ -1,4 +1,4 @@
--- The routing table over several editors and groups, in part: J1, J2, E2 to E5, E7 to E10, E11 but for the work of tokens, E12 to E17, E19, S1, S2 with X4, S3, S4, S5 with V1 and V2, S9 to S12 but for edits and for what waits until an editor runs, S14, X1 to X3 of groups that live no more, and X5 to X7.
+-- The routing table over several editors and groups, in part: J1, J2, E2 to E5, E7 to E10, E11 but for the work of tokens, E12 to E17, E19, S1, S2 with X4, S3, S4, S5 with V1 and V2, S9 to S12 with V3, S14, L2 of what waits until an editor runs, X1 to X3 of groups that live no more, and X5 to X7.
 use Rattle.std.specs.Prelude.{ℕ, Bool, true, false, ◌&&◌, ◌||◌, List, [], ◌∷◌, ◌++◌, filter, flat_map, codes, nat_eq, nat_lt, decimal, bytes_eq, if◌then◌else◌}
 use Rattle.std.specs.Prelude.{Option, Some, None, slice_get}
 use Rattle.std.specs.List.{list_any}
@@ -25,7 +25,7 @@ use Rattle.event_model.specs.declared.phase.Phase.TheVariants.{New, Waiting, Ans
 use Rattle.event_model.specs.declared.stage.Stage.{Stage}
 use Rattle.event_model.specs.declared.stage.Stage.TheVariants.{Spawning, Initializing, Ready, Stopping}
 use Rattle.event_model.specs.Event.{Event, behind, with_cause, requests}
-use Rattle.event_model.specs.Phases.{desk_of, is_begun, is_there, is_malformed, is_served, is_waiting}
+use Rattle.event_model.specs.Phases.{desk_of, is_begun, is_there, is_malformed, is_served, is_waiting, makes_running}
 use Rattle.event_model.specs.Row.{Row, nothing, send, choose, look, outs, each, on, ◌⨾◌}
 use Rattle.event_model.specs.Settings.{Settings}
 use Rattle.event_model.specs.Spawns.{group_of, start_of}
@@ -36,7 +36,7 @@ use Rattle.mux_model.specs.Rows.{malformed_row, to_start}
 use Rattle.group_words.specs.Houses.{editors_in, groups_of, home_of, is_doubled, is_first_error, is_first_open, server_asked}
 use Rattle.group_words.specs.Rows.{initialize_of, initialize_row, shown_of}
 use Rattle.group_rows.specs.Answers.{answer_row}
-use Rattle.group_rows.specs.AskRows.{notified_row, question_row, response_row}
+use Rattle.group_rows.specs.AskRows.{notified_row, question_row, response_row, run_row}
 use Rattle.group_rows.specs.Cancelling.{cancelling_row}
 use Rattle.group_rows.specs.Ends.{answers_shutdown, exit_server}
 use Rattle.group_rows.specs.Forwarded.{forwarding_of}
@@ -159,11 +159,15 @@ abbrev pub down_row : Settings → List Event → ℕ → List ℕ → Message �
 down_row settings before e body (request id method params) = answer_error e body (wrong_code method invalid_request)
 down_row settings before e body other = exit_row settings before e other
 
+-- L2: by a message that makes it run an editor is first asked what waits
+abbrev pub begun_row : Settings → List Event → ℕ → List ℕ → Message → Row
+begun_row settings before e body m = choose (makes_running m) (run_row settings before e) nothing ⨾ served_row settings before e body m
+
 -- J2: a closed editor's messages give nothing
 abbrev pub taken_row : Settings → List Event → ℕ → List ℕ → Message → Phase → Row
 taken_row settings before e body m New = choose (requests (codes "initialize") m) (initialize_row settings before e body) (early_row settings before e body m)
 taken_row settings before e body m Waiting = early_row settings before e body m
-taken_row settings before e body m Answered = served_row settings before e body m
+taken_row settings before e body m Answered = begun_row settings before e body m
 taken_row settings before e body m Running = served_row settings before e body m
 taken_row settings before e body m Down = down_row settings before e body m
 taken_row settings before e body m other = nothing

@@ -1,5 +1,5 @@
 -- A second `initialize` of an editor: it gets an error for it, or its link is to be ended, and what it heard is tied to its phase again behind the entry.
-use Rattle.std.proofs.Common.{◌≡◌, ℕ, Bool, true, false, not, ◌&&◌, ◌||◌, cond, List, [], ◌∷◌, ◌++◌, map, nat_eq, codes, bytes_eq, if◌then◌else◌, Option, Some, refl, sym, ◌∙◌, ap, ap₂, subst, subst₂, append-nil, append_assoc}
+use Rattle.std.proofs.Common.{◌≡◌, ℕ, Bool, true, false, not, ◌&&◌, ◌||◌, cond, List, [], ◌∷◌, ◌++◌, map, nat_eq, codes, bytes_eq, if◌then◌else◌, Option, None, Some, refl, sym, ◌∙◌, ap, ap₂, subst, subst₂, append-nil, append_assoc}
 use Rattle.std.specs.List.{AllByRecursion}
 use Rattle.std.proofs.lemmas.Bool.{and_parts}
 use Rattle.std.proofs.lemmas.Slice.Eq.{bytes_eq-Decides}
@@ -15,7 +15,7 @@ use Rattle.event_model.specs.declared.phase.Phase.TheVariants.{Absent, New, Wait
 use Rattle.event_model.specs.Always.{Always}
 use Rattle.event_model.specs.Event.{Event, behind, heard, requests, said, same_id, with_cause}
 use Rattle.event_model.specs.Parts.{editor_part, is_of_editor}
-use Rattle.event_model.specs.Phases.{Desk, desk_of, desk_hears, is_begun, is_linked, is_new, phase_closed, phase_told}
+use Rattle.event_model.specs.Phases.{Desk, desk_of, desk_hears, is_begun, is_linked, is_new, makes_running, phase_closed, phase_told}
 use Rattle.event_model.specs.Requests.{is_open, open_of}
 use Rattle.event_model.specs.Row.{Row, choose, outs}
 use Rattle.event_model.specs.Settings.{Settings}
@@ -27,11 +27,17 @@ use Rattle.mux_facts.proofs.Waits.{AllWaiting, Waits, waits_at}
 use Rattle.mux_facts.proofs.Words.{id_same, number_same, same_number}
 use Rattle.session_laws.specs.ClientRules.{ClientRule3, Opening, may_hear, opening_behind, opening_hears, opening_told}
 use Rattle.session_laws.proofs.Client3Law.{Expects, Here, Link, LinkAt, asks_again, closed_link, one_more, opening, same_request, speaks_now}
+use Rattle.group_words.specs.Houses.{is_doubled}
+use Rattle.group_rows.specs.AskRows.{run_row}
 use Rattle.group_rows.specs.Leaves.{leave_row}
 use Rattle.group_rows.specs.Rows.{closing_row, from_editor, outs_of}
+use Rattle.group_facts.specs.Facts.{Asks}
+use Rattle.group_facts.specs.Why.{IsQuestion, asks_something}
 use Rattle.group_facts.proofs.Begun.{all_outs, leave_by}
 use Rattle.group_facts.proofs.OpenByPhase.{without_last}
 use Rattle.group_facts.proofs.RequestRow.{desk_taken}
+use Rattle.group_facts.proofs.Resuming.{run_questions, stays_there}
+use Rattle.group_facts.proofs.Same.{same_questions}
 
 -- Outs that are bodies to starts
 
@@ -47,6 +53,26 @@ bodies_rest e events (ToEditor n body ∷ xs) all h = absurd (all.0)
 bodies_rest e events (Spawn s g ∷ xs) all h = absurd (all.0)
 bodies_rest e events (CloseEditor n ∷ xs) all h = absurd (all.0)
 bodies_rest e events (EndServer s ∷ xs) all h = absurd (all.0)
+
+-- A request to an editor changes nothing of its opening, and may go once the editor spoke
+
+heard_question : (o : Opening) (m : Message) → asks_something m ≡ true → may_hear o m ≡ o.spoke
+heard_question o (request id method params) h = refl
+heard_question o (notification method params) h = refl
+heard_question o (result (Some id) r) h = absurd (cc)
+heard_question o (result None r) h = absurd (cc)
+heard_question o (error id x) h = absurd (cc)
+heard_question o not_json h = refl
+heard_question o not_message h = refl
+
+told_question : (o : Opening) (m : Message) → asks_something m ≡ true → opening_told o m ≡ o
+told_question o (request id method params) h = refl
+told_question o (notification method params) h = refl
+told_question o (result (Some id) r) h = absurd (cc)
+told_question o (result None r) h = refl
+told_question o (error id x) h = absurd (cc)
+told_question o not_json h = refl
+told_question o not_message h = refl
 
 -- What is tied to a phase behind the request and its error is what was tied to it before
 
@@ -111,7 +137,8 @@ module _ (settings : Settings) (before : List Event) (n : ℕ) (body : List ℕ)
       go Gone at b k = absurd (cc)
 
   -- it gets an error for it
-  module _ (p : Phase) (at : (desk_of n before).phase ≡ p) (begun : is_begun p ≡ true) (fresh : is_open id ids ≡ false) (code : Code) where
+  module _ (place : List Event) (kept : Always ClientRule3 (editor_part n place)) (same_desk : desk_of n place ≡ desk_of n now) (same_opening : opening n place ≡ opening n now)
+      (p : Phase) (at : (desk_of n before).phase ≡ p) (begun : is_begun p ≡ true) (fresh : is_open id ids ≡ false) (code : Code) where
     abbrev text : List ℕ
     text = error_text (id_bytes body) code
 
@@ -127,16 +154,48 @@ module _ (settings : Settings) (before : List Event) (n : ℕ) (body : List ℕ)
     abbrev TiedTo : Desk → Opening → Message → Type 0
     TiedTo d o m = Link (phase_told d.phase d.initialize m) d.initialize (opening_told o m)
 
-    tied : TiedTo (desk_of n now) (opening n now) (message_of text)
-    tied = subst (TiedTo (desk_of n now) (opening n now)) (sym text_says) (subst₂ (λ (d : Desk) o. TiedTo d o told) (sym desk_now) (sym opening_now)
+    tied : TiedTo (desk_of n place) (opening n place) (message_of text)
+    tied = subst (TiedTo (desk_of n place) (opening n place)) (sym text_says) (subst₂ (λ (d : Desk) o. TiedTo d o told) (sym (same_desk ∙ desk_now)) (sym (same_opening ∙ opening_now))
         (linked body id params (error_tree code) p (desk_of n before).initialize (opening n before) begun (fresh_here p at begun fresh) (subst (λ z. Link z (desk_of n before).initialize (opening n before)) at h.link)))
 
-    refused_rests : Rests (ToEditor n text ∷ [])
-    refused_rests = one_more n now (said (ToEditor n text)) always_now (λ same. ap (may_hear (opening n now)) text_says) (go (nat_eq n n) (same_number n))
+    refused_at : Here n (place ++ said (ToEditor n text) ∷ [])
+    refused_at = one_more n place (said (ToEditor n text)) kept (λ same. ap (may_hear (opening n place)) text_says) (go (nat_eq n n) (same_number n))
       where
-        go : (b : Bool) → b ≡ true → LinkAt (if b then record { phase = phase_told (desk_of n now).phase (desk_of n now).initialize (message_of text); initialize = (desk_of n now).initialize } else desk_of n now) (cond b (opening_told (opening n now) (message_of text)) (opening n now))
+        go : (b : Bool) → b ≡ true → LinkAt (if b then record { phase = phase_told (desk_of n place).phase (desk_of n place).initialize (message_of text); initialize = (desk_of n place).initialize } else desk_of n place) (cond b (opening_told (opening n place) (message_of text)) (opening n place))
         go true same = tied
         go false same = absurd (cc)
+
+  refused_rests : (p : Phase) → (desk_of n before).phase ≡ p → is_begun p ≡ true → is_open id ids ≡ false → (code : Code) → Rests (ToEditor n (error_text (id_bytes body) code) ∷ [])
+  refused_rests p at begun fresh code = refused_at now always_now refl refl p at begun fresh code
+
+  -- behind what it is asked, as it begins to run
+  asked_more : (xs : List Out) → AllByRecursion IsQuestion xs → (place : List Event) → Always ClientRule3 (editor_part n place) → (opening n place).spoke ≡ true
+      → Always ClientRule3 (editor_part n (behind place xs)) × (opening n (behind place xs) ≡ opening n place)
+  asked_more [] all place kept spoke = (subst (λ z. Always ClientRule3 (editor_part n z)) (sym (append-nil place)) kept, ap (opening n) (append-nil place))
+  asked_more (ToEditor e b ∷ xs) all place kept spoke =
+      let event : Event = said (ToEditor e b) in
+      let same : opening n (place ++ event ∷ []) ≡ opening n place = word_more opening_behind (record { initializes = []; answered = false; spoke = false }) (is_of_editor n) place event ∙ by_number (nat_eq e n) in
+      let rest = asked_more xs all.1 (place ++ event ∷ []) (rule_more ClientRule3 (is_of_editor n) place event kept (λ is. heard_question (opening n place) (message_of b) all.0 ∙ spoke)) (ap (λ (o : Opening). o.spoke) same ∙ spoke) in
+      (subst (λ z. Always ClientRule3 (editor_part n z)) (append_assoc place (event ∷ []) (map said xs)) rest.0, ap (opening n) (sym (append_assoc place (event ∷ []) (map said xs))) ∙ rest.1 ∙ same)
+    where
+      by_number : (c : Bool) → cond c (opening_told (opening n place) (message_of b)) (opening n place) ≡ opening n place
+      by_number true = told_question (opening n place) (message_of b) all.0
+      by_number false = refl
+  asked_more (ToServer s b ∷ xs) all place kept spoke = absurd all.0
+  asked_more (Spawn s g ∷ xs) all place kept spoke = absurd all.0
+  asked_more (CloseEditor e ∷ xs) all place kept spoke = absurd all.0
+  asked_more (EndServer s ∷ xs) all place kept spoke = absurd all.0
+
+  begun_rests : Asks settings before → (desk_of n before).phase ≡ Answered → is_open id ids ≡ false → Rests (outs (run_row settings before n) now ++ ToEditor n (error_text (id_bytes body) invalid_request) ∷ [])
+  begun_rests asks at fresh =
+      let runs : makes_running (message_of body) ≡ true = ap makes_running says in
+      let single : is_doubled before n (message_of body) ≡ false = ap (is_doubled before n) says ∙ fresh in
+      let all = run_questions settings before n body at runs (stays_there settings before n body at runs single) asks in
+      let xs : List Out = outs (run_row settings before n) now in
+      let spoke : (opening n now).spoke ≡ true = ap (λ (o : Opening). o.spoke) opening_now ∙ speaks_now (opening n before).spoke (opening n before).answered false (subst (λ z. Link z (desk_of n before).initialize (opening n before)) at h.link).1 refl in
+      let more = asked_more xs all now always_now spoke in
+      subst (Here n) (sym (behind_both now xs (ToEditor n (error_text (id_bytes body) invalid_request) ∷ [])))
+      (refused_at (behind now xs) more.0 ((same_questions settings now xs all).desk n) more.1 Answered at refl fresh invalid_request)
 
   -- or its link is to be ended, and it leaves
   closed_now : Here n (now ++ said (CloseEditor n) ∷ [])
@@ -161,15 +220,15 @@ module _ (settings : Settings) (before : List Event) (n : ℕ) (body : List ℕ)
   silent_rests : (desk_of n before).phase ≡ Closed → Rests []
   silent_rests at = subst (Here n) (sym (append-nil now)) (record { always = always_now; link = subst (λ (d : Desk). LinkAt d (opening n now)) (sym (desk_taken settings before n body ∙ ap (λ q. desk_hears q (desk_of n before).initialize body (message_of body)) at)) tt })
 
-  row_rests : (p : Phase) → (desk_of n before).phase ≡ p → is_new p ≡ false → is_linked p ≡ true → Rests (outs (from_editor settings before n body (request id (codes "initialize") params) p) now)
-  row_rests Waiting at old there = by_double (is_open id ids) refl _ (λ fresh. refused_rests Waiting at refl fresh invalid_request)
-  row_rests Answered at old there = by_double (is_open id ids) refl _ (λ fresh. refused_rests Answered at refl fresh invalid_request)
-  row_rests Running at old there = by_double (is_open id ids) refl _ (λ fresh. refused_rests Running at refl fresh invalid_request)
-  row_rests Down at old there = by_double (is_open id ids) refl _ (λ fresh. refused_rests Down at refl fresh invalid_request)
-  row_rests Closed at old there = silent_rests at
-  row_rests New at old there = absurd (cc)
-  row_rests Absent at old there = absurd (cc)
-  row_rests Gone at old there = absurd (cc)
+  row_rests : Asks settings before → (p : Phase) → (desk_of n before).phase ≡ p → is_new p ≡ false → is_linked p ≡ true → Rests (outs (from_editor settings before n body (request id (codes "initialize") params) p) now)
+  row_rests asks Waiting at old there = by_double (is_open id ids) refl _ (λ fresh. refused_rests Waiting at refl fresh invalid_request)
+  row_rests asks Answered at old there = by_double (is_open id ids) refl _ (λ fresh. begun_rests asks at fresh)
+  row_rests asks Running at old there = by_double (is_open id ids) refl _ (λ fresh. refused_rests Running at refl fresh invalid_request)
+  row_rests asks Down at old there = by_double (is_open id ids) refl _ (λ fresh. refused_rests Down at refl fresh invalid_request)
+  row_rests asks Closed at old there = silent_rests at
+  row_rests asks New at old there = absurd (cc)
+  row_rests asks Absent at old there = absurd (cc)
+  row_rests asks Gone at old there = absurd (cc)
 
 -- Behind the entry
 
@@ -177,13 +236,13 @@ never : {A : Type 0} (b : Bool) → (not b && false) ≡ true → A
 never true h = absurd (cc)
 never false h = absurd (cc)
 
-module _ (settings : Settings) (before : List Event) (n : ℕ) (body : List ℕ) (there : is_linked (desk_of n before).phase ≡ true) (h : Here n before) (waits : (desk_of n before).phase ≡ Waiting → Waits (desk_of n before).initialize (open_of n before)) where
+module _ (settings : Settings) (before : List Event) (asks : Asks settings before) (n : ℕ) (body : List ℕ) (there : is_linked (desk_of n before).phase ≡ true) (h : Here n before) (waits : (desk_of n before).phase ≡ Waiting → Waits (desk_of n before).initialize (open_of n before)) where
   abbrev Behind : Message → Type 0
   Behind m = Here n (behind (with_cause before (FromEditor n body)) (outs (from_editor settings before n body m (desk_of n before).phase) (with_cause before (FromEditor n body))))
 
   by_message : (m : Message) → message_of body ≡ m → (not (is_new (desk_of n before).phase) && requests (codes "initialize") m) ≡ true → Behind m
   by_message (request id method params) says again = subst (λ w. Behind (request id w params)) named
-      (row_rests settings before n body id params (says ∙ ap (λ w. request id w params) (sym named)) h waits (desk_of n before).phase refl (not_so (is_new (desk_of n before).phase) p.0) there)
+      (row_rests settings before n body id params (says ∙ ap (λ w. request id w params) (sym named)) h waits asks (desk_of n before).phase refl (not_so (is_new (desk_of n before).phase) p.0) there)
     where
       p : (not (is_new (desk_of n before).phase) ≡ true) × (bytes_eq (codes "initialize") method ≡ true)
       p = and_parts (not (is_new (desk_of n before).phase)) (bytes_eq (codes "initialize") method) again
@@ -201,11 +260,11 @@ module _ (settings : Settings) (before : List Event) (n : ℕ) (body : List ℕ)
   by_message not_message says again = never (is_new (desk_of n before).phase) again
 
 -- of the editor whose second `initialize` it was
-pub again_rests : (settings : Settings) (before : List Event) (cause : Cause) (e : ℕ) → fits_behind before cause ≡ true → AllWaiting before → asks_again before cause e ≡ true → Here e before
+pub again_rests : (settings : Settings) (before : List Event) (cause : Cause) (e : ℕ) → Asks settings before → fits_behind before cause ≡ true → AllWaiting before → asks_again before cause e ≡ true → Here e before
     → Here e (behind (with_cause before cause) (outs_of settings before cause))
-again_rests settings before (FromEditor n body) e fits waiting again h =
+again_rests settings before (FromEditor n body) e asks fits waiting again h =
     let p = and_parts (nat_eq n e) (not (is_new (desk_of n before).phase) && requests (codes "initialize") (message_of body)) again in
     let same : n ≡ e = number_same n e p.0 in
     subst (λ k. Here k (behind (with_cause before (FromEditor n body)) (outs_of settings before (FromEditor n body)))) same
-    (by_message settings before n body fits (subst (λ k. Here k before) (sym same) h) (λ at. waits_at before n at waiting) (message_of body) refl p.1)
-again_rests settings before cause e fits waiting again h = absurd (cc)
+    (by_message settings before asks n body fits (subst (λ k. Here k before) (sym same) h) (λ at. waits_at before n at waiting) (message_of body) refl p.1)
+again_rests settings before cause e asks fits waiting again h = absurd (cc)

@@ -26,8 +26,9 @@ use Rattle.session_laws.specs.ClientRules.{ClientRule3, KeepsClient3, Opening, m
 use Rattle.session_laws.proofs.Client3Law as client_3
 use Rattle.session_laws.proofs.Client3Law.{Expects, Link, LinkAt, asks_again, closed_link, late_told, may_answer, may_welcome, none_open, opening, same_request, took_it, welcomed}
 use Rattle.group_rows.specs.Rows.{outs_of}
+use Rattle.group_facts.specs.Facts.{Asks}
 use Rattle.group_facts.specs.Legal.{Legal}
-use Rattle.group_facts.specs.Why.{IsBeside, WhyToEditor, rejects, refuses, answers, turns_away, welcomes, passes, asks, recalls, spreads}
+use Rattle.group_facts.specs.Why.{IsBeside, WhyToEditor, rejects, resumes, refuses, answers, turns_away, welcomes, passes, asks, recalls, spreads}
 use Rattle.group_facts.proofs.RestLaws.{RestLaw, rest_holds}
 use Rattle.group_sessions.proofs.Again.{again_rests}
 use Rattle.session_laws.proofs.Client2Law.{is_own_word}
@@ -293,6 +294,7 @@ module _ (events : List Event) (n : ℕ) (body : List ℕ) where
   heard_it settings before cause (turns_away k) h = error_told (Some k.id) k.x k.says h
   heard_it settings before cause (welcomes k) h = welcome_told k.id (k.waiting).params k.r (k.waiting).phase (k.waiting).asks (k.waiting).waits k.says h
   heard_it settings before cause (asks k) h = asked_told (request (integer (decimal (next_ask n events))) k.method k.params) (k.source).running k.says refl h
+  heard_it settings before cause (resumes k) h = asked_told (request (integer (decimal (next_ask n events))) k.method k.params) k.running k.says refl h
   heard_it settings before cause (spreads k) h = asked_told (notification k.method k.params) (k.source).running k.says refl h
   heard_it settings before cause (recalls k) h = asked_told (notification (codes "$/cancelRequest") (Some k.params)) (k.source).running k.says refl h
   heard_it settings before cause (passes k) h = answer_told k.id k.there k.late (response_to k.id (message_of body) k.response k.answers) h
@@ -310,12 +312,12 @@ closed events n e h = one_more e events (said (CloseEditor n)) h (λ same. tt)
 
 -- Behind the entry the one that sent it is tied as well
 
-rests : (settings : Settings) (before : List Event) (cause : Cause) → fits_behind before cause ≡ true → AllWaiting before → Everywhere before → Within before cause (behind (with_cause before cause) (outs_of settings before cause))
+rests : (settings : Settings) (before : List Event) (cause : Cause) → Asks settings before → fits_behind before cause ≡ true → AllWaiting before → Everywhere before → Within before cause (behind (with_cause before cause) (outs_of settings before cause))
     → Everywhere (behind (with_cause before cause) (outs_of settings before cause))
-rests settings before cause fits waiting h i e = go (asks_again before cause e) refl
+rests settings before cause everywhere fits waiting h i e = go (asks_again before cause e) refl
   where
     go : (b : Bool) → asks_again before cause e ≡ b → Here e (behind (with_cause before cause) (outs_of settings before cause))
-    go true again = later e (behind (with_cause before cause) (outs_of settings before cause)) (again_rests settings before cause e fits waiting again (now e before waiting (h e)))
+    go true again = later e (behind (with_cause before cause) (outs_of settings before cause)) (again_rests settings before cause e everywhere fits waiting again (now e before waiting (h e)))
     go false other = i e other
 
 law : (settings : Settings) → RestLaw settings Everywhere Within
@@ -326,7 +328,7 @@ law settings = record {
   close = λ before cause events n turned there known here h i. λ e other. closed events n e (i e other);
   end = λ before cause events s starting known here h i. λ e other. one_more e events (said (EndServer s)) (i e other) (λ same. tt) (i e other).link;
   spawn = λ before cause events g inside known here h i. λ e other. one_more e events (said (Spawn (starts_of events) g)) (i e other) (λ same. tt) (i e other).link;
-  rest = λ before cause fits known h i. rests settings before cause fits known.waiting h i;
+  rest = λ before cause fits known h i. rests settings before cause (known.steady).asks fits known.waiting h i;
 }
 
 pub client_3_law : (settings : Settings) → InRange settings → (history : List Entry) → Legal settings history → KeepsClient3 history

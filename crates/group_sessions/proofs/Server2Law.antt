@@ -37,7 +37,7 @@ use Rattle.group_facts.specs.Facts.{Housed, IsHoused, IsWritten, Written, is_unr
 use Rattle.group_rows.proofs.Going.{no_initialized}
 use Rattle.group_facts.specs.Legal.{Legal}
 use Rattle.group_facts.specs.Why.{IsTelling, Turn, WhyToServer, begins, greets, forwarded, notes, tells, shuts, cancels, stays, greeted, moves, responds, exits, resolves}
-use Rattle.group_facts.proofs.AnswerRows.{get_all}
+use Rattle.group_facts.proofs.Forwards.{get_all}
 use Rattle.group_facts.proofs.Facts.{Facts}
 use Rattle.group_facts.proofs.RestLaws.{RestLaw}
 use Rattle.group_sessions.proofs.PartLaws.{ServerRule, server_history}

@@ -22,7 +22,7 @@ use Rattle.json_token.proofs.Scalars.{scalar_string, utf8_characters}
 use Rattle.json_span.proofs.Quoted.{spells_text}
 use Rattle.rpc_message.specs.Message.{integer, request, slice_of, message_of}
 use Rattle.rpc_message.specs.Texts.{initialize_params}
-use Rattle.rpc_message.specs.ValueTexts.{IsValueText, IsOptionText, option_depth}
+use Rattle.rpc_message.specs.ValueTexts.{IsOptionText, IsShallowText, IsValueText, option_depth}
 use Rattle.rpc_message.proofs.Opening.{initialize_law, value_says}
 use Rattle.rpc_message.proofs.Standing.{place_named}
 use Rattle.capability_meet.specs.Compact.{compact}
@@ -299,3 +299,10 @@ founded_opens settings before e body = opens_as (founded (key_for settings befor
 -- of one that ended
 pub over_opens : (params : Option Json) × (message_of (initialize_of over) ≡ request (integer (codes "1")) (codes "initialize") params)
 over_opens = opens_as over tt empty_written none_written
+
+-- the folders of one that was founded, and of one that ended, as they are written
+pub founded_folders : (settings : Settings) (before : List Event) (e : ℕ) (body : List ℕ) → (v : Json) × IsShallowText 1023 v (folders_text (key_for settings before e body).folders)
+founded_folders settings before e body = let w : Written (folders_text (folders_of (params_of body))) = folders_written (folders_of (params_of body)) (folders_utf8 body) in (w.tree, record { text = w.text; shallow = omega (arith, w.shallow) })
+
+pub over_folders : (v : Json) × IsShallowText 1023 v (folders_text over.key.folders)
+over_folders = let w : Written (folders_text []) = folders_written [] tt in (w.tree, record { text = w.text; shallow = omega (arith, w.shallow) })

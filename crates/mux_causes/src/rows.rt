@@ -1,5 +1,5 @@
 // Which causes meet rows of the routing table that are built.
-ghost use Rattle.std.specs.Prelude.{◌≡◌, ◌≤◌, ◌<◌, ◌&&◌, ◌||◌, ℕ, not, true, false, bytes_eq, codes, length, map, find, is_some, nat_lt, List, Option, Some, IfOk, slice_get};
+ghost use Rattle.std.specs.Prelude.{◌≡◌, ◌≤◌, ◌<◌, ◌&&◌, ◌||◌, ℕ, not, true, false, length, map, List, Option, Some, IfOk, slice_get};
 ghost use Rattle.event_model.specs.declared.stage.Stage.TheVariants.{Ready};
 ghost use Rattle.event_model.specs.Event.{Event};
 ghost use Rattle.event_model.specs.Members.{has_token};
@@ -7,7 +7,7 @@ ghost use Rattle.event_model.specs.Phases.{desk_of, is_served};
 ghost use Rattle.event_model.specs.Requests.{is_open, open_of};
 ghost use Rattle.event_model.specs.Settings.{Settings};
 ghost use Rattle.event_model.specs.Stages.{is_first_result, life_of};
-ghost use Rattle.group_facts.specs.Built.{built_asking, built_behind, built_early, built_from_editor, built_from_server, built_notice, built_ready, built_request, built_telling, cancels_work, doubles, has_running, is_left, is_marked, is_plain, is_shown_whole, is_standard};
+ghost use Rattle.group_facts.specs.Built.{built_asking, built_behind, built_early, built_from_editor, built_from_server, built_notice, built_ready, built_request, built_telling, cancels_work, doubles, is_left, is_marked, is_plain, is_shown_whole, is_standard};
 ghost use Rattle.group_facts.specs.Facts.{Known};
 ghost use Rattle.group_facts.specs.Lively.{lives_at};
 ghost use Rattle.group_facts.specs.Settled.{Settled};
@@ -191,84 +191,45 @@ fn built_telling(message: &Message) -> bool
     is_told(told_class(message))
 }
 
-// Whether this is the method `workspace/applyEdit`.
-fn is_edit(method: &[u8]) -> bool
-    ensures { result ≡ bytes_eq (codes "workspace/applyEdit") method.now }
+// S9 to S12: whether requests of this class are built.
+fn is_asked_of_editors(class: Class) -> bool
+    ensures { result ≡ built_asking class }
 {
-    "workspace/applyEdit".as_bytes() == method
+    matches!(
+        class,
+        Class::Refresh | Class::Folders | Class::Focused | Class::Lowest
+    )
 }
 
-// V3: whether a request asks for an edit.
-fn asks_edit(message: &Message) -> bool
+// Whether what a start asks is built, by its class.
+fn built_class(message: &Message) -> bool
     ensures { (body method : List ℕ) (id : Id) (params : Option Json) → IsRead message.now body → message_of body ≡ request id method params
-        → result ≡ bytes_eq (codes "workspace/applyEdit") method }
+        → result ≡ built_asking (class_of method Server false) }
 {
-    match message.method() {
-        Some(method) => is_edit(method),
-        None => false,
-    }
-}
-
-// There is one.
-fn is_any(numbers: &[u64]) -> bool
-    ensures { result ≡ nat_lt 0 (length numbers.now) }
-{
-    !numbers.is_empty()
-}
-
-// S12: whether an editor of the group runs.
-fn has_running(tables: &Tables, g: usize) -> Result<bool, Memory>
-    requires { g < length tables.now.lasts.items }
-    ensures { (settings : Settings) (before : List Event) (s : ℕ) → slice_get (map number_in tables.now.lasts.items) g ≡ Some s
-        → Stands settings tables.now before → IfOk result (λ answer. answer ≡ has_running settings before s) }
-{
-    let group = tables.group_number(g);
-    let numbers = tables.running(group)?;
-    Ok(is_any(&numbers))
-}
-
-// S9, S11 and S12: whether what a start asks is built, by its class.
-fn built_class(tables: &Tables, g: usize, message: &Message) -> Result<bool, Memory>
-    requires { g < length tables.now.lasts.items }
-    ensures { (settings : Settings) (before : List Event) (body method : List ℕ) (id : Id) (params : Option Json) (s : ℕ)
-        → slice_get (map number_in tables.now.lasts.items) g ≡ Some s → Stands settings tables.now before → IsRead message.now body
-        → message_of body ≡ request id method params
-        → IfOk result (λ answer. answer ≡ built_asking settings before s method (class_of method Server false)) }
-{
-    match asked_class(message) {
-        Class::Refresh => Ok(true),
-        Class::Focused => Ok(!asks_edit(message)),
-        Class::Lowest => has_running(tables, g),
-        _ => Ok(false),
-    }
+    is_asked_of_editors(asked_class(message))
 }
 
 // A request of a group's last start, which is ready: that, or one under the id of an open ask.
-fn built_question(tables: &Tables, g: usize, message: &Message) -> Result<bool, Memory>
+fn built_question(tables: &Tables, g: usize, message: &Message) -> bool
     requires { g < length tables.now.lasts.items }
     ensures { (settings : Settings) (before : List Event) (body method : List ℕ) (id : Id) (params : Option Json) (x : Start)
         → slice_get tables.now.lasts.items g ≡ Some x → x.life.stage ≡ Ready → Stands settings tables.now before → IsRead message.now body
-        → message_of body ≡ request id method params
-        → IfOk result (λ answer. answer ≡ built_ready settings before x.life.start (request id method params)) }
+        → message_of body ≡ request id method params → result ≡ built_ready settings before x.life.start (request id method params) }
 {
-    if tables.is_asked(g, message.id_bytes()) {
-        Ok(true)
-    } else {
-        built_class(tables, g, message)
-    }
+    tables.is_asked(g, message.id_bytes()) || built_class(message)
 }
 
 // S5: a message of a group's last start, which is ready.
-fn built_ready(tables: &Tables, g: usize, message: &Message) -> Result<bool, Memory>
+fn built_ready(tables: &Tables, g: usize, message: &Message) -> bool
     requires { g < length tables.now.lasts.items }
     ensures { (settings : Settings) (before : List Event) (body : List ℕ) (x : Start) → slice_get tables.now.lasts.items g ≡ Some x
         → x.life.stage ≡ Ready → Stands settings tables.now before → IsRead message.now body
-        → IfOk result (λ answer. answer ≡ built_ready settings before x.life.start (message_of body)) }
+        → result ≡ built_ready settings before x.life.start (message_of body) }
 {
     match message.sort() {
         Sort::Request => built_question(tables, g, message),
-        Sort::Notification => Ok(built_telling(message)),
-        Sort::Result | Sort::Error => Ok(true),
+        Sort::Notification => built_telling(message),
+        Sort::Result | Sort::Error => true,
     }
 }
 
@@ -292,7 +253,7 @@ fn built_answer(tables: &Tables, alloc: Global, g: usize, message: &Message) -> 
 {
     match tables.stage(g) {
         Stage::Initializing => built_early(alloc, message),
-        Stage::Ready => built_ready(tables, g, message),
+        Stage::Ready => Ok(built_ready(tables, g, message)),
         Stage::Stopping | Stage::Ending => Ok(true),
         _ => Ok(false),
     }

@@ -1,6 +1,7 @@
 -- An editor's request goes on behind a sync.
 use Rattle.std.proofs.Common.{◌≡◌, ℕ, ◌<◌, ◌^◌, true, false, not, List, [], ◌∷◌, ◌++◌, map, refl, ap, sym, subst, ◌∙◌, codes, arith}
 use Rattle.std.specs.Prelude.{Option, Some, decimal, slice_get}
+use Rattle.std.specs.List.{AllByRecursion}
 use Rattle.json_text.specs.Json.{Json}
 use Rattle.mux_history.specs.declared.cause.Cause.TheVariants.{FromEditor}
 use Rattle.mux_history.specs.declared.out.Out.{Out}
@@ -20,6 +21,7 @@ use Rattle.event_model.proofs.Frames.{one_more}
 use Rattle.mux_model.specs.Documents.{held_at}
 use Rattle.mux_model.specs.Rows.{to_start}
 use Rattle.mux_model.proofs.DocumentFolds.{outs_to_start}
+use Rattle.group_facts.specs.Why.{IsQuestion}
 use Rattle.group_rows.specs.Forwarded.{Forwarding, forwarding_behind, forwarding_of, sender_of}
 use Rattle.group_rows.specs.Rows.{forward, sync_bodies, sync_row}
 use Rattle.group_rows.specs.Texts.{is_synced, texts_of, worker_of}
@@ -32,9 +34,9 @@ use Rattle.mux_tables.proofs.DocumentMoves.{documents_at}
 use Rattle.mux_tables.proofs.DocumentOwed.{stands_told}
 use Rattle.mux_tables.proofs.Starts.{start_at_place}
 use Rattle.mux_editors.proofs.Classes.{Serves}
-use Rattle.mux_editors.proofs.Synced.{at_work, here_first, same_sync}
+use Rattle.mux_editors.proofs.Synced.{alike_since, at_work, same_sync}
 
-module _ (settings : Settings) (t : Tables) (before : List Event) (body method : List ℕ) (id : Id) (params : Option Json) (e i s n : ℕ) (x : Start) (xs : List Out) (first : xs ≡ [])
+module _ (settings : Settings) (t : Tables) (before : List Event) (body method : List ℕ) (id : Id) (params : Option Json) (e i s n : ℕ) (x : Start) (xs : List Out) (asked : AllByRecursion IsQuestion xs)
     (at : slice_get t.lasts.items i ≡ Some x) (number : slice_get (map number_in t.lasts.items) i ≡ Some s) (ready : x.life.stage ≡ Ready) (next : n ≡ x.ids.next) (left : x.ids.next < x.ids.limit)
     (says : message_of body ≡ request id method params) (serves : Serves method) (passed : is_own method ≡ false) where
   abbrev base : List Event
@@ -46,22 +48,19 @@ module _ (settings : Settings) (t : Tables) (before : List Event) (body method :
   abbrev g : ℕ
   g = x.life.group
 
-  here : now ≡ base
-  here = here_first settings before body e xs first
-
   -- whose request is at work
   pub sends : (bytes : List ℕ) → bytes ≡ id_bytes body → Sends s e bytes now
-  sends bytes is = ap (λ es. (forwarding_of s es).sender) here ∙ (ap (λ (f : Forwarding). f.sender) (one_more (forwarding_behind s) _ _ before (heard (FromEditor e body)) refl)
+  sends bytes is = ap (λ (f : Forwarding). f.sender) ((alike_since settings before body e xs asked).forwarding s) ∙ (ap (λ (f : Forwarding). f.sender) (one_more (forwarding_behind s) _ _ before (heard (FromEditor e body)) refl)
       ∙ (ap (sender_of e body) says ∙ ap (λ w. Some (record { editor = e; id = w })) (sym is)))
 
   pub works : worker_of now ≡ Some e
-  works = at_work settings before body e xs first
+  works = at_work settings before body e xs asked
 
   abbrev bodies : List (List ℕ)
   bodies = sync_bodies settings.limits.versions (λ u. held_at s u before) e (texts_of settings g before).opens
 
   same_bodies : syncing settings now g s e ≡ bodies
-  same_bodies = same_sync settings before body e xs first g s (ap (requests (codes "shutdown")) says ∙ serves.stays) (ap saying_of says)
+  same_bodies = same_sync settings before body e xs asked g s (ap (requests (codes "shutdown")) says ∙ serves.stays) (ap saying_of says)
 
   own : x.life.start ≡ s
   own = start_at_place t.lasts.items i s x at number

@@ -16,8 +16,8 @@ use Rattle.event_model.specs.declared.phase.Phase.{Phase}
 use Rattle.event_model.specs.declared.phase.Phase.TheVariants.{Absent, New, Waiting, Answered, Running, Down, Closed, Gone}
 use Rattle.event_model.specs.declared.stage.Stage.TheVariants.{Ended}
 use Rattle.event_model.specs.Does.{Alike, Does}
-use Rattle.event_model.specs.Event.{Event, requests}
-use Rattle.event_model.specs.Phases.{desk_hears, desk_of, is_served}
+use Rattle.event_model.specs.Event.{Event, behind, requests}
+use Rattle.event_model.specs.Phases.{desk_hears, desk_of, is_served, makes_running}
 use Rattle.event_model.specs.Requests.{answered_id}
 use Rattle.event_model.specs.Row.{nothing, on, send}
 use Rattle.event_model.specs.Settings.{Settings}
@@ -25,16 +25,18 @@ use Rattle.event_model.specs.Spawns.{start_of}
 use Rattle.event_model.specs.Stages.{is_ready, life_of}
 use Rattle.event_model.proofs.Turns.{does_nothing}
 use Rattle.group_rows.specs.AskRows.{hand_back, response_at, response_row}
-use Rattle.group_rows.specs.Asks.{Ask, asks_of, is_seated, is_under}
+use Rattle.group_rows.specs.Asks.{Ask, Asking, Parked, asking_of, asks_of, is_seated, is_under, parked_of, waits_under}
 use Rattle.group_rows.specs.Forwarded.{moves_ids}
 use Rattle.group_rows.specs.Texts.{is_synced}
 use Rattle.mux_facts.specs.Allowed.{is_response}
 use Rattle.mux_tables.specs.declared.tables.Tables.{Tables}
 use Rattle.group_words.specs.Houses.{home_of, stops}
 use Rattle.mux_tables.specs.Documents.{changes_documents}
-use Rattle.mux_tables.specs.Stands.{AnswersNone, AnswersOne, HasEnded, Stands, start_for}
+use Rattle.mux_tables.specs.Stands.{AnswersNone, AnswersOne, HasEnded, HasText, Stands, start_for}
 use Rattle.mux_turns.proofs.Rows.{is_first, is_second}
-use Rattle.mux_editors.specs.Handing.{Fits}
+use Rattle.group_facts.specs.Why.{IsQuestion}
+use Rattle.mux_editors.specs.Handing.{Fits, IsUnused}
+use Rattle.mux_editors.proofs.Runs.{still_unused}
 
 -- a body that answers under this id
 pub record Answers (text : List ℕ) (id : Id) : Type 0 where
@@ -57,19 +59,22 @@ answers_as body w not_json i says h t = absurd (cc)
 answers_as body w not_message i says h t = absurd (cc)
 
 -- what is handed back
-abbrev pub Free : ℕ → List ℕ → List Event → Type 0
-Free s text events = AllByRecursion (λ (a : Ask). is_under (answered_id (message_of text)) a ≡ false) (asks_of s events)
-
-module _ (body text w : List ℕ) (s : ℕ) (events : List Event) (response : is_response (message_of body) ≡ true) (is : text ≡ with_id_text body w) where
-  one : (a : Ask) → w ≡ a.bytes → Fits (asks_of s events) a → Answers text a.id × Free s text events
+module _ (body text w : List ℕ) (x : Asking) (response : is_response (message_of body) ≡ true) (is : text ≡ with_id_text body w) where
+  one : (a : Ask) → w ≡ a.bytes → Fits x a → Answers text a.id × IsUnused (answered_id (message_of text)) x
   one a own f =
       let same : text ≡ with_id_text body a.bytes = is ∙ ap (with_id_text body) own in
       let k : Answers text a.id = subst (λ z. Answers z a.id) (sym same) (answers_as body a.bytes (message_of body) a.id refl response f.0) in
-      (k, subst (λ o. AllByRecursion (λ (b : Ask). is_under o b ≡ false) (asks_of s events)) (sym k.answers) f.1)
+      (k, subst (λ o. IsUnused o x) (sym k.answers) f.1)
 
-  pub handed : (o : Option Ask) {P : Type 0} → Some w ≡ option_map (λ (a : Ask). a.bytes) o → IfSome o (Fits (asks_of s events)) → ((id : Id) → Answers text id → Free s text events → P) → P
+  pub handed : (o : Option Ask) {P : Type 0} → Some w ≡ option_map (λ (a : Ask). a.bytes) o → IfSome o (Fits x) → ((id : Id) → Answers text id → IsUnused (answered_id (message_of text)) x → P) → P
   handed None is fits go = absurd (cc)
   handed (Some a) is fits go = let own : w ≡ a.bytes = cc in let k = one a own fits in go a.id k.0 k.1
+
+-- what was found before the response fits behind what the editor was asked by it
+pub fits_behind : (settings : Settings) (s : ℕ) (base : List Event) (xs : List Out) (o : Option Ask) → IfSome o (λ a. HasText a × AllByRecursion (λ (b : Ask). is_under (Some a.id) b ≡ false) (asks_of settings s base))
+    → IfSome o (λ a. AllByRecursion (λ (p : Parked). waits_under (Some a.id) p ≡ false) (parked_of settings s base)) → (asking_of settings s base).asker ≡ None → AllByRecursion IsQuestion xs → IfSome o (Fits (asking_of settings s (behind base xs)))
+fits_behind settings s base xs None fits waits asker asked = tt
+fits_behind settings s base xs (Some a) fits waits asker asked = (fits.0, still_unused settings s (Some a.id) base xs asked asker (fits.1, waits))
 
 pub handed_does : (settings : Settings) (t : Tables) (base : List Event) (xs ys : List Out) (body text w : List ℕ) (s : ℕ) (o : Option Ask) → Some w ≡ option_map (λ (a : Ask). a.bytes) o → text ≡ with_id_text body w → Does (λ t events. Stands settings t events) (send (ToServer s text)) base t xs t ys
     → Does (λ t events. Stands settings t events) (on o nothing (hand_back s body)) base t xs t ys
@@ -104,6 +109,14 @@ reply_runs body (notification method ps) k q i h = absurd (cc)
 reply_runs body not_json k q i h = absurd (cc)
 reply_runs body not_message k q i h = absurd (cc)
 
+pub reply_makes : (m : Message) → is_response m ≡ true → makes_running m ≡ true
+reply_makes (result id r) k = refl
+reply_makes (error id x) k = refl
+reply_makes (request id method ps) k = absurd (cc)
+reply_makes (notification method ps) k = absurd (cc)
+reply_makes not_json k = absurd (cc)
+reply_makes not_message k = absurd (cc)
+
 pub reply_stops : (before : List Event) (e : ℕ) (m : Message) → is_response m ≡ true → stops before e m ≡ false
 reply_stops before e (result id r) k = refl
 reply_stops before e (error id x) k = refl
@@ -127,22 +140,22 @@ reply_keeps before e not_message k = absurd (cc)
 -- Its row
 
 module _ (settings : Settings) (before : List Event) (e g s : ℕ) (body : List ℕ) (home : home_of settings e before ≡ Some g) (last : start_of g before ≡ Some s) where
-  row_at : response_row settings before e body (message_of body) ≡ response_at before e body (message_of body) s
-  row_at = ap (λ o. on o nothing (λ g. on (start_of g before) nothing (response_at before e body (message_of body)))) home ∙ ap (λ o. on o nothing (response_at before e body (message_of body))) last
+  row_at : response_row settings before e body (message_of body) ≡ response_at settings before e body (message_of body) s
+  row_at = ap (λ o. on o nothing (λ g. on (start_of g before) nothing (response_at settings before e body (message_of body)))) home ∙ ap (λ o. on o nothing (response_at settings before e body (message_of body))) last
 
   pub unready_reply : is_ready (life_of s before).stage ≡ false → Alike (response_row settings before e body (message_of body)) nothing
   unready_reply h = is_second row_at h
 
-  pub ready_reply : is_ready (life_of s before).stage ≡ true → Alike (response_row settings before e body (message_of body)) (on (find (is_seated e (answered_id (message_of body))) (asks_of s before)) nothing (hand_back s body))
+  pub ready_reply : is_ready (life_of s before).stage ≡ true → Alike (response_row settings before e body (message_of body)) (on (find (is_seated e (answered_id (message_of body))) (asks_of settings s before)) nothing (hand_back s body))
   ready_reply h = is_first row_at h
 
   -- where nothing is kept of the start, which ended
   pub ended_reply : HasEnded (start_for settings e before) before → (life_of s before).stage ≡ Ended
   ended_reply h = h s (ap (option_and_then (λ g. start_of g before)) home ∙ last)
 
-  pub ended_silent : (life_of s before).stage ≡ Ended → ((life_of s before).stage ≡ Ended → asks_of s before ≡ []) → AnswersOne s e (message_of body) before → AnswersNone e (message_of body) before
+  pub ended_silent : (life_of s before).stage ≡ Ended → ((life_of s before).stage ≡ Ended → asks_of settings s before ≡ []) → AnswersOne settings s e (message_of body) before → AnswersNone settings e (message_of body) before
   ended_silent over none one n = go (nat_eq s n) refl
     where
-      go : (b : Bool) → nat_eq s n ≡ b → AllByRecursion (λ (a : Ask). is_seated e (answered_id (message_of body)) a ≡ false) (asks_of n before)
-      go true is = let same : s ≡ n = grind (arith, nat_tests) in subst (λ k. AllByRecursion (λ (a : Ask). is_seated e (answered_id (message_of body)) a ≡ false) (asks_of k before)) same (subst (λ qs. AllByRecursion (λ (a : Ask). is_seated e (answered_id (message_of body)) a ≡ false) qs) (sym (none over)) tt)
+      go : (b : Bool) → nat_eq s n ≡ b → AllByRecursion (λ (a : Ask). is_seated e (answered_id (message_of body)) a ≡ false) (asks_of settings n before)
+      go true is = let same : s ≡ n = grind (arith, nat_tests) in subst (λ k. AllByRecursion (λ (a : Ask). is_seated e (answered_id (message_of body)) a ≡ false) (asks_of settings k before)) same (subst (λ qs. AllByRecursion (λ (a : Ask). is_seated e (answered_id (message_of body)) a ≡ false) qs) (sym (none over)) tt)
       go false is = one n is

@@ -2,6 +2,7 @@ pub mod Handing
 pub mod Asides
 pub mod Asked
 pub mod Asking
+pub mod Beginning
 pub mod Cancelling
 pub mod Classes
 pub mod Doubling
@@ -9,6 +10,7 @@ pub mod Initializing
 pub mod Lspmux
 pub mod Noticing
 pub mod Passing
+pub mod Runs
 pub mod Serving
 pub mod Synced
 mod Telling

@@ -1,5 +1,5 @@
 -- What an editor says of a document is told to its group's start.
-use Rattle.std.proofs.Common.{◌≡◌, ℕ, Bool, true, false, List, [], ◌++◌, refl, ap, sym, subst, ◌∙◌, append-nil, if◌then◌else◌}
+use Rattle.std.proofs.Common.{◌≡◌, ℕ, Bool, true, false, List, [], ◌++◌, map, refl, ap, sym, subst, ◌∙◌, append-nil, if◌then◌else◌}
 use Rattle.std.specs.Prelude.{Some, slice_get}
 use Rattle.mux_history.specs.declared.cause.Cause.TheVariants.{FromEditor}
 use Rattle.mux_history.specs.declared.out.Out.{Out}
@@ -21,12 +21,14 @@ use Rattle.group_rows.specs.Texts.{encoding_of, texts_of}
 use Rattle.mux_tables.specs.declared.tables.Start.{Start}
 use Rattle.mux_tables.specs.declared.tables.Tables.{Tables}
 use Rattle.mux_tables.specs.Documents.{AllStand, DocumentsStand, nothing_owed, noticing, owes, to}
+use Rattle.mux_tables.specs.Resumes.{unasked}
 use Rattle.mux_tables.specs.Stands.{Stands, of_life}
 use Rattle.mux_tables.proofs.DocumentOwed.{owes_nothing}
 use Rattle.mux_turns.proofs.Ready.{has_start, is_that_ready, ready_runs}
 use Rattle.mux_turns.proofs.Rows.{is_first, is_second, some_start}
+use Rattle.mux_editors.proofs.Beginning.{same_kept}
 
-module _ (settings : Settings) (old t : Tables) (before : List Event) (e g s : ℕ) (body : List ℕ) (what : Saying) (xs ys owed : List Out) (same : t.lasts ≡ old.lasts) (st : Stands settings old before)
+module _ (settings : Settings) (old t : Tables) (before : List Event) (e g s : ℕ) (body : List ℕ) (what : Saying) (xs ys owed : List Out) (rest : map unasked t.lasts.items ≡ map unasked old.lasts.items) (st : Stands settings old before)
     (home : home_of settings e before ≡ Some g) (starts : start_of g before ≡ Some s) (are : owed ≡ to s (noticing settings before g s e body what)) (sent : ys ≡ xs ++ owed) where
   abbrev base : List Event
   base = with_cause before (FromEditor e body)
@@ -48,10 +50,14 @@ module _ (settings : Settings) (old t : Tables) (before : List Event) (e g s : �
           let last = st.lasts.each k.place k.last k.at in
           let own : k.last.life.start ≡ s = same_item (sym last.start ∙ (ap (λ n. start_of n before) k.group ∙ starts)) in
           let stage : (life_of s before).stage ≡ k.last.life.stage = subst (λ n. (life_of n before).stage ≡ k.last.life.stage) own (ap (λ (l : Life). l.stage) (last.parts of_life)) in
-          let paid = subst (λ n. Does (λ k events. AllStand settings k events) (to_start k.last.life.start told) base (t, owes n told) xs (t, nothing_owed) ys) k.group
-          (pays k.place k.last told (ap (λ ls. slice_get ls.items k.place) same ∙ k.at) (is_that_ready k.last.life.stage (ap is_ready (sym stage) ∙ h)) (are ∙ (ap (to s) is ∙ ap (λ n. to n told) (sym own)))) in
+          let z = same_kept unasked t.lasts.items old.lasts.items (sym rest) k.place k.last k.at in
+          let start : z.0.life.start ≡ s = sym (ap (λ (w : Start). w.life.start) z.1.1) ∙ own in
+          let group : z.0.life.group ≡ g = sym (ap (λ (w : Start). w.life.group) z.1.1) ∙ k.group in
+          let ready : z.0.life.stage ≡ Ready = sym (ap (λ (w : Start). w.life.stage) z.1.1) ∙ is_that_ready k.last.life.stage (ap is_ready (sym stage) ∙ h) in
+          let paid = subst (λ n. Does (λ k events. AllStand settings k events) (to_start z.0.life.start told) base (t, owes n told) xs (t, nothing_owed) ys) group
+          (pays k.place z.0 told z.1.0 ready (are ∙ (ap (to s) is ∙ ap (λ n. to n told) (sym start)))) in
           does_alike (λ _. is_first row_is h) (subst (λ bs. Does (λ k events. AllStand settings k events) (to_start s told) base (t, owes g bs) xs (t, nothing_owed) ys) (sym is)
-          (subst (λ n. Does (λ k events. AllStand settings k events) (to_start n told) base (t, owes g told) xs (t, nothing_owed) ys) own paid))
+          (subst (λ n. Does (λ k events. AllStand settings k events) (to_start n told) base (t, owes g told) xs (t, nothing_owed) ys) start paid))
       go false h =
           let none : noticing settings before g s e body what ≡ [] = ap (λ c. if c then told else []) h in
           let all : ys ≡ xs ++ [] = sent ∙ ap (λ zs. xs ++ zs) (are ∙ ap (to s) none) in

@@ -1,6 +1,7 @@
 -- An editor's notification goes on behind a sync.
-use Rattle.std.proofs.Common.{◌≡◌, ℕ, true, false, ◌&&◌, List, [], ◌++◌, map, ap, ap₂, sym, subst, ◌∙◌, codes}
+use Rattle.std.proofs.Common.{◌≡◌, ℕ, true, false, ◌&&◌, List, ◌++◌, map, ap, ap₂, sym, subst, ◌∙◌, codes}
 use Rattle.std.specs.Prelude.{Option, Some, slice_get}
+use Rattle.std.specs.List.{AllByRecursion}
 use Rattle.json_text.specs.Json.{Json}
 use Rattle.lsp_method.specs.Class.{class_of}
 use Rattle.lsp_method.specs.declared.variants.Origin.TheVariants.{Editor}
@@ -16,6 +17,7 @@ use Rattle.event_model.specs.Phases.{desk_of, is_served}
 use Rattle.event_model.specs.Row.{look, outs, send, ◌⨾◌}
 use Rattle.event_model.specs.Settings.{Settings}
 use Rattle.event_model.specs.Stages.{Life, life_of}
+use Rattle.group_facts.specs.Why.{IsQuestion}
 use Rattle.mux_model.specs.Methods.{goes_on}
 use Rattle.mux_model.specs.Rows.{to_start}
 use Rattle.group_rows.specs.Rows.{sync_row}
@@ -47,7 +49,7 @@ module _ (method : List ℕ) (params : Option Json) (going : goes_on (class_of m
   pub passed_synced : (text : List ℕ) → message_of text ≡ notification method params → is_synced (message_of text) ≡ true
   passed_synced text says = ap is_synced says ∙ going_synced method going params
 
-  module _ (settings : Settings) (t u : Tables) (before : List Event) (body text : List ℕ) (e g s : ℕ) (xs ys : List Out) (first : xs ≡ []) (is : text ≡ body) (says : message_of body ≡ notification method params) where
+  module _ (settings : Settings) (t u : Tables) (before : List Event) (body text : List ℕ) (e g s : ℕ) (xs ys : List Out) (asked : AllByRecursion IsQuestion xs) (is : text ≡ body) (says : message_of body ≡ notification method params) where
     abbrev base : List Event
     base = with_cause before (FromEditor e body)
 
@@ -55,7 +57,7 @@ module _ (method : List ℕ) (params : Option Json) (going : goes_on (class_of m
     now = behind base xs
 
     same_outs : outs (look (λ es. to_start s (syncing settings es g s e) ⨾ send (ToServer s text))) now ≡ outs (sync_row settings before g s e ⨾ send (ToServer s body)) now
-    same_outs = ap₂ (λ bs w. outs (to_start s bs ⨾ send (ToServer s w)) now) (same_sync settings before body e xs first g s (ap (requests (codes "shutdown")) says) (ap saying_of says ∙ going_silent method going params)) is
+    same_outs = ap₂ (λ bs w. outs (to_start s bs ⨾ send (ToServer s w)) now) (same_sync settings before body e xs asked g s (ap (requests (codes "shutdown")) says) (ap saying_of says ∙ going_silent method going params)) is
 
     pub passes_on : Does (λ k events. AllStand settings k events) (look (λ es. to_start s (syncing settings es g s e) ⨾ send (ToServer s text))) base (t, nothing_owed) xs (u, nothing_owed) ys
         → Does (λ k events. AllStand settings k events) (sync_row settings before g s e ⨾ send (ToServer s body)) base (t, nothing_owed) xs (u, nothing_owed) ys

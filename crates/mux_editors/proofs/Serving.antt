@@ -7,7 +7,7 @@ use Rattle.rpc_message.specs.Message.{Message, Id, message_of, notification, req
 use Rattle.event_model.specs.declared.phase.Phase.{Phase}
 use Rattle.event_model.specs.declared.phase.Phase.TheVariants.{Absent, New, Waiting, Answered, Running, Down, Closed, Gone}
 use Rattle.event_model.specs.Event.{Event, heard, requests, with_cause}
-use Rattle.event_model.specs.Phases.{Desk, desk_behind, desk_hears, desk_of, is_new, is_served}
+use Rattle.event_model.specs.Phases.{Desk, desk_behind, desk_hears, desk_of, is_new, is_served, makes_running}
 use Rattle.event_model.proofs.Frames.{one_more}
 use Rattle.group_words.specs.Houses.{places, stops}
 use Rattle.mux_tables.specs.Documents.{changes_documents}
@@ -42,6 +42,9 @@ module _ (method : List ℕ) (id : Id) (params : Option Json) (s : Serves method
   request_runs body Closed i h = absurd (cc)
   request_runs body Gone i h = absurd (cc)
 
+  pub request_makes : (m : Message) → m ≡ request id method params → makes_running m ≡ true
+  request_makes m says = ap makes_running says ∙ rw (s.stays, s.opens, s.status, s.stops) refl
+
   pub request_stops : (before : List Event) (e : ℕ) (m : Message) → m ≡ request id method params → stops before e m ≡ false
   request_stops before e m says = rw (says, s.stops) refl
 
@@ -70,6 +73,9 @@ module _ (method : List ℕ) (params : Option Json) (stays : bytes_eq (codes "ex
   notice_runs body Down i h = absurd (cc)
   notice_runs body Closed i h = absurd (cc)
   notice_runs body Gone i h = absurd (cc)
+
+  pub notice_makes : (m : Message) → m ≡ notification method params → makes_running m ≡ true
+  notice_makes m says = ap makes_running says ∙ rw (stays) refl
 
 pub notice_stops : (before : List Event) (e : ℕ) (m : Message) (method : List ℕ) (params : Option Json) → m ≡ notification method params → stops before e m ≡ false
 notice_stops before e m method params says = rw (says) refl

@@ -1,4 +1,5 @@
 pub mod Cancels
 pub mod Ceilings
 pub mod Handing
+pub mod Running
 pub mod Tellings

@@ -1,9 +1,10 @@
 //! E11: an editor cancels a request of its own.
 ghost use Rattle.std.specs.Prelude.{◌≡◌, ◌<◌, ℕ, List, [], Option, Some, true, codes, length, map, IfOk, IfSome, MatchOption, OnOk, slice_get};
+ghost use Rattle.mux_editors.specs.Running.{running_row};
 ghost use Rattle.event_model.specs.Does.{Does, Done};
 ghost use Rattle.event_model.specs.Event.{Event, with_cause};
 ghost use Rattle.event_model.specs.Phases.{desk_of, is_served};
-ghost use Rattle.event_model.specs.Row.{send};
+ghost use Rattle.event_model.specs.Row.{send, ◌⨾◌};
 ghost use Rattle.event_model.specs.Settings.{Settings};
 ghost use Rattle.group_facts.specs.Facts.{AllForwarded, Known};
 ghost use Rattle.group_rows.specs.Cancelling.{cancelling_row, id_puts, named_id, number_called, numbered_text};
@@ -20,7 +21,7 @@ ghost use Rattle.rpc_message.specs.Message.{Id, message_of, notification};
 ghost use Rattle.rpc_message.specs.Parsed.{IsRead};
 ghost use Rattle.rpc_message.specs.ValueTexts.{IsIdText};
 
-use event_model::Phase;
+use crate::running::hear_running;
 use id_rewrite::IdTable;
 use itoa::Buffer;
 use json_nodes::Put;
@@ -140,11 +141,11 @@ pub fn take_cancel(
     ensures does { (settings : Settings) (before : List Event) (body : List ℕ) (params : Option Json) → IsRead message.now body
         → message_of body ≡ notification (codes "$/cancelRequest") params → is_served (desk_of e before).phase ≡ true
         → outs.old ≡ [] → Known settings before → Stands settings tables.old before → DocumentsStand settings nothing_owed tables.old before
-        → OnOk result (Done (λ k events. AllStand settings k events) (cancelling_row settings before e body params)
+        → OnOk result (Done (λ k events. AllStand settings k events) (running_row settings before e (message_of body) ⨾ cancelling_row settings before e body params)
         (with_cause before (FromEditor e body)) [] (tables.new, nothing_owed) outs.new) }
 {
     let request = named(tables, e, message);
-    tables.hear_editor(e, Phase::Running);
+    hear_running(tables, alloc, outs, e)?;
     match request {
         None => Ok(()),
         Some(request) => {

@@ -11,6 +11,7 @@ mod parting;
 mod passed;
 mod quiet;
 mod requests;
+mod running;
 mod status;
 
 pub use cancelled::{Target, take_cancel};

@@ -1,5 +1,7 @@
 //! E12 to E15: what an editor says by a notification.
 ghost use Rattle.std.specs.Prelude.{◌≡◌, ◌<◌, ℕ, List, [], Option, Some, true, false, bytes_eq, codes, length, OnOk};
+ghost use Rattle.mux_editors.specs.Running.{running_row};
+ghost use Rattle.event_model.specs.Row.{◌⨾◌};
 ghost use Rattle.document_model.specs.Sayings.{saying_by};
 ghost use Rattle.event_model.specs.Does.{Done};
 ghost use Rattle.event_model.specs.Event.{Event, with_cause};
@@ -15,6 +17,7 @@ ghost use Rattle.mux_tables.specs.Stands.{Stands};
 ghost use Rattle.rpc_message.specs.Message.{message_of, notification};
 ghost use Rattle.rpc_message.specs.Parsed.{IsRead};
 
+use crate::running::{begin, may_begin};
 use event_model::Phase;
 use message_body::Memory;
 use mux_history::Outs;
@@ -38,10 +41,13 @@ pub fn take_notice(
         → message_of body ≡ notification method params → bytes_eq (codes "exit") method ≡ false → is_served (desk_of e before).phase ≡ true
         → home_of settings e before ≡ Some g → start_of g before ≡ Some s → outs.old ≡ [] → Stands settings tables.old before
         → DocumentsStand settings nothing_owed tables.old before
-        → OnOk result (Done (λ k events. AllStand settings k events) (document_row settings before e body (saying_by method params))
+        → OnOk result (Done (λ k events. AllStand settings k events)
+        (running_row settings before e (message_of body) ⨾ document_row settings before e body (saying_by method params))
         (with_cause before (FromEditor e body)) [] (tables.new, nothing_owed) outs.new) }
 {
+    let begins = may_begin(tables, e);
     let owed = tables.hear_notice(alloc, e, Phase::Running, message)?;
+    begin(tables, alloc, outs, e, begins)?;
     tables.pay(outs, owed)?;
     Ok(())
 }

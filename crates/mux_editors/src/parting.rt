@@ -61,7 +61,7 @@ pub fn end_link(
     requires joined { phase ≢ Absent }
     ensures requests { tables.new.requests ≡ tables.old.requests }
     ensures versions { tables.new.versions ≡ tables.old.versions }
-    ensures does { (settings : Settings) (before : List Event) (body : List ℕ) → AnswersNone e (message_of body) before
+    ensures does { (settings : Settings) (before : List Event) (body : List ℕ) → AnswersNone settings e (message_of body) before
         → places (desk_of e before).phase (message_of body) ≡ false
         → stops before e (message_of body) ≡ false → is_first_open settings.servers before e (message_of body) ≡ false
         → changes_documents before e (message_of body) ≡ false

@@ -1,5 +1,10 @@
 //! E16 and E17: a notification of an editor that goes on as it came.
-ghost use Rattle.std.specs.Prelude.{◌≡◌, ◌<◌, ℕ, List, [], Option, Some, true, length, map, IfNone, IfSome, OnOk, slice_get};
+ghost use Rattle.std.specs.Prelude.{◌≡◌, ◌<◌, ℕ, List, [], Option, Some, true, length, map, IfNone, IfSome, OnOk, slice_get, false};
+ghost use Rattle.group_words.specs.Houses.{home_of};
+ghost use Rattle.event_model.specs.Stages.{is_ready, life_of};
+ghost use Rattle.group_facts.specs.Why.{IsQuestion};
+ghost use Rattle.std.specs.List.{AllByRecursion};
+ghost use Rattle.mux_editors.specs.Running.{running_row};
 ghost use Rattle.event_model.specs.declared.stage.Stage.TheVariants.{Ready};
 ghost use Rattle.event_model.specs.Does.{Alike, Does, Done};
 ghost use Rattle.event_model.specs.Event.{Event, with_cause};
@@ -15,11 +20,11 @@ ghost use Rattle.mux_history.specs.declared.out.Out.TheVariants.{ToServer};
 ghost use Rattle.mux_model.specs.Methods.{goes_on};
 ghost use Rattle.mux_tables.specs.declared.tables.Start.{Start};
 ghost use Rattle.mux_tables.specs.Documents.{AllStand, DocumentsStand, nothing_owed};
-ghost use Rattle.mux_tables.specs.Stands.{Stands, number_in};
+ghost use Rattle.mux_tables.specs.Stands.{Stands, number_in, start_for};
 ghost use Rattle.rpc_message.specs.Message.{message_of, notification};
 ghost use Rattle.rpc_message.specs.Parsed.{IsRead};
 
-use event_model::Phase;
+use crate::running::hear_running;
 use message_body::{Body, Memory};
 use mux_history::Outs;
 use mux_tables::Tables;
@@ -27,11 +32,15 @@ use mux_turns::stage_at;
 use rpc_message::Message;
 use std::alloc::Global;
 
-// The place of the group whose last start is told; none where the editor is in no group, or the group has no start, or that start
-// isn't ready: then the notification gives nothing.
-fn ready_at(tables: &Tables, e: u64) -> Option<usize>
+// The place of an editor's group, whose last start is ready; none where the editor is in no group, or the group has no start, or that
+// start isn't ready: then a notification gives nothing.
+pub fn ready_at(tables: &Tables, e: u64) -> Option<usize>
     ensures inside { IfSome result (λ g. g < length tables.now.lasts.items) }
     ensures ready { IfSome result (λ g. (x : Start) → slice_get tables.now.lasts.items g ≡ Some x → x.life.stage ≡ Ready) }
+    ensures home { IfSome result (λ g. (settings : Settings) (events : List Event) (x : Start) → slice_get tables.now.lasts.items g ≡ Some x
+        → Stands settings tables.now events → home_of settings e events ≡ Some x.life.group) }
+    ensures unready { IfNone result ((settings : Settings) (events : List Event) (s : ℕ) → Stands settings tables.now events
+        → start_for settings e events ≡ Some s → is_ready (life_of s events).stage ≡ false) }
     ensures silent { IfNone result ((settings : Settings) (before : List Event) (body : List ℕ) → Stands settings tables.now before
         → Alike (notice_row settings before e body) nothing) }
     ensures goes { IfSome result (λ g. (settings : Settings) (before : List Event) (body : List ℕ) (s : ℕ) (x : Start)
@@ -61,7 +70,7 @@ fn go_on(
     ensures requests { tables.new.requests ≡ tables.old.requests }
     ensures versions { tables.new.versions ≡ tables.old.versions }
     ensures does { (settings : Settings) (before : List Event) (body method : List ℕ) (params : Option Json) (s : ℕ) → IsRead message.now body
-        → message_of body ≡ notification method params → goes_on (class_of method Editor true) ≡ true → outs.old ≡ []
+        → message_of body ≡ notification method params → goes_on (class_of method Editor true) ≡ true → AllByRecursion IsQuestion outs.old
         → slice_get (map number_in tables.old.lasts.items) g ≡ Some s → (x : Start) → slice_get tables.old.lasts.items g ≡ Some x
         → OnOk result (Does (λ k events. AllStand settings k events) (sync_row settings before x.life.group s e ⨾ send (ToServer s body)) (with_cause before (FromEditor e body))
         (tables.old, nothing_owed) outs.old (tables.new, nothing_owed) outs.new) }
@@ -86,11 +95,11 @@ pub fn take_passed(
     ensures does { (settings : Settings) (before : List Event) (body method : List ℕ) (params : Option Json) → IsRead message.now body
         → message_of body ≡ notification method params → goes_on (class_of method Editor true) ≡ true → is_served (desk_of e before).phase ≡ true
         → outs.old ≡ [] → Stands settings tables.old before → DocumentsStand settings nothing_owed tables.old before
-        → OnOk result (Done (λ k events. AllStand settings k events) (notice_row settings before e body)
+        → OnOk result (Done (λ k events. AllStand settings k events) (running_row settings before e (message_of body) ⨾ notice_row settings before e body)
         (with_cause before (FromEditor e body)) [] (tables.new, nothing_owed) outs.new) }
 {
     let place = ready_at(tables, e);
-    tables.hear_editor(e, Phase::Running);
+    hear_running(tables, alloc, outs, e)?;
     match place {
         None => Ok(()),
         Some(g) => {

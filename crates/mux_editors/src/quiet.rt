@@ -1,10 +1,11 @@
 //! Causes that change no document, as whole entries: J2, E2, E8, and those that give nothing.
 ghost use Rattle.std.specs.Prelude.{◌≡◌, ◌≢◌, ◌<◌, ◌++◌, ◌∷◌, ℕ, List, [], Option, Some, false, true, length, OnOk};
+ghost use Rattle.mux_editors.specs.Running.{running_row};
 ghost use Rattle.event_model.specs.declared.phase.Phase.TheVariants.{Absent, Closed};
 ghost use Rattle.event_model.specs.Does.{Done};
 ghost use Rattle.event_model.specs.Event.{Event, heard, with_cause};
 ghost use Rattle.event_model.specs.Phases.{desk_of, is_served};
-ghost use Rattle.event_model.specs.Row.{nothing};
+ghost use Rattle.event_model.specs.Row.{nothing, ◌⨾◌};
 ghost use Rattle.event_model.specs.Settings.{Settings};
 ghost use Rattle.group_facts.specs.Facts.{is_early};
 ghost use Rattle.group_rows.specs.Rows.{answer_error, asks_lspmux, early_code, is_misplaced, wrong_code};
@@ -20,6 +21,7 @@ ghost use Rattle.rpc_message.specs.Parsed.{IsRead};
 ghost use Rattle.rpc_message.specs.Sorts.{Refuses, sort_of};
 ghost use Rattle.rpc_message.specs.Texts.{invalid_request};
 
+use crate::running::hear_running;
 use event_model::Phase;
 use message_body::Memory;
 use mux_history::Outs;
@@ -105,10 +107,10 @@ pub fn take_wrong(
     ensures does { (settings : Settings) (before : List Event) (body method : List ℕ) (id : Id) (params : Option Json) → IsRead message.now body
         → message_of body ≡ request id method params → is_misplaced method ≡ true → is_served (desk_of e before).phase ≡ true
         → outs.old ≡ [] → Stands settings tables.old before → DocumentsStand settings nothing_owed tables.old before
-        → OnOk result (Done (λ k events. AllStand settings k events) (answer_error e body (wrong_code method invalid_request))
+        → OnOk result (Done (λ k events. AllStand settings k events) (running_row settings before e (message_of body) ⨾ answer_error e body (wrong_code method invalid_request))
         (with_cause before (FromEditor e body)) [] (tables.new, nothing_owed) outs.new) }
 {
-    tables.hear_editor(e, Phase::Running);
+    hear_running(tables, alloc, outs, e)?;
     refuse_wrong(tables, alloc, outs, e, message)?;
     Ok(())
 }
@@ -119,7 +121,7 @@ pub fn take_closed(tables: &mut Tables, e: u64)
     ensures requests { tables.new.requests ≡ tables.old.requests }
     ensures versions { tables.new.versions ≡ tables.old.versions }
     ensures does { (settings : Settings) (before : List Event) (body : List ℕ) → (desk_of e before).phase ≡ Closed
-        → AnswersNone e (message_of body) before → Stands settings tables.old before → DocumentsStand settings nothing_owed tables.old before
+        → AnswersNone settings e (message_of body) before → Stands settings tables.old before → DocumentsStand settings nothing_owed tables.old before
         → Done (λ k events. AllStand settings k events) nothing (with_cause before (FromEditor e body)) [] (tables.new, nothing_owed) [] }
 {
     let phase = phase_of(tables, e);
@@ -146,7 +148,7 @@ pub fn take_quiet(tables: &mut Tables, e: u64, message: &Message)
     ensures requests { tables.new.requests ≡ tables.old.requests }
     ensures versions { tables.new.versions ≡ tables.old.versions }
     ensures does { (settings : Settings) (before : List Event) (body : List ℕ) → IsRead message.now body → (sort_of (message_of body) ≡ Some Request → ⊥)
-        → changes_documents before e (message_of body) ≡ false → AnswersNone e (message_of body) before
+        → changes_documents before e (message_of body) ≡ false → AnswersNone settings e (message_of body) before
         → Stands settings tables.old before → DocumentsStand settings nothing_owed tables.old before
         → Done (λ k events. AllStand settings k events) nothing (with_cause before (FromEditor e body)) [] (tables.new, nothing_owed) [] }
 {

@@ -1,5 +1,8 @@
 //! E10: an editor's request, sent on or refused.
 ghost use Rattle.std.specs.Prelude.{◌≡◌, ◌<◌, ℕ, List, [], Option, Some, true, false, decimal, length, map, IfOk, OnOk, slice_get};
+ghost use Rattle.group_facts.specs.Why.{IsQuestion};
+ghost use Rattle.std.specs.List.{AllByRecursion};
+ghost use Rattle.mux_editors.specs.Running.{running_row};
 ghost use Rattle.event_model.specs.declared.stage.Stage.TheVariants.{Ready};
 ghost use Rattle.event_model.specs.Does.{Does, Done};
 ghost use Rattle.event_model.specs.Event.{Event, with_cause};
@@ -19,7 +22,7 @@ ghost use Rattle.rpc_message.specs.Message.{Id, message_of, request};
 ghost use Rattle.rpc_message.specs.Parsed.{IsRead};
 ghost use Rattle.rpc_message.specs.Texts.{with_id_text};
 
-use event_model::Phase;
+use crate::running::hear_running;
 use itoa::Buffer;
 use message_body::{Body, Memory};
 use mux_history::Outs;
@@ -50,7 +53,7 @@ fn send_on(
     ensures requests { tables.new.requests ≡ tables.old.requests }
     ensures versions { tables.new.versions ≡ tables.old.versions }
     ensures does { (settings : Settings) (before : List Event) (body method : List ℕ) (id : Id) (params : Option Json) (s : ℕ) → IsRead message.now body
-        → message_of body ≡ request id method params → is_other (class_of method Editor false) ≡ true → outs.old ≡ []
+        → message_of body ≡ request id method params → is_other (class_of method Editor false) ≡ true → AllByRecursion IsQuestion outs.old
         → slice_get (map number_in tables.old.lasts.items) g ≡ Some s → (x : Start) → slice_get tables.old.lasts.items g ≡ Some x
         → OnOk result (Does (λ k events. AllStand settings k events) (sync_row settings before x.life.group s e ⨾ forward s body) (with_cause before (FromEditor e body))
         (tables.old, nothing_owed) outs.old (tables.new, nothing_owed) outs.new) }
@@ -78,11 +81,11 @@ pub fn take_request(
         → message_of body ≡ request id method params → is_other (class_of method Editor false) ≡ true → is_served (desk_of e before).phase ≡ true
         → outs.old ≡ []
         → Stands settings tables.old before → DocumentsStand settings nothing_owed tables.old before
-        → OnOk result (Done (λ k events. AllStand settings k events) (request_row settings before e body)
+        → OnOk result (Done (λ k events. AllStand settings k events) (running_row settings before e (message_of body) ⨾ request_row settings before e body)
         (with_cause before (FromEditor e body)) [] (tables.new, nothing_owed) outs.new) }
 {
     let place = asked_at(tables, e);
-    tables.hear_editor(e, Phase::Running);
+    hear_running(tables, alloc, outs, e)?;
     match place {
         None => {
             refuse_request(tables, alloc, outs, e, message)?;

@@ -1,15 +1,15 @@
 -- What starts asked of an editor, by what holds of every legal history.
-use Rattle.std.proofs.Common.{◌≡◌, ℕ, Bool, true, false, ◌&&◌, List, [], ◌∷◌, refl, ap, sym, subst, ◌∙◌, nat_eq, arith}
-use Rattle.std.specs.Prelude.{Option, Some}
+use Rattle.std.proofs.Common.{◌≡◌, ℕ, Bool, true, false, ◌&&◌, List, [], ◌∷◌, refl, ap, sym, ◌∙◌, nat_eq, arith}
+use Rattle.std.specs.Prelude.{Some}
 use Rattle.std.specs.List.{AllByRecursion}
 use Rattle.std.proofs.lemmas.Bool.Decides.{nat_tests}
-use Rattle.rpc_message.specs.Message.{Id, Message}
+use Rattle.rpc_message.specs.Message.{Message}
 use Rattle.event_model.specs.declared.stage.Stage.TheVariants.{Ended, Ready}
 use Rattle.event_model.specs.Event.{Event}
 use Rattle.event_model.specs.Phases.{desk_of, is_served}
 use Rattle.event_model.specs.Requests.{answered_id}
 use Rattle.event_model.specs.Settings.{Settings}
-use Rattle.event_model.specs.Spawns.{group_of, start_of}
+use Rattle.event_model.specs.Spawns.{start_of}
 use Rattle.event_model.specs.Stages.{life_of}
 use Rattle.event_model.proofs.Frames.{never}
 use Rattle.group_facts.specs.Settled.{HasSeat, Settled}
@@ -32,16 +32,16 @@ module _ (settings : Settings) (before : List Event) (e : ℕ) (m : Message) (se
       go false is = refl
 
   -- an editor that isn't served was asked nothing
-  pub asked_none : is_served (desk_of e before).phase ≡ false → AnswersNone e m before
-  asked_none unserved s = go (asks_of s before) (settled.asks s)
+  pub asked_none : is_served (desk_of e before).phase ≡ false → AnswersNone settings e m before
+  asked_none unserved s = go (asks_of settings s before) (settled.asks s)
     where
       go : (asked : List Ask) → AllByRecursion (HasSeat settings before s) asked → AllByRecursion (λ (a : Ask). is_seated e (answered_id m) a ≡ false) asked
       go [] h = tt
       go (a ∷ asked) h = (unseated a (λ is. never (sym (ap is_served h.0.running) ∙ (ap (λ n. is_served (desk_of n before).phase) is ∙ unserved))), go asked h.1)
 
 -- one that is served was asked by the last start of its group alone
-pub asked_by_one : (settings : Settings) (before : List Event) (e g s : ℕ) (m : Message) → Settled settings before → home_of settings e before ≡ Some g → start_of g before ≡ Some s → AnswersOne s e m before
-asked_by_one settings before e g s m settled home last n away = go (asks_of n before) (settled.asks n)
+pub asked_by_one : (settings : Settings) (before : List Event) (e g s : ℕ) (m : Message) → Settled settings before → home_of settings e before ≡ Some g → start_of g before ≡ Some s → AnswersOne settings s e m before
+asked_by_one settings before e g s m settled home last n away = go (asks_of settings n before) (settled.asks n)
   where
     -- the group of what was asked is this one, so that its last start is n
     other : (a : Ask) → HasSeat settings before n a → a.editor ≡ e → ⊥
@@ -64,8 +64,8 @@ asked_by_one settings before e g s m settled home last n away = go (asks_of n be
     go (a ∷ asked) h = (unseated settings before e m settled a (other a h.0), go asked h.1)
 
 -- a start whose program ended asked nothing that is open
-pub ended_unasked : (settings : Settings) (before : List Event) (s : ℕ) → Settled settings before → (life_of s before).stage ≡ Ended → asks_of s before ≡ []
-ended_unasked settings before s settled over = go (asks_of s before) (settled.asks s)
+pub ended_unasked : (settings : Settings) (before : List Event) (s : ℕ) → Settled settings before → (life_of s before).stage ≡ Ended → asks_of settings s before ≡ []
+ended_unasked settings before s settled over = go (asks_of settings s before) (settled.asks s)
   where
     clash : Ready ≡ Ended → ⊥
     clash q = cc

@@ -1,5 +1,5 @@
 -- What the causes that are built say of a message of an editor.
-use Rattle.std.proofs.Common.{◌≡◌, ℕ, Bool, true, false, not, ◌&&◌, ◌||◌, List, refl, ap, sym, subst, ◌∙◌, ◌⊎◌, inl, inr, codes, bytes_eq, arith}
+use Rattle.std.proofs.Common.{◌≡◌, ℕ, Bool, true, false, not, ◌&&◌, ◌||◌, List, refl, ap, sym, subst, ◌∙◌, ◌⊎◌, inl, inr, codes, bytes_eq}
 use Rattle.std.specs.Prelude.{Option, Some}
 use Rattle.std.proofs.lemmas.Slice.Eq.{bytes_eq-Decides}
 use Rattle.json_text.specs.Json.{Json}
@@ -8,7 +8,7 @@ use Rattle.lsp_method.specs.declared.variants.Class.{Class}
 use Rattle.lsp_method.specs.declared.variants.Class.TheVariants as class
 use Rattle.lsp_method.specs.declared.variants.Origin.TheVariants.{Editor}
 use Rattle.mux_model.specs.Built.{is_other}
-use Rattle.mux_model.specs.Methods.{is_shutdown, is_wrong}
+use Rattle.mux_model.specs.Methods.{is_wrong}
 use Rattle.rpc_message.specs.declared.sort.Sort.TheVariants as sort
 use Rattle.rpc_message.specs.Message.{Message, Id, request, notification, result, error, not_json, not_message}
 use Rattle.rpc_message.specs.Sorts.{sort_of}

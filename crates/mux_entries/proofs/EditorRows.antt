@@ -1,5 +1,5 @@
 -- Which row a message of an editor meets.
-use Rattle.std.proofs.Common.{◌≡◌, ℕ, Bool, true, false, ◌&&◌, ◌||◌, List, [], ◌++◌, refl, ap, sym, subst, ◌∙◌, ◌⊎◌, inl, inr, codes}
+use Rattle.std.proofs.Common.{◌≡◌, ℕ, Bool, true, false, ◌&&◌, List, [], ◌++◌, refl, ap, sym, subst, ◌∙◌, append-nil, ◌⊎◌, inl, inr, codes}
 use Rattle.std.specs.Prelude.{Option, Some}
 use Rattle.json_text.specs.Json.{Json}
 use Rattle.json_nodes.specs.Doc.{Doc}
@@ -20,7 +20,7 @@ use Rattle.event_model.specs.declared.phase.Phase.TheVariants.{Absent, New, Wait
 use Rattle.event_model.specs.Does.{Alike, Done}
 use Rattle.event_model.specs.Event.{Event, behind, notifies, requests, with_cause}
 use Rattle.event_model.specs.Phases.{desk_of, is_begun, is_linked, is_malformed, is_served, is_there}
-use Rattle.event_model.specs.Row.{Row, nothing}
+use Rattle.event_model.specs.Row.{Row, nothing, outs, ◌⨾◌}
 use Rattle.event_model.specs.Settings.{Settings}
 use Rattle.event_model.proofs.Turns.{alike, alike_then, does_nothing}
 use Rattle.mux_model.specs.Rows.{malformed_row}
@@ -29,6 +29,7 @@ use Rattle.group_words.specs.Houses.{is_doubled}
 use Rattle.group_rows.specs.AskRows.{response_row}
 use Rattle.mux_facts.specs.Allowed.{is_response}
 use Rattle.group_rows.specs.Rows.{asks_lspmux, closing_row, down_row, early_row, exit_row, from_editor, lspmux_row, open_row, row_of, served_row, status_row, taken_row}
+use Rattle.mux_editors.specs.Running.{running_at, running_row}
 use Rattle.mux_tables.specs.declared.tables.Tables.{Tables}
 use Rattle.mux_tables.specs.Documents.{AllStand, DocumentsStand, nothing_owed}
 use Rattle.mux_tables.specs.Stands.{Stands}
@@ -40,6 +41,13 @@ use Rattle.mux_turns.proofs.Rows.{is_first, is_second}
 -- a whole entry of a row that sends what another one does
 pub done_alike : {K : Type 0} (Holds : K → List Event → Type 0) {r p : Row} {base : List Event} {xs ys : List Out} {u : K} → Alike r p → Done Holds p base xs u ys → Done Holds r base xs u ys
 done_alike Holds {r} {p} {base} {xs} {ys} {u} a d = record { outs = d.outs ∙ ap (λ zs. xs ++ zs) (sym (a.sends (behind base xs))); stands = d.stands }
+
+-- behind the same row, and behind one that sends nothing
+pub alike_behind : {r p q : Row} → Alike p q → Alike (r ⨾ p) (r ⨾ q)
+alike_behind {r} {p} {q} a = record { sends = λ events. let xs = outs r events in ap (λ zs. xs ++ zs) (a.sends (behind events xs)) }
+
+pub alike_past : {r p q : Row} → Alike r nothing → Alike p q → Alike (r ⨾ p) q
+alike_past {r} {p} {q} n a = record { sends = λ events. ap (λ xs. xs ++ outs p (behind events xs)) (n.sends events) ∙ (ap (outs p) (append-nil events) ∙ a.sends events) }
 
 -- where nothing was sent
 pub done_quietly : {K : Type 0} (Holds : K → List Event → Type 0) {r : Row} {base : List Event} {xs : List Out} {u : K} → xs ≡ [] → Done Holds r base [] u [] → Done Holds r base [] u xs
@@ -189,9 +197,10 @@ module _ (settings : Settings) (before : List Event) (e : ℕ) (body : List ℕ)
   pub early_new : (desk_of e before).phase ≡ New → is_malformed (message_of body) ≡ false → requests (codes "initialize") (message_of body) ≡ false → (is_there (desk_of e before).phase && asks_lspmux (message_of body)) ≡ false → Alike row (early_row settings before e body (message_of body))
   early_new at well h other = alike_then (taken New at well refl (ap (λ p. is_there p && asks_lspmux (message_of body)) (sym at) ∙ other)) (is_second refl h)
 
-  served_as : (m : Message) (p : Phase) → is_served p ≡ true → taken_row settings before e body m p ≡ served_row settings before e body m
-  served_as m Answered h = refl
-  served_as m Running h = refl
+  -- the row of one that is served, behind what it is asked where it begins to run
+  served_as : (m : Message) (p : Phase) → is_served p ≡ true → Alike (taken_row settings before e body m p) (running_at settings before e m p ⨾ served_row settings before e body m)
+  served_as m Answered h = alike refl
+  served_as m Running h = record { sends = λ events. ap (outs (served_row settings before e body m)) (sym (append-nil events)) }
   served_as m Absent h = absurd (cc)
   served_as m New h = absurd (cc)
   served_as m Waiting h = absurd (cc)
@@ -199,8 +208,10 @@ module _ (settings : Settings) (before : List Event) (e : ℕ) (body : List ℕ)
   served_as m Closed h = absurd (cc)
   served_as m Gone h = absurd (cc)
 
-  pub served : (m : Message) → message_of body ≡ m → is_served (desk_of e before).phase ≡ true → is_malformed (message_of body) ≡ false → (is_begun (desk_of e before).phase && is_doubled before e (message_of body)) ≡ false → (is_there (desk_of e before).phase && asks_lspmux (message_of body)) ≡ false → Alike row (served_row settings before e body m)
-  served m says h well single other = alike_then (taken (desk_of e before).phase refl well single other) (alike (served_as (message_of body) (desk_of e before).phase h ∙ ap (served_row settings before e body) says))
+  pub served : (m : Message) → message_of body ≡ m → is_served (desk_of e before).phase ≡ true → is_malformed (message_of body) ≡ false → (is_begun (desk_of e before).phase && is_doubled before e (message_of body)) ≡ false → (is_there (desk_of e before).phase && asks_lspmux (message_of body)) ≡ false
+      → Alike row (running_row settings before e (message_of body) ⨾ served_row settings before e body m)
+  served m says h well single other = alike_then (taken (desk_of e before).phase refl well single other)
+      (alike_then (served_as (message_of body) (desk_of e before).phase h) (alike (ap (λ w. running_row settings before e (message_of body) ⨾ served_row settings before e body w) says)))
 
   answers_as : (m : Message) → (sort_of m ≡ Some sort.Request → ⊥) → (sort_of m ≡ Some sort.Notification → ⊥) → served_row settings before e body m ≡ response_row settings before e body m
   answers_as (request id method params) h k = absurd (h refl)
@@ -210,8 +221,9 @@ module _ (settings : Settings) (before : List Event) (e : ℕ) (body : List ℕ)
   answers_as not_json h k = refl
   answers_as not_message h k = refl
 
-  pub answered : (sort_of (message_of body) ≡ Some sort.Request → ⊥) → (sort_of (message_of body) ≡ Some sort.Notification → ⊥) → is_served (desk_of e before).phase ≡ true → is_malformed (message_of body) ≡ false → (is_begun (desk_of e before).phase && is_doubled before e (message_of body)) ≡ false → (is_there (desk_of e before).phase && asks_lspmux (message_of body)) ≡ false → Alike row (response_row settings before e body (message_of body))
-  answered h k p well single other = alike_then (served (message_of body) refl p well single other) (alike (answers_as (message_of body) h k))
+  pub answered : (sort_of (message_of body) ≡ Some sort.Request → ⊥) → (sort_of (message_of body) ≡ Some sort.Notification → ⊥) → is_served (desk_of e before).phase ≡ true → is_malformed (message_of body) ≡ false → (is_begun (desk_of e before).phase && is_doubled before e (message_of body)) ≡ false → (is_there (desk_of e before).phase && asks_lspmux (message_of body)) ≡ false
+      → Alike row (running_row settings before e (message_of body) ⨾ response_row settings before e body (message_of body))
+  answered h k p well single other = alike_then (served (message_of body) refl p well single other) (alike (ap (λ r. running_row settings before e (message_of body) ⨾ r) (answers_as (message_of body) h k)))
 
 -- and it is a response
 pub is_answer : (m : Message) → (sort_of m ≡ Some sort.Request → ⊥) → (sort_of m ≡ Some sort.Notification → ⊥) → is_malformed m ≡ false → is_response m ≡ true

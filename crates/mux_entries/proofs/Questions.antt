@@ -4,14 +4,16 @@ use Rattle.std.specs.Prelude.{Some}
 use Rattle.std.specs.List.{AllByRecursion}
 use Rattle.lsp_method.specs.Class.{class_of}
 use Rattle.lsp_method.specs.declared.variants.Class.{Class}
-use Rattle.lsp_method.specs.declared.variants.Class.TheVariants.{Broadcast, Cancel, Focused, Lowest, Refresh}
+use Rattle.lsp_method.specs.declared.variants.Class.TheVariants.{Broadcast, Cancel, Focused, Folders, Lowest, Refresh}
 use Rattle.lsp_method.specs.declared.variants.Origin.TheVariants.{Server}
-use Rattle.rpc_message.specs.Message.{Message, message_of}
+use Rattle.rpc_message.specs.declared.sort.Sort.TheVariants as sort
+use Rattle.rpc_message.specs.Message.{Message, message_of, request}
+use Rattle.rpc_message.specs.Sorts.{sort_of}
 use Rattle.event_model.specs.declared.phase.Phase.TheVariants.{Running}
 use Rattle.event_model.specs.declared.stage.Stage.TheVariants.{Ready}
 use Rattle.event_model.specs.Does.{Alike}
 use Rattle.event_model.specs.Event.{Event}
-use Rattle.event_model.specs.Phases.{desk_of}
+use Rattle.event_model.specs.Phases.{desk_of, is_malformed}
 use Rattle.event_model.specs.Row.{nothing, on}
 use Rattle.event_model.specs.Settings.{Settings}
 use Rattle.event_model.specs.Spawns.{group_of}
@@ -24,13 +26,15 @@ use Rattle.group_rows.specs.AskRows.{asking_row}
 use Rattle.group_rows.specs.Asks.{Ask, asks_of}
 use Rattle.group_rows.specs.Rows.{from_server}
 use Rattle.group_rows.specs.Rows as rows
+use Rattle.mux_tables.specs.Stands.{is_request}
 
 -- classes that aren't built
-pub unbuilt_class : {A : Type 0} (settings : Settings) (before : List Event) (s : ℕ) (method : List ℕ) (c : Class) → (c ≡ Refresh → ⊥) → (c ≡ Focused → ⊥) → (c ≡ Lowest → ⊥) → built_asking settings before s method c ≡ true → A
-unbuilt_class settings before s method Refresh r f l h = absurd (r refl)
-unbuilt_class settings before s method Focused r f l h = absurd (f refl)
-unbuilt_class settings before s method Lowest r f l h = absurd (l refl)
-unbuilt_class settings before s method other r f l h = never (sym h)
+pub unbuilt_class : {A : Type 0} (c : Class) → (c ≡ Refresh → ⊥) → (c ≡ Folders → ⊥) → (c ≡ Focused → ⊥) → (c ≡ Lowest → ⊥) → built_asking c ≡ true → A
+unbuilt_class Refresh r d f l h = absurd (r refl)
+unbuilt_class Folders r d f l h = absurd (d refl)
+unbuilt_class Focused r d f l h = absurd (f refl)
+unbuilt_class Lowest r d f l h = absurd (l refl)
+unbuilt_class other r d f l h = never (sym h)
 
 pub broadcasts : (c : Class) → (c ≡ Cancel → ⊥) → built_telling c ≡ true → c ≡ Broadcast
 broadcasts Cancel other h = absurd (other refl)
@@ -41,12 +45,21 @@ broadcasts c other h = never (sym h)
 pub built_else : (a b : Bool) → a ≡ false → (a || b) ≡ true → b ≡ true
 built_else a b none h = ap (λ c. c || b) (sym none) ∙ h
 
-pub question_there : (settings : Settings) (before : List Event) (s g : ℕ) (body method : List ℕ) → group_of s before ≡ Some g → Alike (on (group_of s before) nothing (λ h. asking_row settings before h s body (class_of method Server false))) (asking_row settings before g s body (class_of method Server false))
-question_there settings before s g body method home = alike (ap (λ o. on o nothing (λ h. asking_row settings before h s body (class_of method Server false))) home)
+pub question_there : (settings : Settings) (before : List Event) (s g : ℕ) (body method : List ℕ) → group_of s before ≡ Some g → Alike (on (group_of s before) nothing (λ h. asking_row settings before h s body method (class_of method Server false))) (asking_row settings before g s body method (class_of method Server false))
+question_there settings before s g body method home = alike (ap (λ o. on o nothing (λ h. asking_row settings before h s body method (class_of method Server false))) home)
+
+-- a message that is none
+pub no_request : (m : Message) → (sort_of m ≡ Some sort.Request → ⊥) → is_request m ≡ false
+no_request (request id method params) h = absurd (h refl)
+no_request other h = refl
+
+pub malformed_asks : (m : Message) → is_malformed m ≡ true → is_request m ≡ false
+malformed_asks (request id method params) h = never (sym h)
+malformed_asks other h = refl
 
 -- who was asked runs
-pub all_run : (settings : Settings) (before : List Event) (s : ℕ) → Settled settings before → AllByRecursion (λ (a : Ask). (desk_of a.editor before).phase ≡ Running) (asks_of s before)
-all_run settings before s settled = go (asks_of s before) (settled.asks s)
+pub all_run : (settings : Settings) (before : List Event) (s : ℕ) → Settled settings before → AllByRecursion (λ (a : Ask). (desk_of a.editor before).phase ≡ Running) (asks_of settings s before)
+all_run settings before s settled = go (asks_of settings s before) (settled.asks s)
   where
     go : (asked : List Ask) → AllByRecursion (HasSeat settings before s) asked → AllByRecursion (λ (a : Ask). (desk_of a.editor before).phase ≡ Running) asked
     go [] h = tt

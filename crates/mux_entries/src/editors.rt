@@ -4,6 +4,7 @@ ghost use Rattle.event_model.specs.declared.phase.Phase.TheVariants.{Down, New};
 ghost use Rattle.event_model.specs.Does.{Done};
 ghost use Rattle.event_model.specs.Event.{Event, requests, with_cause};
 ghost use Rattle.event_model.specs.Phases.{desk_of, is_begun, is_served, is_there};
+ghost use Rattle.event_model.specs.Row.{◌⨾◌};
 ghost use Rattle.event_model.specs.Settings.{Settings};
 ghost use Rattle.group_facts.specs.Built.{built_behind, is_standard};
 ghost use Rattle.group_facts.specs.Facts.{Known, is_early};
@@ -14,6 +15,7 @@ ghost use Rattle.json_text.specs.Json.{Json};
 ghost use Rattle.lsp_method.specs.Class.{class_of};
 ghost use Rattle.lsp_method.specs.declared.variants.Origin.TheVariants.{Editor};
 ghost use Rattle.mux_editors.specs.Ceilings.{HaveCeilings};
+ghost use Rattle.mux_editors.specs.Running.{running_row};
 ghost use Rattle.mux_history.specs.declared.cause.Cause.TheVariants.{EditorGone, FromEditor, Joined};
 ghost use Rattle.mux_history.specs.declared.cause.Why.{Why};
 ghost use Rattle.mux_model.specs.Fits.{fits_behind};
@@ -83,7 +85,7 @@ fn from_aside(
     ensures same_versions { tables.new.versions ≡ tables.old.versions }
     ensures does { (settings : Settings) (before : List Event) (body : List ℕ) → IsRead message.now body
         → (sort_of (message_of body) ≡ Some Request → ⊥) → is_served (desk_of e before).phase ≡ false
-        → AnswersNone e (message_of body) before → outs.old ≡ []
+        → AnswersNone settings e (message_of body) before → outs.old ≡ []
         → Stands settings tables.old before → DocumentsStand settings nothing_owed tables.old before
         → OnOk result (Done (λ k events. AllStand settings k events) (exit_row settings before e (message_of body))
         (with_cause before (FromEditor e body)) [] (tables.new, nothing_owed) outs.new) }
@@ -110,7 +112,7 @@ fn from_early(
     ensures same_versions { tables.new.versions ≡ tables.old.versions }
     ensures does { (settings : Settings) (before : List Event) (body : List ℕ) → IsRead message.now body → is_early (desk_of e before).phase ≡ true
         → places (desk_of e before).phase (message_of body) ≡ false → stops before e (message_of body) ≡ false
-        → asks_lspmux (message_of body) ≡ false → AnswersNone e (message_of body) before → outs.old ≡ []
+        → asks_lspmux (message_of body) ≡ false → AnswersNone settings e (message_of body) before → outs.old ≡ []
         → Stands settings tables.old before → DocumentsStand settings nothing_owed tables.old before
         → OnOk result (Done (λ k events. AllStand settings k events) (early_row settings before e body (message_of body))
         (with_cause before (FromEditor e body)) [] (tables.new, nothing_owed) outs.new) }
@@ -139,7 +141,7 @@ fn from_down(
     ensures same_limit { tables.new.requests ≡ tables.old.requests }
     ensures same_versions { tables.new.versions ≡ tables.old.versions }
     ensures does { (settings : Settings) (before : List Event) (body : List ℕ) → IsRead message.now body → (desk_of e before).phase ≡ Down
-        → stops before e (message_of body) ≡ false → AnswersNone e (message_of body) before → outs.old ≡ []
+        → stops before e (message_of body) ≡ false → AnswersNone settings e (message_of body) before → outs.old ≡ []
         → Stands settings tables.old before → DocumentsStand settings nothing_owed tables.old before
         → OnOk result (Done (λ k events. AllStand settings k events) (down_row settings before e body (message_of body))
         (with_cause before (FromEditor e body)) [] (tables.new, nothing_owed) outs.new) }
@@ -189,7 +191,7 @@ fn from_new(
     }
 }
 
-// E8 to E10: a request of an editor that is served.
+// E8 to E10 and L2: a request of an editor that is served.
 fn from_asking(
     tables: &mut Tables,
     alloc: Global,
@@ -204,7 +206,7 @@ fn from_asking(
         → message_of body ≡ request id method params → is_standard (class_of method Editor false) ≡ true
         → is_served (desk_of e before).phase ≡ true → outs.old ≡ []
         → Stands settings tables.old before → DocumentsStand settings nothing_owed tables.old before
-        → OnOk result (Done (λ k events. AllStand settings k events) (served_request settings before e body method)
+        → OnOk result (Done (λ k events. AllStand settings k events) (running_row settings before e (message_of body) ⨾ served_request settings before e body method)
         (with_cause before (FromEditor e body)) [] (tables.new, nothing_owed) outs.new) }
 {
     match class_in(message) {
@@ -223,7 +225,7 @@ fn from_asking(
     }
 }
 
-// E9, E11 to E17: a notification of an editor that is served.
+// E9, E11 to E17, and L2: a notification of an editor that is served.
 fn from_noting(
     tables: &mut Tables,
     alloc: Global,
@@ -238,7 +240,8 @@ fn from_noting(
         → message_of body ≡ notification method params → is_served (desk_of e before).phase ≡ true → outs.old ≡ [] → Known settings before
         → Settled settings before
         → Stands settings tables.old before → DocumentsStand settings nothing_owed tables.old before
-        → OnOk result (Done (λ k events. AllStand settings k events) (served_row settings before e body (notification method params))
+        → OnOk result (Done (λ k events. AllStand settings k events)
+        (running_row settings before e (message_of body) ⨾ served_row settings before e body (notification method params))
         (with_cause before (FromEditor e body)) [] (tables.new, nothing_owed) outs.new) }
 {
     if is_exit(message) {
@@ -256,7 +259,7 @@ fn from_noting(
     }
 }
 
-// E8 to E17 and E19: a message of an editor that is served.
+// E8 to E17, E19 and L2: a message of an editor that is served.
 fn from_served(
     tables: &mut Tables,
     alloc: Global,

@@ -1,6 +1,5 @@
-//! What the program of a start says: S1 to S5, S9, S11, S12, S14, and what goes to each editor.
+//! What the program of a start says: S1 to S5, S9 to S12, S14, and what goes to each editor.
 ghost use Rattle.std.specs.Prelude.{◌≡◌, ◌<◌, ◌≤◌, ℕ, List, [], map, Option, Some, false, true, length, OnOk, slice_get};
-ghost use Rattle.std.specs.List.{list_any};
 ghost use Rattle.event_model.specs.declared.stage.Stage.TheVariants.{Initializing, Ready};
 ghost use Rattle.event_model.specs.Does.{Alike, Done};
 ghost use Rattle.event_model.specs.Event.{Event, with_cause};
@@ -12,7 +11,7 @@ ghost use Rattle.group_facts.specs.Built.{built_asking, built_behind, built_read
 ghost use Rattle.group_facts.specs.Facts.{Known};
 ghost use Rattle.group_facts.specs.Settled.{Settled};
 ghost use Rattle.group_rows.specs.AskRows.{asking_row, notified_row, question_row};
-ghost use Rattle.group_rows.specs.Asks.{asks_of, is_under};
+ghost use Rattle.group_rows.specs.Asks.{asking_of, is_taken};
 ghost use Rattle.group_rows.specs.Rows.{row_of};
 ghost use Rattle.group_words.specs.Houses.{is_first_error};
 ghost use Rattle.json_text.specs.Json.{Json};
@@ -22,7 +21,7 @@ ghost use Rattle.mux_history.specs.declared.cause.Cause.TheVariants.{FromServer}
 ghost use Rattle.mux_model.specs.Fits.{fits_behind};
 ghost use Rattle.mux_tables.specs.declared.tables.Start.{Start};
 ghost use Rattle.mux_tables.specs.Documents.{AllStand, DocumentsStand, nothing_owed};
-ghost use Rattle.mux_tables.specs.Stands.{NamesAt, Stands, number_in};
+ghost use Rattle.mux_tables.specs.Stands.{NamesAt, Stands, is_request, number_in};
 ghost use Rattle.rpc_message.specs.Message.{Id, message_of, notification, request};
 ghost use Rattle.rpc_message.specs.Parsed.{IsRead};
 ghost use Rattle.rpc_message.specs.Sorts.{Refuses};
@@ -33,8 +32,8 @@ use message_body::{Body, Memory};
 use mux_history::Outs;
 use mux_members::{asked_class, is_first_result, told_class};
 use mux_starts::{
-    is_first_error, take_answer, take_broadcast, take_ending, take_focused, take_hasty,
-    take_lowest, take_recall, take_refresh, take_refused, take_repeated, take_result,
+    is_first_error, take_answer, take_broadcast, take_ending, take_focused, take_folders,
+    take_hasty, take_lowest, take_recall, take_refresh, take_refused, take_repeated, take_result,
     take_stopping,
 };
 use mux_tables::Tables;
@@ -47,7 +46,8 @@ fn hear_quietly(tables: &mut Tables, g: usize, n: Option<u32>)
     requires { g < length tables.old.lasts.items }
     ensures same_limit { tables.new.requests ≡ tables.old.requests }
     ensures same_versions { tables.new.versions ≡ tables.old.versions }
-    ensures does { (settings : Settings) (before : List Event) (body : List ℕ) (s : ℕ) → is_first_result (message_of body) ≡ false
+    ensures does { (settings : Settings) (before : List Event) (body : List ℕ) (s : ℕ) → is_request (message_of body) ≡ false
+        → is_first_result (message_of body) ≡ false
         → is_first_error (message_of body) ≡ false → NamesAt (answered_id (message_of body)) n
         → Alike (row_of settings before (FromServer s body)) nothing
         → slice_get (map number_in tables.old.lasts.items) g ≡ Some s → runs (life_of s before) ≡ true → Stands settings tables.old before
@@ -139,7 +139,7 @@ fn take_first(
     }
 }
 
-// S9, S11 and S12: a request comes from a start that is ready, under the id of no open ask; other classes aren't built.
+// S9 to S12: a request comes from a start that is ready, under the id of no open ask; other classes aren't built.
 fn take_class(
     tables: &mut Tables,
     alloc: Global,
@@ -151,16 +151,21 @@ fn take_class(
     ensures same_limit { tables.new.requests ≡ tables.old.requests }
     ensures same_versions { tables.new.versions ≡ tables.old.versions }
     ensures does { (settings : Settings) (before : List Event) (body method : List ℕ) (id : Id) (params : Option Json) (s : ℕ) (x : Start)
-        → IsRead message.now body → message_of body ≡ request id method params → list_any (is_under (Some id)) (asks_of s before) ≡ false
-        → built_asking settings before s method (class_of method Server false) ≡ true → outs.old ≡ []
+        → IsRead message.now body → message_of body ≡ request id method params → is_taken (Some id) (asking_of settings s before) ≡ false
+        → built_asking (class_of method Server false) ≡ true → outs.old ≡ []
         → slice_get tables.old.lasts.items g ≡ Some x → x.life.stage ≡ Ready → slice_get (map number_in tables.old.lasts.items) g ≡ Some s
+        → Known settings before → Settled settings before
         → Stands settings tables.old before → DocumentsStand settings nothing_owed tables.old before
-        → OnOk result (Done (λ k events. AllStand settings k events) (asking_row settings before x.life.group s body (class_of method Server false))
+        → OnOk result (Done (λ k events. AllStand settings k events) (asking_row settings before x.life.group s body method (class_of method Server false))
         (with_cause before (FromServer s body)) [] (tables.new, nothing_owed) outs.new) }
 {
     match asked_class(message) {
         Class::Refresh => {
             take_refresh(tables, alloc, outs, g, message)?;
+            Ok(())
+        }
+        Class::Folders => {
+            take_folders(tables, alloc, outs, g, message)?;
             Ok(())
         }
         Class::Focused => {
@@ -190,6 +195,7 @@ fn take_question(
         → IsRead message.now body → message_of body ≡ request id method params
         → built_ready settings before s (request id method params) ≡ true → outs.old ≡ []
         → slice_get tables.old.lasts.items g ≡ Some x → x.life.stage ≡ Ready → slice_get (map number_in tables.old.lasts.items) g ≡ Some s
+        → Known settings before → Settled settings before
         → Stands settings tables.old before → DocumentsStand settings nothing_owed tables.old before
         → OnOk result (Done (λ k events. AllStand settings k events) (question_row settings s before body id method)
         (with_cause before (FromServer s body)) [] (tables.new, nothing_owed) outs.new) }

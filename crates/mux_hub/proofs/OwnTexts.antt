@@ -1,6 +1,7 @@
 -- Behind one more entry each message that went on behind a sync stood on its editor's own texts.
 use Rattle.std.proofs.Common.{◌≡◌, ℕ, ◌≤◌, ◌<◌, ◌^◌, Bool, true, false, List, [], ◌∷◌, ◌++◌, length, map, fold, nat_lt, refl, sym, ◌∙◌, ap, subst, append-nil, append_assoc, arith, ltb-true}
 use Rattle.std.specs.Prelude.{Option, Some, None, slice_get, IsTrue}
+use Rattle.std.specs.List.{AllByRecursion}
 use Rattle.std.proofs.lemmas.Bool.Decides.{nat_tests}
 use Rattle.mux_history.specs.declared.cause.Cause.{Cause}
 use Rattle.mux_history.specs.declared.cause.Cause.TheVariants.{FromEditor}
@@ -10,8 +11,10 @@ use Rattle.mux_history.specs.declared.out.Out.TheVariants.{ToEditor, ToServer, S
 use Rattle.rpc_message.specs.Message.{message_of}
 use Rattle.document_model.specs.Helds.{HeldText}
 use Rattle.document_model.specs.Opens.{Open, holder}
+use Rattle.document_model.specs.Orderly.{AllSpelt}
 use Rattle.document_model.specs.Rows.{Agrees}
 use Rattle.document_model.specs.Texts.{Texts, found}
+use Rattle.document_model.proofs.Spoken.{AllSpeak}
 use Rattle.document_laws.specs.Follows.{Matches}
 use Rattle.event_model.specs.declared.stage.Stage.{Stage}
 use Rattle.event_model.specs.declared.stage.Stage.TheVariants.{Ready}
@@ -24,20 +27,24 @@ use Rattle.event_model.proofs.Places.{item_at, same_item}
 use Rattle.focus_switch.specs.Documents.{Documents, version_held}
 use Rattle.mux_facts.specs.Ranges.{InRange}
 use Rattle.mux_facts.proofs.DocumentRow.{ready_is}
+use Rattle.mux_facts.proofs.Keeps.{behind_both}
 use Rattle.mux_facts.proofs.Reasons.{Reasons}
 use Rattle.mux_model.specs.Documents.{held_at}
 use Rattle.group_rows.specs.Rows.{sync_bodies}
+use Rattle.group_rows.proofs.Frames.{texts_more}
 use Rattle.group_rows.specs.Texts.{is_synced, texts_of, worker_behind, worker_of}
 use Rattle.group_facts.specs.Built.{built}
 use Rattle.group_facts.specs.Legal.{Legal}
 use Rattle.group_facts.specs.OwnTexts.{AllHaveHolders, AllOnOwnTexts, HasHolders, OnOwnTexts, OwnTexts, OwnTextsFrom, HasOwn}
-use Rattle.group_facts.specs.Why.{IsBehindSync, Why, WhyToServer, begins, cancels, exits, forwarded, greets, notes, resolves, responds, shuts, tells}
+use Rattle.group_facts.specs.Why.{IsBehindSync, IsQuestion, Why, WhyToServer, begins, cancels, exits, forwarded, greets, notes, resolves, responds, shuts, tells}
 use Rattle.group_facts.proofs.Asides.{answer_aside, spoken_aside, unsynced}
 use Rattle.group_facts.proofs.Known.{facts_hold}
+use Rattle.group_facts.proofs.Same.{IsBody, same_behind, same_held, same_questions}
 use Rattle.group_facts.proofs.Table.{reasons}
 use Rattle.group_laws.specs.Stands.{HeldStands}
 use Rattle.group_laws.proofs.OwnTexts.{own_texts}
-use Rattle.group_laws.proofs.Asking.{to}
+use Rattle.group_laws.proofs.Asking.{sync_speaks, to}
+use Rattle.group_laws.proofs.Entries.{first_behind, texts_told}
 use Rattle.mux_tables.specs.declared.tables.Start.{Start}
 use Rattle.mux_tables.specs.declared.tables.Tables.{Tables}
 use Rattle.mux_tables.specs.Documents.{DocumentsStand, SharedStands, nothing_owed}
@@ -69,6 +76,36 @@ module _ (settings : Settings) (t : Tables) (before : List Event) (st : Stands s
   group_told s n [] w = refl
   group_told s n (b ∷ bodies) w = group_told s n bodies w
 
+  bodies_only : (s : ℕ) (bodies : List (List ℕ)) → AllByRecursion IsBody (to s bodies)
+  bodies_only s [] = tt
+  bodies_only s (b ∷ bodies) = (tt, bodies_only s bodies)
+
+  -- what an editor is asked as it begins to run
+  worker_asked : (xs : List Out) (w : Option ℕ) → AllByRecursion IsQuestion xs → fold worker_behind w (map said xs) ≡ w
+  worker_asked [] w h = refl
+  worker_asked (ToEditor n b ∷ xs) w h = worker_asked xs w h.1
+  worker_asked (ToServer n b ∷ xs) w h = absurd h.0
+  worker_asked (Spawn n g ∷ xs) w h = absurd h.0
+  worker_asked (CloseEditor n ∷ xs) w h = absurd h.0
+  worker_asked (EndServer n ∷ xs) w h = absurd h.0
+
+  group_asked : (s : ℕ) (xs : List Out) (w : Option ℕ) → AllByRecursion IsQuestion xs → fold (group_behind s) w (map said xs) ≡ w
+  group_asked s [] w h = refl
+  group_asked s (ToEditor n b ∷ xs) w h = group_asked s xs w h.1
+  group_asked s (ToServer n b ∷ xs) w h = absurd h.0
+  group_asked s (Spawn n g ∷ xs) w h = absurd h.0
+  group_asked s (CloseEditor n ∷ xs) w h = absurd h.0
+  group_asked s (EndServer n ∷ xs) w h = absurd h.0
+
+  texts_asked : (g : ℕ) (events : List Event) (xs : List Out) → AllByRecursion IsQuestion xs → texts_of settings g (behind events xs) ≡ texts_of settings g events
+  texts_asked g events [] h = ap (texts_of settings g) (append-nil events)
+  texts_asked g events (ToEditor n b ∷ xs) h = ap (texts_of settings g) (first_behind events (ToEditor n b) xs)
+      ∙ (texts_asked g (events ++ said (ToEditor n b) ∷ []) xs h.1 ∙ texts_more settings g events (said (ToEditor n b)))
+  texts_asked g events (ToServer n b ∷ xs) h = absurd h.0
+  texts_asked g events (Spawn n k ∷ xs) h = absurd h.0
+  texts_asked g events (CloseEditor n ∷ xs) h = absurd h.0
+  texts_asked g events (EndServer n ∷ xs) h = absurd h.0
+
   -- the editor's documents were told to the start of its group
   behind_sync : (events : List Event) (s e : ℕ) (asked : List ℕ) → IsBehindSync settings before events s e asked → (w g : ℕ) → worker_of events ≡ Some w → group_of s events ≡ Some g
       → (u : List ℕ) (o : Open) → found w u (texts_of settings g events) ≡ Some o → HasOwn o (held_at s u events)
@@ -79,12 +116,23 @@ module _ (settings : Settings) (t : Tables) (before : List Event) (st : Stands s
       let shared = shared_of k.group s x.0 d.0 x.1 d.1 k.ready in
       let few : d.0.versions < 2 ^ 32 = subst (λ n. n < 2 ^ 32) (sym (shared.versions ∙ ds.versions)) ds.range in
       let holds : HeldStands s shared.start.code d.0 before = subst (λ es. HeldStands s shared.start.code d.0 es) (append-nil before) shared.start.holds in
-      let worker : w ≡ e = same_item (sym works ∙ (ap worker_of k.place ∙ (outs_more worker_behind None (Some e) (with_cause before (FromEditor e asked)) (to s bodies) (one_more worker_behind None (worker_of before) before (heard (FromEditor e asked)) refl) ∙ worker_told s bodies (Some e)))) in
+      let now : List Event = with_cause before (FromEditor e asked) in
+      let mid : List Event = behind now k.questions in
+      let place : events ≡ behind mid (to s bodies) = k.place ∙ behind_both now k.questions (to s bodies) in
+      let at_work : worker_of mid ≡ Some e = outs_more worker_behind None (Some e) now k.questions (one_more worker_behind None (worker_of before) before (heard (FromEditor e asked)) refl) ∙ worker_asked k.questions (Some e) k.asks in
+      let worker : w ≡ e = same_item (sym works ∙ (ap worker_of place ∙ (outs_more worker_behind None (Some e) mid (to s bodies) at_work ∙ worker_told s bodies (Some e)))) in
       let lived : group_of s before ≡ Some k.group = subst (λ n. group_of n before ≡ Some k.group) x.1 (subst (λ n. group_of x.0.last.life.start before ≡ Some n) x.0.group (st.lasts.each x.0.place x.0.last x.0.at).home) in
-      let group : g ≡ k.group = same_item (sym home ∙ (ap (group_of s) k.place ∙ (outs_more (group_behind s) None (Some k.group) (with_cause before (FromEditor e asked)) (to s bodies) (one_more (group_behind s) None (Some k.group) before (heard (FromEditor e asked)) lived) ∙ group_told s s bodies (Some k.group)))) in
+      let lives : group_of s mid ≡ Some k.group = outs_more (group_behind s) None (Some k.group) now k.questions (one_more (group_behind s) None (Some k.group) before (heard (FromEditor e asked)) lived) ∙ group_asked s k.questions (Some k.group) k.asks in
+      let group : g ≡ k.group = same_item (sym home ∙ (ap (group_of s) place ∙ (outs_more (group_behind s) None (Some k.group) mid (to s bodies) lives ∙ group_told s s bodies (Some k.group)))) in
+      let spelt : AllSpelt (texts_of settings k.group before).opens = subst (λ (x : Texts). AllSpelt x.opens) (sym shared.texts.texts) shared.texts.spelt in
+      let speak : AllSpeak bodies = sync_speaks settings.limits.versions e (λ v. held_at s v before) (texts_of settings k.group before).opens (subst (λ n. n < 2 ^ 32) (sym ds.versions) ds.range) spelt in
+      let texts : texts_of settings k.group events ≡ texts_of settings k.group (behind now (to s bodies)) =
+      ap (texts_of settings k.group) place ∙ (texts_told settings k.group s mid bodies speak ∙ (texts_asked k.group now k.questions k.asks ∙ sym (texts_told settings k.group s now bodies speak))) in
+      let same : held_at s u events ≡ held_at s u (behind now (to s bodies)) =
+      ap (held_at s u) place ∙ same_held settings (same_behind settings mid now (to s bodies) (bodies_only s bodies) (same_questions settings now k.questions k.asks)) s u in
       let own = own_texts settings k.group s e shared.start.code before asked d.0 k.stays k.silent shared.versions few shared.texts holds u o
-      (subst (λ es. found e u (texts_of settings k.group es) ≡ Some o) k.place (subst (λ n. found e u (texts_of settings n events) ≡ Some o) group (subst (λ n. found n u (texts_of settings g events) ≡ Some o) worker is))) in
-      subst (λ es. HasOwn o (held_at s u es)) (sym k.place) (agrees (held_at s u (behind (with_cause before (FromEditor e asked)) (to s bodies))) own.0 own.1 own.2)
+      (subst (λ (x : Texts). found e u x ≡ Some o) texts (subst (λ n. found e u (texts_of settings n events) ≡ Some o) group (subst (λ n. found n u (texts_of settings g events) ≡ Some o) worker is))) in
+      subst (HasOwn o) (sym same) (agrees (held_at s u (behind now (to s bodies))) own.0 own.1 own.2)
     where
       agrees : (k : Option HeldText) (h : HeldText) → k ≡ Some h → Agrees o h → HasOwn o k
       agrees k h is same = subst (HasOwn o) (sym is) same

@@ -1,5 +1,5 @@
 use crate::play::{limits, play};
-use crate::tests::{MOST, TWO_EDITORS};
+use crate::tests::{MOST, SWITCHING, TWO_EDITORS};
 use std::test::Fail;
 
 // A start asks the first editor twice. Another editor's answer under such a number is none; the answers come in the other order, one of
@@ -90,14 +90,91 @@ const LEAVING: [(&str, &str); 6] = [
     ),
 ];
 
+// No editor runs: what the start asks waits, but for what concerns the user. Under the id of one that waits it asks nothing, and a cancel
+// of it gives nothing. The next editor is asked both, in order, before what it says first goes on; the answers go back, and then the id is
+// free.
+const WAITING: [(&str, &str); 12] = [
+    ("gone 0 end\n", ""),
+    ("gone 1 end\n", ""),
+    (
+        "sv 0 {\"jsonrpc\":\"2.0\",\"id\":7,\"method\":\"workspace/configuration\",\"params\":{\"items\":[]}}\n",
+        "",
+    ),
+    (
+        "sv 0 {\"jsonrpc\":\"2.0\", \"id\":\"q\",\"method\":\"x\"}\n",
+        "",
+    ),
+    (
+        "sv 0 {\"jsonrpc\":\"2.0\",\"id\":7,\"method\":\"workspace/codeLens/refresh\"}\n",
+        "",
+    ),
+    (
+        "sv 0 {\"jsonrpc\":\"2.0\",\"method\":\"$/cancelRequest\",\"params\":{\"id\":7}}\n",
+        "",
+    ),
+    ("join 2\n", ""),
+    (
+        "ed 2 {\"jsonrpc\":\"2.0\",\"id\":0,\"method\":\"initialize\",\"params\":{\"rootUri\":\"file:///w\",\"capabilities\":{}}}\n",
+        ">ed 2 {\"jsonrpc\":\"2.0\",\"id\":0,\"result\":{\"capabilities\":{}}}\n",
+    ),
+    (
+        "ed 2 {\"jsonrpc\":\"2.0\",\"id\":5,\"method\":\"textDocument/hover\",\"params\":{}}\n",
+        ">ed 2 {\"jsonrpc\":\"2.0\",\"id\":1,\"method\":\"workspace/configuration\",\"params\":{\"items\":[]}}\n>ed 2 {\"jsonrpc\":\"2.0\", \"id\":2,\"method\":\"x\"}\n>sv 0 {\"jsonrpc\":\"2.0\",\"id\":2,\"method\":\"textDocument/hover\",\"params\":{}}\n",
+    ),
+    (
+        "ed 2 {\"jsonrpc\":\"2.0\",\"id\":2,\"result\":2}\n",
+        ">sv 0 {\"jsonrpc\":\"2.0\",\"id\":\"q\",\"result\":2}\n",
+    ),
+    (
+        "ed 2 {\"jsonrpc\":\"2.0\",\"id\":1,\"result\":[]}\n",
+        ">sv 0 {\"jsonrpc\":\"2.0\",\"id\":7,\"result\":[]}\n",
+    ),
+    (
+        "sv 0 {\"jsonrpc\":\"2.0\",\"id\":7,\"method\":\"workspace/workspaceFolders\"}\n",
+        ">sv 0 {\"jsonrpc\":\"2.0\",\"id\":7,\"result\":[{\"uri\":\"file:///w\",\"name\":\"file:///w\"}]}\n",
+    ),
+];
+
+// Two editors have two texts of a document, of which the start has that of the one that asked last. An edit of that text names this
+// editor's version; one of the other text isn't applied, and nobody is asked. Then the other editor changes its text and asks; a document
+// that it doesn't have has no version.
+const EDITING: [(&str, &str); 6] = [
+    (
+        "sv 0 {\"jsonrpc\":\"2.0\",\"id\":\"q\",\"method\":\"workspace/applyEdit\",\"params\":{\"edit\":{\"documentChanges\":[{\"textDocument\":{\"uri\":\"file:///u\",\"version\":4},\"edits\":[]}]}}}\n",
+        ">ed 1 {\"jsonrpc\":\"2.0\",\"id\":1,\"method\":\"workspace/applyEdit\",\"params\":{\"edit\":{\"documentChanges\":[{\"textDocument\":{\"uri\":\"file:///u\",\"version\":9},\"edits\":[]}]}}}\n",
+    ),
+    (
+        "sv 0 {\"jsonrpc\":\"2.0\",\"id\":8,\"method\":\"workspace/applyEdit\",\"params\":{\"edit\":{\"documentChanges\":[{\"textDocument\":{\"uri\":\"file:///u\",\"version\":3},\"edits\":[]}]}}}\n",
+        ">sv 0 {\"jsonrpc\":\"2.0\",\"id\":8,\"result\":{\"applied\":false,\"failureReason\":\"Content modified\"}}\n",
+    ),
+    (
+        "ed 0 {\"jsonrpc\":\"2.0\",\"method\":\"textDocument/didChange\",\"params\":{\"textDocument\":{\"uri\":\"file:///u\",\"version\":6},\"contentChanges\":[{\"text\":\"c\"}]}}\n",
+        ">sv 0 {\"jsonrpc\":\"2.0\",\"method\":\"textDocument/didChange\",\"params\":{\"textDocument\":{\"uri\":\"file:///u\",\"version\":5},\"contentChanges\":[{\"text\":\"c\"}]}}\n",
+    ),
+    (
+        "ed 0 {\"jsonrpc\":\"2.0\",\"id\":7,\"method\":\"textDocument/hover\",\"params\":{}}\n",
+        ">sv 0 {\"jsonrpc\":\"2.0\",\"id\":5,\"method\":\"textDocument/hover\",\"params\":{}}\n",
+    ),
+    (
+        "sv 0 {\"jsonrpc\":\"2.0\",\"id\":8,\"method\":\"workspace/applyEdit\",\"params\":{\"edit\":{\"documentChanges\":[{\"textDocument\":{\"uri\":\"file:///u\",\"version\":5}},{\"textDocument\":{\"uri\":\"file:///v\",\"version\":5}}]}}}\n",
+        ">ed 0 {\"jsonrpc\":\"2.0\",\"id\":1,\"method\":\"workspace/applyEdit\",\"params\":{\"edit\":{\"documentChanges\":[{\"textDocument\":{\"uri\":\"file:///u\",\"version\":6}},{\"textDocument\":{\"uri\":\"file:///v\",\"version\":null}}]}}}\n",
+    ),
+    (
+        "ed 0 {\"jsonrpc\":\"2.0\",\"id\":1,\"result\":{\"applied\":true}}\n",
+        ">sv 0 {\"jsonrpc\":\"2.0\",\"id\":8,\"result\":{\"applied\":true}}\n",
+    ),
+];
+
 #[test]
 fn a_start_asks_and_tells_editors(rt: HostRuntime) -> Result<(), Fail> {
     let alloc = rt.alloc();
-    let sessions: [&[&[(&str, &str)]]; 4] = [
+    let sessions: [&[&[(&str, &str)]]; 6] = [
         &[&TWO_EDITORS, &ASKING],
         &[&TWO_EDITORS, &FOCUSED],
         &[&TWO_EDITORS, &REFRESHING],
         &[&TWO_EDITORS, &LEAVING],
+        &[&TWO_EDITORS, &WAITING],
+        &[&TWO_EDITORS, &SWITCHING, &EDITING],
     ];
     for parts in sessions {
         play(&rt, alloc, limits(MOST, MOST), parts, Ok(()))?;

@@ -1,4 +1,5 @@
 use crate::play::{limits, play};
+use crate::statuses::STATUSES;
 use lspmux_program::{Refusal, Stop};
 use mux_history::{Cause, Journal, MemJournal};
 use mux_hub::{Hub, StepFault};
@@ -215,7 +216,7 @@ const NOTIFYING: [(&str, &str); 6] = [
 ];
 
 // Both have a document open, in two texts: the start is switched to the text of the one that asks.
-const SWITCHING: [(&str, &str); 5] = [
+pub const SWITCHING: [(&str, &str); 5] = [
     (
         "ed 0 {\"jsonrpc\":\"2.0\",\"method\":\"textDocument/didOpen\",\"params\":{\"textDocument\":{\"uri\":\"file:///u\",\"languageId\":\"x\",\"version\":5,\"text\":\"a\"}}}\n",
         ">sv 0 {\"jsonrpc\":\"2.0\",\"method\":\"textDocument/didOpen\",\"params\":{\"textDocument\":{\"uri\":\"file:///u\",\"languageId\":\"x\",\"version\":1,\"text\":\"a\"}}}\n",
@@ -564,61 +565,6 @@ const REFUSED: [(&str, &str); 11] = [
     ),
 ];
 
-// A status of a new editor, of one whose group's start is to begin, and of one while it gave no result yet; behind it, with a request
-// open; under an id that is open, which ends the link; and behind that.
-const STATUSES: [(&str, &str); 14] = [
-    ("join 0\n", ""),
-    (
-        "ed 0 {\"jsonrpc\":\"2.0\",\"id\":1,\"method\":\"lspmux/status\"}\n",
-        ">ed 0 {\"jsonrpc\":\"2.0\",\"id\":1,\"result\":{\"groups\":[]}}\n",
-    ),
-    (
-        "ed 0 {\"jsonrpc\":\"2.0\",\"id\":0,\"method\":\"initialize\",\"params\":{\"rootUri\":\"file:///w\",\"capabilities\":{}}}\n",
-        ">spawn 0 0\n",
-    ),
-    (
-        "ed 0 {\"jsonrpc\":\"2.0\",\"id\":1,\"method\":\"lspmux/status\"}\n",
-        ">ed 0 {\"jsonrpc\":\"2.0\",\"id\":1,\"result\":{\"groups\":[{\"group\":0,\"server\":\"main\",\"start\":0,\"state\":\"spawning\",\"editors\":[0],\"open\":0}]}}\n",
-    ),
-    (
-        "up 0\n",
-        ">sv 0 {\"jsonrpc\":\"2.0\",\"id\":1,\"method\":\"initialize\",\"params\":{\"processId\":null,\"clientInfo\":{\"name\":\"lspmux\"},\"rootUri\":\"file:///w\",\"capabilities\":{},\"trace\":\"off\"}}\n",
-    ),
-    ("join 1\n", ""),
-    (
-        "ed 1 {\"jsonrpc\":\"2.0\",\"id\":1,\"method\":\"lspmux/status\"}\n",
-        ">ed 1 {\"jsonrpc\":\"2.0\",\"id\":1,\"result\":{\"groups\":[{\"group\":0,\"server\":\"main\",\"start\":0,\"state\":\"initializing\",\"editors\":[0],\"open\":0}]}}\n",
-    ),
-    (
-        "sv 0 {\"jsonrpc\":\"2.0\",\"id\":1,\"result\":{\"capabilities\":{}}}\n",
-        ">sv 0 {\"jsonrpc\":\"2.0\",\"method\":\"initialized\",\"params\":{}}\n>ed 0 {\"jsonrpc\":\"2.0\",\"id\":0,\"result\":{\"capabilities\":{}}}\n",
-    ),
-    (
-        "ed 1 {\"jsonrpc\":\"2.0\",\"id\":0,\"method\":\"initialize\",\"params\":{\"rootUri\":\"file:///w\",\"capabilities\":{}}}\n",
-        ">ed 1 {\"jsonrpc\":\"2.0\",\"id\":0,\"result\":{\"capabilities\":{}}}\n",
-    ),
-    (
-        "ed 0 {\"jsonrpc\":\"2.0\",\"id\":1,\"method\":\"textDocument/hover\",\"params\":{}}\n",
-        ">sv 0 {\"jsonrpc\":\"2.0\",\"id\":2,\"method\":\"textDocument/hover\",\"params\":{}}\n",
-    ),
-    (
-        "ed 1 {\"jsonrpc\":\"2.0\",\"id\":1,\"method\":\"lspmux/status\"}\n",
-        ">ed 1 {\"jsonrpc\":\"2.0\",\"id\":1,\"result\":{\"groups\":[{\"group\":0,\"server\":\"main\",\"start\":0,\"state\":\"ready\",\"editors\":[0,1],\"open\":1}]}}\n",
-    ),
-    (
-        "ed 0 {\"jsonrpc\":\"2.0\",\"id\":1,\"method\":\"lspmux/status\"}\n",
-        ">close 0\n>sv 0 {\"jsonrpc\":\"2.0\",\"method\":\"$/cancelRequest\",\"params\":{\"id\":2}}\n",
-    ),
-    (
-        "ed 0 {\"jsonrpc\":\"2.0\",\"id\":2,\"method\":\"lspmux/status\"}\n",
-        "",
-    ),
-    (
-        "ed 1 {\"jsonrpc\":\"2.0\",\"id\":1,\"method\":\"lspmux/status\"}\n",
-        ">ed 1 {\"jsonrpc\":\"2.0\",\"id\":1,\"result\":{\"groups\":[{\"group\":0,\"server\":\"main\",\"start\":0,\"state\":\"ready\",\"editors\":[1],\"open\":0}]}}\n",
-    ),
-];
-
 // The first editor names another server, by an escape, and once more; the second names none, and means the default; the third means what
 // the first one means. Behind `initialize` a server is named too late, also under an id that is open, which ends the link, and behind that.
 const OPENED: [(&str, &str); 14] = [
@@ -702,7 +648,7 @@ const UNBUILT: [&str; 4] = [
     "ed 0 {\"jsonrpc\":\"2.0\",\"method\":\"window/workDoneProgress/cancel\",\"params\":{\"token\":1}}\n",
     "ed 0 {\"jsonrpc\":\"2.0\",\"id\":1,\"method\":\"lspmux/stop\"}\n",
     "ed 0 {\"jsonrpc\":\"2.0\",\"id\":1,\"method\":\"x\",\"params\":{\"workDoneToken\":1}}\n",
-    "sv 0 {\"jsonrpc\":\"2.0\",\"id\":1,\"method\":\"workspace/applyEdit\",\"params\":{\"edit\":{}}}\n",
+    "sv 0 {\"jsonrpc\":\"2.0\",\"id\":1,\"method\":\"client/registerCapability\",\"params\":{\"registrations\":[]}}\n",
 ];
 
 #[test]

@@ -1,10 +1,12 @@
 pub mod Answering
+pub mod Applying
 pub mod Beginning
 pub mod Early
 pub mod PutOut
 pub mod Replies
 pub mod Stopped
 pub mod Ticking
+pub mod Parking
 pub mod Singles
 pub mod Refreshing
 pub mod Recalls

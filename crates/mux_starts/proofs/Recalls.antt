@@ -10,6 +10,7 @@ use Rattle.event_model.specs.Does.{Alike}
 use Rattle.event_model.specs.Event.{Event}
 use Rattle.event_model.specs.Phases.{desk_of, is_running}
 use Rattle.event_model.specs.Row.{nothing, on, send}
+use Rattle.event_model.specs.Settings.{Settings}
 use Rattle.event_model.proofs.Turns.{alike, alike_then}
 use Rattle.rpc_message.specs.Message.{Id}
 use Rattle.group_rows.specs.AskRows.{cancel_ask, cancelled_row}
@@ -45,25 +46,25 @@ seat_small o events asks seat is all = go (find (is_under o) asks) refl is
     go None e k = absurd (cc)
     go (Some a) e k = let same : seat ≡ seat_from a = cc in subst (λ (z : Seat). z.number < 2 ^ 64) (sym same) (found_has (WasAsked events) (is_under o) asks a all e).1
 
-module _ (s t : ℕ) (before : List Event) (params : Option Json) where
+module _ (settings : Settings) (s t : ℕ) (before : List Event) (params : Option Json) where
   abbrev found : Option Ask
-  found = find (is_under (named_id params)) (asks_of s before)
+  found = find (is_under (named_id params)) (asks_of settings s before)
 
-  pub recalls_none : t ≡ s → ◌≡◌ {A = Option Seat} None (option_map seat_from (find (is_under (named_id params)) (asks_of t before))) → Alike (cancelled_row s before params) nothing
-  recalls_none own is = go found refl (is ∙ ap (λ n. option_map seat_from (find (is_under (named_id params)) (asks_of n before))) own)
+  pub recalls_none : t ≡ s → ◌≡◌ {A = Option Seat} None (option_map seat_from (find (is_under (named_id params)) (asks_of settings t before))) → Alike (cancelled_row settings s before params) nothing
+  recalls_none own is = go found refl (is ∙ ap (λ n. option_map seat_from (find (is_under (named_id params)) (asks_of settings n before))) own)
     where
-      go : (o : Option Ask) → found ≡ o → ◌≡◌ {A = Option Seat} None (option_map seat_from found) → Alike (cancelled_row s before params) nothing
+      go : (o : Option Ask) → found ≡ o → ◌≡◌ {A = Option Seat} None (option_map seat_from found) → Alike (cancelled_row settings s before params) nothing
       go None e k = alike (ap (λ o. on o nothing (cancel_ask before)) e)
       go (Some a) e k = let clash : ◌≡◌ {A = Option Seat} None (Some (seat_from a)) = k ∙ ap (option_map seat_from) e in absurd (cc)
 
-  pub recalls_one : (seat : Seat) → t ≡ s → Some seat ≡ option_map seat_from (find (is_under (named_id params)) (asks_of t before)) → AllByRecursion (λ (a : Ask). (desk_of a.editor before).phase ≡ Running) (asks_of s before)
-      → Alike (cancelled_row s before params) (send (ToEditor seat.editor (cancel_text seat.number)))
-  recalls_one seat own is run = go found refl (is ∙ ap (λ n. option_map seat_from (find (is_under (named_id params)) (asks_of n before))) own)
+  pub recalls_one : (seat : Seat) → t ≡ s → Some seat ≡ option_map seat_from (find (is_under (named_id params)) (asks_of settings t before)) → AllByRecursion (λ (a : Ask). (desk_of a.editor before).phase ≡ Running) (asks_of settings s before)
+      → Alike (cancelled_row settings s before params) (send (ToEditor seat.editor (cancel_text seat.number)))
+  recalls_one seat own is run = go found refl (is ∙ ap (λ n. option_map seat_from (find (is_under (named_id params)) (asks_of settings n before))) own)
     where
-      go : (o : Option Ask) → found ≡ o → Some seat ≡ option_map seat_from found → Alike (cancelled_row s before params) (send (ToEditor seat.editor (cancel_text seat.number)))
+      go : (o : Option Ask) → found ≡ o → Some seat ≡ option_map seat_from found → Alike (cancelled_row settings s before params) (send (ToEditor seat.editor (cancel_text seat.number)))
       go None e k = let clash : ◌≡◌ {A = Option Seat} (Some seat) None = k ∙ ap (option_map seat_from) e in absurd (cc)
       go (Some a) e k =
           let same : seat ≡ seat_from a = let q : ◌≡◌ {A = Option Seat} (Some seat) (Some (seat_from a)) = k ∙ ap (option_map seat_from) e in cc in
-          let runs = found_has (λ (b : Ask). (desk_of b.editor before).phase ≡ Running) (is_under (named_id params)) (asks_of s before) a run e in
-          subst (λ (z : Seat). Alike (cancelled_row s before params) (send (ToEditor z.editor (cancel_text z.number)))) (sym same)
+          let runs = found_has (λ (b : Ask). (desk_of b.editor before).phase ≡ Running) (is_under (named_id params)) (asks_of settings s before) a run e in
+          subst (λ (z : Seat). Alike (cancelled_row settings s before params) (send (ToEditor z.editor (cancel_text z.number)))) (sym same)
           (alike_then (alike (ap (λ o. on o nothing (cancel_ask before)) e)) (is_first refl (ap is_running runs)))

@@ -1,5 +1,5 @@
 -- S9, S11 and S12: a request of a start that editors are asked.
-use Rattle.std.proofs.Common.{◌≡◌, ℕ, Bool, true, false, ◌&&◌, ◌||◌, cond, List, [], ◌∷◌, filter, map, nat_eq, if◌then◌else◌, refl, ap, sym, subst, ◌∙◌, arith, codes}
+use Rattle.std.proofs.Common.{◌≡◌, ℕ, Bool, true, false, ◌&&◌, ◌||◌, cond, List, [], ◌∷◌, ◌++◌, filter, map, nat_eq, if◌then◌else◌, refl, ap, sym, subst, ◌∙◌, arith, codes}
 use Rattle.std.specs.Prelude.{Option, Some, None, IfSome, option_map, slice_get}
 use Rattle.std.specs.List.{All, AllByRecursion, Contains, last_or, list_any}
 use Rattle.std.proofs.lemmas.Bool.{and_parts}
@@ -7,8 +7,11 @@ use Rattle.std.proofs.lemmas.Bool.Decides.{nat_tests}
 use Rattle.json_text.specs.Json.{Json}
 use Rattle.mux_history.specs.declared.cause.Cause.TheVariants.{FromServer}
 use Rattle.mux_history.specs.declared.out.Out.{Out}
-use Rattle.rpc_message.specs.Message.{Id, id_bytes, message_of, request}
+use Rattle.rpc_message.specs.Message.{Id, id_bytes, message_of, request, result}
 use Rattle.rpc_message.specs.Texts.{error_text, ok_text, request_failed}
+use Rattle.rpc_message.specs.ValueTexts.{IsResponseIdText}
+use Rattle.rpc_message.proofs.Fixed.{id_as_response, ok_law}
+use Rattle.rpc_message.proofs.Ids.{request_id_bytes}
 use Rattle.document_model.specs.Sayings.{nothing as no_saying, saying_of}
 use Rattle.event_model.specs.declared.stage.Stage.TheVariants.{Ready}
 use Rattle.event_model.specs.Event.{Event, behind, heard, requests, with_cause}
@@ -16,19 +19,26 @@ use Rattle.event_model.specs.Requests.{answered_id}
 use Rattle.event_model.specs.Phases.{desk_of, is_running}
 use Rattle.event_model.specs.Settings.{Settings}
 use Rattle.event_model.proofs.Frames.{never}
-use Rattle.group_rows.specs.AskRows.{else_first, first_in, in_focus, is_among, last_among, running_in}
-use Rattle.group_rows.specs.Asks.{Ask, Asker, Asking, asker_of, asking_of, asks_of, is_single, is_under}
+use Rattle.group_facts.specs.Facts.{IsWritten}
+use Rattle.group_rows.specs.AskRows.{else_first, in_focus, is_among, last_among}
+use Rattle.group_rows.specs.Asks.{Ask, Asker, Asking, Parked, asker_of, asking_of, asks_of, first_in, idle_asking, is_single, is_taken, is_under, parked_of, parks, running_in, waits_under}
 use Rattle.group_rows.specs.Forwarded.{Forwarded, moves_ids}
 use Rattle.group_rows.specs.Texts.{is_synced}
+use Rattle.group_words.specs.declared.kept.Kept.{Kept}
+use Rattle.group_words.specs.Rows.{folders_text}
 use Rattle.mux_tables.specs.declared.tables.Start.{Start}
 use Rattle.mux_tables.specs.declared.tables.Tables.{Tables}
-use Rattle.mux_tables.specs.Stands.{number_in, stage_in}
-use Rattle.mux_tables.proofs.Asking.{asking_more}
+use Rattle.mux_tables.specs.Puts.{IsAtWork}
+use Rattle.mux_tables.specs.Stands.{IsAtRest, ParkedStay, number_in, stage_in}
+use Rattle.mux_tables.proofs.Asking.{asking_more, parked_more}
 use Rattle.mux_tables.proofs.Frames.{itself}
 use Rattle.mux_tables.proofs.Starts.{start_at_place}
+use Rattle.mux_tables.proofs.Waiting.{none_any, none_either}
+use Rattle.response_route.specs.Asked.{not_applied, refusal_tree}
+use Rattle.response_route.proofs.Asking.{refusal_result}
 use Rattle.mux_starts.proofs.Answering.{desk_still}
 use Rattle.mux_turns.proofs.Departing.{behind_first, mapped_is, mapped_on}
-use Rattle.mux_turns.proofs.Keeping.{null_says, refused_says}
+use Rattle.mux_turns.proofs.Keeping.{null_says, null_tree, refused_says}
 use Rattle.mux_turns.proofs.Ready.{start_from}
 
 -- the first of a list
@@ -119,7 +129,7 @@ still t u g s x here at ready numbers stages =
 
 -- Behind the request nothing is sent yet
 
-module _ (before : List Event) (s : ℕ) (body : List ℕ) (xs : List Out) (first : xs ≡ []) where
+module _ (settings : Settings) (before : List Event) (s : ℕ) (body : List ℕ) (xs : List Out) (first : xs ≡ []) where
   abbrev now : List Event
   now = behind (with_cause before (FromServer s body)) xs
 
@@ -127,39 +137,64 @@ module _ (before : List Event) (s : ℕ) (body : List ℕ) (xs : List Out) (firs
   pub runs_here : (e : ℕ) → is_running (desk_of e before).phase ≡ true → is_running (desk_of e now).phase ≡ true
   runs_here e runs = ap is_running (desk_still before s body xs e first) ∙ runs
 
-  pub asks_here : asks_of s now ≡ asks_of s before
-  asks_here = ap (asks_of s) (behind_first (with_cause before (FromServer s body)) xs first) ∙ ap (λ (x : Asking). x.asks) (asking_more s before (heard (FromServer s body)))
+  -- what a start asks behind it, by whether it is this one
+  abbrev heard_asking : ℕ → Asking → Bool → Asking
+  heard_asking n x b = if b then record { asker = asker_of body (message_of body); runs = None; asks = x.asks; parked = x.parked ++ parks settings n before x body (message_of body) } else idle_asking x
 
-  asker_here : (n : ℕ) → (asking_of n now).asker ≡ (if nat_eq s n then asker_of body (message_of body) else None)
-  asker_here n = ap (λ es. (asking_of n es).asker) (behind_first (with_cause before (FromServer s body)) xs first) ∙ ap (λ (x : Asking). x.asker) (asking_more n before (heard (FromServer s body)))
+  heard_here : (n : ℕ) → asking_of settings n now ≡ heard_asking n (asking_of settings n before) (nat_eq s n)
+  heard_here n = ap (asking_of settings n) (behind_first (with_cause before (FromServer s body)) xs first) ∙ asking_more settings n before (heard (FromServer s body))
+
+  asks_if : (n : ℕ) (x : Asking) (b : Bool) → (heard_asking n x b).asks ≡ x.asks
+  asks_if n x true = refl
+  asks_if n x false = refl
+
+  runs_if : (n : ℕ) (x : Asking) (b : Bool) → (heard_asking n x b).runs ≡ None
+  runs_if n x true = refl
+  runs_if n x false = refl
+
+  asker_if : (n : ℕ) (x : Asking) (b : Bool) → (heard_asking n x b).asker ≡ (if b then asker_of body (message_of body) else None)
+  asker_if n x true = refl
+  asker_if n x false = refl
+
+  asks_here : asks_of settings s now ≡ asks_of settings s before
+  asks_here = ap (λ (x : Asking). x.asks) (heard_here s) ∙ asks_if s (asking_of settings s before) (nat_eq s s)
+
+  -- where nothing comes to wait by it, an id is open no more than before
+  pub fresh_here : (id : Id) → ParkedStay settings s before (heard (FromServer s body)) → is_taken (Some id) (asking_of settings s before) ≡ false → is_taken (Some id) (asking_of settings s now) ≡ false
+  fresh_here id stay fresh =
+      let parked : parked_of settings s now ≡ parked_of settings s before = ap (parked_of settings s) (behind_first (with_cause before (FromServer s body)) xs first) ∙ parked_more settings s before (heard (FromServer s body)) stay in
+      ap (λ qs. list_any (is_under (Some id)) qs || list_any (waits_under (Some id)) (parked_of settings s now)) asks_here
+      ∙ (ap (λ ps. list_any (is_under (Some id)) (asks_of settings s before) || list_any (waits_under (Some id)) ps) parked ∙ fresh)
+
+  runs_none : (n : ℕ) → (asking_of settings n now).runs ≡ None
+  runs_none n = ap (λ (x : Asking). x.runs) (heard_here n) ∙ runs_if n (asking_of settings n before) (nat_eq s n)
 
   module _ (method : List ℕ) (id : Id) (params : Option Json) (says : message_of body ≡ request id method params) where
     abbrev own : Asker
     own = record { id = id; bytes = id_bytes body }
 
-    asker_is : (n : ℕ) → (asking_of n now).asker ≡ (if nat_eq s n then (if is_single method then Some own else None) else None)
-    asker_is n = asker_here n ∙ ap (λ m. if nat_eq s n then asker_of body m else None) says
+    asker_is : (n : ℕ) → (asking_of settings n now).asker ≡ (if nat_eq s n then (if is_single method then Some own else None) else None)
+    asker_is n = ap (λ (x : Asking). x.asker) (heard_here n) ∙ (asker_if n (asking_of settings n before) (nat_eq s n) ∙ ap (λ m. if nat_eq s n then asker_of body m else None) says)
 
     -- its answers end here
-    pub asks_all : is_single method ≡ false → (n : ℕ) → (asking_of n now).asker ≡ None
-    asks_all many n = asker_is n ∙ (ap (λ b. if nat_eq s n then (if b then Some own else None) else None) many ∙ off (nat_eq s n))
+    pub rests_all : is_single method ≡ false → (n : ℕ) → IsAtRest settings n now
+    rests_all many n = record { asker = asker_is n ∙ (ap (λ b. if nat_eq s n then (if b then Some own else None) else None) many ∙ off (nat_eq s n)); runs = runs_none n }
       where
         off : (b : Bool) → ◌≡◌ {A = Option Asker} (if b then None else None) None
         off true = refl
         off false = refl
 
--- one editor is to answer it, and no ask has its id
-pub record IsAtWork (t : ℕ) (id : Id) (bytes : List ℕ) (events : List Event) : Type 0 where
-  pub asker : (asking_of t events).asker ≡ Some (record { id = id; bytes = bytes })
-  pub others : (n : ℕ) → nat_eq t n ≡ false → (asking_of n events).asker ≡ None
-  pub fresh : list_any (is_under (Some id)) (asks_of t events) ≡ false
-
-pub puts_one : (before : List Event) (s : ℕ) (body method : List ℕ) (id : Id) (params : Option Json) (xs : List Out) → xs ≡ [] → message_of body ≡ request id method params → is_single method ≡ true → list_any (is_under (Some id)) (asks_of s before) ≡ false → (t : ℕ) → t ≡ s
-    → IsAtWork t id (id_bytes body) (behind (with_cause before (FromServer s body)) xs)
-puts_one before s body method id params xs first says one fresh t same = subst (λ n. IsAtWork n id (id_bytes body) (behind (with_cause before (FromServer s body)) xs)) (sym same) (record {
-  asker = asker_is before s body xs first method id params says s ∙ (ap (λ b. if b then (if is_single method then Some (record { id = id; bytes = id_bytes body }) else None) else None) (itself s) ∙ ap (λ b. if b then Some (record { id = id; bytes = id_bytes body }) else None) one);
-  others = λ n away. asker_is before s body xs first method id params says n ∙ ap (λ b. if b then (if is_single method then Some (record { id = id; bytes = id_bytes body }) else None) else None) away;
-  fresh = ap (list_any (is_under (Some id))) (asks_here before s body xs first) ∙ fresh;
+-- one editor is to answer it, and no other that is open has its id
+pub puts_one : (settings : Settings) (before : List Event) (s : ℕ) (body method : List ℕ) (id : Id) (params : Option Json) (xs : List Out) → xs ≡ [] → message_of body ≡ request id method params → is_single method ≡ true → ParkedStay settings s before (heard (FromServer s body)) → is_taken (Some id) (asking_of settings s before) ≡ false → (t : ℕ) → t ≡ s
+    → IsAtWork settings t id (id_bytes body) (behind (with_cause before (FromServer s body)) xs)
+puts_one settings before s body method id params xs first says one stay fresh t same = subst (λ n. IsAtWork settings n id (id_bytes body) (behind (with_cause before (FromServer s body)) xs)) (sym same) (record {
+  text = request_id_bytes body id method params says;
+  asker = asker_is settings before s body xs first method id params says s ∙ (ap (λ b. if b then (if is_single method then Some (record { id = id; bytes = id_bytes body }) else None) else None) (itself s) ∙ ap (λ b. if b then Some (record { id = id; bytes = id_bytes body }) else None) one);
+  others = λ n away. record {
+    asker = asker_is settings before s body xs first method id params says n ∙ ap (λ b. if b then (if is_single method then Some (record { id = id; bytes = id_bytes body }) else None) else None) away;
+    runs = runs_none settings before s body xs first n;
+  };
+  fresh = fresh_here settings before s body xs first id stay fresh;
 })
 
 -- An answer to the start, under the id of none of its asks
@@ -171,23 +206,38 @@ pub record AnswersOne (text : List ℕ) (id : Id) : Type 0 where
   pub aside : is_synced (message_of text) ≡ false
   pub answers : answered_id (message_of text) ≡ Some id
 
-pub refuses_one : (text body method : List ℕ) (id : Id) (params : Option Json) → message_of body ≡ request id method params → text ≡ error_text (id_bytes body) request_failed → AnswersOne text id
-refuses_one text body method id params says is =
-    let e = refused_says text body (id_bytes body) method id params request_failed is refl says in
-    record { runs = ap (requests (codes "shutdown")) e; counts = ap moves_ids e; says = ap saying_of e; aside = ap is_synced e; answers = ap answered_id e }
+pub results_one : (text : List ℕ) (id : Id) (v : Json) → message_of text ≡ result (Some id) v → AnswersOne text id
+results_one text id v e = record { runs = ap (requests (codes "shutdown")) e; counts = ap moves_ids e; says = ap saying_of e; aside = ap is_synced e; answers = ap answered_id e }
 
-pub grants_one : (text body method : List ℕ) (id : Id) (params : Option Json) → message_of body ≡ request id method params → text ≡ ok_text (id_bytes body) (codes "null") → AnswersOne text id
-grants_one text body method id params says is =
-    let e = ap message_of is ∙ null_says body id method params says in
-    record { runs = ap (requests (codes "shutdown")) e; counts = ap moves_ids e; says = ap saying_of e; aside = ap is_synced e; answers = ap answered_id e }
+module _ (text body method : List ℕ) (id : Id) (params : Option Json) (says : message_of body ≡ request id method params) where
+  pub refuses_one : text ≡ error_text (id_bytes body) request_failed → AnswersOne text id
+  refuses_one is =
+      let e = refused_says text body (id_bytes body) method id params request_failed is refl says in
+      record { runs = ap (requests (codes "shutdown")) e; counts = ap moves_ids e; says = ap saying_of e; aside = ap is_synced e; answers = ap answered_id e }
 
-none_under : (id : Id) (asks : List Ask) → list_any (is_under (Some id)) asks ≡ false → AllByRecursion (λ (a : Ask). is_under (Some id) a ≡ false) asks
-none_under id [] h = tt
-none_under id (a ∷ asks) h = go (is_under (Some id) a) refl h (λ k. none_under id asks k)
-  where
-    go : (b : Bool) → is_under (Some id) a ≡ b → (b || list_any (is_under (Some id)) asks) ≡ false → (list_any (is_under (Some id)) asks ≡ false → AllByRecursion (λ (a : Ask). is_under (Some id) a ≡ false) asks) → AllByRecursion (λ (a : Ask). is_under (Some id) a ≡ false) (a ∷ asks)
-    go false e k rest = (e, rest k)
-    go true e k rest = never k
+  pub grants_one : text ≡ ok_text (id_bytes body) (codes "null") → AnswersOne text id
+  grants_one is = results_one text id null_tree (ap message_of is ∙ null_says body id method params says)
 
-pub answers_one : (text : List ℕ) (id : Id) (asks : List Ask) → answered_id (message_of text) ≡ Some id → list_any (is_under (Some id)) asks ≡ false → AllByRecursion (λ (a : Ask). is_under (answered_id (message_of text)) a ≡ false) asks
-answers_one text id asks is fresh = subst (λ o. AllByRecursion (λ (a : Ask). is_under o a ≡ false) asks) (sym is) (none_under id asks fresh)
+  -- S10
+  pub lists_one : (x : Kept) → IsWritten x → text ≡ ok_text (id_bytes body) (folders_text x.key.folders) → AnswersOne text id
+  lists_one x k is = results_one text id k.folders (ap message_of is ∙ ok_law (Some id) k.folders (id_bytes body) (folders_text x.key.folders) own (k.listed).text (k.listed).shallow)
+    where
+      own : IsResponseIdText (Some id) (id_bytes body)
+      own = id_as_response id (id_bytes body) (request_id_bytes body id method params says)
+
+  -- V3
+  pub declines_one : text ≡ ok_text (id_bytes body) not_applied → AnswersOne text id
+  declines_one is = results_one text id refusal_tree (ap message_of is ∙ refusal_result (Some id) (id_bytes body) (id_as_response id (id_bytes body) (request_id_bytes body id method params says)))
+
+-- nothing that is open has its id
+pub record NoneUnder (text : List ℕ) (x : Asking) : Type 0 where
+  pub asks : AllByRecursion (λ (a : Ask). is_under (answered_id (message_of text)) a ≡ false) x.asks
+  pub parked : AllByRecursion (λ (p : Parked). waits_under (answered_id (message_of text)) p ≡ false) x.parked
+
+pub none_under : (text : List ℕ) (id : Id) (x : Asking) → answered_id (message_of text) ≡ Some id → is_taken (Some id) x ≡ false → NoneUnder text x
+none_under text id x is fresh =
+    let k = none_either (list_any (is_under (Some id)) x.asks) (list_any (waits_under (Some id)) x.parked) fresh in
+    record {
+      asks = subst (λ o. AllByRecursion (λ (a : Ask). is_under o a ≡ false) x.asks) (sym is) (none_any (is_under (Some id)) x.asks k.0);
+      parked = subst (λ o. AllByRecursion (λ (p : Parked). waits_under o p ≡ false) x.parked) (sym is) (none_any (waits_under (Some id)) x.parked k.1);
+    }

@@ -159,7 +159,7 @@ pub fn take_answer(
     requires { g < length tables.old.lasts.items }
     ensures requests { tables.new.requests ≡ tables.old.requests }
     ensures versions { tables.new.versions ≡ tables.old.versions }
-    ensures does { (settings : Settings) (before : List Event) (body : List ℕ) (s : ℕ) (x : Start) → IsRead message.now body → outs.old ≡ []
+    ensures does { (settings : Settings) (before : List Event) (body : List ℕ) (s : ℕ) (x : Start) → IsRead message.now body → is_request (message_of body) ≡ false → outs.old ≡ []
         → slice_get tables.old.lasts.items g ≡ Some x → x.life.stage ≡ Ready → slice_get (map number_in tables.old.lasts.items) g ≡ Some s
         → ((f : Forwarded) → find (answered_by (answered_id (message_of body))) (forwarding_of s before).open_requests ≡ Some f → IsAsked before f)
         → Meant before → Stands settings tables.old before → DocumentsStand settings nothing_owed tables.old before

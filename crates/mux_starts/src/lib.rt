@@ -2,8 +2,10 @@
 #![tactic(auto)]
 
 mod answers;
+mod applied;
 mod broadcasts;
 mod ends;
+mod folders;
 mod hasty;
 mod recalled;
 mod refreshed;
@@ -16,6 +18,7 @@ mod ticks;
 pub use answers::take_answer;
 pub use broadcasts::take_broadcast;
 pub use ends::{take_ending, take_left, take_stopping};
+pub use folders::take_folders;
 pub use hasty::{is_first_error, take_hasty};
 pub use recalled::take_recall;
 pub use refreshed::take_refresh;

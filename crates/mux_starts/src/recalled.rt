@@ -1,10 +1,10 @@
 //! S14: a start cancels what it asked of one editor.
-ghost use Rattle.std.specs.Prelude.{◌≡◌, ◌<◌, ◌^◌, ℕ, List, [], Option, Some, IfSome, MatchOption, OnOk, find, length, map, option_map, slice_get};
+ghost use Rattle.std.specs.Prelude.{◌≡◌, ◌<◌, ◌^◌, ℕ, List, [], Option, Some, OnOk, find, length, map, option_map, slice_get};
 ghost use Rattle.std.specs.List.{AllByRecursion};
 ghost use Rattle.event_model.specs.declared.phase.Phase.TheVariants.{Running};
 ghost use Rattle.event_model.specs.declared.stage.Stage.TheVariants.{Ready};
 ghost use Rattle.event_model.specs.Does.{Does, Done};
-ghost use Rattle.event_model.specs.Event.{Event, behind, with_cause};
+ghost use Rattle.event_model.specs.Event.{Event, with_cause};
 ghost use Rattle.event_model.specs.Phases.{desk_of};
 ghost use Rattle.event_model.specs.Row.{send};
 ghost use Rattle.event_model.specs.Settings.{Settings};
@@ -37,7 +37,7 @@ fn named(tables: &Tables, g: usize, message: &Message) -> Option<Seat>
     ensures { (settings : Settings) (before : List Event) (body method : List ℕ) (params : Option Json) (x : Start) → IsRead message.now body
         → message_of body ≡ notification method params → slice_get tables.now.lasts.items g ≡ Some x → x.life.stage ≡ Ready
         → Stands settings tables.now before
-        → result ≡ option_map seat_from (find (is_under (named_id params)) (asks_of x.life.start before)) }
+        → result ≡ option_map seat_from (find (is_under (named_id params)) (asks_of settings x.life.start before)) }
 {
     let id = cancelled_id(message)?;
     tables.asked_under(g, id)
@@ -68,10 +68,10 @@ pub fn take_recall(
     ensures versions { tables.new.versions ≡ tables.old.versions }
     ensures does { (settings : Settings) (before : List Event) (body method : List ℕ) (params : Option Json) (s : ℕ) (x : Start)
         → IsRead message.now body → message_of body ≡ notification method params
-        → AllByRecursion (λ (a : Ask). (desk_of a.editor before).phase ≡ Running) (asks_of s before) → outs.old ≡ []
+        → AllByRecursion (λ (a : Ask). (desk_of a.editor before).phase ≡ Running) (asks_of settings s before) → outs.old ≡ []
         → slice_get tables.old.lasts.items g ≡ Some x → x.life.stage ≡ Ready → slice_get (map number_in tables.old.lasts.items) g ≡ Some s
         → Stands settings tables.old before → DocumentsStand settings nothing_owed tables.old before
-        → OnOk result (Done (λ k events. AllStand settings k events) (cancelled_row s before params)
+        → OnOk result (Done (λ k events. AllStand settings k events) (cancelled_row settings s before params)
         (with_cause before (FromServer s body)) [] (tables.new, nothing_owed) outs.new) }
 {
     let seat = named(tables, g, message);

@@ -1,6 +1,6 @@
 //! S9: a start asks all editors of its group to refresh something.
-ghost use Rattle.std.specs.Prelude.{◌≡◌, ◌<◌, ℕ, List, [], None, Option, Some, OnOk, false, length, map, true, slice_get};
-ghost use Rattle.std.specs.List.{All, AllByRecursion, list_any};
+ghost use Rattle.std.specs.Prelude.{◌≡◌, ◌<◌, ℕ, List, [], Option, Some, OnOk, false, length, map, true, slice_get};
+ghost use Rattle.std.specs.List.{All, AllByRecursion};
 ghost use Rattle.event_model.specs.declared.stage.Stage.TheVariants.{Ready};
 ghost use Rattle.event_model.specs.Does.{Does, Done};
 ghost use Rattle.event_model.specs.Event.{Event, behind, with_cause};
@@ -8,12 +8,12 @@ ghost use Rattle.event_model.specs.Phases.{desk_of, is_running};
 ghost use Rattle.event_model.specs.Row.{each};
 ghost use Rattle.event_model.specs.Settings.{Settings};
 ghost use Rattle.group_rows.specs.AskRows.{ask, refresh_row};
-ghost use Rattle.group_rows.specs.Asks.{asking_of, asks_of, is_single, is_under};
+ghost use Rattle.group_rows.specs.Asks.{asking_of, is_single, is_taken};
 ghost use Rattle.json_text.specs.Json.{Json};
 ghost use Rattle.mux_history.specs.declared.cause.Cause.TheVariants.{FromServer};
 ghost use Rattle.mux_tables.specs.declared.tables.Start.{Start};
 ghost use Rattle.mux_tables.specs.Documents.{AllStand, DocumentsStand, nothing_owed};
-ghost use Rattle.mux_tables.specs.Stands.{Stands, number_in};
+ghost use Rattle.mux_tables.specs.Stands.{IsAtRest, Stands, number_in};
 ghost use Rattle.rpc_message.specs.Message.{Id, message_of, request};
 ghost use Rattle.rpc_message.specs.Parsed.{IsRead};
 
@@ -37,7 +37,7 @@ fn ask_all(
     ensures does { (settings : Settings) (base : List Event) (body method : List ℕ) (id : Id) (params : Option Json) → IsRead message.now body
         → message_of body ≡ request id method params
         → AllByRecursion (λ e. is_running (desk_of e (behind base outs.old)).phase ≡ true) numbers.now
-        → ((s : ℕ) → (asking_of s (behind base outs.old)).asker ≡ None)
+        → ((s : ℕ) → IsAtRest settings s (behind base outs.old))
         → OnOk result (Does (λ k events. AllStand settings k events) (each (ask body) numbers.now) base (tables.old, nothing_owed) outs.old (tables.new, nothing_owed) outs.new) }
 {
     for e in numbers {
@@ -60,7 +60,7 @@ pub fn take_refresh(
     ensures versions { tables.new.versions ≡ tables.old.versions }
     ensures does { (settings : Settings) (before : List Event) (body method : List ℕ) (id : Id) (params : Option Json) (s : ℕ) (x : Start)
         → IsRead message.now body → message_of body ≡ request id method params → is_single method ≡ false
-        → list_any (is_under (Some id)) (asks_of s before) ≡ false → outs.old ≡ []
+        → is_taken (Some id) (asking_of settings s before) ≡ false → outs.old ≡ []
         → slice_get tables.old.lasts.items g ≡ Some x → x.life.stage ≡ Ready → slice_get (map number_in tables.old.lasts.items) g ≡ Some s
         → Stands settings tables.old before → DocumentsStand settings nothing_owed tables.old before
         → OnOk result (Done (λ k events. AllStand settings k events) (refresh_row settings before x.life.group s body)

@@ -1,13 +1,14 @@
 //! S11 and S12: what a start asks of one editor, whose answer goes back to it.
 ghost use Rattle.std.specs.Prelude.{◌≡◌, ◌<◌, ℕ, List, [], Option, Some, IfOk, IfSome, OnOk, false, length, map, true, slice_get};
-ghost use Rattle.std.specs.List.{list_any};
 ghost use Rattle.event_model.specs.declared.stage.Stage.TheVariants.{Ready};
 ghost use Rattle.event_model.specs.Does.{Does, Done};
 ghost use Rattle.event_model.specs.Event.{Event, behind, with_cause};
+ghost use Rattle.event_model.specs.Phases.{desk_of, is_running};
 ghost use Rattle.event_model.specs.Row.{nothing, send};
 ghost use Rattle.event_model.specs.Settings.{Settings};
-ghost use Rattle.group_rows.specs.AskRows.{first_in, focused_row, in_focus, lowest_row, running_in};
-ghost use Rattle.group_rows.specs.Asks.{asks_of, is_single, is_under};
+ghost use Rattle.group_facts.specs.Facts.{Meant};
+ghost use Rattle.group_rows.specs.AskRows.{ask, ask_in_focus, focused_row, in_focus, lowest_row};
+ghost use Rattle.group_rows.specs.Asks.{asking_of, first_in, has_running, is_patient, is_single, is_taken, running_in};
 ghost use Rattle.group_rows.specs.Forwarded.{forwarding_of};
 ghost use Rattle.json_text.specs.Json.{Json};
 ghost use Rattle.mux_history.specs.declared.cause.Cause.TheVariants.{FromServer};
@@ -19,6 +20,7 @@ ghost use Rattle.rpc_message.specs.Message.{Id, id_bytes, message_of, request};
 ghost use Rattle.rpc_message.specs.Parsed.{IsRead};
 ghost use Rattle.rpc_message.specs.Texts.{error_text, request_failed};
 
+use crate::applied::{asks_edit, take_edit};
 use message_body::Memory;
 use mux_history::Outs;
 use mux_tables::Tables;
@@ -32,8 +34,36 @@ fn lowest(numbers: &[u64]) -> Option<u64>
     numbers.first().copied()
 }
 
+// A request comes from the group's last start, which is ready, under the id of no open ask: an editor that runs is asked it alone.
+fn ask_alone(
+    tables: &mut Tables,
+    alloc: Global,
+    outs: &mut Outs,
+    g: usize,
+    e: u64,
+    message: &Message,
+) -> Result<(), Memory>
+    requires group { g < length tables.old.lasts.items }
+    requires editor { e < length tables.old.editors }
+    ensures requests { tables.new.requests ≡ tables.old.requests }
+    ensures versions { tables.new.versions ≡ tables.old.versions }
+    ensures does { (settings : Settings) (before : List Event) (body method : List ℕ) (id : Id) (params : Option Json) (s : ℕ) (x : Start)
+        → IsRead message.now body → message_of body ≡ request id method params → is_single method ≡ true
+        → (is_patient method ≡ true → has_running settings before s ≡ true)
+        → is_taken (Some id) (asking_of settings s before) ≡ false → is_running (desk_of e before).phase ≡ true → outs.old ≡ []
+        → slice_get tables.old.lasts.items g ≡ Some x → x.life.stage ≡ Ready → slice_get (map number_in tables.old.lasts.items) g ≡ Some s
+        → Stands settings tables.old before → DocumentsStand settings nothing_owed tables.old before
+        → OnOk result (Done (λ k events. AllStand settings k events) (ask body e)
+        (with_cause before (FromServer s body)) [] (tables.new, nothing_owed) outs.new) }
+{
+    tables.hear_answer(g, None);
+    tables.put(alloc, outs, g, e, message)?;
+    Ok(())
+}
+
 /// S12: a request of class Lowest comes from the group's last start, which is ready, under the id of no open ask: the lowest editor of the
-/// group that runs is asked. Where none runs nothing is sent. It takes time in the bytes of the message, and in how many editors there are.
+/// group that runs is asked. Where none runs nothing is sent, and the request waits until one does. It takes time in the bytes of the message,
+/// and in how many editors there are.
 pub fn take_lowest(
     tables: &mut Tables,
     alloc: Global,
@@ -45,8 +75,8 @@ pub fn take_lowest(
     ensures requests { tables.new.requests ≡ tables.old.requests }
     ensures versions { tables.new.versions ≡ tables.old.versions }
     ensures does { (settings : Settings) (before : List Event) (body method : List ℕ) (id : Id) (params : Option Json) (s : ℕ) (x : Start)
-        → IsRead message.now body → message_of body ≡ request id method params → is_single method ≡ true
-        → list_any (is_under (Some id)) (asks_of s before) ≡ false → outs.old ≡ []
+        → IsRead message.now body → message_of body ≡ request id method params → is_patient method ≡ true
+        → is_taken (Some id) (asking_of settings s before) ≡ false → outs.old ≡ []
         → slice_get tables.old.lasts.items g ≡ Some x → x.life.stage ≡ Ready → slice_get (map number_in tables.old.lasts.items) g ≡ Some s
         → Stands settings tables.old before → DocumentsStand settings nothing_owed tables.old before
         → OnOk result (Done (λ k events. AllStand settings k events) (lowest_row settings before x.life.group body)
@@ -54,11 +84,13 @@ pub fn take_lowest(
 {
     let group = tables.group_number(g);
     let numbers = tables.running(group)?;
-    tables.hear_answer(g, None);
     match lowest(&numbers) {
-        None => Ok(()),
+        None => {
+            tables.park(alloc, g, message)?;
+            Ok(())
+        }
         Some(e) => {
-            tables.put(alloc, outs, g, e, message)?;
+            ask_alone(tables, alloc, outs, g, e, message)?;
             Ok(())
         }
     }
@@ -92,7 +124,7 @@ fn deny(
     ensures does { (settings : Settings) (base : List Event) (body method : List ℕ) (id : Id) (params : Option Json) (s : ℕ)
         → IsRead message.now body → message_of body ≡ request id method params
         → slice_get (map number_in tables.now.lasts.items) g ≡ Some s
-        → list_any (is_under (Some id)) (asks_of s (behind base outs.old)) ≡ false
+        → is_taken (Some id) (asking_of settings s (behind base outs.old)) ≡ false
         → OnOk result (Does (λ k events. AllStand settings k events) (send (ToServer s (error_text (id_bytes body) request_failed))) base
         (tables.now, nothing_owed) outs.old (tables.now, nothing_owed) outs.new) }
 {
@@ -101,9 +133,40 @@ fn deny(
     Ok(())
 }
 
-/// S11: a request of class Focused comes from the group's last start, which is ready, under the id of no open ask: the editor in focus is
-/// asked. Where none runs the request is refused. It takes time in the bytes of the message, in how many editors there are, and in how many
-/// requests are open there.
+// S11 with V3: the editor in focus is asked: where it is to apply an edit, with its own versions of documents.
+fn ask_in_focus(
+    tables: &mut Tables,
+    alloc: Global,
+    outs: &mut Outs,
+    g: usize,
+    e: u64,
+    message: &Message,
+) -> Result<(), Memory>
+    requires group { g < length tables.old.lasts.items }
+    requires editor { e < length tables.old.editors }
+    ensures requests { tables.new.requests ≡ tables.old.requests }
+    ensures versions { tables.new.versions ≡ tables.old.versions }
+    ensures does { (settings : Settings) (before : List Event) (body method : List ℕ) (id : Id) (params : Option Json) (s : ℕ) (x : Start)
+        → IsRead message.now body → message_of body ≡ request id method params → is_single method ≡ true → is_patient method ≡ false
+        → is_taken (Some id) (asking_of settings s before) ≡ false → is_running (desk_of e before).phase ≡ true → outs.old ≡ []
+        → slice_get tables.old.lasts.items g ≡ Some x → x.life.stage ≡ Ready → slice_get (map number_in tables.old.lasts.items) g ≡ Some s
+        → Meant before → Stands settings tables.old before → DocumentsStand settings nothing_owed tables.old before
+        → OnOk result (Done (λ k events. AllStand settings k events) (ask_in_focus settings before s body method e)
+        (with_cause before (FromServer s body)) [] (tables.new, nothing_owed) outs.new) }
+{
+    if asks_edit(message) {
+        take_edit(tables, alloc, outs, g, e, message)?;
+        Ok(())
+    } else {
+        ask_alone(tables, alloc, outs, g, e, message)?;
+        Ok(())
+    }
+}
+
+/// S11 with V3: a request of class Focused comes from the group's last start, which is ready, under the id of no open ask: the editor in
+/// focus is asked, and where it is to apply an edit, with its own versions of documents; where one of these stands for no text that it has,
+/// the start is told that the edit wasn't applied. Where no editor runs the request is refused. It takes time in the bytes of the message,
+/// in how many editors there are, in how many requests are open there, and for an edit in how many documents the editor has open.
 pub fn take_focused(
     tables: &mut Tables,
     alloc: Global,
@@ -115,22 +178,22 @@ pub fn take_focused(
     ensures requests { tables.new.requests ≡ tables.old.requests }
     ensures versions { tables.new.versions ≡ tables.old.versions }
     ensures does { (settings : Settings) (before : List Event) (body method : List ℕ) (id : Id) (params : Option Json) (s : ℕ) (x : Start)
-        → IsRead message.now body → message_of body ≡ request id method params → is_single method ≡ true
-        → list_any (is_under (Some id)) (asks_of s before) ≡ false → outs.old ≡ []
+        → IsRead message.now body → message_of body ≡ request id method params → is_single method ≡ true → is_patient method ≡ false
+        → is_taken (Some id) (asking_of settings s before) ≡ false → outs.old ≡ []
         → slice_get tables.old.lasts.items g ≡ Some x → x.life.stage ≡ Ready → slice_get (map number_in tables.old.lasts.items) g ≡ Some s
-        → Stands settings tables.old before → DocumentsStand settings nothing_owed tables.old before
-        → OnOk result (Done (λ k events. AllStand settings k events) (focused_row settings before x.life.group s body)
+        → Meant before → Stands settings tables.old before → DocumentsStand settings nothing_owed tables.old before
+        → OnOk result (Done (λ k events. AllStand settings k events) (focused_row settings before x.life.group s body method)
         (with_cause before (FromServer s body)) [] (tables.new, nothing_owed) outs.new) }
 {
     let focus = in_focus(tables, g)?;
-    tables.hear_answer(g, None);
     match focus {
         None => {
+            tables.hear_answer(g, None);
             deny(tables, alloc, outs, g, message)?;
             Ok(())
         }
         Some(e) => {
-            tables.put(alloc, outs, g, e, message)?;
+            ask_in_focus(tables, alloc, outs, g, e, message)?;
             Ok(())
         }
     }
@@ -142,7 +205,8 @@ pub fn take_repeated(tables: &mut Tables, g: usize)
     ensures requests { tables.new.requests ≡ tables.old.requests }
     ensures versions { tables.new.versions ≡ tables.old.versions }
     ensures does { (settings : Settings) (before : List Event) (body method : List ℕ) (id : Id) (params : Option Json) (s : ℕ) (x : Start)
-        → message_of body ≡ request id method params → slice_get tables.old.lasts.items g ≡ Some x → x.life.stage ≡ Ready
+        → message_of body ≡ request id method params → is_taken (Some id) (asking_of settings s before) ≡ true
+        → slice_get tables.old.lasts.items g ≡ Some x → x.life.stage ≡ Ready
         → slice_get (map number_in tables.old.lasts.items) g ≡ Some s
         → Stands settings tables.old before → DocumentsStand settings nothing_owed tables.old before
         → Done (λ k events. AllStand settings k events) nothing (with_cause before (FromServer s body)) [] (tables.new, nothing_owed) [] }

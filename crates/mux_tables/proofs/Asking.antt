@@ -3,25 +3,43 @@ use Rattle.std.proofs.Common.{◌≡◌, ℕ, ◌+◌, ◌<◌, Bool, true, fals
 use Rattle.std.specs.Prelude.{Option, Some, None, is_some}
 use Rattle.std.specs.List.{AllByRecursion}
 use Rattle.ask_route.specs.declared.ask.Ask as route
+use Rattle.mux_history.specs.declared.cause.Cause.TheVariants.{FromEditor}
 use Rattle.mux_history.specs.declared.out.Out.TheVariants.{ToEditor, ToServer}
 use Rattle.rpc_message.specs.Message.{Message, Id, request}
 use Rattle.event_model.specs.declared.stage.Stage.{Stage}
 use Rattle.event_model.specs.declared.stage.Stage.TheVariants.{Unspawned, Spawning, Initializing, Ready, Stopping, Ending, Ended}
-use Rattle.event_model.specs.Event.{Event, did}
+use Rattle.event_model.specs.Event.{Event, did, took}
 use Rattle.event_model.specs.Requests.{answered_id}
 use Rattle.event_model.specs.Stages.{is_ready}
+use Rattle.event_model.specs.Settings.{Settings}
 use Rattle.event_model.proofs.Frames.{never, one_more}
 use Rattle.group_words.proofs.Frames.{past_more}
-use Rattle.group_rows.specs.Asks.{Ask, Asking, asked_behind, asking_next, asking_of, asks_of, is_seated, is_under, next_ask, no_asking}
+use Rattle.group_rows.specs.Asks.{Ask, Asking, Parked, asked_behind, asking_next, asking_of, asks_of, is_seated, is_under, next_ask, no_asking, parked_of, waits_under}
 use Rattle.restart_replay.specs.Standings.{Standing, moved}
 use Rattle.mux_tables.specs.declared.tables.Start.{Start}
-use Rattle.mux_tables.specs.Stands.{AnswersNone, AsksAt, AsksStand, AsksStay, PartStands, WasAsked, begun_at, is_answer, of_asks}
+use Rattle.mux_tables.specs.Stands.{AnswersNone, AsksAt, AsksStand, AsksStay, OpenStay, ParkedAt, ParkedStand, ParkedStay, PartStands, WasAsked, begun_at, is_answer, of_asks, of_parked}
 
-pub asking_more : (s : ℕ) (events : List Event) (ev : Event) → asking_of s (events ++ ev ∷ []) ≡ asking_next s events (asking_of s events) ev
-asking_more s events ev = past_more (asking_next s) [] no_asking events ev
+pub asking_more : (settings : Settings) (s : ℕ) (events : List Event) (ev : Event) → asking_of settings s (events ++ ev ∷ []) ≡ asking_next settings s events (asking_of settings s events) ev
+asking_more settings s events ev = past_more (asking_next settings s) [] no_asking events ev
 
-pub asks_more : (s : ℕ) (events : List Event) (ev : Event) → AsksStay s events ev → asks_of s (events ++ ev ∷ []) ≡ asks_of s events
-asks_more s events ev same = ap (λ (x : Asking). x.asks) (asking_more s events ev) ∙ same
+pub asks_more : (settings : Settings) (s : ℕ) (events : List Event) (ev : Event) → OpenStay settings s events ev → asks_of settings s (events ++ ev ∷ []) ≡ asks_of settings s events
+asks_more settings s events ev same = ap (λ (x : Asking). x.asks) (asking_more settings s events ev) ∙ same
+
+pub parked_more : (settings : Settings) (s : ℕ) (events : List Event) (ev : Event) → ParkedStay settings s events ev → parked_of settings s (events ++ ev ∷ []) ≡ parked_of settings s events
+parked_more settings s events ev same = ap (λ (x : Asking). x.parked) (asking_more settings s events ev) ∙ same
+
+-- where nothing passes a test, nothing goes
+pub none_gone : {A : Type 0} (p : A → Bool) (xs : List A) → AllByRecursion (λ x. p x ≡ false) xs → filter (λ x. not (p x)) xs ≡ xs
+none_gone p [] h = refl
+none_gone p (x ∷ xs) h = go (p x) h.0 (none_gone p xs h.1)
+  where
+    go : (b : Bool) → b ≡ false → filter (λ x. not (p x)) xs ≡ xs → (if not b then x ∷ filter (λ x. not (p x)) xs else filter (λ x. not (p x)) xs) ≡ x ∷ xs
+    go false h k = ap (λ ys. x ∷ ys) k
+    go true h k = never h
+
+-- an answer to the start, by whether it goes there
+abbrev pub told_asking : Option Id → Asking → Bool → Asking
+told_asking o x b = if b then record { asker = x.asker; runs = x.runs; asks = filter (λ a. not (is_under o a)) x.asks; parked = filter (λ p. not (waits_under o p)) x.parked } else x
 
 -- no ask is answered under no id
 pub unanswered : (e : ℕ) (qs : List Ask) (o : Option Id) → is_some o ≡ false → filter (λ a. not (is_seated e o a)) qs ≡ qs
@@ -37,6 +55,11 @@ pub unhanded : (qs : List Ask) (o : Option Id) → is_some o ≡ false → filte
 unhanded qs (Some id) h = never h
 unhanded [] None h = refl
 unhanded (a ∷ qs) None h = ap (λ bs. a ∷ bs) (unhanded qs None h)
+
+pub unwaited : (ps : List Parked) (o : Option Id) → is_some o ≡ false → filter (λ p. not (waits_under o p)) ps ≡ ps
+unwaited ps (Some id) h = never h
+unwaited [] None h = refl
+unwaited (p ∷ ps) None h = ap (λ bs. p ∷ bs) (unwaited ps None h)
 
 -- numbers that were given stay given
 later_number : (e n : ℕ) (m : ℕ) (ev : Event) → n < m → n < asked_behind e m ev
@@ -59,47 +82,72 @@ asks_later Initializing events ev qs kept s = s
 asks_later other events ev qs kept s = tt
 
 -- the event leaves them
-pub asks_by : (limit : ℕ) (x : Start) (events : List Event) (ev : Event) → AsksStay x.life.start events ev → PartStands of_asks limit x events → PartStands of_asks limit x (events ++ ev ∷ [])
-asks_by limit x events ev same s = subst (λ qs. AsksAt x.life.stage (events ++ ev ∷ []) qs x.asks) (sym (asks_more x.life.start events ev same)) (asks_later x.life.stage events ev (asks_of x.life.start events) x.asks s)
+pub asks_by : (settings : Settings) (limit : ℕ) (x : Start) (events : List Event) (ev : Event) → OpenStay settings x.life.start events ev → PartStands of_asks settings limit x events → PartStands of_asks settings limit x (events ++ ev ∷ [])
+asks_by settings limit x events ev same s = subst (λ qs. AsksAt x.life.stage (events ++ ev ∷ []) qs x.asks) (sym (asks_more settings x.life.start events ev same)) (asks_later x.life.stage events ev (asks_of settings x.life.start events) x.asks s)
+
+same_parked : (settings : Settings) (stage : Stage) (s : ℕ) (events : List Event) (ev : Event) (kept : List route.Ask) → AsksStay settings s events ev → ParkedAt stage (asks_of settings s events) (parked_of settings s events) kept
+    → ParkedAt stage (asks_of settings s (events ++ ev ∷ [])) (parked_of settings s (events ++ ev ∷ [])) kept
+same_parked settings stage s events ev kept same h = subst (λ qs. ParkedAt stage qs (parked_of settings s (events ++ ev ∷ [])) kept) (sym (asks_more settings s events ev same.asks))
+    (subst (λ ps. ParkedAt stage (asks_of settings s events) ps kept) (sym (parked_more settings s events ev same.parked)) h)
+
+pub parked_by : (settings : Settings) (limit : ℕ) (x : Start) (events : List Event) (ev : Event) → AsksStay settings x.life.start events ev → PartStands of_parked settings limit x events → PartStands of_parked settings limit x (events ++ ev ∷ [])
+parked_by settings limit x events ev same h = same_parked settings x.life.stage x.life.start events ev x.parked same h
 
 -- a body to the start that answers none of them, where it is ready
-pub told_asks : (stage : Stage) (s : ℕ) (events : List Event) (body : List ℕ) (m : Message) (kept : List route.Ask) → (is_ready stage ≡ true → AsksStay s events (did (ToServer s body) m)) → AsksAt stage events (asks_of s events) kept
-    → AsksAt stage (events ++ did (ToServer s body) m ∷ []) (asks_of s (events ++ did (ToServer s body) m ∷ [])) kept
-told_asks stage s events body m kept silent h = at stage silent h
-  where
-    ev : Event
-    ev = did (ToServer s body) m
+module _ (settings : Settings) (stage : Stage) (s : ℕ) (events : List Event) (body : List ℕ) (m : Message) (kept : List route.Ask) (silent : is_ready stage ≡ true → AsksStay settings s events (did (ToServer s body) m)) where
+  abbrev ev : Event
+  ev = did (ToServer s body) m
 
-    told : asks_of s events ≡ [] → (b : Bool) → (if b then record { asker = (asking_of s events).asker; asks = filter (λ a. not (is_under (answered_id m) a)) (asks_of s events) } else asking_of s events).asks ≡ []
-    told none true = ap (filter (λ a. not (is_under (answered_id m) a))) none
-    told none false = none
+  open_empty : asks_of settings s events ≡ [] → asks_of settings s (events ++ ev ∷ []) ≡ []
+  open_empty none = ap (λ (x : Asking). x.asks) (asking_more settings s events ev) ∙ told (nat_eq s s)
+    where
+      told : (b : Bool) → (told_asking (answered_id m) (asking_of settings s events) b).asks ≡ []
+      told true = ap (filter (λ a. not (is_under (answered_id m) a))) none
+      told false = none
 
-    empties : asks_of s events ≡ [] → asks_of s (events ++ ev ∷ []) ≡ []
-    empties none = ap (λ (x : Asking). x.asks) (asking_more s events ev) ∙ told none (nat_eq s s)
+  waiting_empty : parked_of settings s events ≡ [] → parked_of settings s (events ++ ev ∷ []) ≡ []
+  waiting_empty none = ap (λ (x : Asking). x.parked) (asking_more settings s events ev) ∙ told (nat_eq s s)
+    where
+      told : (b : Bool) → (told_asking (answered_id m) (asking_of settings s events) b).parked ≡ []
+      told true = ap (filter (λ p. not (waits_under (answered_id m) p))) none
+      told false = none
 
-    at : (stage : Stage) → (is_ready stage ≡ true → AsksStay s events ev) → AsksAt stage events (asks_of s events) kept → AsksAt stage (events ++ ev ∷ []) (asks_of s (events ++ ev ∷ [])) kept
-    at Ready silent h = subst (λ qs. AsksStand (events ++ ev ∷ []) qs kept) (sym (asks_more s events ev (silent refl))) (asks_later Ready events ev (asks_of s events) kept h)
-    at Unspawned silent h = (empties h.0, h.1)
-    at Spawning silent h = (empties h.0, h.1)
-    at Initializing silent h = (empties h.0, h.1)
-    at other silent h = tt
+  pub told_asks : AsksAt stage events (asks_of settings s events) kept → AsksAt stage (events ++ ev ∷ []) (asks_of settings s (events ++ ev ∷ [])) kept
+  told_asks h = at stage (λ r. (silent r).asks) h
+    where
+      at : (stage : Stage) → (is_ready stage ≡ true → OpenStay settings s events ev) → AsksAt stage events (asks_of settings s events) kept → AsksAt stage (events ++ ev ∷ []) (asks_of settings s (events ++ ev ∷ [])) kept
+      at Ready silent h = subst (λ qs. AsksStand (events ++ ev ∷ []) qs kept) (sym (asks_more settings s events ev (silent refl))) (asks_later Ready events ev (asks_of settings s events) kept h)
+      at Unspawned silent h = (open_empty h.0, h.1)
+      at Spawning silent h = (open_empty h.0, h.1)
+      at Initializing silent h = (open_empty h.0, h.1)
+      at other silent h = tt
+
+  pub told_parked : ParkedAt stage (asks_of settings s events) (parked_of settings s events) kept → ParkedAt stage (asks_of settings s (events ++ ev ∷ [])) (parked_of settings s (events ++ ev ∷ [])) kept
+  told_parked h = at stage silent h
+    where
+      at : (stage : Stage) → (is_ready stage ≡ true → AsksStay settings s events ev) → ParkedAt stage (asks_of settings s events) (parked_of settings s events) kept
+          → ParkedAt stage (asks_of settings s (events ++ ev ∷ [])) (parked_of settings s (events ++ ev ∷ [])) kept
+      at Ready silent h = same_parked settings Ready s events ev kept (silent refl) h
+      at Unspawned silent h = (waiting_empty h.0, h.1)
+      at Spawning silent h = (waiting_empty h.0, h.1)
+      at Initializing silent h = (waiting_empty h.0, h.1)
+      at other silent h = tt
 
 -- it is under the id of none of them
-pub none_handed : (s : ℕ) (events : List Event) (body : List ℕ) (m : Message) → AllByRecursion (λ (a : Ask). is_under (answered_id m) a ≡ false) (asks_of s events) → AsksStay s events (did (ToServer s body) m)
-none_handed s events body m h = told (nat_eq s s) (go (asks_of s events) h)
+pub none_handed : (settings : Settings) (s : ℕ) (events : List Event) (body : List ℕ) (m : Message) → AllByRecursion (λ (a : Ask). is_under (answered_id m) a ≡ false) (asks_of settings s events)
+    → AllByRecursion (λ (p : Parked). waits_under (answered_id m) p ≡ false) (parked_of settings s events) → AsksStay settings s events (did (ToServer s body) m)
+none_handed settings s events body m h k = record {
+  asks = told_open (nat_eq s s) (none_gone (is_under (answered_id m)) (asks_of settings s events) h);
+  parked = told_waiting (nat_eq s s) (none_gone (waits_under (answered_id m)) (parked_of settings s events) k);
+}
   where
-    told : (b : Bool) → filter (λ a. not (is_under (answered_id m) a)) (asks_of s events) ≡ asks_of s events
-        → (if b then record { asker = (asking_of s events).asker; asks = filter (λ a. not (is_under (answered_id m) a)) (asks_of s events) } else asking_of s events).asks ≡ asks_of s events
-    told true k = k
-    told false k = refl
+    told_open : (b : Bool) → filter (λ a. not (is_under (answered_id m) a)) (asks_of settings s events) ≡ asks_of settings s events → (told_asking (answered_id m) (asking_of settings s events) b).asks ≡ asks_of settings s events
+    told_open true q = q
+    told_open false q = refl
 
-    test : (a : Ask) (qs bs : List Ask) (b : Bool) → b ≡ false → qs ≡ bs → (if not b then a ∷ qs else qs) ≡ a ∷ bs
-    test a qs bs false h k = ap (λ cs. a ∷ cs) k
-    test a qs bs true h k = never h
-
-    go : (qs : List Ask) → AllByRecursion (λ (a : Ask). is_under (answered_id m) a ≡ false) qs → filter (λ a. not (is_under (answered_id m) a)) qs ≡ qs
-    go [] h = refl
-    go (a ∷ qs) h = test a (filter (λ a. not (is_under (answered_id m) a)) qs) qs (is_under (answered_id m) a) h.0 (go qs h.1)
+    told_waiting : (b : Bool) → filter (λ p. not (waits_under (answered_id m) p)) (parked_of settings s events) ≡ parked_of settings s events → (told_asking (answered_id m) (asking_of settings s events) b).parked ≡ parked_of settings s events
+    told_waiting true q = q
+    told_waiting false q = refl
 
 -- where a start goes on
 pub begun_asks : (g : Stage) (l : Standing) (events : List Event) (qs : ℕ → List Ask) (kept : List route.Ask) → l.stage ≡ g → AsksAt l.stage events (qs l.start) kept → AsksAt (begun_at g l).stage events (qs (begun_at g l).start) kept
@@ -111,6 +159,15 @@ begun_asks Stopping l events qs kept h s = s
 begun_asks Ending l events qs kept h s = s
 begun_asks Ended l events qs kept h s = s
 
+pub begun_parked : (g : Stage) (l : Standing) (qs : ℕ → List Ask) (ps : ℕ → List Parked) (kept : List route.Ask) → l.stage ≡ g → ParkedAt l.stage (qs l.start) (ps l.start) kept → ParkedAt (begun_at g l).stage (qs (begun_at g l).start) (ps (begun_at g l).start) kept
+begun_parked Spawning l qs ps kept h s = subst (λ k. ParkedAt k (qs l.start) (ps l.start) kept) h s
+begun_parked Unspawned l qs ps kept h s = s
+begun_parked Initializing l qs ps kept h s = s
+begun_parked Ready l qs ps kept h s = s
+begun_parked Stopping l qs ps kept h s = s
+begun_parked Ending l qs ps kept h s = s
+begun_parked Ended l qs ps kept h s = s
+
 nothing_asked : (events : List Event) (qs : List Ask) (kept : List route.Ask) → qs ≡ [] → kept ≡ [] → AsksStand events qs kept
 nothing_asked events qs kept h k = rw (h, k) (record { same = refl; texts = tt; asked = tt; apart = tt })
 
@@ -119,21 +176,21 @@ first_asks g life l events qs kept is stage s =
     let none : (qs ≡ []) × (kept ≡ []) = subst (λ k. AsksAt k events qs kept) stage s in
     subst (λ (w : Standing). AsksAt w.stage events qs kept) (sym is) (nothing_asked events qs kept none.0 none.1)
 
--- a message of an editor that answers none of them
-pub none_answered : (e s : ℕ) (m : Message) (events : List Event) → AllByRecursion (λ (a : Ask). is_seated e (answered_id m) a ≡ false) (asks_of s events) → filter (λ a. not (is_seated e (answered_id m) a)) (asks_of s events) ≡ asks_of s events
-none_answered e s m events h = go (asks_of s events) h
-  where
-    test : (a : Ask) (qs bs : List Ask) (b : Bool) → b ≡ false → qs ≡ bs → (if not b then a ∷ qs else qs) ≡ a ∷ bs
-    test a qs bs false h k = ap (λ cs. a ∷ cs) k
-    test a qs bs true h k = never h
+nothing_waits : (qs : List Ask) (ps : List Parked) (kept : List route.Ask) → ps ≡ [] → kept ≡ [] → ParkedStand qs ps kept
+nothing_waits qs ps kept h k = rw (h, k) (record { same = refl; bodies = tt; own = tt; free = tt })
 
-    go : (qs : List Ask) → AllByRecursion (λ (a : Ask). is_seated e (answered_id m) a ≡ false) qs → filter (λ a. not (is_seated e (answered_id m) a)) qs ≡ qs
-    go [] h = refl
-    go (a ∷ qs) h = test a (filter (λ a. not (is_seated e (answered_id m) a)) qs) qs (is_seated e (answered_id m) a) h.0 (go qs h.1)
+pub first_parked : (g : Stage) (life l : Standing) (qs : List Ask) (ps : List Parked) (kept : List route.Ask) → life ≡ moved Ready l → g ≡ Initializing → ParkedAt g qs ps kept → ParkedAt life.stage qs ps kept
+first_parked g life l qs ps kept is stage s =
+    let none : (ps ≡ []) × (kept ≡ []) = subst (λ k. ParkedAt k qs ps kept) stage s in
+    subst (λ (w : Standing). ParkedAt w.stage qs ps kept) (sym is) (nothing_waits qs ps kept none.0 none.1)
+
+-- a message of an editor that answers none of them
+pub none_answered : (settings : Settings) (e s : ℕ) (body : List ℕ) (m : Message) (events : List Event) → AllByRecursion (λ (a : Ask). is_seated e (answered_id m) a ≡ false) (asks_of settings s events) → AsksStay settings s events (took (FromEditor e body) m)
+none_answered settings e s body m events h = record { asks = none_gone (is_seated e (answered_id m)) (asks_of settings s events) h; parked = refl }
 
 -- one that is no response answers none
-pub answers_none : (e : ℕ) (m : Message) (events : List Event) → is_answer m ≡ false → AnswersNone e m events
-answers_none e m events h = λ s. go (answered_id m) h (asks_of s events)
+pub answers_none : (settings : Settings) (e : ℕ) (m : Message) (events : List Event) → is_answer m ≡ false → AnswersNone settings e m events
+answers_none settings e m events h = λ s. go (answered_id m) h (asks_of settings s events)
   where
     off : (b : Bool) → (b && false) ≡ false
     off true = refl

@@ -3,24 +3,25 @@ use Rattle.std.proofs.Common.{◌≡◌, ℕ, ◌<◌, ◌≤◌, ◌^◌, [], r
 use Rattle.std.specs.Prelude.{Option, Some, None}
 use Rattle.event_model.specs.Settings.{Settings}
 use Rattle.mux_tables.specs.declared.tables.Tables.{Tables}
-use Rattle.mux_tables.specs.Stands.{Part, of_life, of_ids, of_shown, of_stop, of_asks, PartStands, blank, GroupsStand, LastsStand, Stands}
+use Rattle.mux_tables.specs.Stands.{Part, of_life, of_ids, of_shown, of_stop, of_asks, of_parked, PartStands, blank, GroupsStand, LastsStand, Stands}
 
 none_some : {A : Type 0} {x : A} → ◌≡◌ {A = Option A} None (Some x) → ⊥
 none_some e = cc
 
-blank_stands : (limit s : ℕ) → 2 ≤ limit → (p : Part) → PartStands p limit (blank limit s) []
-blank_stands limit s h of_life = refl
-blank_stands limit s h of_ids = record { next = refl; open_requests = refl; ends = refl; order = record { rising = omega arith; within = h } }
-blank_stands limit s h of_shown = (refl, refl)
-blank_stands limit s h of_stop = tt
-blank_stands limit s h of_asks = (refl, refl)
+blank_stands : (settings : Settings) (limit s : ℕ) → 2 ≤ limit → (p : Part) → PartStands p settings limit (blank limit s) []
+blank_stands settings limit s h of_life = refl
+blank_stands settings limit s h of_ids = record { next = refl; open_requests = refl; ends = refl; order = record { rising = omega arith; within = h } }
+blank_stands settings limit s h of_shown = (refl, refl)
+blank_stands settings limit s h of_stop = tt
+blank_stands settings limit s h of_asks = (refl, refl)
+blank_stands settings limit s h of_parked = (refl, refl)
 
-no_lasts : (limit : ℕ) → 2 ≤ limit → LastsStand limit [] []
-no_lasts limit h = record {
+no_lasts : (settings : Settings) (limit : ℕ) → 2 ≤ limit → LastsStand settings limit [] []
+no_lasts settings limit h = record {
   rise = tt;
   each = λ i x e. absurd (none_some e);
   lost = λ g s none e. absurd (none_some e);
-  fresh = λ s l p. blank_stands limit s h p;
+  fresh = λ s l p. blank_stands settings limit s h p;
   old = λ s g e. absurd (none_some e);
 }
 
@@ -37,7 +38,7 @@ begins settings t groups idle h below es gs now ls os sk limit wait last = recor
   };
   origins = rw os (record { count = refl; group = λ s. refl });
   stopping = sym sk;
-  lasts = rw ls (no_lasts t.requests h);
+  lasts = rw ls (no_lasts settings t.requests h);
   requests = last;
   range = below;
 }

@@ -229,7 +229,7 @@ module _ (settings : Settings) (t : Tables) (now : List Event) (i e : ℕ) (z : 
   pub last_rest : Rest settings t now last
   last_rest =
       let last = st.lasts.each i z at in
-      let old = known t.requests t.origins.groups.items now g z st.origins last in
+      let old = known settings t.requests t.origins.groups.items now g z st.origins last in
       record {
         texts = λ j l k. texts_apart settings j s text (message_of text) mid (ap (is_home j) here ∙ ne_eqb g j (λ q. some_none (sym last.start ∙ (ap (λ n. start_of n now) q ∙ l)))) ∙ (texts_told settings j s now bodies tell ∙ k);
         encoding = λ j l. encoding_stays j mid (said (ToServer s text)) refl ∙ encoding_told j s now bodies;
@@ -271,7 +271,7 @@ module _ (settings : Settings) (t : Tables) (now : List Event) (i e : ℕ) (z : 
         (λ _. subst (λ (q : Stage). SharedStands settings last [] g s q (sync_row e d).after) (sym ready) now_shared)
         (λ j w c off there h.
         let far = groups_apart t.lasts.items i j z w st.lasts.rise at there off in
-        other_last w.life.group w.life.start w.life.stage c (ne_eqb g w.life.group (λ q. far (sym q))) (apart t.requests now g w.life.group z w far (st.lasts.each i z at) (st.lasts.each j w there)) h) ds
+        other_last w.life.group w.life.start w.life.stage c (ne_eqb g w.life.group (λ q. far (sym q))) (apart settings t.requests now g w.life.group z w far (st.lasts.each i z at) (st.lasts.each j w there)) h) ds
 
     -- and what was sent before it
     pub all_last : (n : ℕ) → s ≡ n → ((sync_row e d).outs ≡ to n (syncing settings now g n e)) × AllStand settings (u, nothing_owed) (behind (behind now (to n (syncing settings now g n e))) (ToServer n text ∷ []))
@@ -382,4 +382,4 @@ passed_does settings t u xs ys told base g s start e z text method ps at within 
     stands d mid_st =
         let mid = behind now (to z.life.start (rows.sync_bodies d.versions (λ u. held_at z.life.start u now) e d.opens)) in
         (does_entry mid_st (unmoved_does settings t u [] (ToServer z.life.start text ∷ []) mid g z.life.start z.life.start z text (subst (λ n. slice_get (map number_in t.lasts.items) g ≡ Some n) (sym number) at) within read
-        (ap (requests (codes "shutdown")) says) (ap moves_ids says ∙ plain.1) (λ _. asks_stay z.life.start (behind mid []) (said (ToServer z.life.start text)) (ap is_answer says)) (ap (λ v. v.items) ls) es gs time os r refl refl)).stands
+        (ap (requests (codes "shutdown")) says) (ap moves_ids says ∙ plain.1) (λ _. asks_stay settings z.life.start (behind mid []) (said (ToServer z.life.start text)) (ap is_answer says)) (ap (λ v. v.items) ls) es gs time os r refl refl)).stands

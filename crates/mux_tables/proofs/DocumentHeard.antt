@@ -148,15 +148,15 @@ pub answer_documents : (settings : Settings) (owed : Owed) (t u : Tables) (event
     → DocumentsStand settings owed t events → DocumentsStand settings owed u (events ++ took (FromServer s body) m ∷ [])
 answer_documents settings owed t u events g s z y body m k at within read later runs life taken set ds vs st =
     subst (λ n. DocumentsStand settings owed t events → DocumentsStand settings owed u (events ++ took (FromServer n body) m ∷ [])) (start_at_place t.lasts.items g s z here at)
-    (documents_last settings owed owed t u events (events ++ took (FromServer z.life.start body) m ∷ []) (rest_from settings t events z.life.start body m told (known t.requests t.origins.groups.items events z.life.group z st.origins last)) vs g z y here set (ap (λ v. v.items) ds)
+    (documents_last settings owed owed t u events (events ++ took (FromServer z.life.start body) m ∷ []) (rest_from settings t events z.life.start body m told (known settings t.requests t.origins.groups.items events z.life.group z st.origins last)) vs g z y here set (ap (λ v. v.items) ds)
     (λ h. subst (λ (l : Standing). NotesStand settings l.start y.ids.requests (events ++ took (FromServer z.life.start body) m ∷ [])) (sym life) (notes_answered settings z.life.start k y.ids.requests z.ids.requests (events ++ took (FromServer z.life.start body) m ∷ []) taken h))
     (λ d h. subst (λ (l : Standing). SharedStands settings (events ++ took (FromServer z.life.start body) m ∷ []) (owed l.group) l.group l.start l.stage d) (sym life) (shared_own settings events (owed z.life.group) z.life.group z.life.start z.life.stage d body m told stage runs h))
-    (λ j w c away there h. shared_other settings events (owed w.life.group) w.life.group w.life.start w.life.stage c z.life.start body m told (apart t.requests events z.life.group w.life.group z w (groups_apart t.lasts.items g j z w st.lasts.rise here there away) last (st.lasts.each j w there)) h))
+    (λ j w c away there h. shared_other settings events (owed w.life.group) w.life.group w.life.start w.life.stage c z.life.start body m told (apart settings t.requests events z.life.group w.life.group z w (groups_apart t.lasts.items g j z w st.lasts.rise here there away) last (st.lasts.each j w there)) h))
   where
     here : slice_get t.lasts.items g ≡ Some z
     here = read_here t.lasts.items g z within read
 
-    last : LastStands t.requests events z.life.group z
+    last : LastStands settings t.requests events z.life.group z
     last = st.lasts.each g z here
 
     stage : (life_of z.life.start events).stage ≡ z.life.stage

@@ -135,7 +135,7 @@ module _ (settings : Settings) (t u : Tables) (events later : List Event) (e : �
       go : (o : Option ℕ) → start_of g events ≡ o → DocumentsStand settings nothing_owed u later → Leaves settings events e (Some g) o outs u later
       go None starts all = (none, all)
       go (Some n) starts all =
-          let silent : leaving settings events g n e ≡ [] = rw (ap is_ready (lost_ended t.requests g n events (st.lasts.lost g n lost starts))) refl in
+          let silent : leaving settings events g n e ≡ [] = rw (ap is_ready (lost_ended settings t.requests g n events (st.lasts.lost g n lost starts))) refl in
           (none ∙ ap (to n) (sym silent), subst (λ bs. DocumentsStand settings (owes g bs) u later) (sym silent) (nothing_owes settings u g later all))
 
   left_at : (i : ℕ) (x : Start) → slice_get t.lasts.items i ≡ Some x → home ≡ Some x.life.group → StepAt (leave_row e) i (slice_get t.documents.items i) t.documents.items outs u.documents.items → DocumentsStand settings nothing_owed t events → Leaves settings events e (Some x.life.group) (start_of x.life.group events) outs u later

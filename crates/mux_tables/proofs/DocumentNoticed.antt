@@ -215,7 +215,7 @@ module _ (settings : Settings) (events : List Event) (g s e : ℕ) (body method 
       → StepAt (λ d. document_step e body (saying_of (message_of body)) d) i (slice_get t.documents.items i) t.documents.items outs u.documents.items → Stands settings t events → DocumentsStand settings nothing_owed t events
       → (outs ≡ to s bodies) × DocumentsStand settings (owes g bodies) u later
   noticed_at t u outs i x at mine starts ls vs does st ds =
-      let last : LastStands t.requests events g x = subst (λ n. LastStands t.requests events n x) mine (st.lasts.each i x at) in
+      let last : LastStands settings t.requests events g x = subst (λ n. LastStands settings t.requests events n x) mine (st.lasts.each i x at) in
       let is : x.life.start ≡ s = same_item (sym last.start ∙ starts) in
       let d = documents_at settings nothing_owed t events i x at ds in
       let made : StepAt (λ c. document_step e body said c) i (Some d.0) t.documents.items outs u.documents.items = subst (λ o. StepAt (λ c. document_step e body said c) i o t.documents.items outs u.documents.items) d.1 (subst (λ y. StepAt (λ c. document_step e body y c) i (slice_get t.documents.items i) t.documents.items outs u.documents.items) says does) in
@@ -236,7 +236,7 @@ module _ (settings : Settings) (events : List Event) (g s e : ℕ) (body method 
   noticed_lost : (t u : Tables) (outs : List Out) → IsLost g t.lasts.items → start_of g events ≡ Some s → u.lasts ≡ t.lasts → u.versions ≡ t.versions → outs ≡ [] → u.documents.items ≡ t.documents.items → Stands settings t events → DocumentsStand settings nothing_owed t events
       → (outs ≡ to s bodies) × DocumentsStand settings (owes g bodies) u later
   noticed_lost t u outs lost starts ls vs none same st ds =
-      let silent : bodies ≡ [] = rw (ap is_ready (lost_ended t.requests g s events (st.lasts.lost g s lost starts))) refl in (
+      let silent : bodies ≡ [] = rw (ap is_ready (lost_ended settings t.requests g s events (st.lasts.lost g s lost starts))) refl in (
         none ∙ ap (to s) (sym silent),
         subst (λ bs. DocumentsStand settings (owes g bs) u later) (sym silent)
             (documents_all settings nothing_owed (owes g []) t u events later (noticed_rest t starts) vs (ap (λ v. v.items) ls) same

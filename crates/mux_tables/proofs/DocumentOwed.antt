@@ -110,7 +110,7 @@ module _ (settings : Settings) (t : Tables) (i : ℕ) (x : Start) (at : slice_ge
     encoding = λ j l. encoding_stays j events (said (ToServer s body)) refl;
     founds = founds_kept events (said (ToServer s body)) refl;
     starts = starts_kept events (said (ToServer s body)) refl;
-    sent = λ n l u. sent_apart n s u body (message_of body) events (ne_eqb s n (λ q. let old = known t.requests t.origins.groups.items events g x st.origins (st.lasts.each i x at) in absurd (omega (arith, q, l, old))));
+    sent = λ n l u. sent_apart n s u body (message_of body) events (ne_eqb s n (λ q. let old = known settings t.requests t.origins.groups.items events g x st.origins (st.lasts.each i x at) in absurd (omega (arith, q, l, old))));
     moments = λ j z n p there asked. moment_stays z.life.start n events (said (ToServer s body)) (asks_told s body (message_of body) h);
     left = left_stays events (said (ToServer s body)) refl;
   }
@@ -129,7 +129,7 @@ module _ (settings : Settings) (t : Tables) (i : ℕ) (x : Start) (at : slice_ge
       others j z c away there k =
           let far = groups_apart t.lasts.items i j x z st.lasts.rise at there away in
           subst (λ w. SharedStands settings later w z.life.group z.life.start z.life.stage c) (owes_there g z.life.group (body ∷ bodies) far ∙ sym (owes_there g z.life.group bodies far))
-          (shared_beside settings events (owes g (body ∷ bodies) z.life.group) z.life.group z.life.start z.life.stage c s body h (apart t.requests events g z.life.group x z far (st.lasts.each i x at) (st.lasts.each j z there)) k)
+          (shared_beside settings events (owes g (body ∷ bodies) z.life.group) z.life.group z.life.start z.life.stage c s body h (apart settings t.requests events g z.life.group x z far (st.lasts.each i x at) (st.lasts.each j z there)) k)
 
   first_tells : (body : List ℕ) (bodies : List (List ℕ)) (events : List Event) → DocumentsStand settings (owes g (body ∷ bodies)) t events → speaks (saying_of (message_of body)) ≡ true
   first_tells body bodies events ds =

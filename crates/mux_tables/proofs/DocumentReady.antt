@@ -129,9 +129,9 @@ ready_documents settings t u events i s start code z y body m k outs at within r
     let here : slice_get t.lasts.items i ≡ Some z = read_here t.lasts.items i z within read in
     let is : z.life.start ≡ s = start_at_place t.lasts.items i s z here at in
     let own : start ≡ z.life.start = number ∙ ap (λ (l : Standing). l.start) life in
-    let last : LastStands t.requests events g z = st.lasts.each i z here in
+    let last : LastStands settings t.requests events g z = st.lasts.each i z here in
     let begins : (life_of z.life.start events).stage ≡ Initializing = ap (λ (l : Life). l.stage) (last.parts of_life) ∙ stage in
-    let old = known t.requests t.origins.groups.items events g z st.origins last in
+    let old = known settings t.requests t.origins.groups.items events g z st.origins last in
     let d = documents_at settings nothing_owed t events i z here ds in
     let was : SharedStands settings events [] g z.life.start Initializing d.0 = subst (λ (q : Stage). SharedStands settings events [] g z.life.start q d.0) stage (ds.each i z d.0 here d.1) in
     let made : StepAt (ready_row start code) i (Some d.0) t.documents.items outs u.documents.items = subst (λ o. StepAt (ready_row start code) i o t.documents.items outs u.documents.items) d.1 does in
@@ -145,7 +145,7 @@ ready_documents settings t u events i s start code z y body m k outs at within r
           (λ h. subst (λ n. NotesStand settings n y.ids.requests (events ++ took (FromServer z.life.start body) m ∷ [])) (sym (ap (λ (l : Standing). l.start) life)) (notes_answered settings z.life.start k y.ids.requests z.ids.requests (events ++ took (FromServer z.life.start body) m ∷ []) taken h))
           (λ _. subst (λ (l : Standing). SharedStands settings (events ++ took (FromServer z.life.start body) m ∷ []) (owes g b l.group) l.group l.start l.stage (ready_row z.life.start code d.0).after) (sym life) now)
           (λ j w c off there h. let far = groups_apart t.lasts.items i j z w st.lasts.rise here there off in subst (λ q. SharedStands settings (events ++ took (FromServer z.life.start body) m ∷ []) q w.life.group w.life.start w.life.stage c) (sym (owes_there g w.life.group b far))
-          (ready_other settings events g z.life.start code body m last.home begins gives [] w.life.group w.life.start w.life.stage c (ne_eqb g w.life.group (λ q. far (sym q))) (apart t.requests events g w.life.group z w far last (st.lasts.each j w there)) h)) ds,
+          (ready_other settings events g z.life.start code body m last.home begins gives [] w.life.group w.life.start w.life.stage c (ne_eqb g w.life.group (λ q. far (sym q))) (apart settings t.requests events g w.life.group z w far last (st.lasts.each j w there)) h)) ds,
     )
 
 pub ready_documents_by : (settings : Settings) (t u : Tables) (events : List Event) (i s start : ℕ) (code : Encoding) (x z y : Start) (body : List ℕ) (m : Message) (k : Option ℕ) (outs : List Out) → slice_get t.lasts.items i ≡ Some x → slice_get (map number_in t.lasts.items) i ≡ Some s → i < length t.lasts.items → z ≡ get_or t.lasts.items i z → z.life.stage ≡ Initializing

@@ -41,4 +41,4 @@ shutdown_moves settings t u events e body l is gs now ls os r served asks st =
     let goes : stops events e (message_of body) ≡ false = rw (no_stop (message_of body) asks) refl in
     let off : is_first_open settings.servers events e (message_of body) ≡ false = rw (served_old (desk_of e events).phase served) refl in
     let step : (desk_of e (events ++ heard (FromEditor e body) ∷ [])).phase ≡ Down = ap (λ (d : Desk). d.phase) (one_more (desk_behind e) _ _ events (heard (FromEditor e body)) refl) ∙ rw (itself e) (hears_down (desk_of e events).phase (desk_of e events).initialize body (message_of body) served asks) in
-    set_moves settings t u events e body Down l is now ls os r stays step (answers_none e (message_of body) events (asks_silent (codes "shutdown") (message_of body) asks)) gs goes off st
+    set_moves settings t u events e body Down l is now ls os r stays step (answers_none settings e (message_of body) events (asks_silent (codes "shutdown") (message_of body) asks)) gs goes off st

@@ -1,5 +1,5 @@
 -- An event leaves alone what it doesn't name: one lemma for each word, by cases of the event, and one for each table.
-use Rattle.std.proofs.Common.{◌≡◌, ℕ, ◌+◌, Bool, true, false, not, ◌&&◌, List, [], ◌∷◌, ◌++◌, filter, refl, ap, sym, subst, ◌∙◌, nat_eq, arith}
+use Rattle.std.proofs.Common.{◌≡◌, ℕ, ◌+◌, Bool, true, false, not, ◌&&◌, List, [], ◌∷◌, ◌++◌, refl, ap, sym, subst, append-nil, ◌∙◌, nat_eq, arith}
 use Rattle.std.specs.Prelude.{Option, Some, None, codes, slice_get, if◌then◌else◌}
 use Rattle.std.proofs.lemmas.Bool.Decides.{nat_tests}
 use Rattle.mux_history.specs.declared.cause.Cause.TheVariants.{Joined, FromEditor, EditorGone, Started, StartFailed, FromServer, ServerGone, Tick}
@@ -22,10 +22,10 @@ use Rattle.group_words.specs.Rows.{result_behind, result_of}
 use Rattle.group_words.proofs.Frames.{touches_groups, names_home, groups_stay, home_stays, past_more}
 use Rattle.id_rewrite.specs.Tables.{Table}
 use Rattle.mux_tables.specs.declared.tables.Start.{Start}
-use Rattle.group_rows.specs.Asks.{Asking, asked_behind, asking_next, asking_of, is_under, next_ask}
+use Rattle.group_rows.specs.Asks.{Asking, asked_behind, asker_of, asking_next, asking_of, idle_asking, next_ask, parks}
 use Rattle.group_rows.specs.Forwarded.{Forwarding, forwarding_behind, forwarding_of, forwards, moves_ids, numbered}
-use Rattle.mux_tables.specs.Stands.{EditorsStand, GroupsStand, OriginsStand, IdsAt, IdsStand, Part, of_life, of_ids, of_shown, PartStands, LastStands, ShownAt, of_stop, StopAt, of_asks, AsksStay, is_answer, is_request}
-use Rattle.mux_tables.proofs.Asking.{asks_by, unanswered, unhanded}
+use Rattle.mux_tables.specs.Stands.{EditorsStand, GroupsStand, OriginsStand, IdsAt, IdsStand, Part, of_life, of_ids, of_shown, PartStands, LastStands, ShownAt, of_stop, StopAt, of_asks, of_parked, AsksStay, OpenStay, is_answer, is_request}
+use Rattle.mux_tables.proofs.Asking.{asks_by, parked_by, told_asking, unanswered, unhanded, unwaited}
 use Rattle.mux_tables.proofs.Counted.{counted_same, next_more}
 use Rattle.mux_tables.proofs.Named.{goes_so, meant_by, named_by}
 use Rattle.group_rows.specs.Ticks.{stop_next, stop_of}
@@ -186,6 +186,13 @@ touches of_asks (took (ServerGone n) m) = true
 touches of_asks (did (ToEditor e body) m) = is_request m
 touches of_asks (did (ToServer n body) m) = is_answer m
 touches of_asks other = false
+touches of_parked (took (FromEditor e body) m) = is_answer m
+touches of_parked (took (FromServer n body) m) = is_request m
+touches of_parked (took (StartFailed n) m) = true
+touches of_parked (took (ServerGone n) m) = true
+touches of_parked (did (ToEditor e body) m) = is_request m
+touches of_parked (did (ToServer n body) m) = is_answer m
+touches of_parked other = false
 
 hears_quiet : (g : Stage) (m : Message) → is_first_result m ≡ false → stage_hears g m ≡ g
 hears_quiet Initializing m h = rw h refl
@@ -258,63 +265,115 @@ stop_quiet s events o (did (ToServer n body) m) h = ap (λ b. if nat_eq n s && (
     go false b = refl
 stop_quiet s events o other h = refl
 
-stop_by : (limit : ℕ) (x : Start) (events : List Event) (ev : Event) → stop_next x.life.start events (stop_of x.life.start events) ev ≡ stop_of x.life.start events → PartStands of_stop limit x events → PartStands of_stop limit x (events ++ ev ∷ [])
-stop_by limit x events ev same s = subst (λ o. StopAt x.life.stage x.life.stopping o) (sym (stop_more x.life.start events ev ∙ same)) s
+stop_by : (settings : Settings) (limit : ℕ) (x : Start) (events : List Event) (ev : Event) → stop_next x.life.start events (stop_of x.life.start events) ev ≡ stop_of x.life.start events → PartStands of_stop settings limit x events → PartStands of_stop settings limit x (events ++ ev ∷ [])
+stop_by settings limit x events ev same s = subst (λ o. StopAt x.life.stage x.life.stopping o) (sym (stop_more x.life.start events ev ∙ same)) s
 
 -- what editors were asked for a start
-pub asks_alone : (s : ℕ) (events : List Event) (x : Asking) (ev : Event) → names_editor ev ≡ false → names_start s ev ≡ false → (asking_next s events x ev).asks ≡ x.asks
-asks_alone s events x (took (FromEditor e body) m) k h = never k
-asks_alone s events x (took (StartFailed n) m) k h = rw h refl
-asks_alone s events x (took (ServerGone n) m) k h = rw h refl
-asks_alone s events x (did (ToEditor e body) m) k h = never k
-asks_alone s events x (did (ToServer n body) m) k h = rw h refl
-asks_alone s events x other k h = refl
+open_alone : (settings : Settings) (s : ℕ) (events : List Event) (x : Asking) (ev : Event) → names_editor ev ≡ false → names_start s ev ≡ false → (asking_next settings s events x ev).asks ≡ x.asks
+open_alone settings s events x (took (FromEditor e body) m) k h = never k
+open_alone settings s events x (took (FromServer n body) m) k h = rw h refl
+open_alone settings s events x (took (StartFailed n) m) k h = rw h refl
+open_alone settings s events x (took (ServerGone n) m) k h = rw h refl
+open_alone settings s events x (did (ToEditor e body) m) k h = never k
+open_alone settings s events x (did (ToServer n body) m) k h = rw h refl
+open_alone settings s events x other k h = refl
 
-asks_quiet : (s : ℕ) (events : List Event) (x : Asking) (ev : Event) → touches of_asks ev ≡ false → (asking_next s events x ev).asks ≡ x.asks
-asks_quiet s events x (took (FromEditor e body) m) h = unanswered e x.asks (answered_id m) h
-asks_quiet s events x (took (StartFailed n) m) h = never h
-asks_quiet s events x (took (ServerGone n) m) h = never h
-asks_quiet s events x (did (ToEditor e body) m) h = untold m h
+parked_alone : (settings : Settings) (s : ℕ) (events : List Event) (x : Asking) (ev : Event) → names_editor ev ≡ false → names_start s ev ≡ false → (asking_next settings s events x ev).parked ≡ x.parked
+parked_alone settings s events x (took (FromEditor e body) m) k h = never k
+parked_alone settings s events x (took (FromServer n body) m) k h = rw h refl
+parked_alone settings s events x (took (StartFailed n) m) k h = rw h refl
+parked_alone settings s events x (took (ServerGone n) m) k h = rw h refl
+parked_alone settings s events x (did (ToEditor e body) m) k h = never k
+parked_alone settings s events x (did (ToServer n body) m) k h = rw h refl
+parked_alone settings s events x other k h = refl
+
+pub asks_alone : (settings : Settings) (s : ℕ) (events : List Event) (ev : Event) → names_editor ev ≡ false → names_start s ev ≡ false → AsksStay settings s events ev
+asks_alone settings s events ev k h = record { asks = open_alone settings s events (asking_of settings s events) ev k h; parked = parked_alone settings s events (asking_of settings s events) ev k h }
+
+-- an editor that is asked nothing
+unasked : (settings : Settings) (s e : ℕ) (body : List ℕ) (events : List Event) (x : Asking) (m : Message) → is_request m ≡ false → asking_next settings s events x (did (ToEditor e body) m) ≡ x
+unasked settings s e body events x (request id method ps) h = never h
+unasked settings s e body events x other h = refl
+
+open_quiet : (settings : Settings) (s : ℕ) (events : List Event) (x : Asking) (ev : Event) → touches of_asks ev ≡ false → (asking_next settings s events x ev).asks ≡ x.asks
+open_quiet settings s events x (took (FromEditor e body) m) h = unanswered e x.asks (answered_id m) h
+open_quiet settings s events x (took (FromServer n body) m) h = go (nat_eq n s)
   where
-    untold : (m : Message) → is_request m ≡ false → (asking_next s events x (did (ToEditor e body) m)).asks ≡ x.asks
-    untold (request id method ps) h = never h
-    untold other h = refl
-asks_quiet s events x (did (ToServer n body) m) h = go (nat_eq n s)
+    go : (b : Bool) → (if b then record { asker = asker_of body m; runs = None; asks = x.asks; parked = x.parked ++ parks settings s events x body m } else idle_asking x).asks ≡ x.asks
+    go true = refl
+    go false = refl
+open_quiet settings s events x (took (StartFailed n) m) h = never h
+open_quiet settings s events x (took (ServerGone n) m) h = never h
+open_quiet settings s events x (did (ToEditor e body) m) h = ap (λ (w : Asking). w.asks) (unasked settings s e body events x m h)
+open_quiet settings s events x (did (ToServer n body) m) h = go (nat_eq n s)
   where
-    go : (b : Bool) → (if b then record { asker = x.asker; asks = filter (λ a. not (is_under (answered_id m) a)) x.asks } else x).asks ≡ x.asks
+    go : (b : Bool) → (told_asking (answered_id m) x b).asks ≡ x.asks
     go true = unhanded x.asks (answered_id m) h
     go false = refl
-asks_quiet s events x other h = refl
+open_quiet settings s events x other h = refl
 
-pub asks_stay : (s : ℕ) (events : List Event) (ev : Event) → touches of_asks ev ≡ false → AsksStay s events ev
-asks_stay s events ev h = asks_quiet s events (asking_of s events) ev h
+pub open_stay : (settings : Settings) (s : ℕ) (events : List Event) (ev : Event) → touches of_asks ev ≡ false → OpenStay settings s events ev
+open_stay settings s events ev h = open_quiet settings s events (asking_of settings s events) ev h
+
+parks_none : (settings : Settings) (s : ℕ) (events : List Event) (x : Asking) (body : List ℕ) (m : Message) → is_request m ≡ false → parks settings s events x body m ≡ []
+parks_none settings s events x body (request id method ps) h = never h
+parks_none settings s events x body other h = refl
+
+parked_quiet : (settings : Settings) (s : ℕ) (events : List Event) (x : Asking) (ev : Event) → touches of_parked ev ≡ false → (asking_next settings s events x ev).parked ≡ x.parked
+parked_quiet settings s events x (took (FromServer n body) m) h = go (nat_eq n s)
+  where
+    go : (b : Bool) → (if b then record { asker = asker_of body m; runs = None; asks = x.asks; parked = x.parked ++ parks settings s events x body m } else idle_asking x).parked ≡ x.parked
+    go true = ap (λ ps. x.parked ++ ps) (parks_none settings s events x body m h) ∙ append-nil x.parked
+    go false = refl
+parked_quiet settings s events x (took (StartFailed n) m) h = never h
+parked_quiet settings s events x (took (ServerGone n) m) h = never h
+parked_quiet settings s events x (did (ToEditor e body) m) h = ap (λ (w : Asking). w.parked) (unasked settings s e body events x m h)
+parked_quiet settings s events x (did (ToServer n body) m) h = go (nat_eq n s)
+  where
+    go : (b : Bool) → (told_asking (answered_id m) x b).parked ≡ x.parked
+    go true = unwaited x.parked (answered_id m) h
+    go false = refl
+parked_quiet settings s events x other h = refl
+
+either_open : (ev : Event) → touches of_parked ev ≡ false → touches of_asks ev ≡ false
+either_open (took (FromEditor e body) m) h = h
+either_open (took (StartFailed n) m) h = h
+either_open (took (ServerGone n) m) h = h
+either_open (did (ToEditor e body) m) h = h
+either_open (did (ToServer n body) m) h = h
+either_open other h = refl
+
+pub asks_stay : (settings : Settings) (s : ℕ) (events : List Event) (ev : Event) → touches of_parked ev ≡ false → AsksStay settings s events ev
+asks_stay settings s events ev h = record { asks = open_stay settings s events ev (either_open ev h); parked = parked_quiet settings s events (asking_of settings s events) ev h }
 
 -- an event of another start, and an event of another kind
 ids_by : (limit s : ℕ) (t : Table) (events : List Event) (ev : Event) → SameForwarding (forwarding_behind s (forwarding_of s events) ev) (forwarding_of s events) → IdsStand limit s t events → IdsStand limit s t (events ++ ev ∷ [])
 ids_by limit s t events ev same i = subst (λ x. IdsAt limit x t) (sym (one_more (forwarding_behind s) _ _ events ev refl)) (record { next = same.next ∙ i.next; open_requests = same.open_requests ∙ i.open_requests; ends = i.ends; order = i.order })
 
-shown_by : (limit : ℕ) (x : Start) (events : List Event) (ev : Event) → result_behind x.life.start (result_of x.life.start events) ev ≡ result_of x.life.start events → PartStands of_shown limit x events → PartStands of_shown limit x (events ++ ev ∷ [])
-shown_by limit x events ev same s = subst (λ o. ShownAt x.life.stage x.shown o) (sym (one_more (result_behind x.life.start) _ _ events ev refl ∙ same)) s
+shown_by : (settings : Settings) (limit : ℕ) (x : Start) (events : List Event) (ev : Event) → result_behind x.life.start (result_of x.life.start events) ev ≡ result_of x.life.start events → PartStands of_shown settings limit x events → PartStands of_shown settings limit x (events ++ ev ∷ [])
+shown_by settings limit x events ev same s = subst (λ o. ShownAt x.life.stage x.shown o) (sym (one_more (result_behind x.life.start) _ _ events ev refl ∙ same)) s
 
-pub part_apart : (p : Part) (limit : ℕ) (x : Start) (events : List Event) (ev : Event) → names_start x.life.start ev ≡ false → AsksStay x.life.start events ev → PartStands p limit x events → PartStands p limit x (events ++ ev ∷ [])
-part_apart of_life limit x events ev h a s = one_more (life_behind x.life.start) _ _ events ev s ∙ life_alone x.life.start _ ev h
-part_apart of_ids limit x events ev h a s = ids_by limit x.life.start x.ids events ev (forwarding_alone x.life.start (forwarding_of x.life.start events) ev h) s
-part_apart of_shown limit x events ev h a s = shown_by limit x events ev (result_alone x.life.start (result_of x.life.start events) ev h) s
-part_apart of_stop limit x events ev h a s = stop_by limit x events ev (stop_alone x.life.start events (stop_of x.life.start events) ev h) s
-part_apart of_asks limit x events ev h a s = asks_by limit x events ev a s
+pub part_apart : (p : Part) (settings : Settings) (limit : ℕ) (x : Start) (events : List Event) (ev : Event) → names_start x.life.start ev ≡ false → AsksStay settings x.life.start events ev → PartStands p settings limit x events → PartStands p settings limit x (events ++ ev ∷ [])
+part_apart of_life settings limit x events ev h a s = one_more (life_behind x.life.start) _ _ events ev s ∙ life_alone x.life.start _ ev h
+part_apart of_ids settings limit x events ev h a s = ids_by limit x.life.start x.ids events ev (forwarding_alone x.life.start (forwarding_of x.life.start events) ev h) s
+part_apart of_shown settings limit x events ev h a s = shown_by settings limit x events ev (result_alone x.life.start (result_of x.life.start events) ev h) s
+part_apart of_stop settings limit x events ev h a s = stop_by settings limit x events ev (stop_alone x.life.start events (stop_of x.life.start events) ev h) s
+part_apart of_asks settings limit x events ev h a s = asks_by settings limit x events ev a.asks s
+part_apart of_parked settings limit x events ev h a s = parked_by settings limit x events ev a s
 
-pub part_quiet : (p : Part) (limit : ℕ) (x : Start) (events : List Event) (ev : Event) → touches p ev ≡ false → PartStands p limit x events → PartStands p limit x (events ++ ev ∷ [])
-part_quiet of_life limit x events ev h s = one_more (life_behind x.life.start) _ _ events ev s ∙ life_quiet x.life.start _ ev h
-part_quiet of_ids limit x events ev h s = ids_by limit x.life.start x.ids events ev (forwarding_quiet x.life.start (forwarding_of x.life.start events) ev h) s
-part_quiet of_shown limit x events ev h s = shown_by limit x events ev (result_quiet x.life.start (result_of x.life.start events) ev h) s
-part_quiet of_stop limit x events ev h s = stop_by limit x events ev (stop_quiet x.life.start events (stop_of x.life.start events) ev h) s
-part_quiet of_asks limit x events ev h s = asks_by limit x events ev (asks_stay x.life.start events ev h) s
+pub part_quiet : (p : Part) (settings : Settings) (limit : ℕ) (x : Start) (events : List Event) (ev : Event) → touches p ev ≡ false → PartStands p settings limit x events → PartStands p settings limit x (events ++ ev ∷ [])
+part_quiet of_life settings limit x events ev h s = one_more (life_behind x.life.start) _ _ events ev s ∙ life_quiet x.life.start _ ev h
+part_quiet of_ids settings limit x events ev h s = ids_by limit x.life.start x.ids events ev (forwarding_quiet x.life.start (forwarding_of x.life.start events) ev h) s
+part_quiet of_shown settings limit x events ev h s = shown_by settings limit x events ev (result_quiet x.life.start (result_of x.life.start events) ev h) s
+part_quiet of_stop settings limit x events ev h s = stop_by settings limit x events ev (stop_quiet x.life.start events (stop_of x.life.start events) ev h) s
+part_quiet of_asks settings limit x events ev h s = asks_by settings limit x events ev (open_stay settings x.life.start events ev h) s
+part_quiet of_parked settings limit x events ev h s = parked_by settings limit x events ev (asks_stay settings x.life.start events ev h) s
 
 -- the last start of a group, where the event doesn't name it, and no start is spawned for the group
-pub last_stands : (limit : ℕ) (events : List Event) (ev : Event) (g : ℕ) (x : Start) → names_start x.life.start ev ≡ false → AsksStay x.life.start events ev → ((o : Option ℕ) → start_behind g o ev ≡ o) → LastStands limit events g x → LastStands limit (events ++ ev ∷ []) g x
-last_stands limit events ev g x h a k s = record {
+pub last_stands : (settings : Settings) (limit : ℕ) (events : List Event) (ev : Event) (g : ℕ) (x : Start) → names_start x.life.start ev ≡ false → AsksStay settings x.life.start events ev → ((o : Option ℕ) → start_behind g o ev ≡ o) → LastStands settings limit events g x → LastStands settings limit (events ++ ev ∷ []) g x
+last_stands settings limit events ev g x h a k s = record {
   start = one_more (start_behind g) _ _ events ev s.start ∙ k _;
   home = one_more (group_behind x.life.start) _ _ events ev s.home ∙ group_apart x.life.start _ ev h;
   own = s.own;
-  parts = λ p. part_apart p limit x events ev h a (s.parts p);
+  parts = λ p. part_apart p settings limit x events ev h a (s.parts p);
 }

@@ -101,7 +101,7 @@ joined_editors settings t u events e last is s = record {
 
 pub joined_moves : (settings : Settings) (t u : Tables) (events : List Event) (e : ℕ) → e ≡ length t.editors → u.editors ≡ t.editors ++ joined ∷ [] → u.groups ≡ t.groups → u.time ≡ t.time → u.lasts ≡ t.lasts → u.origins ≡ t.origins → u.requests ≡ t.requests
     → Stands settings t events → Stands settings u (events ++ took (Joined e) not_message ∷ [])
-joined_moves settings t u events e last is gs now ls os r s = house_moves settings t u events (took (Joined e) not_message) (λ n. refl) (λ n. refl) refl (ap (λ v. v.items) ls) os r (λ h. record {
+joined_moves settings t u events e last is gs now ls os r s = house_moves settings t u events (took (Joined e) not_message) (λ n. refl) (λ n. record { asks = refl; parked = refl }) refl (ap (λ v. v.items) ls) os r (λ h. record {
   editors = joined_editors settings t.editors u.editors events e last is h.editors;
   groups = subst (λ g. GroupsStand settings g (events ++ took (Joined e) not_message ∷ [])) (sym gs) (groups_stand settings t.groups events (took (Joined e) not_message) refl h.groups);
   now = one_more time_behind _ _ events (took (Joined e) not_message) h.now ∙ sym now;
@@ -197,14 +197,14 @@ module _ (settings : Settings) (t u : Tables) (events : List Event) (e : ℕ) (b
   heard_groups : u.groups ≡ t.groups → stops events e (message_of body) ≡ false → GroupsStand settings t.groups events → GroupsStand settings u.groups (events ++ ev ∷ [])
   heard_groups gs goes h = subst (λ g. GroupsStand settings g (events ++ ev ∷ [])) (sym gs) (record { groups = groups_more settings events ev ∙ (rw (stays, goes) refl ∙ h.groups); limit = h.limit; idle = h.idle })
 
-  all_heard : AnswersNone e (message_of body) events → (GroupsStand settings t.groups events → GroupsStand settings u.groups (events ++ ev ∷ [])) → Stands settings t events → Stands settings u (events ++ ev ∷ [])
-  all_heard silent go = house_moves settings t u events ev (λ n. refl) (λ n. none_answered e n (message_of body) events (silent n)) refl (ap (λ v. v.items) ls) os r (heard_house go)
+  all_heard : AnswersNone settings e (message_of body) events → (GroupsStand settings t.groups events → GroupsStand settings u.groups (events ++ ev ∷ [])) → Stands settings t events → Stands settings u (events ++ ev ∷ [])
+  all_heard silent go = house_moves settings t u events ev (λ n. refl) (λ n. none_answered settings e n body (message_of body) events (silent n)) refl (ap (λ v. v.items) ls) os r (heard_house go)
 
-  heard_moves : AnswersNone e (message_of body) events → u.groups ≡ t.groups → stops events e (message_of body) ≡ false → Stands settings t events → Stands settings u (events ++ ev ∷ [])
+  heard_moves : AnswersNone settings e (message_of body) events → u.groups ≡ t.groups → stops events e (message_of body) ≡ false → Stands settings t events → Stands settings u (events ++ ev ∷ [])
   heard_moves silent gs goes = all_heard silent (heard_groups gs goes)
 
   -- E6
-  stopped_moves : AnswersNone e (message_of body) events → (ns : List ℕ) → ns ≡ all_from 0 is_live t.groups.groups → u.groups ≡ with_groups (ends ns t.groups.groups) t.groups → stops events e (message_of body) ≡ true → Stands settings t events → Stands settings u (events ++ ev ∷ [])
+  stopped_moves : AnswersNone settings e (message_of body) events → (ns : List ℕ) → ns ≡ all_from 0 is_live t.groups.groups → u.groups ≡ with_groups (ends ns t.groups.groups) t.groups → stops events e (message_of body) ≡ true → Stands settings t events → Stands settings u (events ++ ev ∷ [])
   stopped_moves silent ns all gs stop = all_heard silent (λ h. stop_groups settings events e body (message_of body) t.groups u.groups stays stop (ap (λ (w : Table). w.limit) gs) (ap (λ (w : Table). w.idle) gs) (ap (λ (w : Table). w.groups) gs ∙ ap (λ ms. ends ms t.groups.groups) all) h)
 
 -- a request answers nothing
@@ -212,8 +212,8 @@ pub asks_silent : (name : List ℕ) (m : Message) → requests name m ≡ true �
 asks_silent name (request id method params) h = refl
 asks_silent name rest h = never (sym h)
 
-pub stop_silent : (events : List Event) (e : ℕ) (m : Message) → stops events e m ≡ true → AnswersNone e m events
-stop_silent events e m h = answers_none e m events (asks_silent (codes "lspmux/stop") m (and_parts (requests (codes "lspmux/stop") m) _ h).0)
+pub stop_silent : (settings : Settings) (events : List Event) (e : ℕ) (m : Message) → stops events e m ≡ true → AnswersNone settings e m events
+stop_silent settings events e m h = answers_none settings e m events (asks_silent (codes "lspmux/stop") m (and_parts (requests (codes "lspmux/stop") m) _ h).0)
 
 -- one that stops all is no `lspmux/open`
 stops_asks : (events : List Event) (e : ℕ) (servers : List Server) (m : Message) → stops events e m ≡ true → is_first_open servers events e m ≡ false
@@ -235,11 +235,11 @@ module _ (settings : Settings) (t u : Tables) (events : List Event) (e : ℕ) (b
       (meant_kept settings t.editors events e body l p stays off h.editors)
       (heard_groups settings t u events e body put l (set ∙ heard_plain settings t.editors events e p l h.editors body step) now ls os r stays step refl refl refl (meant_kept settings t.editors events e body l p stays off h.editors) gs goes) h
 
-  pub set_moves : AnswersNone e (message_of body) events → u.groups ≡ t.groups → stops events e (message_of body) ≡ false → is_first_open settings.servers events e (message_of body) ≡ false → Stands settings t events → Stands settings u (events ++ heard (FromEditor e body) ∷ [])
+  pub set_moves : AnswersNone settings e (message_of body) events → u.groups ≡ t.groups → stops events e (message_of body) ≡ false → is_first_open settings.servers events e (message_of body) ≡ false → Stands settings t events → Stands settings u (events ++ heard (FromEditor e body) ∷ [])
   set_moves silent gs goes off s = heard_moves settings t u events e body put l (set ∙ heard_plain settings t.editors events e p l s.house.editors body step) now ls os r stays step refl refl refl
       (meant_kept settings t.editors events e body l p stays off s.house.editors) silent gs goes s
 
-  pub stop_moves : AnswersNone e (message_of body) events → (ns : List ℕ) → ns ≡ all_from 0 is_live t.groups.groups → u.groups ≡ with_groups (ends ns t.groups.groups) t.groups → stops events e (message_of body) ≡ true → Stands settings t events → Stands settings u (events ++ heard (FromEditor e body) ∷ [])
+  pub stop_moves : AnswersNone settings e (message_of body) events → (ns : List ℕ) → ns ≡ all_from 0 is_live t.groups.groups → u.groups ≡ with_groups (ends ns t.groups.groups) t.groups → stops events e (message_of body) ≡ true → Stands settings t events → Stands settings u (events ++ heard (FromEditor e body) ∷ [])
   stop_moves silent ns all gs stop s = stopped_moves settings t u events e body put l (set ∙ heard_plain settings t.editors events e p l s.house.editors body step) now ls os r stays step refl refl refl
       (meant_kept settings t.editors events e body l p stays (stops_asks events e settings.servers (message_of body) stop) s.house.editors) silent ns all gs stop s
 
@@ -283,7 +283,7 @@ module _ (settings : Settings) (t u : Tables) (events : List Event) (e : ℕ) (b
       (set ∙ ap (λ p. with_session t.editors e (if is_gone p then seen else record seen { opened = true; server = o })) (stands_new s.house.editors)) now ls os r
       (ap (λ b. is_new (desk_of e events).phase && b) (no_first (message_of body) asks) ∙ and_off (is_new (desk_of e events).phase))
       (now_new ∙ sym (stands_new s.house.editors))
-      refl refl refl (λ w. meant_first settings t.editors events e body l o is first) (answers_none e (message_of body) events (asks_silent (codes "lspmux/open") (message_of body) asks))
+      refl refl refl (λ w. meant_first settings t.editors events e body l o is first) (answers_none settings e (message_of body) events (asks_silent (codes "lspmux/open") (message_of body) asks))
       gs (ap (λ b. b && (is_there (desk_of e events).phase && not (is_doubled events e (message_of body)))) (no_stop (message_of body) asks)) s
 
 -- X6: no table speaks of bytes that were written
@@ -297,7 +297,7 @@ pub gone_heard : (settings : Settings) (t u : Tables) (events : List Event) (e :
     → u.groups ≡ with_groups (emptied home was (stays_in mid) t.time t.groups.groups) t.groups
     → Stands settings t events → Stands settings u (events ++ took (EditorGone e why) not_message ∷ [])
 gone_heard settings t u events e why mid p home was l phases homes begun set es now ls os r gs =
-    house_moves settings t u events (took (EditorGone e why) not_message) (λ n. refl) (λ n. refl) refl (ap (λ v. v.items) ls) os r
+    house_moves settings t u events (took (EditorGone e why) not_message) (λ n. refl) (λ n. record { asks = refl; parked = refl }) refl (ap (λ v. v.items) ls) os r
     (gone_by settings events e why not_message t u mid p home was l phases homes begun set es now gs)
 
 -- E7
@@ -307,10 +307,10 @@ pub initialized_moves : (settings : Settings) (before : List Event) (e : ℕ) (b
     → (p ≡ placed_for settings before e body (groups_of settings before)) × Stands settings u (before ++ took (FromEditor e body) (message_of body) ∷ [])
 initialized_moves settings before e body t u mid x p key given id first at new own k d chosen placed busy sits now ls os r s =
     let h = initialize_heard settings before e body (message_of body) t u mid x p key given id first at new own k d chosen placed busy sits now s.house in
-    (h.0, house_moves settings t u before (took (FromEditor e body) (message_of body)) (λ n. refl) (λ n. none_answered e n (message_of body) before (answers_none e (message_of body) before (asks_silent (codes "initialize") (message_of body) first) n)) refl (ap (λ v. v.items) ls) os r (λ _. h.1) s)
+    (h.0, house_moves settings t u before (took (FromEditor e body) (message_of body)) (λ n. refl) (λ n. none_answered settings e n body (message_of body) before (answers_none settings e (message_of body) before (asks_silent (codes "initialize") (message_of body) first) n)) refl (ap (λ v. v.items) ls) os r (λ _. h.1) s)
 
 -- X7
 pub ticked_moves : (settings : Settings) (t u : Tables) (events : List Event) (now later : ℕ) (ns : List ℕ) → later ≡ max t.time now → u.editors ≡ t.editors → u.time ≡ later → ns ≡ all_from 0 (is_due t.groups.idle later) t.groups.groups
     → u.groups ≡ with_groups (ends ns t.groups.groups) t.groups → u.lasts ≡ t.lasts → u.origins ≡ t.origins → u.requests ≡ t.requests → Stands settings t events → Stands settings u (events ++ took (Tick now) not_message ∷ [])
 ticked_moves settings t u events now later ns l es k n gs ls os r =
-    house_moves settings t u events (took (Tick now) not_message) (λ n. refl) (λ n. refl) refl (ap (λ v. v.items) ls) os r (tick_heard settings events now later not_message t u ns l es k n gs)
+    house_moves settings t u events (took (Tick now) not_message) (λ n. refl) (λ n. record { asks = refl; parked = refl }) refl (ap (λ v. v.items) ls) os r (tick_heard settings events now later not_message t u ns l es k n gs)

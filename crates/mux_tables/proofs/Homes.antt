@@ -70,7 +70,7 @@ module _ (settings : Settings) (t : Tables) (events : List Event) (e : ℕ) (st 
 -- a group of which something is kept
 module _ (settings : Settings) (t : Tables) (events : List Event) (g : ℕ) (st : Stands settings t events) where
   pub ended_here : (Rise 0 t.lasts.items → IsLost g t.lasts.items) → HasEnded (start_of g events) events
-  ended_here lost s starts = lost_ended t.requests g s events (st.lasts.lost g s (lost st.lasts.rise) starts)
+  ended_here lost s starts = lost_ended settings t.requests g s events (st.lasts.lost g s (lost st.lasts.rise) starts)
 
   pub start_seen : (p s : ℕ) → p < length t.lasts.items → ((x : Start) → slice_get t.lasts.items p ≡ Some x → x.life.group ≡ g) → slice_get (map number_in t.lasts.items) p ≡ Some s → start_of g events ≡ Some s
   start_seen p s within own at =
@@ -83,7 +83,7 @@ module _ (settings : Settings) (t : Tables) (events : List Event) (g : ℕ) (st 
     where
       go : KeptAt g t.lasts.items ⊎ IsLost g t.lasts.items → KeptAt g t.lasts.items
       go (inl k) = k
-      go (inr lost) = absurd (runs (lost_ended t.requests g s events (st.lasts.lost g s lost starts)))
+      go (inr lost) = absurd (runs (lost_ended settings t.requests g s events (st.lasts.lost g s lost starts)))
 
 -- the group of the last start in a place
 pub group_seen : (settings : Settings) (t : Tables) (events : List Event) (p s : ℕ) (x : Start) → Stands settings t events → slice_get t.lasts.items p ≡ Some x → slice_get (map number_in t.lasts.items) p ≡ Some s → (group_of s events ≡ Some x.life.group) × (start_of x.life.group events ≡ Some s)

@@ -17,6 +17,7 @@ pub mod Moves
 pub mod Phased
 pub mod Lists
 pub mod Named
+pub mod Numbering
 pub mod Placing
 pub mod Seated
 pub mod Said
@@ -50,3 +51,8 @@ pub mod Homes
 pub mod Waits
 pub mod Live
 pub mod Placed
+pub mod Waiting
+pub mod Parking
+pub mod Resuming
+pub mod DocumentResumed
+pub mod Working

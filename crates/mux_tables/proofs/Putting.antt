@@ -1,5 +1,5 @@
 -- Editors are asked what a start asks (S9, S11, S12).
-use Rattle.std.proofs.Common.{◌≡◌, ℕ, ◌+◌, ◌<◌, ◌^◌, Bool, true, false, ◌&&◌, ◌||◌, List, [], ◌∷◌, ◌++◌, length, refl, ap, sym, subst, ◌∙◌, nat_eq, nat_lt, decimal, arith, if◌then◌else◌}
+use Rattle.std.proofs.Common.{◌≡◌, ℕ, ◌+◌, ◌<◌, ◌^◌, Bool, true, false, ◌&&◌, List, [], ◌∷◌, ◌++◌, length, refl, ap, sym, subst, ◌∙◌, nat_eq, nat_lt, decimal, arith, if◌then◌else◌}
 use Rattle.std.specs.Prelude.{Option, Some, None, slice_get, slice_set}
 use Rattle.std.specs.List.{AllByRecursion, list_any}
 use Rattle.std.proofs.lemmas.Bool.{ne_eqb}
@@ -32,11 +32,12 @@ use Rattle.editor_session.specs.Sessions as sessions
 use Rattle.editor_session.specs.Sessions.{absent, is_gone, session_of, unless_gone, with_session}
 use Rattle.group_words.proofs.Frames.{itself}
 use Rattle.group_rows.specs.AskRows.{ask}
-use Rattle.group_rows.specs.Asks.{Ask, Asking, asking_next, asking_of, asks_of, has_number, is_under, next_ask, put}
+use Rattle.group_rows.specs.Asks.{Parked, Ask, Asking, asked_next, asking_next, asking_of, asks_of, has_number, is_own_work, is_patient, is_taken, is_under, next_ask, parked_of, serves, waits_under}
 use Rattle.mux_tables.specs.declared.tables.Start.{Start}
 use Rattle.mux_tables.specs.declared.tables.Tables.{Tables}
 use Rattle.mux_tables.specs.Documents.{DocumentsStand, Owed}
-use Rattle.mux_tables.specs.Stands.{AreApart, AsksAt, AsksStand, CountStands, EditorsStand, HasText, IsOther, Part, of_life, of_ids, of_shown, of_stop, of_asks, PartStands, Stands, WasAsked, is_beside, is_request, kept_ask, phase_in}
+use Rattle.mux_tables.specs.Puts.{IsAtWork, IsNextAsk}
+use Rattle.mux_tables.specs.Stands.{AreApart, AsksAt, AsksStand, CountStands, EditorsStand, HasText, IsAtRest, IsOther, Part, of_life, of_ids, of_shown, of_stop, of_asks, of_parked, ParkedAt, ParkedStand, PartStands, Stands, WasAsked, is_beside, is_request, kept_ask, phase_in}
 use Rattle.mux_tables.proofs.Apart.{id_flip}
 use Rattle.mux_tables.proofs.Asking.{asking_more, asks_later}
 use Rattle.mux_tables.proofs.Counted.{asked_more, next_more}
@@ -49,16 +50,17 @@ use Rattle.mux_tables.proofs.Moves.{house_and_lasts, house_moves}
 use Rattle.mux_tables.proofs.Noting.{left_stays}
 use Rattle.mux_tables.proofs.Refusing.{ready_asks, rest_same, same_does, same_stands}
 use Rattle.mux_tables.proofs.Said.{asked_editors, does_send, idle_stay, told_house}
+use Rattle.mux_tables.proofs.Waiting.{all_then, none_any, none_either, parked_beside, ready_parked}
 
 running_there : (p : Phase) → is_running p ≡ true → is_gone p ≡ false
 running_there Running h = refl
 running_there other h = never (sym h)
 
-running_told : (p : Phase) (i : List ℕ) (m : Message) → is_running p ≡ true → phase_told p i m ≡ p
+pub running_told : (p : Phase) (i : List ℕ) (m : Message) → is_running p ≡ true → phase_told p i m ≡ p
 running_told Running i m h = refl
 running_told other i m h = never (sym h)
 
-below : (m : ℕ) → nat_lt m (2 ^ 64) ≡ true → m < 2 ^ 64
+pub below : (m : ℕ) → nat_lt m (2 ^ 64) ≡ true → m < 2 ^ 64
 below m h = grind (arith, nat_tests)
 
 -- the number of the next request to an editor that runs
@@ -72,7 +74,7 @@ module _ (settings : Settings) (t : List Session) (events : List Event) (e : ℕ
   own : (desk_of e events).phase ≡ x.phase
   own = s.phase e ∙ ap phase_in here
 
-  there : is_gone x.phase ≡ false
+  pub there : is_gone x.phase ≡ false
   there = running_there x.phase (ap is_running (sym own) ∙ runs)
 
   counted : next_ask e events ≡ x.asks + 1
@@ -104,19 +106,19 @@ module _ (settings : Settings) (t : List Session) (events : List Event) (e : ℕ
       go true has h = (same_place h, has)
       go false has h = absurd (cc)
 
-  one_left : (n : ℕ) → Some n ≡ sessions.next_ask x → (n ≡ next_ask e events) × (has_number e events ≡ true)
+  pub one_left : (n : ℕ) → Some n ≡ sessions.next_ask x → (n ≡ next_ask e events) × (has_number e events ≡ true)
   one_left n is = ((one_there n is).0 ∙ sym counted, left ∙ (one_there n is).1)
 
   one_set : (n : ℕ) → Some n ≡ sessions.next_ask x → with_session t e (unless_gone sessions.asked x) ≡ with_session t e (record x { asks = x.asks + 1 })
   one_set n is = ap (with_session t e) (ap (λ b. if b then x else sessions.asked x) there ∙ ap (λ b. if b then record x { asks = x.asks + 1 } else x) (one_there n is).1)
 
   -- it is asked under it
-  asked_so : (u : List Session) (text : List ℕ) (n : ℕ) → Some n ≡ sessions.next_ask x → is_request (message_of text) ≡ true → u ≡ with_session t e (unless_gone sessions.asked x) → EditorsStand settings u (events ++ said (ToEditor e text) ∷ [])
+  pub asked_so : (u : List Session) (text : List ℕ) (n : ℕ) → Some n ≡ sessions.next_ask x → is_request (message_of text) ≡ true → u ≡ with_session t e (unless_gone sessions.asked x) → EditorsStand settings u (events ++ said (ToEditor e text) ∷ [])
   asked_so u text n is asks set = subst (λ z. EditorsStand settings z (events ++ said (ToEditor e text) ∷ [])) (sym (set ∙ one_set n is))
       (asked_editors settings events e text t l (ap (λ (d : Desk). d.phase) (one_more (desk_behind e) _ _ events (said (ToEditor e text)) refl) ∙ (rw (itself e) (running_told (desk_of e events).phase (desk_of e events).initialize (message_of text) runs) ∙ own)) asks s)
 
 -- the body under that number
-text_says : (body text method : List ℕ) (id : Id) (ps : Option Json) (n : ℕ) → n < 2 ^ 64 → message_of body ≡ request id method ps → text ≡ with_id_text body (decimal n) → message_of text ≡ request (integer (decimal n)) method ps
+pub text_says : (body text method : List ℕ) (id : Id) (ps : Option Json) (n : ℕ) → n < 2 ^ 64 → message_of body ≡ request id method ps → text ≡ with_id_text body (decimal n) → message_of text ≡ request (integer (decimal n)) method ps
 text_says body text method id ps n small says writes = ap message_of writes ∙ request_with_id body (decimal n) id (integer (decimal n)) method ps says (decimal_wide_law n (omega arith))
 
 -- the row, by whether a number is left
@@ -131,14 +133,14 @@ module _ (settings : Settings) (t u : Tables) (base : List Event) (xs : List Out
   abbrev asks_it : Row
   asks_it = send (ToEditor e (with_id_text body (decimal (next_ask e now))))
 
-  pub unasked_does : (o : Option ℕ) → o ≡ None → o ≡ sessions.next_ask (session_of t.editors e) → u.lasts ≡ t.lasts → Does (λ t events. Stands settings t events) (ask body e) base t xs u xs
+  pub unasked_does : (o : Option ℕ) → o ≡ None → o ≡ sessions.next_ask (session_of t.editors e) → u.lasts.items ≡ t.lasts.items → Does (λ t events. Stands settings t events) (ask body e) base t xs u xs
   unasked_does o none is ls = does_knowing {Stands = λ t events. Stands settings t events} (λ st.
       let off = none_left settings t.editors now e l runs st.house.editors (sym none ∙ is) in
       let same = set ∙ none_set settings t.editors now e l runs st.house.editors (sym none ∙ is) in
       does_look {Stands = λ t events. Stands settings t events} {f = row} (λ _. ap (λ b. choose b asks_it nothing) off)
-      (does_false {Stands = λ t events. Stands settings t events} (same_does settings base t u xs (λ events. same_stands settings t u events (ap (λ v. v.items) ls) same gs time os r))))
+      (does_false {Stands = λ t events. Stands settings t events} (same_does settings base t u xs (λ events. same_stands settings t u events ls same gs time os r))))
 
-  asked_does : (ys : List Out) (n : ℕ) (text : List ℕ) → Some n ≡ sessions.next_ask (session_of t.editors e) → text ≡ with_id_text body (decimal n) → ys ≡ xs ++ ToEditor e text ∷ []
+  pub asked_does : (ys : List Out) (n : ℕ) (text : List ℕ) → Some n ≡ sessions.next_ask (session_of t.editors e) → text ≡ with_id_text body (decimal n) → ys ≡ xs ++ ToEditor e text ∷ []
       → (n ≡ next_ask e now → n < 2 ^ 64 → Stands settings t now → Stands settings u (now ++ said (ToEditor e text) ∷ [])) → Does (λ t events. Stands settings t events) (ask body e) base t xs u ys
   asked_does ys n text is writes said_so go = does_knowing {Stands = λ t events. Stands settings t events} (λ st.
       let k = one_left settings t.editors now e l runs st.house.editors n is in
@@ -148,25 +150,17 @@ module _ (settings : Settings) (t u : Tables) (base : List Event) (xs : List Out
       (does_true {Stands = λ t events. Stands settings t events} (subst (λ w. Does (λ t events. Stands settings t events) (send (ToEditor e w)) base t xs u ys) same (does_send settings (ToEditor e text) base t u xs ys said_so (go k.0 small)))))
 
   -- S9: nothing is kept of it
-  pub question_does : (ys : List Out) (n : ℕ) (text method : List ℕ) (id : Id) (ps : Option Json) → ((s : ℕ) → (asking_of s now).asker ≡ None) → message_of body ≡ request id method ps → Some n ≡ sessions.next_ask (session_of t.editors e) → text ≡ with_id_text body (decimal n)
+  pub question_does : (ys : List Out) (n : ℕ) (text method : List ℕ) (id : Id) (ps : Option Json) → ((s : ℕ) → IsAtRest settings s now) → message_of body ≡ request id method ps → Some n ≡ sessions.next_ask (session_of t.editors e) → text ≡ with_id_text body (decimal n)
       → u.lasts ≡ t.lasts → ys ≡ xs ++ ToEditor e text ∷ [] → Does (λ t events. Stands settings t events) (ask body e) base t xs u ys
   question_does ys n text method id ps idle says is writes ls said_so = asked_does ys n text is writes said_so (λ next small.
-      house_moves settings t u now (said (ToEditor e text)) (λ m. refl) (λ m. idle_stay m e now text (idle m)) refl (ap (λ v. v.items) ls) os r
+      house_moves settings t u now (said (ToEditor e text)) (λ m. refl) (λ m. idle_stay settings m e now text (idle m)) refl (ap (λ v. v.items) ls) os r
       (λ h. told_house settings now e text t u (asked_so settings t.editors now e l runs h.editors u.editors text n is (ap is_request (text_says body text method id ps n small says writes)) set) gs time h))
 
 -- What is kept of it
 
-all_then : (P : Ask → Type 0) (qs : List Ask) (a : Ask) → AllByRecursion P qs → P a → AllByRecursion P (qs ++ a ∷ [])
-all_then P [] a h k = (k, tt)
-all_then P (q ∷ qs) a h k = (h.0, all_then P qs a h.1 k)
-
 apart_then : (a : Ask) (qs : List Ask) → AreApart qs → AllByRecursion (λ b. IsOther b a) qs → AreApart (qs ++ a ∷ [])
 apart_then a [] h k = (tt, tt)
 apart_then a (q ∷ qs) h k = (all_then (IsOther q) qs a h.0 k.0, apart_then a qs h.1 k.1)
-
-or_off : (a b : Bool) → (a || b) ≡ false → (a ≡ false) × (b ≡ false)
-or_off false b h = (refl, h)
-or_off true b h = never h
 
 and_off : (a : Bool) → (a && false) ≡ false
 and_off true = refl
@@ -187,10 +181,10 @@ module _ (events : List Event) (a : Ask) (next : a.number ≡ next_ask a.editor 
   others : (qs : List Ask) → AllByRecursion (WasAsked events) qs → list_any (is_under (Some a.id)) qs ≡ false → AllByRecursion (λ b. IsOther b a) qs
   others [] h free = tt
   others (b ∷ qs) h free =
-      let k = or_off (same_id a.id b.id) (list_any (is_under (Some a.id)) qs) free in
+      let k = none_either (same_id a.id b.id) (list_any (is_under (Some a.id)) qs) free in
       ((beside b h.0.0, id_flip b.id a.id k.0), others qs h.1 k.1)
 
-  put_stands : (later : List Event) (qs : List Ask) (kept : List route.Ask) → AsksStand events qs kept → AsksStand later qs kept → HasText a → WasAsked later a → list_any (is_under (Some a.id)) qs ≡ false → AsksStand later (qs ++ a ∷ []) (kept ++ kept_ask a ∷ [])
+  pub put_stands : (later : List Event) (qs : List Ask) (kept : List route.Ask) → AsksStand events qs kept → AsksStand later qs kept → HasText a → WasAsked later a → list_any (is_under (Some a.id)) qs ≡ false → AsksStand later (qs ++ a ∷ []) (kept ++ kept_ask a ∷ [])
   put_stands later qs kept s k text was free = record {
     same = ap (λ ks. ks ++ kept_ask a ∷ []) s.same ∙ sym (map-append kept_ask qs (a ∷ []));
     texts = all_then HasText qs a s.texts text;
@@ -198,70 +192,93 @@ module _ (events : List Event) (a : Ask) (next : a.number ≡ next_ask a.editor 
     apart = apart_then a qs s.apart (others qs s.asked free);
   }
 
--- S11 and S12: the start has no other open request under this id, and the editor is asked for it alone
-module _ (settings : Settings) (t u : Tables) (base : List Event) (xs : List Out) (g e : ℕ) (body : List ℕ) (z : Start) (n : ℕ) (text method : List ℕ) (id : Id) (ps : Option Json) (kept : List route.Ask) (l : e < length t.editors) (runs : is_running (desk_of e (behind base xs)).phase ≡ true)
-    (set : u.editors ≡ with_session t.editors e (unless_gone sessions.asked (session_of t.editors e))) (gs : u.groups ≡ t.groups) (time : u.time ≡ t.time) (os : u.origins ≡ t.origins) (r : u.requests ≡ t.requests)
-    (at : slice_get t.lasts.items g ≡ Some z) (ready : z.life.stage ≡ Ready) (lasts : u.lasts.items ≡ slice_set t.lasts.items g (record z { asks = kept })) (puts : kept ≡ z.asks ++ asks.asked e n (id_bytes body) ∷ [])
-    (says : message_of body ≡ request id method ps) (writes : text ≡ with_id_text body (decimal n)) (asker : (asking_of z.life.start (behind base xs)).asker ≡ Some (record { id = id; bytes = id_bytes body }))
-    (rest : (s : ℕ) → nat_eq z.life.start s ≡ false → (asking_of s (behind base xs)).asker ≡ None) (free : list_any (is_under (Some id)) (asks_of z.life.start (behind base xs)) ≡ false) where
+-- S11, S12 and V3: the editor is asked alone
+module _ (settings : Settings) (t u : Tables) (base : List Event) (xs : List Out) (g e : ℕ) (z : Start) (text method bytes : List ℕ) (id : Id) (ps : Option Json) (l : e < length t.editors) (runs : is_running (desk_of e (behind base xs)).phase ≡ true)
+    (asks_next : IsNextAsk e (behind base xs) method ps text) where
   abbrev before : List Event
   before = behind base xs
 
-  abbrev ev : Event
-  ev = said (ToEditor e text)
+  -- a number is left
+  pub untaken_does : {row : Row} (v : Tables) (ys : List Out) → ◌≡◌ {A = Option ℕ} None (sessions.next_ask (session_of t.editors e)) → Does (λ t events. Stands settings t events) row base t xs v ys
+  untaken_does v ys is = does_knowing {Stands = λ t events. Stands settings t events} (λ st. never (sym asks_next.left ∙ none_left settings t.editors before e l runs st.house.editors is))
 
-  abbrev qs : List Ask
-  qs = asks_of z.life.start before
+  module _ (n : ℕ) (kept : List route.Ask)
+      (set : u.editors ≡ with_session t.editors e (unless_gone sessions.asked (session_of t.editors e))) (gs : u.groups ≡ t.groups) (time : u.time ≡ t.time) (os : u.origins ≡ t.origins) (r : u.requests ≡ t.requests)
+      (at : slice_get t.lasts.items g ≡ Some z) (ready : z.life.stage ≡ Ready) (lasts : u.lasts.items ≡ slice_set t.lasts.items g (record z { asks = kept })) (puts : kept ≡ z.asks ++ asks.asked e n bytes ∷ [])
+      (work : IsAtWork settings z.life.start id bytes (behind base xs)) where
+    abbrev ev : Event
+    ev = said (ToEditor e text)
 
-  abbrev a : Ask
-  a = record { id = id; bytes = id_bytes body; editor = e; number = n }
+    abbrev qs : List Ask
+    qs = asks_of settings z.life.start before
 
-  module _ (next : n ≡ next_ask e before) (small : n < 2 ^ 64) where
-    says_it : message_of text ≡ request (integer (decimal n)) method ps
-    says_it = text_says body text method id ps n small says writes
+    abbrev ps_now : List Parked
+    ps_now = parked_of settings z.life.start before
 
-    more : asks_of z.life.start (before ++ ev ∷ []) ≡ qs ++ a ∷ []
-    more = ap (λ (w : Asking). w.asks) (asking_more z.life.start before ev)
-        ∙ (ap (λ m. (asking_next z.life.start before (asking_of z.life.start before) (did (ToEditor e text) m)).asks) says_it
-        ∙ (ap (λ o. qs ++ put o e (next_ask e before)) asker ∙ ap (λ k. qs ++ record { id = id; bytes = id_bytes body; editor = e; number = k } ∷ []) (sym next)))
+    abbrev a : Ask
+    a = record { id = id; bytes = bytes; editor = e; number = n }
 
-    was : WasAsked (before ++ ev ∷ []) a
-    was =
-        let k : next_ask e (before ++ ev ∷ []) ≡ next_ask e before + 1 = next_more e before ev ∙ asked_more e (next_ask e before) text (message_of text) (ap is_request says_it) in
-        (omega (arith, k, next), small)
+    module _ (next : n ≡ next_ask e before) (small : n < 2 ^ 64) where
+      says_it : message_of text ≡ request (integer (decimal n)) method ps
+      says_it = asks_next.says ∙ ap (λ m. request (integer (decimal m)) method ps) (sym next)
 
-    stands : AsksStand before qs z.asks → AsksStand (before ++ ev ∷ []) (asks_of z.life.start (before ++ ev ∷ [])) kept
-    stands s = subst (λ bs. AsksStand (before ++ ev ∷ []) bs kept) (sym more) (subst (λ ks. AsksStand (before ++ ev ∷ []) (qs ++ a ∷ []) ks) (sym puts)
-        (put_stands before a next (before ++ ev ∷ []) qs z.asks s (asks_later Ready before ev qs z.asks s) (request_id_bytes body id method ps says) was free))
+      asked : asking_of settings z.life.start (before ++ ev ∷ []) ≡ asked_next (is_own_work e (asking_of settings z.life.start before).runs && (is_patient method && serves settings before z.life.start e)) e n (asking_of settings z.life.start before) (Some (record { id = id; bytes = bytes }))
+      asked = asking_more settings z.life.start before ev
+          ∙ (ap (λ m. asking_next settings z.life.start before (asking_of settings z.life.start before) (did (ToEditor e text) m)) says_it
+          ∙ (ap (λ o. asked_next (is_own_work e (asking_of settings z.life.start before).runs && (is_patient method && serves settings before z.life.start e)) e (next_ask e before) (asking_of settings z.life.start before) o) work.asker
+          ∙ ap (λ k. asked_next (is_own_work e (asking_of settings z.life.start before).runs && (is_patient method && serves settings before z.life.start e)) e k (asking_of settings z.life.start before) (Some (record { id = id; bytes = bytes }))) (sym next)))
 
-    part : (p : Part) → PartStands p t.requests z before → PartStands p t.requests (record z { asks = kept }) (before ++ ev ∷ [])
-    part of_life h = part_quiet of_life t.requests z before ev refl h
-    part of_ids h = part_quiet of_ids t.requests z before ev refl h
-    part of_shown h = part_quiet of_shown t.requests z before ev refl h
-    part of_stop h = part_quiet of_stop t.requests z before ev refl h
-    part of_asks h = subst (λ (k : Stage). AsksAt k (before ++ ev ∷ []) (asks_of z.life.start (before ++ ev ∷ [])) kept) (sym ready) (stands (ready_asks z.life.stage before qs z.asks ready h))
+      more : asks_of settings z.life.start (before ++ ev ∷ []) ≡ qs ++ a ∷ []
+      more = ap (λ (w : Asking). w.asks) asked
 
-    moves : Some n ≡ sessions.next_ask (session_of t.editors e) → Stands settings t before → Stands settings u (before ++ ev ∷ [])
-    moves is st = house_and_lasts settings t u before ev (λ m. refl) refl os r
-        (λ origins ls. asked_last t.requests t.origins.groups.items t.lasts.items u.lasts.items before ev g z (record z { asks = kept }) (λ m. refl) (λ m away. idle_stay m e before text (rest m away)) refl at lasts refl origins
-        (λ s. record { start = one_more (start_behind z.life.group) _ _ before ev s.start; home = one_more (group_behind z.life.start) _ _ before ev s.home; own = s.own; parts = λ p. part p (s.parts p) }) ls)
-        (λ h. told_house settings before e text t u (asked_so settings t.editors before e l runs h.editors u.editors text n is (ap is_request says_it) set) gs time h) st
+      still : parked_of settings z.life.start (before ++ ev ∷ []) ≡ ps_now
+      still = ap (λ (w : Asking). w.parked) asked
 
-  pub put_does : (ys : List Out) → Some n ≡ sessions.next_ask (session_of t.editors e) → ys ≡ xs ++ ToEditor e text ∷ [] → Does (λ t events. Stands settings t events) (ask body e) base t xs u ys
-  put_does ys is said_so = asked_does settings t u base xs e body l runs set gs time os r ys n text is writes said_so (λ next small. moves next small is)
+      untaken_so : (list_any (is_under (Some id)) qs ≡ false) × (list_any (waits_under (Some id)) ps_now ≡ false)
+      untaken_so = none_either (list_any (is_under (Some id)) qs) (list_any (waits_under (Some id)) ps_now) work.fresh
 
--- the same, as the code has it
-pub put_by : (settings : Settings) (t u : Tables) (base : List Event) (xs : List Out) (g e : ℕ) (body : List ℕ) (x z : Start) (n : ℕ) (text method : List ℕ) (id : Id) (ps : Option Json) (kept : List route.Ask) → z ≡ x → e < length t.editors → is_running (desk_of e (behind base xs)).phase ≡ true
-    → u.editors ≡ with_session t.editors e (unless_gone sessions.asked (session_of t.editors e)) → u.groups ≡ t.groups → u.time ≡ t.time → u.origins ≡ t.origins → u.requests ≡ t.requests
-    → slice_get t.lasts.items g ≡ Some z → x.life.stage ≡ Ready → u.lasts.items ≡ slice_set t.lasts.items g (record z { asks = kept }) → kept ≡ z.asks ++ asks.asked e n (id_bytes body) ∷ []
-    → message_of body ≡ request id method ps → text ≡ with_id_text body (decimal n) → (asking_of x.life.start (behind base xs)).asker ≡ Some (record { id = id; bytes = id_bytes body })
-    → ((s : ℕ) → nat_eq x.life.start s ≡ false → (asking_of s (behind base xs)).asker ≡ None) → list_any (is_under (Some id)) (asks_of x.life.start (behind base xs)) ≡ false
-    → (ys : List Out) → Some n ≡ sessions.next_ask (session_of t.editors e) → ys ≡ xs ++ ToEditor e text ∷ [] → Does (λ t events. Stands settings t events) (ask body e) base t xs u ys
-put_by settings t u base xs g e body x z n text method id ps kept same l runs set gs time os r at ready lasts puts says writes asker rest free ys is said_so =
-    put_does settings t u base xs g e body z n text method id ps kept l runs set gs time os r at (ap (λ (w : Start). w.life.stage) same ∙ ready) lasts puts says writes
-    (ap (λ (w : Start). (asking_of w.life.start (behind base xs)).asker) same ∙ asker)
-    (λ s away. rest s (ap (λ (w : Start). nat_eq w.life.start s) (sym same) ∙ away))
-    (ap (λ (w : Start). list_any (is_under (Some id)) (asks_of w.life.start (behind base xs))) same ∙ free) ys is said_so
+      waits : ParkedStand qs ps_now z.parked → ParkedStand (asks_of settings z.life.start (before ++ ev ∷ [])) (parked_of settings z.life.start (before ++ ev ∷ [])) z.parked
+      waits s = subst (λ bs. ParkedStand bs (parked_of settings z.life.start (before ++ ev ∷ [])) z.parked) (sym more) (subst (λ ws. ParkedStand (qs ++ a ∷ []) ws z.parked) (sym still)
+          (parked_beside qs a ps_now z.parked (none_any (waits_under (Some id)) ps_now untaken_so.1) s))
+
+      was : WasAsked (before ++ ev ∷ []) a
+      was =
+          let k : next_ask e (before ++ ev ∷ []) ≡ next_ask e before + 1 = next_more e before ev ∙ asked_more e (next_ask e before) text (message_of text) (ap is_request says_it) in
+          (omega (arith, k, next), small)
+
+      stands : AsksStand before qs z.asks → AsksStand (before ++ ev ∷ []) (asks_of settings z.life.start (before ++ ev ∷ [])) kept
+      stands s = subst (λ bs. AsksStand (before ++ ev ∷ []) bs kept) (sym more) (subst (λ ks. AsksStand (before ++ ev ∷ []) (qs ++ a ∷ []) ks) (sym puts)
+          (put_stands before a next (before ++ ev ∷ []) qs z.asks s (asks_later Ready before ev qs z.asks s) work.text was untaken_so.0))
+
+      part : (p : Part) → PartStands p settings t.requests z before → PartStands p settings t.requests (record z { asks = kept }) (before ++ ev ∷ [])
+      part of_life h = part_quiet of_life settings t.requests z before ev refl h
+      part of_ids h = part_quiet of_ids settings t.requests z before ev refl h
+      part of_shown h = part_quiet of_shown settings t.requests z before ev refl h
+      part of_stop h = part_quiet of_stop settings t.requests z before ev refl h
+      part of_asks h = subst (λ (k : Stage). AsksAt k (before ++ ev ∷ []) (asks_of settings z.life.start (before ++ ev ∷ [])) kept) (sym ready) (stands (ready_asks z.life.stage before qs z.asks ready h))
+      part of_parked h = subst (λ (k : Stage). ParkedAt k (asks_of settings z.life.start (before ++ ev ∷ [])) (parked_of settings z.life.start (before ++ ev ∷ [])) z.parked) (sym ready) (waits (ready_parked z.life.stage qs ps_now z.parked ready h))
+
+      moves : Some n ≡ sessions.next_ask (session_of t.editors e) → Stands settings t before → Stands settings u (before ++ ev ∷ [])
+      moves is st = house_and_lasts settings t u before ev (λ m. refl) refl os r
+          (λ origins ls. asked_last settings t.requests t.origins.groups.items t.lasts.items u.lasts.items before ev g z (record z { asks = kept }) (λ m. refl) (λ m away. idle_stay settings m e before text (work.others m away)) refl at lasts refl origins
+          (λ s. record { start = one_more (start_behind z.life.group) _ _ before ev s.start; home = one_more (group_behind z.life.start) _ _ before ev s.home; own = s.own; parts = λ p. part p (s.parts p) }) ls)
+          (λ h. told_house settings before e text t u (asked_so settings t.editors before e l runs h.editors u.editors text n is (ap is_request says_it) set) gs time h) st
+
+    pub put_does : (ys : List Out) → Some n ≡ sessions.next_ask (session_of t.editors e) → ys ≡ xs ++ ToEditor e text ∷ [] → Does (λ t events. Stands settings t events) (send (ToEditor e text)) base t xs u ys
+    put_does ys is said_so = does_knowing {Stands = λ t events. Stands settings t events} (λ st.
+        let k = one_left settings t.editors before e l runs st.house.editors n is in
+        does_send settings (ToEditor e text) base t u xs ys said_so (moves k.0 (subst (λ m. m < 2 ^ 64) (sym k.0) (below (next_ask e before) k.1)) is))
+
+-- a message under that number
+pub next_says : (body text method : List ℕ) (id : Id) (ps : Option Json) (e n : ℕ) (events : List Event) → has_number e events ≡ true → n ≡ next_ask e events → message_of body ≡ request id method ps → text ≡ with_id_text body (decimal n) → IsNextAsk e events method ps text
+next_says body text method id ps e n events left next says writes = record {
+  left = left;
+  says = text_says body text method id ps n (subst (λ m. m < 2 ^ 64) (sym next) (below (next_ask e events) left)) says writes ∙ ap (λ m. request (integer (decimal m)) method ps) next;
+}
+
+-- the next number, as it is looked up
+pub next_seen : (settings : Settings) (t : List Session) (events : List Event) (e : ℕ) (o : Option ℕ) → e < length t → is_running (desk_of e events).phase ≡ true → EditorsStand settings t events → o ≡ sessions.next_ask (session_of t e) → o ≡ (if has_number e events then Some (next_ask e events) else None)
+next_seen settings t events e o l runs s is = given settings t events e l runs s o is ∙ (ap (λ b. if b then Some ((session_of t e).asks + 1) else None) (sym (left settings t events e l runs s)) ∙ ap (λ m. if has_number e events then Some m else None) (sym (counted settings t events e l runs s)))
 
 -- The documents of the groups
 

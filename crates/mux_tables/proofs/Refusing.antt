@@ -1,5 +1,5 @@
 -- L1: the asks of an editor that leaves are refused, one after the other.
-use Rattle.std.proofs.Common.{◌≡◌, ℕ, zero, suc, ◌+◌, ◌<◌, ◌≤◌, take, get_or, Bool, true, false, not, cond, List, [], ◌∷◌, ◌++◌, filter, map, length, refl, ap, sym, subst, ◌∙◌, nat_eq, append-nil, append_assoc, arith, codes, if◌then◌else◌}
+use Rattle.std.proofs.Common.{◌≡◌, ℕ, zero, suc, ◌+◌, ◌<◌, ◌≤◌, take, get_or, Bool, true, false, not, cond, List, [], ◌∷◌, ◌++◌, filter, map, length, refl, ap, sym, subst, ◌∙◌, nat_eq, append-nil, append_assoc, arith, codes}
 use Rattle.std.specs.Prelude.{Some, slice_get, slice_set}
 use Rattle.std.specs.List.{AllByRecursion}
 use Rattle.std.proofs.lemmas.List.{length-set, map-append, take_more}
@@ -20,7 +20,7 @@ use Rattle.event_model.specs.Row.{each, nothing, send}
 use Rattle.event_model.specs.Settings.{Settings}
 use Rattle.event_model.proofs.Places.{get_set_same}
 use Rattle.event_model.proofs.Turns.{behind_more, does_then}
-use Rattle.group_rows.specs.Asks.{Ask, Asking, asking_of, asks_of, is_under, is_with}
+use Rattle.group_rows.specs.Asks.{Ask, Asking, Parked, asking_of, asks_of, is_under, is_with, parked_of, waits_under}
 use Rattle.group_rows.specs.Forwarded.{moves_ids}
 use Rattle.document_model.specs.Sayings.{nothing as no_saying, saying_of}
 use Rattle.group_rows.specs.Texts.{is_synced}
@@ -28,9 +28,9 @@ use Rattle.mux_tables.specs.declared.tables.Start.{Start}
 use Rattle.mux_tables.specs.declared.tables.Tables.{Tables}
 use Rattle.mux_tables.specs.Documents.{DocumentsStand, Owed}
 use Rattle.mux_tables.specs.Refusals.{of_editor, refusal, refusals}
-use Rattle.mux_tables.specs.Stands.{AreApart, AsksAt, AsksStand, HasText, Part, of_life, of_ids, of_shown, of_stop, of_asks, PartStands, Stands, kept_ask}
+use Rattle.mux_tables.specs.Stands.{AreApart, AsksAt, AsksStand, HasText, IsFree, Part, of_life, of_ids, of_shown, of_stop, of_asks, of_parked, ParkedAt, ParkedStand, PartStands, Stands, kept_ask}
 use Rattle.mux_tables.proofs.Apart.{all_filter, less_apart, one_less, stand_filter}
-use Rattle.mux_tables.proofs.Asking.{asking_more, asks_later}
+use Rattle.mux_tables.proofs.Asking.{asking_more, asks_later, none_gone, told_asking}
 use Rattle.mux_tables.proofs.Awaited.{told_stops}
 use Rattle.mux_tables.proofs.DocumentEvents.{shared_notified}
 use Rattle.mux_tables.proofs.DocumentMoves.{Rest, documents_all, documents_last}
@@ -41,12 +41,20 @@ use Rattle.mux_tables.proofs.IdMoves.{filter_mapped}
 use Rattle.mux_tables.proofs.Seated.{set_set}
 use Rattle.mux_tables.proofs.Sent.{same_set, sent_does}
 use Rattle.mux_tables.proofs.Starts.{read_back}
+use Rattle.mux_tables.proofs.Waiting.{parked_fewer, ready_parked, under_none}
 
 -- an answer under the id of an ask ends it
-handed : (s : ℕ) (events : List Event) (body : List ℕ) (id : Id) → answered_id (message_of body) ≡ Some id → asks_of s (events ++ said (ToServer s body) ∷ []) ≡ filter (λ a. not (is_under (Some id) a)) (asks_of s events)
-handed s events body id is = ap (λ (x : Asking). x.asks) (asking_more s events (said (ToServer s body)))
-    ∙ (ap (λ b. (if b then record { asker = (asking_of s events).asker; asks = filter (λ a. not (is_under (answered_id (message_of body)) a)) (asks_of s events) } else asking_of s events).asks) (itself s)
-    ∙ ap (λ o. filter (λ a. not (is_under o a)) (asks_of s events)) is)
+handed_asking : (settings : Settings) (s : ℕ) (events : List Event) (body : List ℕ) (id : Id) → answered_id (message_of body) ≡ Some id → asking_of settings s (events ++ said (ToServer s body) ∷ []) ≡ told_asking (Some id) (asking_of settings s events) true
+handed_asking settings s events body id is = asking_more settings s events (said (ToServer s body))
+    ∙ (ap (told_asking (answered_id (message_of body)) (asking_of settings s events)) (itself s)
+    ∙ ap (λ o. told_asking o (asking_of settings s events) true) is)
+
+handed : (settings : Settings) (s : ℕ) (events : List Event) (body : List ℕ) (id : Id) → answered_id (message_of body) ≡ Some id → asks_of settings s (events ++ said (ToServer s body) ∷ []) ≡ filter (λ a. not (is_under (Some id) a)) (asks_of settings s events)
+handed settings s events body id is = ap (λ (x : Asking). x.asks) (handed_asking settings s events body id is)
+
+handed_parked : (settings : Settings) (s : ℕ) (events : List Event) (body : List ℕ) (id : Id) → answered_id (message_of body) ≡ Some id → AllByRecursion (λ (p : Parked). waits_under (Some id) p ≡ false) (parked_of settings s events)
+    → parked_of settings s (events ++ said (ToServer s body) ∷ []) ≡ parked_of settings s events
+handed_parked settings s events body id is none = ap (λ (x : Asking). x.parked) (handed_asking settings s events body id is) ∙ none_gone (waits_under (Some id)) (parked_of settings s events) none
 
 -- the asks of a start that is ready
 pub ready_asks : (stage : Stage) (events : List Event) (qs : List Ask) (kept : List route.Ask) → stage ≡ Ready → AsksAt stage events qs kept → AsksStand events qs kept
@@ -65,22 +73,30 @@ module _ (settings : Settings) (t u : Tables) (base : List Event) (xs ys : List 
   abbrev here : List Event
   here = behind base xs
 
-  pub handed_does : (Stands settings t here → kept ≡ map kept_ask (filter (λ a. not (is_under (Some id) a)) (asks_of z.life.start here))) → Does (λ t events. Stands settings t events) (send (ToServer z.life.start text)) base t xs u ys
+  pub handed_does : (Stands settings t here → (kept ≡ map kept_ask (filter (λ a. not (is_under (Some id) a)) (asks_of settings z.life.start here))) × AllByRecursion (λ (p : Parked). waits_under (Some id) p ≡ false) (parked_of settings z.life.start here)) → Does (λ t events. Stands settings t events) (send (ToServer z.life.start text)) base t xs u ys
   handed_does keeps = sent_does settings t u xs ys base g z.life.start z.life.start z y text (number_there t.lasts.items g z at) (slice_get_within t.lasts.items g z at) (read_back t.lasts.items g z at) set refl refl es gs now (ap (λ v. v.groups) os) r refl said_so
-      (λ st. told_stops t u here z.life.start text os runs) (λ st p h. part (keeps st) p h)
+      (λ st. told_stops t u here z.life.start text os runs) (λ st p h. part (keeps st).0 (keeps st).1 p h)
     where
-      stands : kept ≡ map kept_ask (filter (λ a. not (is_under (Some id) a)) (asks_of z.life.start here)) → AsksStand here (asks_of z.life.start here) z.asks → AsksStand (here ++ ev ∷ []) (asks_of z.life.start (here ++ ev ∷ [])) kept
-      stands e s = subst (λ qs. AsksStand (here ++ ev ∷ []) qs kept) (sym (handed z.life.start here text id is))
-          (subst (λ ks. AsksStand (here ++ ev ∷ []) (filter (λ a. not (is_under (Some id) a)) (asks_of z.life.start here)) ks) (sym e)
-          (asks_later Ready here ev (filter (λ a. not (is_under (Some id) a)) (asks_of z.life.start here)) (map kept_ask (filter (λ a. not (is_under (Some id) a)) (asks_of z.life.start here)))
-          (stand_filter here (λ a. not (is_under (Some id) a)) (asks_of z.life.start here) s.texts s.asked s.apart)))
+      stands : kept ≡ map kept_ask (filter (λ a. not (is_under (Some id) a)) (asks_of settings z.life.start here)) → AsksStand here (asks_of settings z.life.start here) z.asks → AsksStand (here ++ ev ∷ []) (asks_of settings z.life.start (here ++ ev ∷ [])) kept
+      stands e s = subst (λ qs. AsksStand (here ++ ev ∷ []) qs kept) (sym (handed settings z.life.start here text id is))
+          (subst (λ ks. AsksStand (here ++ ev ∷ []) (filter (λ a. not (is_under (Some id) a)) (asks_of settings z.life.start here)) ks) (sym e)
+          (asks_later Ready here ev (filter (λ a. not (is_under (Some id) a)) (asks_of settings z.life.start here)) (map kept_ask (filter (λ a. not (is_under (Some id) a)) (asks_of settings z.life.start here)))
+          (stand_filter here (λ a. not (is_under (Some id) a)) (asks_of settings z.life.start here) s.texts s.asked s.apart)))
 
-      part : kept ≡ map kept_ask (filter (λ a. not (is_under (Some id) a)) (asks_of z.life.start here)) → (p : Part) → PartStands p t.requests z here → PartStands p t.requests y (here ++ ev ∷ [])
-      part e of_life h = part_quiet of_life t.requests z here ev runs h
-      part e of_ids h = part_quiet of_ids t.requests z here ev counts h
-      part e of_shown h = part_quiet of_shown t.requests z here ev refl h
-      part e of_stop h = part_quiet of_stop t.requests z here ev runs h
-      part e of_asks h = subst (λ k. AsksAt k (here ++ ev ∷ []) (asks_of z.life.start (here ++ ev ∷ [])) kept) (sym ready) (stands e (ready_asks z.life.stage here (asks_of z.life.start here) z.asks ready h))
+      waits : AllByRecursion (λ (p : Parked). waits_under (Some id) p ≡ false) (parked_of settings z.life.start here) → ParkedStand (asks_of settings z.life.start here) (parked_of settings z.life.start here) z.parked
+          → ParkedStand (asks_of settings z.life.start (here ++ ev ∷ [])) (parked_of settings z.life.start (here ++ ev ∷ [])) z.parked
+      waits none s = subst (λ qs. ParkedStand qs (parked_of settings z.life.start (here ++ ev ∷ [])) z.parked) (sym (handed settings z.life.start here text id is))
+          (subst (λ ps. ParkedStand (filter (λ a. not (is_under (Some id) a)) (asks_of settings z.life.start here)) ps z.parked) (sym (handed_parked settings z.life.start here text id is none))
+          (parked_fewer Ready (λ a. not (is_under (Some id) a)) (asks_of settings z.life.start here) (parked_of settings z.life.start here) z.parked s))
+
+      part : kept ≡ map kept_ask (filter (λ a. not (is_under (Some id) a)) (asks_of settings z.life.start here)) → AllByRecursion (λ (p : Parked). waits_under (Some id) p ≡ false) (parked_of settings z.life.start here) → (p : Part) → PartStands p settings t.requests z here → PartStands p settings t.requests y (here ++ ev ∷ [])
+      part e none of_life h = part_quiet of_life settings t.requests z here ev runs h
+      part e none of_ids h = part_quiet of_ids settings t.requests z here ev counts h
+      part e none of_shown h = part_quiet of_shown settings t.requests z here ev refl h
+      part e none of_stop h = part_quiet of_stop settings t.requests z here ev runs h
+      part e none of_asks h = subst (λ k. AsksAt k (here ++ ev ∷ []) (asks_of settings z.life.start (here ++ ev ∷ [])) kept) (sym ready) (stands e (ready_asks z.life.stage here (asks_of settings z.life.start here) z.asks ready h))
+      part e none of_parked h = subst (λ k. ParkedAt k (asks_of settings z.life.start (here ++ ev ∷ [])) (parked_of settings z.life.start (here ++ ev ∷ [])) z.parked) (sym ready)
+          (waits none (ready_parked z.life.stage (asks_of settings z.life.start here) (parked_of settings z.life.start here) z.parked ready h))
 
 -- the tables in which these are kept of a group's last start
 abbrev pub keeping : Tables → ℕ → Start → List route.Ask → Tables
@@ -128,8 +144,8 @@ module _ (settings : Settings) (t : Tables) (base : List Event) (g e : ℕ) (z :
   Rows qs v xs u ys = Does (λ t events. Stands settings t events) (each (refusal s) (of_editor e (map kept_ask qs))) base v xs u ys
 
   -- the first of them goes
-  next : (pre post : List Ask) (a : Ask) (v u : Tables) (xs ys : List Out) → v ≡ keeping t g z (map kept_ask (pre ++ a ∷ post)) → asks_of s (behind base xs) ≡ pre ++ a ∷ post → AreApart (pre ++ a ∷ post) → HasText a
-      → (let mid = xs ++ ToServer s (error_text a.bytes request_failed) ∷ [] in asks_of s (behind base mid) ≡ pre ++ post → Rows post (keeping t g z (map kept_ask (pre ++ post))) mid u ys)
+  next : (pre post : List Ask) (a : Ask) (v u : Tables) (xs ys : List Out) → v ≡ keeping t g z (map kept_ask (pre ++ a ∷ post)) → asks_of settings s (behind base xs) ≡ pre ++ a ∷ post → AreApart (pre ++ a ∷ post) → HasText a
+      → (let mid = xs ++ ToServer s (error_text a.bytes request_failed) ∷ [] in asks_of settings s (behind base mid) ≡ pre ++ post → Rows post (keeping t g z (map kept_ask (pre ++ post))) mid u ys)
       → Does (λ t events. Stands settings t events) (each (refusal s) (kept_ask a ∷ of_editor e (map kept_ask post))) base v xs u ys
   next pre post a v u xs ys is all apart text go =
       let says = refused_says a text in
@@ -137,15 +153,20 @@ module _ (settings : Settings) (t : Tables) (base : List Event) (g e : ℕ) (z :
       let w = keeping t g z (map kept_ask (pre ++ post)) in
       let out = ToServer s (error_text a.bytes request_failed) in
       let within = slice_get_within t.lasts.items g z at in
-      let later : asks_of s (behind base (xs ++ out ∷ [])) ≡ pre ++ post = ap (asks_of s) (behind_more base xs (out ∷ [])) ∙ (handed s (behind base xs) (error_text a.bytes request_failed) a.id (ap answered_id says) ∙ (ap (filter (λ b. not (is_under (Some a.id) b))) all ∙ less)) in
+      let later : asks_of settings s (behind base (xs ++ out ∷ [])) ≡ pre ++ post = ap (asks_of settings s) (behind_more base xs (out ∷ [])) ∙ (handed settings s (behind base xs) (error_text a.bytes request_failed) a.id (ap answered_id says) ∙ (ap (filter (λ b. not (is_under (Some a.id) b))) all ∙ less)) in
       does_then (subst (λ q. Does (λ t events. Stands settings t events) (refusal s (kept_ask a)) base q xs w (xs ++ out ∷ [])) (sym is)
       (handed_does settings (keeping t g z (map kept_ask (pre ++ a ∷ post))) w base xs (xs ++ out ∷ []) g (record z { asks = map kept_ask (pre ++ a ∷ post) }) (map kept_ask (pre ++ post)) (error_text a.bytes request_failed) a.id (get_set_same t.lasts.items g _ within) ready
       (ap (requests (codes "shutdown")) says) (ap moves_ids says) (ap answered_id says) (sym (set_set t.lasts.items g _ _)) refl refl refl refl refl refl
-      (λ _. ap (map kept_ask) (sym (ap (filter (λ b. not (is_under (Some a.id) b))) all ∙ less)))))
+      (λ st. (
+        ap (map kept_ask) (sym (ap (filter (λ b. not (is_under (Some a.id) b))) all ∙ less)),
+        under_none a pre post (parked_of settings s (behind base xs)) (subst (λ qs. AllByRecursion (IsFree qs) (parked_of settings s (behind base xs))) all
+            (ready_parked z.life.stage (asks_of settings s (behind base xs)) (parked_of settings s (behind base xs)) z.parked ready
+            ((st.lasts.each g (record z { asks = map kept_ask (pre ++ a ∷ post) }) (get_set_same t.lasts.items g _ within)).parts of_parked)).free),
+      ))))
       (go later)
 
   -- one by one
-  rest : (pre post : List Ask) (v u : Tables) (xs ys : List Out) → v ≡ keeping t g z (map kept_ask (pre ++ post)) → asks_of s (behind base xs) ≡ pre ++ post → AreApart (pre ++ post) → AllByRecursion HasText post
+  rest : (pre post : List Ask) (v u : Tables) (xs ys : List Out) → v ≡ keeping t g z (map kept_ask (pre ++ post)) → asks_of settings s (behind base xs) ≡ pre ++ post → AreApart (pre ++ post) → AllByRecursion HasText post
       → ((events : List Event) → Stands settings (keeping t g z (map kept_ask (pre ++ filter (λ a. not (is_with e a)) post))) events → Stands settings u events) → ys ≡ xs ++ refusals s (of_editor e (map kept_ask post)) → Rows post v xs u ys
   rest pre [] v u xs ys is all apart texts ends outs =
       subst (λ zs. Rows [] v xs u zs) (sym (outs ∙ append-nil xs)) (subst (λ q. Rows [] q xs u xs) (sym is) (same_does settings base (keeping t g z (map kept_ask (pre ++ []))) u xs ends))
@@ -158,7 +179,7 @@ module _ (settings : Settings) (t : Tables) (base : List Event) (g e : ℕ) (z :
 
       go : (b : Bool) → ((events : List Event) → Stands settings (keeping t g z (map kept_ask (pre ++ cond (not b) (a ∷ filter (λ a. not (is_with e a)) post) (filter (λ a. not (is_with e a)) post)))) events → Stands settings u events)
           → ys ≡ xs ++ refusals s (cond b (kept_ask a ∷ of_editor e (map kept_ask post)) (of_editor e (map kept_ask post)))
-          → (asks_of s (behind base (xs ++ ToServer s (error_text a.bytes request_failed) ∷ [])) ≡ pre ++ post → ((events : List Event) → Stands settings (keeping t g z (map kept_ask (pre ++ filter (λ a. not (is_with e a)) post))) events → Stands settings u events)
+          → (asks_of settings s (behind base (xs ++ ToServer s (error_text a.bytes request_failed) ∷ [])) ≡ pre ++ post → ((events : List Event) → Stands settings (keeping t g z (map kept_ask (pre ++ filter (λ a. not (is_with e a)) post))) events → Stands settings u events)
           → ys ≡ (xs ++ ToServer s (error_text a.bytes request_failed) ∷ []) ++ refusals s (of_editor e (map kept_ask post)) → Rows post (keeping t g z (map kept_ask (pre ++ post))) (xs ++ ToServer s (error_text a.bytes request_failed) ∷ []) u ys)
           → (((events : List Event) → Stands settings (keeping t g z (map kept_ask ((pre ++ a ∷ []) ++ filter (λ a. not (is_with e a)) post))) events → Stands settings u events) → ys ≡ xs ++ refusals s (of_editor e (map kept_ask post)) → Rows post v xs u ys)
           → Does (λ t events. Stands settings t events) (each (refusal s) (cond b (kept_ask a ∷ of_editor e (map kept_ask post)) (of_editor e (map kept_ask post)))) base v xs u ys
@@ -172,7 +193,7 @@ module _ (settings : Settings) (t : Tables) (base : List Event) (g e : ℕ) (z :
       → ys ≡ xs ++ refusals s (of_editor e z.asks) → Does (λ t events. Stands settings t events) (each (refusal s) (of_editor e z.asks)) base t xs u ys
   refused_does u xs ys set es gs now os r outs = record {
     done = λ st.
-        let qs = asks_of s (behind base xs) in
+        let qs = asks_of settings s (behind base xs) in
         let k = ready_asks z.life.stage (behind base xs) qs z.asks ready ((st.lasts.each g z at).parts of_asks) in
         let first : slice_set t.lasts.items g (record z { asks = map kept_ask qs }) ≡ t.lasts.items = ap (λ ks. slice_set t.lasts.items g (record z { asks = ks })) (sym k.same) ∙ same_set t.lasts.items g z at in
         let last : filter (λ q. not (asks.is_with (Some e) q)) z.asks ≡ map kept_ask (filter (λ a. not (is_with e a)) qs) = ap (filter (λ q. not (asks.is_with (Some e) q))) k.same ∙ filter_mapped kept_ask (λ q. not (asks.is_with (Some e) q)) qs in
@@ -223,7 +244,7 @@ pub refused_documents : (settings : Settings) (owed : Owed) (t u : Tables) (base
     → Stands settings t (behind base xs) → DocumentsStand settings owed t (behind base xs) → DocumentsStand settings owed u (behind base ys)
 refused_documents settings owed t u base g e x z kept left start xs ys same at ready leaves own set ds vs outs st docs =
     let now = behind base xs in
-    let qs = asks_of x.life.start now in
+    let qs = asks_of settings x.life.start now in
     let k = ready_asks x.life.stage now qs x.asks ready ((st.lasts.each g x at).parts of_asks) in
     let there : slice_get t.lasts.items g ≡ Some z = at ∙ ap Some (sym same) in
     let those : left ≡ map kept_ask (filter (is_with e) qs) = leaves ∙ ap (λ (w : Start). of_editor e w.asks) same ∙ ap (of_editor e) k.same ∙ filter_mapped kept_ask (asks.is_with (Some e)) qs in

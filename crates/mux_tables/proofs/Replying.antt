@@ -1,5 +1,5 @@
 -- E19: an editor answers what a start asked of it.
-use Rattle.std.proofs.Common.{◌≡◌, ℕ, ◌<◌, ◌^◌, Bool, true, false, not, ◌&&◌, cond, List, [], ◌∷◌, ◌++◌, filter, find, map, length, refl, ap, sym, subst, ◌∙◌, nat_eq, arith}
+use Rattle.std.proofs.Common.{◌≡◌, ℕ, ◌<◌, ◌^◌, Bool, true, false, not, ◌&&◌, cond, List, [], ◌∷◌, ◌++◌, filter, find, map, length, refl, ap, sym, subst, ◌∙◌, nat_eq, append_assoc, arith}
 use Rattle.std.specs.Prelude.{Option, Some, None, IfSome, option_map, slice_get, slice_set}
 use Rattle.std.specs.List.{AllByRecursion}
 use Rattle.std.proofs.lemmas.Bool.{and_parts}
@@ -19,20 +19,21 @@ use Rattle.event_model.specs.Spawns.{group_behind, start_behind}
 use Rattle.event_model.proofs.Frames.{never, one_more}
 use Rattle.editor_session.specs.Sessions.{with_session}
 use Rattle.group_words.specs.Houses.{is_first_open, places, stops}
-use Rattle.group_rows.specs.Asks.{Ask, Asking, asks_of, is_seated, is_under}
+use Rattle.group_rows.specs.Asks.{Ask, Asking, Parked, asks_of, is_seated, is_under, parked_of, waits_under}
 use Rattle.group_rows.specs.Forwarded.{names}
 use Rattle.mux_tables.specs.declared.tables.Start.{Start}
 use Rattle.mux_tables.specs.declared.tables.Tables.{Tables}
 use Rattle.mux_tables.specs.Refusals.{Given, Left}
-use Rattle.mux_tables.specs.Stands.{AnswersOne, AreApart, AsksAt, AsksStand, HasText, IsOther, NamesAsk, Part, of_life, of_ids, of_shown, of_stop, of_asks, PartStands, Stands, WasAsked, kept_ask}
+use Rattle.mux_tables.specs.Stands.{AnswersOne, AreApart, AsksAt, AsksStand, HasText, IsFree, IsOther, NamesAsk, Part, of_life, of_ids, of_shown, of_stop, of_asks, of_parked, ParkedAt, PartStands, Stands, WasAsked, kept_ask}
 use Rattle.mux_tables.proofs.Apart.{all_filter, id_flip, stand_filter}
-use Rattle.mux_tables.proofs.Asking.{asking_more, asks_later, none_answered}
+use Rattle.mux_tables.proofs.Asking.{asking_more, asks_later, none_answered, parked_more}
 use Rattle.mux_tables.proofs.Frames.{part_quiet}
 use Rattle.mux_tables.proofs.Heard.{set_house}
 use Rattle.mux_tables.proofs.Lasts.{asked_last}
 use Rattle.mux_tables.proofs.Moves.{house_and_lasts}
 use Rattle.mux_tables.proofs.Phased.{phased}
 use Rattle.mux_tables.proofs.Refusing.{ready_asks}
+use Rattle.mux_tables.proofs.Waiting.{parked_fewer, ready_parked, under_none}
 
 module _ (e k : ℕ) (id : Option Id) (named : (n : ℕ) → n < 2 ^ 64 → names id n ≡ nat_eq n k) where
   same_seat : (events : List Event) (a : Ask) → WasAsked events a → is_seated e id a ≡ asks.is_seated e k (kept_ask a)
@@ -130,26 +131,29 @@ answered_at Initializing e id n events qs kept left named is s = (ap (filter (λ
 answered_at other e id n events qs kept left named is s = tt
 
 module _ (settings : Settings) (t u : Tables) (events : List Event) (g e : ℕ) (body : List ℕ) (p : Phase) (n : Option ℕ) (z : Start) (left : List route.Ask) (l : e < length t.editors) (at : slice_get t.lasts.items g ≡ Some z) (set : u.editors ≡ with_session t.editors e (phased t.editors e p))
-    (ls : u.lasts.items ≡ slice_set t.lasts.items g (record z { asks = left })) (gs : u.groups ≡ t.groups) (now : u.time ≡ t.time) (os : u.origins ≡ t.origins) (r : u.requests ≡ t.requests) (named : NamesAsk (answered_id (message_of body)) n) (is : Left e n z.asks left) (one : AnswersOne z.life.start e (message_of body) events) where
+    (ls : u.lasts.items ≡ slice_set t.lasts.items g (record z { asks = left })) (gs : u.groups ≡ t.groups) (now : u.time ≡ t.time) (os : u.origins ≡ t.origins) (r : u.requests ≡ t.requests) (named : NamesAsk (answered_id (message_of body)) n) (is : Left e n z.asks left) (one : AnswersOne settings z.life.start e (message_of body) events) where
   abbrev ev : Event
   ev = heard (FromEditor e body)
 
   abbrev y : Start
   y = record z { asks = left }
 
-  part : (q : Part) → PartStands q t.requests z events → PartStands q t.requests y (events ++ ev ∷ [])
-  part of_life h = part_quiet of_life t.requests z events ev refl h
-  part of_ids h = part_quiet of_ids t.requests z events ev refl h
-  part of_shown h = part_quiet of_shown t.requests z events ev refl h
-  part of_stop h = part_quiet of_stop t.requests z events ev refl h
-  part of_asks h = subst (λ qs. AsksAt z.life.stage (events ++ ev ∷ []) qs left) (sym (ap (λ (x : Asking). x.asks) (asking_more z.life.start events ev)))
-      (asks_later z.life.stage events ev (filter (λ a. not (is_seated e (answered_id (message_of body)) a)) (asks_of z.life.start events)) left
-      (answered_at z.life.stage e (answered_id (message_of body)) n events (asks_of z.life.start events) z.asks left named is h))
+  part : (q : Part) → PartStands q settings t.requests z events → PartStands q settings t.requests y (events ++ ev ∷ [])
+  part of_life h = part_quiet of_life settings t.requests z events ev refl h
+  part of_ids h = part_quiet of_ids settings t.requests z events ev refl h
+  part of_shown h = part_quiet of_shown settings t.requests z events ev refl h
+  part of_stop h = part_quiet of_stop settings t.requests z events ev refl h
+  part of_asks h = subst (λ qs. AsksAt z.life.stage (events ++ ev ∷ []) qs left) (sym (ap (λ (x : Asking). x.asks) (asking_more settings z.life.start events ev)))
+      (asks_later z.life.stage events ev (filter (λ a. not (is_seated e (answered_id (message_of body)) a)) (asks_of settings z.life.start events)) left
+      (answered_at z.life.stage e (answered_id (message_of body)) n events (asks_of settings z.life.start events) z.asks left named is h))
+  part of_parked h = subst (λ qs. ParkedAt z.life.stage qs (parked_of settings z.life.start (events ++ ev ∷ [])) z.parked) (sym (ap (λ (x : Asking). x.asks) (asking_more settings z.life.start events ev)))
+      (subst (λ ps. ParkedAt z.life.stage (filter (λ a. not (is_seated e (answered_id (message_of body)) a)) (asks_of settings z.life.start events)) ps z.parked) (sym (parked_more settings z.life.start events ev refl))
+      (parked_fewer z.life.stage (λ a. not (is_seated e (answered_id (message_of body)) a)) (asks_of settings z.life.start events) (parked_of settings z.life.start events) z.parked h))
 
   pub replied_moves : places (desk_of e events).phase (message_of body) ≡ false → stops events e (message_of body) ≡ false → is_first_open settings.servers events e (message_of body) ≡ false → (desk_of e (events ++ ev ∷ [])).phase ≡ p
       → Stands settings t events → Stands settings u (events ++ ev ∷ [])
   replied_moves stays goes off step st = house_and_lasts settings t u events ev (λ m. refl) refl os r
-      (λ origins lasts. asked_last t.requests t.origins.groups.items t.lasts.items u.lasts.items events ev g z y (λ m. refl) (λ m away. none_answered e m (message_of body) events (one m away)) refl at ls refl origins
+      (λ origins lasts. asked_last settings t.requests t.origins.groups.items t.lasts.items u.lasts.items events ev g z y (λ m. refl) (λ m away. none_answered settings e m body (message_of body) events (one m away)) refl at ls refl origins
       (λ s. record { start = one_more (start_behind z.life.group) _ _ events ev s.start; home = one_more (group_behind z.life.start) _ _ events ev s.home; own = s.own; parts = λ q. part q (s.parts q) }) lasts)
       (λ h.
       let k = set_house settings t (record u { lasts = t.lasts }) events e body p l set now refl os r stays step gs goes off h in
@@ -157,16 +161,16 @@ module _ (settings : Settings) (t u : Tables) (events : List Event) (g e : ℕ) 
 
 -- the same, as the code has it
 pub replied_by : (settings : Settings) (t u : Tables) (events : List Event) (g e : ℕ) (body : List ℕ) (p : Phase) (n : Option ℕ) (x z : Start) (left : List route.Ask) → e < length t.editors → slice_get t.lasts.items g ≡ Some x → z ≡ x → u.editors ≡ with_session t.editors e (phased t.editors e p)
-    → u.lasts.items ≡ slice_set t.lasts.items g (record z { asks = left }) → u.groups ≡ t.groups → u.time ≡ t.time → u.origins ≡ t.origins → u.requests ≡ t.requests → NamesAsk (answered_id (message_of body)) n → Left e n z.asks left → AnswersOne x.life.start e (message_of body) events
+    → u.lasts.items ≡ slice_set t.lasts.items g (record z { asks = left }) → u.groups ≡ t.groups → u.time ≡ t.time → u.origins ≡ t.origins → u.requests ≡ t.requests → NamesAsk (answered_id (message_of body)) n → Left e n z.asks left → AnswersOne settings x.life.start e (message_of body) events
     → places (desk_of e events).phase (message_of body) ≡ false → stops events e (message_of body) ≡ false → is_first_open settings.servers events e (message_of body) ≡ false → (desk_of e (events ++ heard (FromEditor e body) ∷ [])).phase ≡ p
     → Stands settings t events → Stands settings u (events ++ heard (FromEditor e body) ∷ [])
 replied_by settings t u events g e body p n x z left l at same set ls gs now os r named is one =
     replied_moves settings t u events g e body p n x left l at set (ls ∙ ap (λ (w : Start). slice_set t.lasts.items g (record w { asks = left })) same) gs now os r named (subst (λ (w : Start). Left e n w.asks left) same is) one
 
 pub answer_seen : (settings : Settings) (t : Tables) (events : List Event) (g e : ℕ) (id : Option Id) (n : Option ℕ) (x z : Start) (given : Option (List ℕ)) → slice_get t.lasts.items g ≡ Some x → z ≡ x → x.life.stage ≡ Ready → NamesAsk id n → Given e n z.asks given → Stands settings t events
-    → given ≡ option_map (λ (a : Ask). a.bytes) (find (is_seated e id) (asks_of x.life.start events))
+    → given ≡ option_map (λ (a : Ask). a.bytes) (find (is_seated e id) (asks_of settings x.life.start events))
 answer_seen settings t events g e id n x z given at same ready named is st =
-    answer_given e id n events (asks_of x.life.start events) x.asks given named (subst (λ (w : Start). Given e n w.asks given) same is) (ready_asks x.life.stage events (asks_of x.life.start events) x.asks ready ((st.lasts.each g x at).parts of_asks))
+    answer_given e id n events (asks_of settings x.life.start events) x.asks given named (subst (λ (w : Start). Given e n w.asks given) same is) (ready_asks x.life.stage events (asks_of settings x.life.start events) x.asks ready ((st.lasts.each g x at).parts of_asks))
 
 -- What is left has other ids than the one that is answered
 
@@ -198,10 +202,25 @@ found_alone p (a ∷ qs) h = go (p a) (found_alone p qs h.1)
     go false k = if_both (find p qs) (find_all (IsOther a) p qs h.0) k (λ c o l. (id_flip c.id a.id o.1, l))
 
 pub found_fits : (settings : Settings) (t : Tables) (before : List Event) (g e : ℕ) (body : List ℕ) (x : Start) → slice_get t.lasts.items g ≡ Some x → x.life.stage ≡ Ready → Stands settings t before
-    → IfSome (find (is_seated e (answered_id (message_of body))) (asks_of x.life.start before)) (λ a. HasText a × Alone a (asks_of x.life.start (before ++ heard (FromEditor e body) ∷ [])))
+    → IfSome (find (is_seated e (answered_id (message_of body))) (asks_of settings x.life.start before)) (λ a. HasText a × Alone a (asks_of settings x.life.start (before ++ heard (FromEditor e body) ∷ [])))
 found_fits settings t before g e body x at ready st =
-    let qs = asks_of x.life.start before in
+    let qs = asks_of settings x.life.start before in
     let k = ready_asks x.life.stage before qs x.asks ready ((st.lasts.each g x at).parts of_asks) in
     let p : Ask → Bool = is_seated e (answered_id (message_of body)) in
-    subst (λ bs. IfSome (find p qs) (λ a. HasText a × Alone a bs)) (sym (ap (λ (w : Asking). w.asks) (asking_more x.life.start before (heard (FromEditor e body)))))
+    subst (λ bs. IfSome (find p qs) (λ a. HasText a × Alone a bs)) (sym (ap (λ (w : Asking). w.asks) (asking_more settings x.life.start before (heard (FromEditor e body)))))
     (if_both (find p qs) (find_all HasText p qs k.texts) (found_alone p qs k.apart) (λ a h l. (h, l)))
+
+-- nor does anything wait under that
+pub found_unwaited : (settings : Settings) (t : Tables) (before : List Event) (g e : ℕ) (body : List ℕ) (x : Start) → slice_get t.lasts.items g ≡ Some x → x.life.stage ≡ Ready → Stands settings t before
+    → IfSome (find (is_seated e (answered_id (message_of body))) (asks_of settings x.life.start before)) (λ a. AllByRecursion (λ (p : Parked). waits_under (Some a.id) p ≡ false) (parked_of settings x.life.start (before ++ heard (FromEditor e body) ∷ [])))
+found_unwaited settings t before g e body x at ready st =
+    let qs = asks_of settings x.life.start before in
+    let ps = parked_of settings x.life.start before in
+    let k = ready_parked x.life.stage qs ps x.parked ready ((st.lasts.each g x at).parts of_parked) in
+    let p : Ask → Bool = is_seated e (answered_id (message_of body)) in
+    subst (λ ws. IfSome (find p qs) (λ a. AllByRecursion (λ (w : Parked). waits_under (Some a.id) w ≡ false) ws)) (sym (parked_more settings x.life.start before (heard (FromEditor e body)) refl))
+    (find_all (λ a. AllByRecursion (λ (w : Parked). waits_under (Some a.id) w ≡ false) ps) p qs (each_unwaited [] qs ps k.free))
+  where
+    each_unwaited : (pre qs : List Ask) (ps : List Parked) → AllByRecursion (IsFree (pre ++ qs)) ps → AllByRecursion (λ (a : Ask). AllByRecursion (λ (w : Parked). waits_under (Some a.id) w ≡ false) ps) qs
+    each_unwaited pre [] ps h = tt
+    each_unwaited pre (a ∷ qs) ps h = (under_none a pre qs ps h, each_unwaited (pre ++ a ∷ []) qs ps (subst (λ cs. AllByRecursion (IsFree cs) ps) (sym (append_assoc pre (a ∷ []) qs)) h))

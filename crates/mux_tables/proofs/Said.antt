@@ -1,6 +1,6 @@
 -- What the tables do when an out about an editor is said, as the code has it.
-use Rattle.std.proofs.Common.{◌≡◌, ℕ, ◌+◌, ◌<◌, Bool, true, false, List, [], ◌∷◌, ◌++◌, length, refl, ap, sym, subst, ◌∙◌, append-nil, nat_eq, if◌then◌else◌}
-use Rattle.std.specs.Prelude.{Option, Some, None, slice_get, slice_set}
+use Rattle.std.proofs.Common.{◌≡◌, ℕ, ◌+◌, ◌<◌, Bool, true, false, List, [], ◌∷◌, ◌++◌, length, refl, ap, sym, subst, ◌∙◌, nat_eq, if◌then◌else◌, ◌&&◌}
+use Rattle.std.specs.Prelude.{Option, Some, slice_get, slice_set}
 use Rattle.std.proofs.lemmas.Bool.{ne_eqb}
 use Rattle.std.proofs.lemmas.Option.{slice_get-get_or}
 use Rattle.std.proofs.lemmas.List.{length-set}
@@ -19,11 +19,11 @@ use Rattle.event_model.proofs.Turns.{behind_more}
 use Rattle.editor_session.specs.declared.session.Session.{Session}
 use Rattle.editor_session.specs.Sessions.{absent, is_gone, session_of, with_session}
 use Rattle.group_table.specs.Tables.{with_groups}
-use Rattle.group_rows.specs.Asks.{asking_of, asks_of, next_ask, put}
+use Rattle.group_rows.specs.Asks.{Asking, asked_next, asking_next, asking_of, is_own_work, is_patient, next_ask, serves, unparked}
 use Rattle.group_words.specs.Houses.{emptied, meant_behind, time_behind}
 use Rattle.group_words.proofs.Frames.{home_stays}
 use Rattle.mux_tables.specs.declared.tables.Tables.{Tables}
-use Rattle.mux_tables.specs.Stands.{AsksStay, CountStands, EditorsStand, GroupsStand, HouseStands, Keeps, Stands, phase_in, group_in, is_request, meant_in, stays_in}
+use Rattle.mux_tables.specs.Stands.{AsksStay, CountStands, EditorsStand, GroupsStand, HouseStands, IsAtRest, Keeps, Stands, phase_in, group_in, is_request, meant_in, stays_in}
 use Rattle.mux_tables.proofs.Counted.{asked_apart, asked_more, asked_quiet, counted_same, counted_set, next_more}
 use Rattle.mux_tables.proofs.Frames.{asks_stay, groups_stand}
 use Rattle.mux_tables.proofs.Leaves.{closed_by}
@@ -120,22 +120,26 @@ module _ (settings : Settings) (events : List Event) (e : ℕ) (body : List ℕ)
       counts n (other h) = subst (λ (o : Option Session). CountStands o (next_ask n (events ++ ev ∷ []))) (sym (get_set_other t e n y h))
           (counted_same (slice_get t n) (next_ask n events) (next_ask n (events ++ ev ∷ [])) (next_more n events ev ∙ asked_apart n (next_ask n events) e body (message_of body) (ne_eqb e n (λ q. h (sym q)))) (s.asked n))
 
--- a body of an entry in which no start asks
-pub idle_stay : (s e : ℕ) (events : List Event) (body : List ℕ) → (asking_of s events).asker ≡ None → AsksStay s events (said (ToEditor e body))
-idle_stay s e events body none = go (message_of body)
-  where
-    go : (m : Message) → AsksStay s events (did (ToEditor e body) m)
-    go (request id method ps) = ap (λ o. asks_of s events ++ put o e (next_ask e events)) none ∙ append-nil (asks_of s events)
-    go rest = refl
+-- a body of an entry in which no start asks, nor an editor
+asked_idle : (settings : Settings) (s e : ℕ) (events : List Event) (body : List ℕ) (m : Message) → IsAtRest settings s events → asking_next settings s events (asking_of settings s events) (did (ToEditor e body) m) ≡ asking_of settings s events
+asked_idle settings s e events body (request id method ps) rest =
+    ap (λ o. asked_next (is_own_work e (asking_of settings s events).runs && (is_patient method && serves settings events s e)) e (next_ask e events) (asking_of settings s events) o) rest.asker
+    ∙ ap (λ o. if is_own_work e o && (is_patient method && serves settings events s e) then unparked e (next_ask e events) (asking_of settings s events) (asking_of settings s events).parked else asking_of settings s events) rest.runs
+asked_idle settings s e events body silent rest = refl
+
+pub idle_stay : (settings : Settings) (s e : ℕ) (events : List Event) (body : List ℕ) → IsAtRest settings s events → AsksStay settings s events (said (ToEditor e body))
+idle_stay settings s e events body rest =
+    let same = asked_idle settings s e events body (message_of body) rest in
+    record { asks = ap (λ (x : Asking). x.asks) same; parked = ap (λ (x : Asking). x.parked) same }
 
 pub told_does : (settings : Settings) (t : Tables) (xs ys : List Out) (base : List Event) (e : ℕ) (body : List ℕ) → Keeps e body (behind base xs) → ys ≡ xs ++ ToEditor e body ∷ [] → Does (λ t events. Stands settings t events) (send (ToEditor e body)) base t xs t ys
 told_does settings t xs ys base e body k is = does_send settings (ToEditor e body) base t t xs ys is
-    (house_moves settings t t (behind base xs) (said (ToEditor e body)) (λ n. refl) (λ s. asks_stay s (behind base xs) (said (ToEditor e body)) k.1) refl refl refl refl (λ h. told_house settings (behind base xs) e body t t (kept_editors settings (behind base xs) e body t.editors k h.editors) refl refl h))
+    (house_moves settings t t (behind base xs) (said (ToEditor e body)) (λ n. refl) (λ s. asks_stay settings s (behind base xs) (said (ToEditor e body)) k.1) refl refl refl refl (λ h. told_house settings (behind base xs) e body t t (kept_editors settings (behind base xs) e body t.editors k h.editors) refl refl h))
 
 pub welcome_does : (settings : Settings) (t u : Tables) (xs ys : List Out) (base : List Event) (e : ℕ) (body : List ℕ) (p : Phase) → e < length t.editors → (desk_of e (behind base xs ++ said (ToEditor e body) ∷ [])).phase ≡ p → is_request (message_of body) ≡ false → u.editors ≡ with_session t.editors e (phased t.editors e p)
     → u.groups ≡ t.groups → u.time ≡ t.time → u.lasts ≡ t.lasts → u.origins ≡ t.origins → u.requests ≡ t.requests → ys ≡ xs ++ ToEditor e body ∷ [] → Does (λ t events. Stands settings t events) (send (ToEditor e body)) base t xs u ys
 welcome_does settings t u xs ys base e body p l k q es gs now ls os r is = does_send settings (ToEditor e body) base t u xs ys is
-    (house_moves settings t u (behind base xs) (said (ToEditor e body)) (λ n. refl) (λ s. asks_stay s (behind base xs) (said (ToEditor e body)) q) refl (ap (λ v. v.items) ls) os r
+    (house_moves settings t u (behind base xs) (said (ToEditor e body)) (λ n. refl) (λ s. asks_stay settings s (behind base xs) (said (ToEditor e body)) q) refl (ap (λ v. v.items) ls) os r
     (λ h. told_house settings (behind base xs) e body t u (subst (λ z. EditorsStand settings z (behind base xs ++ said (ToEditor e body) ∷ [])) (sym (es ∙ told_plain settings t.editors (behind base xs) e p l h.editors body k)) (moved_editors settings (behind base xs) e body t.editors p l k q h.editors)) gs now h))
 
 pub close_does : (settings : Settings) (t u : Tables) (xs ys : List Out) (base : List Event) (e : ℕ) (mid : List Session) (before p : Phase) (home : Option ℕ) (was : Bool) → e < length t.editors
@@ -143,5 +147,5 @@ pub close_does : (settings : Settings) (t u : Tables) (xs ys : List Out) (base :
     → mid ≡ with_session t.editors e (phased t.editors e p) → u.editors ≡ mid → u.time ≡ t.time → u.lasts ≡ t.lasts → u.origins ≡ t.origins → u.requests ≡ t.requests
     → u.groups ≡ with_groups (emptied home was (stays_in mid) t.time t.groups.groups) t.groups → ys ≡ xs ++ CloseEditor e ∷ [] → Does (λ t events. Stands settings t events) (send (CloseEditor e)) base t xs u ys
 close_does settings t u xs ys base e mid before p home was l phases homes closes begun set es now ls os r gs is = does_send settings (CloseEditor e) base t u xs ys is
-    (house_moves settings t u (behind base xs) (said (CloseEditor e)) (λ n. refl) (λ n. refl) refl (ap (λ v. v.items) ls) os r
+    (house_moves settings t u (behind base xs) (said (CloseEditor e)) (λ n. refl) (λ n. record { asks = refl; parked = refl }) refl (ap (λ v. v.items) ls) os r
     (closed_by settings (behind base xs) e not_message t u mid before p home was l phases homes closes begun (set ∙ plain t.editors e p (ap is_gone closes ∙ (closed_gone before ∙ ap is_gone phases))) es now gs))

@@ -6,13 +6,13 @@ use Rattle.std.proofs.lemmas.Bool.Decides.{nat_tests}
 use Rattle.std.proofs.lemmas.Map.Views.{Contains-from_any}
 use Rattle.ask_route.specs.declared.ask.Seat.{Seat}
 use Rattle.ask_route.specs.Tables as asks
-use Rattle.rpc_message.specs.Message.{Id}
+use Rattle.rpc_message.specs.Message.{Id, id_bytes}
 use Rattle.rpc_message.specs.ValueTexts.{IsIdText}
 use Rattle.event_model.specs.declared.stage.Stage.TheVariants.{Ready}
 use Rattle.event_model.specs.Event.{Event}
 use Rattle.event_model.specs.Settings.{Settings}
 use Rattle.group_rows.specs.AskRows.{is_among, last_among}
-use Rattle.group_rows.specs.Asks.{Ask, asks_of, is_under}
+use Rattle.group_rows.specs.Asks.{Ask, Parked, asking_of, asks_of, is_taken, is_under, parked_of, waits_under}
 use Rattle.group_rows.specs.Forwarded.{Forwarded, forwarding_of}
 use Rattle.id_rewrite.specs.declared.pending.Numbered.{Numbered}
 use Rattle.id_rewrite.specs.Tables as tables
@@ -20,10 +20,11 @@ use Rattle.id_rewrite.proofs.Finding.{texts_same}
 use Rattle.mux_tables.specs.declared.tables.Start.{Start}
 use Rattle.mux_tables.specs.declared.tables.Tables.{Tables}
 use Rattle.mux_tables.specs.Refusals.{seat_from}
-use Rattle.mux_tables.specs.Stands.{AsksStand, HasText, Stands, forwarded_of, kept_ask, number_in, of_asks, of_ids}
+use Rattle.mux_tables.specs.Stands.{AsksStand, HasText, MayWait, ParkedStand, Stands, forwarded_of, kept_ask, kept_parked, number_in, of_asks, of_ids, of_parked}
 use Rattle.mux_tables.proofs.IdMoves.{filter_mapped}
 use Rattle.mux_tables.proofs.Refusing.{ready_asks}
 use Rattle.mux_tables.proofs.Starts.{read_here, read_same, start_at_place}
+use Rattle.mux_tables.proofs.Waiting.{parked_text, ready_parked}
 
 -- the ask of an id
 module _ (i : Id) (id : List ℕ) (own : IsIdText i id) where
@@ -42,19 +43,30 @@ module _ (i : Id) (id : List ℕ) (own : IsIdText i id) where
   any_under [] h = refl
   any_under (a ∷ qs) h = ap₂ (λ b c. b || c) (same_under a h.0) (any_under qs h.1)
 
+  any_waiting : (ps : List Parked) → AllByRecursion MayWait ps → list_any (asks.is_under id) (map kept_parked ps) ≡ list_any (waits_under (Some i)) ps
+  any_waiting [] h = refl
+  any_waiting (p ∷ ps) h = ap₂ (λ b c. b || c) (texts_same i p.id id (id_bytes p.body) own (parked_text p h.0)) (any_waiting ps h.1)
+
 -- the last start of a group, which is ready
 module _ (settings : Settings) (t : Tables) (events : List Event) (g : ℕ) (x z : Start) (at : slice_get t.lasts.items g ≡ Some x) (within : g < length t.lasts.items) (read : z ≡ get_or t.lasts.items g z) (ready : x.life.stage ≡ Ready) (st : Stands settings t events) where
-  kept : AsksStand events (asks_of x.life.start events) x.asks
-  kept = ready_asks x.life.stage events (asks_of x.life.start events) x.asks ready ((st.lasts.each g x at).parts of_asks)
+  kept : AsksStand events (asks_of settings x.life.start events) x.asks
+  kept = ready_asks x.life.stage events (asks_of settings x.life.start events) x.asks ready ((st.lasts.each g x at).parts of_asks)
 
-  here : z.asks ≡ map kept_ask (asks_of x.life.start events)
+  here : z.asks ≡ map kept_ask (asks_of settings x.life.start events)
   here = ap (λ (w : Start). w.asks) (read_same t.lasts.items g z x within read at) ∙ kept.same
 
-  pub seat_seen : (i : Id) (id : List ℕ) (o : Option Seat) → IsIdText i id → o ≡ asks.seat_in (find (asks.is_under id) z.asks) → o ≡ option_map seat_from (find (is_under (Some i)) (asks_of x.life.start events))
-  seat_seen i id o own is = is ∙ (ap (λ ks. asks.seat_in (find (asks.is_under id) ks)) here ∙ found_under i id own (asks_of x.life.start events) kept.texts)
+  pub seat_seen : (i : Id) (id : List ℕ) (o : Option Seat) → IsIdText i id → o ≡ asks.seat_in (find (asks.is_under id) z.asks) → o ≡ option_map seat_from (find (is_under (Some i)) (asks_of settings x.life.start events))
+  seat_seen i id o own is = is ∙ (ap (λ ks. asks.seat_in (find (asks.is_under id) ks)) here ∙ found_under i id own (asks_of settings x.life.start events) kept.texts)
 
-  pub open_seen : (i : Id) (id : List ℕ) (b : Bool) → IsIdText i id → b ≡ list_any (asks.is_under id) z.asks → b ≡ list_any (is_under (Some i)) (asks_of x.life.start events)
-  open_seen i id b own is = is ∙ (ap (list_any (asks.is_under id)) here ∙ any_under i id own (asks_of x.life.start events) kept.texts)
+  waits : ParkedStand (asks_of settings x.life.start events) (parked_of settings x.life.start events) x.parked
+  waits = ready_parked x.life.stage (asks_of settings x.life.start events) (parked_of settings x.life.start events) x.parked ready ((st.lasts.each g x at).parts of_parked)
+
+  there : z.parked ≡ map kept_parked (parked_of settings x.life.start events)
+  there = ap (λ (w : Start). w.parked) (read_same t.lasts.items g z x within read at) ∙ waits.same
+
+  pub open_seen : (i : Id) (id : List ℕ) (b : Bool) → IsIdText i id → b ≡ (list_any (asks.is_under id) z.asks || list_any (asks.is_under id) z.parked) → b ≡ is_taken (Some i) (asking_of settings x.life.start events)
+  open_seen i id b own is = is ∙ ap₂ (λ c d. c || d) (ap (list_any (asks.is_under id)) here ∙ any_under i id own (asks_of settings x.life.start events) kept.texts)
+      (ap (list_any (asks.is_under id)) there ∙ any_waiting i id own (parked_of settings x.life.start events) waits.bodies)
 
 -- it is of one of them
 last_passes : (p : Numbered → Bool) (o : Option Numbered) (rs : List Numbered) → IfSome o (λ r. p r ≡ true) → IfSome (last_or o (filter p rs)) (λ r. p r ≡ true)

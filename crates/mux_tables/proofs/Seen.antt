@@ -84,7 +84,7 @@ module _ (settings : Settings) (t : Tables) (events : List Event) (s : ℕ) (st 
     outside g h lost = go (st.lasts.old s g (st.origins.group s ∙ h))
       where
         go : (start_of g events ≡ Some s) ⊎ ((life_of s events).stage ≡ Ended) → P (life_of s events)
-        go (inl e) = ended (life_of s events) (lost_ended t.requests g s events (st.lasts.lost g s (lost st.lasts.rise) e))
+        go (inl e) = ended (life_of s events) (lost_ended settings t.requests g s events (st.lasts.lost g s (lost st.lasts.rise) e))
         go (inr e) = ended (life_of s events) e
 
     other : (g p : ℕ) (z : Start) → slice_get t.origins.groups.items s ≡ Some g → p < length t.lasts.items → z ≡ get_or t.lasts.items p z → ((x : Start) → slice_get t.lasts.items p ≡ Some x → x.life.group ≡ g) → (z.life.start ≡ s → ⊥) → P (life_of s events)
@@ -120,7 +120,7 @@ placed_nowhere settings t events e s l is n starts = absurd (none_some (sym (hom
     none_some h = cc
 
 pub placed_past : (settings : Settings) (t : Tables) (events : List Event) (e g : ℕ) → Stands settings t events → e < length t.editors → Some g ≡ (session_of t.editors e).group → (Rise 0 t.lasts.items → IsLost g t.lasts.items) → HasEnded (start_for settings e events) events
-placed_past settings t events e g s l is lost n starts = lost_ended t.requests g n events (s.lasts.lost g n (lost s.lasts.rise) (sym (home_seen settings t events e (Some g) s l is) ∙ starts))
+placed_past settings t events e g s l is lost n starts = lost_ended settings t.requests g n events (s.lasts.lost g n (lost s.lasts.rise) (sym (home_seen settings t events e (Some g) s l is) ∙ starts))
 
 pub placed_here : (settings : Settings) (t : Tables) (events : List Event) (e g p : ℕ) (x : Start) → Stands settings t events → e < length t.editors → Some g ≡ (session_of t.editors e).group → slice_get t.lasts.items p ≡ Some x → x.life.group ≡ g → start_for settings e events ≡ Some x.life.start
 placed_here settings t events e g p x s l is at own = home_seen settings t events e (Some g) s l is ∙ (ap (λ n. start_of n events) (sym own) ∙ (s.lasts.each p x at).start)

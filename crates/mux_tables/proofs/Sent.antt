@@ -27,15 +27,15 @@ use Rattle.mux_tables.specs.declared.tables.Tables.{Tables}
 use Rattle.group_rows.specs.Forwarded.{forwarding_of, is_written, moves_ids}
 use Rattle.group_rows.specs.Ticks.{is_stopping, stop_of}
 use Rattle.group_words.specs.Houses.{time_of}
-use Rattle.mux_tables.specs.Stands.{AsksStay, Part, of_life, of_ids, of_shown, of_stop, of_asks, PartStands, Sends, Stands, StopAt, forwarded_of, is_answer, number_in, unstopped}
+use Rattle.mux_tables.specs.Stands.{AsksStay, Part, of_life, of_ids, of_shown, of_stop, of_asks, of_parked, PartStands, Sends, Stands, StopAt, forwarded_of, is_answer, number_in, unstopped}
 use Rattle.event_model.specs.Requests.{answered_id}
-use Rattle.group_rows.specs.Asks.{Ask, asks_of, is_under}
-use Rattle.mux_tables.proofs.Asking.{none_handed, told_asks}
+use Rattle.group_rows.specs.Asks.{Ask, Parked, asks_of, is_under, parked_of, waits_under}
+use Rattle.mux_tables.proofs.Asking.{none_handed, told_asks, told_parked}
 use Rattle.mux_tables.proofs.Frames.{asks_stay, groups_stand, itself, part_quiet, stop_more}
 use Rattle.mux_tables.proofs.IdMoves.{cancelled_ids, sent_as, sent_ids}
 use Rattle.mux_tables.proofs.Lasts.{known}
 use Rattle.mux_tables.proofs.Said.{does_send}
-use Rattle.mux_tables.proofs.Starts.{groups_kept, is_late, late_asks, late_shown, no_stop, part_ids, part_life, read_here, start_at_place, start_moves, still_asks, still_ids, still_life, still_shown, still_stop}
+use Rattle.mux_tables.proofs.Starts.{groups_kept, is_late, late_asks, late_parked, late_shown, no_stop, part_ids, part_life, read_here, start_at_place, start_moves, still_asks, still_ids, still_life, still_parked, still_shown, still_stop}
 use Rattle.mux_tables.proofs.Awaited.{Added, StopsMove, stop_added, stopping_less, told_stops}
 
 pub same_set : (xs : List Start) (g : ℕ) (z : Start) → slice_get xs g ≡ Some z → slice_set xs g z ≡ xs
@@ -47,7 +47,7 @@ same_set (x ∷ xs) (suc g) z h = ap (λ ws. x ∷ ws) (same_set xs g z h)
 module _ (settings : Settings) (t u : Tables) (xs ys : List Out) (base : List Event) (g s start : ℕ) (z y : Start) (text : List ℕ) (at : slice_get (map number_in t.lasts.items) g ≡ Some s) (within : g < length t.lasts.items) (read : z ≡ get_or t.lasts.items g z)
     (set : u.lasts.items ≡ slice_set t.lasts.items g y) (own : y.life.start ≡ z.life.start) (group : y.life.group ≡ z.life.group) (es : u.editors ≡ t.editors) (gs : u.groups ≡ t.groups) (now : u.time ≡ t.time) (os : u.origins.groups ≡ t.origins.groups) (r : u.requests ≡ t.requests)
     (is : start ≡ z.life.start) (said_so : ys ≡ xs ++ ToServer start text ∷ []) where
-  pub sent_does : (Stands settings t (behind base xs) → StopsMove t u (behind base xs) (said (ToServer s text))) → (Stands settings t (behind base xs) → (p : Part) → PartStands p t.requests z (behind base xs) → PartStands p t.requests y (behind base xs ++ said (ToServer z.life.start text) ∷ [])) → Does (λ t events. Stands settings t events) (send (ToServer s text)) base t xs u ys
+  pub sent_does : (Stands settings t (behind base xs) → StopsMove t u (behind base xs) (said (ToServer s text))) → (Stands settings t (behind base xs) → (p : Part) → PartStands p settings t.requests z (behind base xs) → PartStands p settings t.requests y (behind base xs ++ said (ToServer z.life.start text) ∷ [])) → Does (λ t events. Stands settings t events) (send (ToServer s text)) base t xs u ys
   sent_does stops parts =
       let here : z.life.start ≡ s = start_at_place t.lasts.items g s z (read_here t.lasts.items g z within read) at in
       does_send settings (ToServer s text) base t u xs ys (said_so ∙ ap (λ n. xs ++ ToServer n text ∷ []) (is ∙ here))
@@ -59,7 +59,7 @@ module _ (settings : Settings) (t u : Tables) (xs ys : List Out) (base : List Ev
 module _ (settings : Settings) (t u : Tables) (xs ys : List Out) (base : List Event) (g s start : ℕ) (z y : Start) (at : slice_get (map number_in t.lasts.items) g ≡ Some s) (within : g < length t.lasts.items) (read : z ≡ get_or t.lasts.items g z)
     (set : u.lasts.items ≡ slice_set t.lasts.items g y) (own : y.life.start ≡ z.life.start) (group : y.life.group ≡ z.life.group) (es : u.editors ≡ t.editors) (gs : u.groups ≡ t.groups) (now : u.time ≡ t.time) (os : u.origins.groups ≡ t.origins.groups) (r : u.requests ≡ t.requests)
     (is : start ≡ z.life.start) (said_so : ys ≡ xs ++ EndServer start ∷ []) where
-  ended_with : StopsMove t u (behind base xs) (said (EndServer s)) → ((p : Part) → PartStands p t.requests z (behind base xs) → PartStands p t.requests y (behind base xs ++ said (EndServer z.life.start) ∷ [])) → Does (λ t events. Stands settings t events) (send (EndServer s)) base t xs u ys
+  ended_with : StopsMove t u (behind base xs) (said (EndServer s)) → ((p : Part) → PartStands p settings t.requests z (behind base xs) → PartStands p settings t.requests y (behind base xs ++ said (EndServer z.life.start) ∷ [])) → Does (λ t events. Stands settings t events) (send (EndServer s)) base t xs u ys
   ended_with stops parts =
       let here : z.life.start ≡ s = start_at_place t.lasts.items g s z (read_here t.lasts.items g z within read) at in
       does_send settings (EndServer s) base t u xs ys (said_so ∙ ap (λ n. xs ++ EndServer n ∷ []) (is ∙ here))
@@ -69,31 +69,32 @@ module _ (settings : Settings) (t u : Tables) (xs ys : List Out) (base : List Ev
 
 -- one that moves no table of a start
 pub unmoved_does : (settings : Settings) (t u : Tables) (xs ys : List Out) (base : List Event) (g s start : ℕ) (z : Start) (text : List ℕ) → slice_get (map number_in t.lasts.items) g ≡ Some s → g < length t.lasts.items → z ≡ get_or t.lasts.items g z
-    → requests (codes "shutdown") (message_of text) ≡ false → moves_ids (message_of text) ≡ false → (is_ready z.life.stage ≡ true → AsksStay z.life.start (behind base xs) (said (ToServer z.life.start text))) → u.lasts.items ≡ t.lasts.items → u.editors ≡ t.editors → u.groups ≡ t.groups → u.time ≡ t.time → u.origins ≡ t.origins → u.requests ≡ t.requests
+    → requests (codes "shutdown") (message_of text) ≡ false → moves_ids (message_of text) ≡ false → (is_ready z.life.stage ≡ true → AsksStay settings z.life.start (behind base xs) (said (ToServer z.life.start text))) → u.lasts.items ≡ t.lasts.items → u.editors ≡ t.editors → u.groups ≡ t.groups → u.time ≡ t.time → u.origins ≡ t.origins → u.requests ≡ t.requests
     → start ≡ z.life.start → ys ≡ xs ++ ToServer start text ∷ [] → Does (λ t events. Stands settings t events) (send (ToServer s text)) base t xs u ys
 unmoved_does settings t u xs ys base g s start z text at within read runs counts silent ls es gs now os r is said_so =
     sent_does settings t u xs ys base g s start z z text at within read (ls ∙ sym (same_set t.lasts.items g z (read_here t.lasts.items g z within read))) refl refl es gs now (ap (λ v. v.groups) os) r is said_so (λ st. told_stops t u (behind base xs) s text os runs) (λ st p h. part p h)
   where
-    part : (p : Part) → PartStands p t.requests z (behind base xs) → PartStands p t.requests z (behind base xs ++ said (ToServer z.life.start text) ∷ [])
-    part of_life h = part_quiet of_life t.requests z (behind base xs) (said (ToServer z.life.start text)) runs h
-    part of_ids h = part_quiet of_ids t.requests z (behind base xs) (said (ToServer z.life.start text)) counts h
-    part of_shown h = part_quiet of_shown t.requests z (behind base xs) (said (ToServer z.life.start text)) refl h
-    part of_stop h = part_quiet of_stop t.requests z (behind base xs) (said (ToServer z.life.start text)) runs h
-    part of_asks h = told_asks z.life.stage z.life.start (behind base xs) text (message_of text) z.asks silent h
+    part : (p : Part) → PartStands p settings t.requests z (behind base xs) → PartStands p settings t.requests z (behind base xs ++ said (ToServer z.life.start text) ∷ [])
+    part of_life h = part_quiet of_life settings t.requests z (behind base xs) (said (ToServer z.life.start text)) runs h
+    part of_ids h = part_quiet of_ids settings t.requests z (behind base xs) (said (ToServer z.life.start text)) counts h
+    part of_shown h = part_quiet of_shown settings t.requests z (behind base xs) (said (ToServer z.life.start text)) refl h
+    part of_stop h = part_quiet of_stop settings t.requests z (behind base xs) (said (ToServer z.life.start text)) runs h
+    part of_asks h = told_asks settings z.life.stage z.life.start (behind base xs) text (message_of text) z.asks silent h
+    part of_parked h = told_parked settings z.life.stage z.life.start (behind base xs) text (message_of text) z.parked silent h
 
 -- nor any other
 pub notify_does : (settings : Settings) (t : Tables) (xs ys : List Out) (base : List Event) (g s start : ℕ) (z : Start) (text : List ℕ) → slice_get (map number_in t.lasts.items) g ≡ Some s → g < length t.lasts.items → z ≡ get_or t.lasts.items g z
     → requests (codes "shutdown") (message_of text) ≡ false → moves_ids (message_of text) ≡ false → (is_ready z.life.stage ≡ true → is_answer (message_of text) ≡ false) → start ≡ z.life.start → ys ≡ xs ++ ToServer start text ∷ [] → Does (λ t events. Stands settings t events) (send (ToServer s text)) base t xs t ys
-notify_does settings t xs ys base g s start z text at within read runs counts silent is said_so = unmoved_does settings t t xs ys base g s start z text at within read runs counts (λ ready. asks_stay z.life.start (behind base xs) (said (ToServer z.life.start text)) (silent ready)) refl refl refl refl refl refl is said_so
+notify_does settings t xs ys base g s start z text at within read runs counts silent is said_so = unmoved_does settings t t xs ys base g s start z text at within read runs counts (λ ready. asks_stay settings z.life.start (behind base xs) (said (ToServer z.life.start text)) (silent ready)) refl refl refl refl refl refl is said_so
 
 -- an answer under the id of no ask that is left
 pub respond_does : (settings : Settings) (t : Tables) (xs ys : List Out) (base : List Event) (g s start : ℕ) (z : Start) (text : List ℕ) → slice_get (map number_in t.lasts.items) g ≡ Some s → g < length t.lasts.items → z ≡ get_or t.lasts.items g z
-    → requests (codes "shutdown") (message_of text) ≡ false → moves_ids (message_of text) ≡ false → AllByRecursion (λ (a : Ask). is_under (answered_id (message_of text)) a ≡ false) (asks_of s (behind base xs)) → start ≡ z.life.start → ys ≡ xs ++ ToServer start text ∷ []
+    → requests (codes "shutdown") (message_of text) ≡ false → moves_ids (message_of text) ≡ false → AllByRecursion (λ (a : Ask). is_under (answered_id (message_of text)) a ≡ false) (asks_of settings s (behind base xs)) → AllByRecursion (λ (p : Parked). waits_under (answered_id (message_of text)) p ≡ false) (parked_of settings s (behind base xs)) → start ≡ z.life.start → ys ≡ xs ++ ToServer start text ∷ []
     → Does (λ t events. Stands settings t events) (send (ToServer s text)) base t xs t ys
-respond_does settings t xs ys base g s start z text at within read runs counts free is said_so =
+respond_does settings t xs ys base g s start z text at within read runs counts free none is said_so =
     let same : z.life.start ≡ s = start_at_place t.lasts.items g s z (read_here t.lasts.items g z within read) at in
     unmoved_does settings t t xs ys base g s start z text at within read runs counts
-    (λ _. none_handed z.life.start (behind base xs) text (message_of text) (subst (λ n. AllByRecursion (λ (a : Ask). is_under (answered_id (message_of text)) a ≡ false) (asks_of n (behind base xs))) (sym same) free)) refl refl refl refl refl refl is said_so
+    (λ _. none_handed settings z.life.start (behind base xs) text (message_of text) (subst (λ n. AllByRecursion (λ (a : Ask). is_under (answered_id (message_of text)) a ≡ false) (asks_of settings n (behind base xs))) (sym same) free) (subst (λ n. AllByRecursion (λ (p : Parked). waits_under (answered_id (message_of text)) p ≡ false) (parked_of settings n (behind base xs))) (sym same) none)) refl refl refl refl refl refl is said_so
 
 not_shutdown : (method : List ℕ) → is_own method ≡ false → bytes_eq (codes "shutdown") method ≡ false
 not_shutdown method h = go (bytes_eq (codes "shutdown") method) refl
@@ -113,13 +114,14 @@ forward_does settings t u xs ys base g s start e z ids pending text id method na
     let here : z.life.start ≡ s = start_at_place t.lasts.items g s z (read_here t.lasts.items g z within read) at in
     sent_does settings t u xs ys base g s start z y text at within read set refl refl es gs now (ap (λ v. v.groups) os) r is said_so (λ st. told_stops t u (behind base xs) s text os (ap (requests (codes "shutdown")) says ∙ not_shutdown method own)) (λ st p h. part (subst (λ n. Sends n e id (behind base xs)) (sym here) sends) p h)
   where
-    part : Sends z.life.start e id (behind base xs) → (p : Part) → PartStands p t.requests z (behind base xs) → PartStands p t.requests (record z { ids = ids }) (behind base xs ++ said (ToServer z.life.start text) ∷ [])
-    part sends of_life h = still_life t.requests (behind base xs) (said (ToServer z.life.start text)) z (record z { ids = ids }) refl refl (ap (requests (codes "shutdown")) says ∙ not_shutdown method own) h
-    part sends of_ids h = part_ids t.requests (behind base xs) (said (ToServer z.life.start text)) z (record z { ids = ids }) refl
+    part : Sends z.life.start e id (behind base xs) → (p : Part) → PartStands p settings t.requests z (behind base xs) → PartStands p settings t.requests (record z { ids = ids }) (behind base xs ++ said (ToServer z.life.start text) ∷ [])
+    part sends of_life h = still_life settings t.requests (behind base xs) (said (ToServer z.life.start text)) z (record z { ids = ids }) refl refl (ap (requests (codes "shutdown")) says ∙ not_shutdown method own) h
+    part sends of_ids h = part_ids settings t.requests (behind base xs) (said (ToServer z.life.start text)) z (record z { ids = ids }) refl
         (sent_ids t.requests z.life.start z.ids ids (forwarding_of z.life.start (behind base xs)) text method (message_of text) name ps (record { number = z.ids.next; pending = pending }) (record { editor = e; id = id }) says own sends kept put next limit order) h
-    part sends of_shown h = still_shown t.requests (behind base xs) (said (ToServer z.life.start text)) z (record z { ids = ids }) refl refl refl h
-    part sends of_stop h = still_stop t.requests (behind base xs) (said (ToServer z.life.start text)) z (record z { ids = ids }) refl (ap (requests (codes "shutdown")) says ∙ not_shutdown method own) h
-    part sends of_asks h = still_asks t.requests (behind base xs) (said (ToServer z.life.start text)) z (record z { ids = ids }) refl refl (ap is_answer says) h
+    part sends of_shown h = still_shown settings t.requests (behind base xs) (said (ToServer z.life.start text)) z (record z { ids = ids }) refl refl refl h
+    part sends of_stop h = still_stop settings t.requests (behind base xs) (said (ToServer z.life.start text)) z (record z { ids = ids }) refl (ap (requests (codes "shutdown")) says ∙ not_shutdown method own) h
+    part sends of_asks h = still_asks settings t.requests (behind base xs) (said (ToServer z.life.start text)) z (record z { ids = ids }) refl refl (ap is_answer says) h
+    part sends of_parked h = still_parked settings t.requests (behind base xs) (said (ToServer z.life.start text)) z (record z { ids = ids }) refl refl (ap is_answer says) h
 
 -- a cancel
 pub cancel_does : (settings : Settings) (t u : Tables) (xs ys : List Out) (base : List Event) (g s start n : ℕ) (z : Start) (ids : Table) (text method : List ℕ) (ps : Option Json) → slice_get (map number_in t.lasts.items) g ≡ Some s → g < length t.lasts.items → z ≡ get_or t.lasts.items g z
@@ -130,13 +132,14 @@ pub cancel_does : (settings : Settings) (t u : Tables) (xs ys : List Out) (base 
 cancel_does settings t u xs ys base g s start n z ids text method ps at within read says cancels written put next limit order set es gs now os r is said_so =
     sent_does settings t u xs ys base g s start z (record z { ids = ids }) text at within read set refl refl es gs now (ap (λ v. v.groups) os) r is said_so (λ st. told_stops t u (behind base xs) s text os (ap (requests (codes "shutdown")) says)) (λ st p h. part st p h)
   where
-    part : Stands settings t (behind base xs) → (p : Part) → PartStands p t.requests z (behind base xs) → PartStands p t.requests (record z { ids = ids }) (behind base xs ++ said (ToServer z.life.start text) ∷ [])
-    part st of_life h = still_life t.requests (behind base xs) (said (ToServer z.life.start text)) z (record z { ids = ids }) refl refl (ap (requests (codes "shutdown")) says) h
-    part st of_ids h = part_ids t.requests (behind base xs) (said (ToServer z.life.start text)) z (record z { ids = ids }) refl
+    part : Stands settings t (behind base xs) → (p : Part) → PartStands p settings t.requests z (behind base xs) → PartStands p settings t.requests (record z { ids = ids }) (behind base xs ++ said (ToServer z.life.start text) ∷ [])
+    part st of_life h = still_life settings t.requests (behind base xs) (said (ToServer z.life.start text)) z (record z { ids = ids }) refl refl (ap (requests (codes "shutdown")) says) h
+    part st of_ids h = part_ids settings t.requests (behind base xs) (said (ToServer z.life.start text)) z (record z { ids = ids }) refl
         (cancelled_ids t.requests z.life.start z.ids ids (forwarding_of z.life.start (behind base xs)) text method (message_of text) ps n st.range says cancels written put next limit order) h
-    part st of_shown h = still_shown t.requests (behind base xs) (said (ToServer z.life.start text)) z (record z { ids = ids }) refl refl refl h
-    part st of_stop h = still_stop t.requests (behind base xs) (said (ToServer z.life.start text)) z (record z { ids = ids }) refl (ap (requests (codes "shutdown")) says) h
-    part st of_asks h = still_asks t.requests (behind base xs) (said (ToServer z.life.start text)) z (record z { ids = ids }) refl refl (ap is_answer says) h
+    part st of_shown h = still_shown settings t.requests (behind base xs) (said (ToServer z.life.start text)) z (record z { ids = ids }) refl refl refl h
+    part st of_stop h = still_stop settings t.requests (behind base xs) (said (ToServer z.life.start text)) z (record z { ids = ids }) refl (ap (requests (codes "shutdown")) says) h
+    part st of_asks h = still_asks settings t.requests (behind base xs) (said (ToServer z.life.start text)) z (record z { ids = ids }) refl refl (ap is_answer says) h
+    part st of_parked h = still_parked settings t.requests (behind base xs) (said (ToServer z.life.start text)) z (record z { ids = ids }) refl refl (ap is_answer says) h
 
 -- the numbers that are kept, where one more goes to its place among them
 abbrev pub Adds : ℕ → Tables → Tables → Type 0
@@ -170,7 +173,7 @@ shut_does settings t u xs ys base g s start n z life text name ps at within read
 
     awaited : Stands settings t (behind base xs) → StopsMove t u (behind base xs) (said (ToServer s text))
     awaited st h =
-        let there : s < starts_of (behind base xs) = subst (λ k. k < starts_of (behind base xs)) same (known t.requests t.origins.groups.items (behind base xs) z.life.group z st.origins (st.lasts.each g z here)) in
+        let there : s < starts_of (behind base xs) = subst (λ k. k < starts_of (behind base xs)) same (known settings t.requests t.origins.groups.items (behind base xs) z.life.group z st.origins (st.lasts.each g z here)) in
         let x : Added (behind base xs) s text = stop_added (behind base xs) s text there (subst (λ k. (life_of k (behind base xs)).stage ≡ Ready) same (stage_here st)) asks in
         x.now ∙ sym (subst (λ k. Adds k t u) (is ∙ own ∙ same) adds x.low x.high (sym h ∙ x.was) x.under x.over)
 
@@ -180,13 +183,14 @@ shut_does settings t u xs ys base g s start n z life text name ps at within read
         ∙ ap (λ k. if is_ready k && requests (codes "shutdown") (message_of text) then Some (time_of (behind base xs)) else stop_of z.life.start (behind base xs)) (stage_here st)
         ∙ ap (λ b. if b then Some (time_of (behind base xs)) else stop_of z.life.start (behind base xs)) asks ∙ ap (λ k. Some k) st.house.now
 
-    part : Stands settings t (behind base xs) → (p : Part) → PartStands p t.requests z (behind base xs) → PartStands p t.requests y (behind base xs ++ said (ToServer z.life.start text) ∷ [])
-    part st of_life h = part_life t.requests (behind base xs) (said (ToServer z.life.start text)) z y own
+    part : Stands settings t (behind base xs) → (p : Part) → PartStands p settings t.requests z (behind base xs) → PartStands p settings t.requests y (behind base xs ++ said (ToServer z.life.start text) ∷ [])
+    part st of_life h = part_life settings t.requests (behind base xs) (said (ToServer z.life.start text)) z y own
         (rw (itself z.life.start) (ap (λ k. record { stage = k; started = z.started }) (rw (ready, says) refl ∙ ap (λ (l : Standing). l.stage) (sym stops)))) h
-    part st of_ids h = still_ids t.requests (behind base xs) (said (ToServer z.life.start text)) z y own refl (ap moves_ids says) h
-    part st of_shown h = late_shown t.requests (behind base xs ++ said (ToServer z.life.start text) ∷ []) y (ap (λ (l : Standing). is_late l.stage) stops)
+    part st of_ids h = still_ids settings t.requests (behind base xs) (said (ToServer z.life.start text)) z y own refl (ap moves_ids says) h
+    part st of_shown h = late_shown settings t.requests (behind base xs ++ said (ToServer z.life.start text) ∷ []) y (ap (λ (l : Standing). is_late l.stage) stops)
     part st of_stop h = subst (λ (l : Standing). StopAt l.stage l.stopping (stop_of l.start (behind base xs ++ said (ToServer z.life.start text) ∷ []))) (sym stops) (sym (moment st))
-    part st of_asks h = late_asks t.requests (behind base xs ++ said (ToServer z.life.start text) ∷ []) y (ap (λ (l : Standing). is_late l.stage) stops)
+    part st of_asks h = late_asks settings t.requests (behind base xs ++ said (ToServer z.life.start text) ∷ []) y (ap (λ (l : Standing). is_late l.stage) stops)
+    part st of_parked h = late_parked settings t.requests (behind base xs ++ said (ToServer z.life.start text) ∷ []) y (ap (λ (l : Standing). is_late l.stage) stops)
 
 ending : (g : Stage) → (g ≡ Ended → ⊥) → stage_ending g ≡ Ending
 ending Ended h = absurd (h refl)
@@ -211,10 +215,11 @@ end_does settings t u xs ys base g s start z life at within read runs ends cease
     over same h = stopping_less (behind base xs) (said (EndServer s)) s refl (λ m. refl) (ending_over s (life_of s (behind base xs)))
         ∙ ap (unstopped s) h ∙ ap (λ k. unstopped k t.origins.stopping.items) (sym same) ∙ sym ceases
 
-    part : life.start ≡ z.life.start → (p : Part) → PartStands p t.requests z (behind base xs) → PartStands p t.requests (record z { life = life; shown = None }) (behind base xs ++ said (EndServer z.life.start) ∷ [])
-    part own of_life h = part_life t.requests (behind base xs) (said (EndServer z.life.start)) z (record z { life = life; shown = None }) own
+    part : life.start ≡ z.life.start → (p : Part) → PartStands p settings t.requests z (behind base xs) → PartStands p settings t.requests (record z { life = life; shown = None }) (behind base xs ++ said (EndServer z.life.start) ∷ [])
+    part own of_life h = part_life settings t.requests (behind base xs) (said (EndServer z.life.start)) z (record z { life = life; shown = None }) own
         (rw (itself z.life.start) (ap (λ k. record { stage = k; started = z.started }) (ending z.life.stage runs ∙ ap (λ (l : Standing). l.stage) (sym ends)))) h
-    part own of_ids h = still_ids t.requests (behind base xs) (said (EndServer z.life.start)) z (record z { life = life; shown = None }) own refl refl h
-    part own of_shown h = late_shown t.requests (behind base xs ++ said (EndServer z.life.start) ∷ []) (record z { life = life; shown = None }) (ap (λ (l : Standing). is_late l.stage) ends)
-    part own of_stop h = no_stop t.requests (behind base xs ++ said (EndServer z.life.start) ∷ []) (record z { life = life; shown = None }) (ap (λ (l : Standing). is_stopping l.stage) ends)
-    part own of_asks h = late_asks t.requests (behind base xs ++ said (EndServer z.life.start) ∷ []) (record z { life = life; shown = None }) (ap (λ (l : Standing). is_late l.stage) ends)
+    part own of_ids h = still_ids settings t.requests (behind base xs) (said (EndServer z.life.start)) z (record z { life = life; shown = None }) own refl refl h
+    part own of_shown h = late_shown settings t.requests (behind base xs ++ said (EndServer z.life.start) ∷ []) (record z { life = life; shown = None }) (ap (λ (l : Standing). is_late l.stage) ends)
+    part own of_stop h = no_stop settings t.requests (behind base xs ++ said (EndServer z.life.start) ∷ []) (record z { life = life; shown = None }) (ap (λ (l : Standing). is_stopping l.stage) ends)
+    part own of_asks h = late_asks settings t.requests (behind base xs ++ said (EndServer z.life.start) ∷ []) (record z { life = life; shown = None }) (ap (λ (l : Standing). is_late l.stage) ends)
+    part own of_parked h = late_parked settings t.requests (behind base xs ++ said (EndServer z.life.start) ∷ []) (record z { life = life; shown = None }) (ap (λ (l : Standing). is_late l.stage) ends)

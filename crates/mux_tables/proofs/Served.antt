@@ -23,14 +23,15 @@ use Rattle.restart_replay.specs.Standings.{Standing, moved}
 use Rattle.group_rows.specs.Ticks.{is_stopping, stop_of}
 use Rattle.mux_tables.specs.declared.tables.Start.{Start}
 use Rattle.mux_tables.specs.declared.tables.Tables.{Tables}
+use Rattle.ask_route.specs.declared.ask.Ask as route
 use Rattle.group_rows.specs.Forwarded.{Forwarding, forwarding_behind, forwarding_of, is_under}
-use Rattle.group_rows.specs.Asks.{Ask, asks_of}
-use Rattle.mux_tables.specs.Stands.{AsksAt, Exits, IdsAt, NamesAt, Part, of_life, of_ids, of_shown, of_stop, of_asks, PartStands, ShownAt, Stands, StopAt, begun_at, forwarded_as, is_early, number_in, unstopped}
-use Rattle.mux_tables.proofs.Asking.{begun_asks, first_asks}
+use Rattle.group_rows.specs.Asks.{Ask, asks_of, parked_of}
+use Rattle.mux_tables.specs.Stands.{AsksAt, Exits, IdsAt, NamesAt, Part, of_life, of_ids, of_shown, of_stop, of_asks, of_parked, ParkedAt, ParkedStay, PartStands, ShownAt, Stands, StopAt, begun_at, forwarded_as, is_early, is_request, number_in, unstopped}
+use Rattle.mux_tables.proofs.Asking.{begun_asks, begun_parked, first_asks, first_parked, parked_by}
 use Rattle.mux_tables.proofs.Exits.{lost_groups, refused_groups}
-use Rattle.mux_tables.proofs.Frames.{itself, groups_stand, names_editor, names_start, part_quiet, result_quiet, spawns, stop_more, ticks}
+use Rattle.mux_tables.proofs.Frames.{itself, groups_stand, names_editor, names_start, open_stay, part_quiet, result_quiet, spawns, stop_more, ticks}
 use Rattle.mux_tables.proofs.IdMoves.{answered_ids, ended_ids, failed_ids, unanswered_ids, found_seen}
-use Rattle.mux_tables.proofs.Starts.{groups_kept, is_late, late_asks, late_shown, no_stop, not_refused, part_ids, part_life, part_shown, read_back, read_here, start_at_place, start_moves, still_asks, still_ids, still_shown, still_stop}
+use Rattle.mux_tables.proofs.Starts.{groups_kept, is_late, late_asks, late_parked, late_shown, no_stop, not_refused, part_ids, part_life, part_shown, read_back, read_here, start_at_place, start_moves, still_asks, still_ids, still_parked, still_shown, still_stop}
 use Rattle.mux_tables.proofs.Awaited.{StopsMove, hears_same, same_either, started_same, stopping_less, stops_kept}
 
 -- the program runs
@@ -80,17 +81,19 @@ started_moves settings t u events g s z life at within read is set es gs now os 
     (λ n _. stops_kept t u events (took (Started n) not_message) os refl
     (λ m. same_either (nat_eq n m) (record { stage = stage_started (life_of m events).stage; started = true }) (life_of m events) (started_same (life_of m events).stage))) (part own)
   where
-    part : life.start ≡ z.life.start → (p : Part) → PartStands p t.requests z events → PartStands p t.requests (record z { life = life; started = true }) (events ++ took (Started z.life.start) not_message ∷ [])
-    part own of_life h = part_life t.requests events (took (Started z.life.start) not_message) z (record z { life = life; started = true }) own
+    part : life.start ≡ z.life.start → (p : Part) → PartStands p settings t.requests z events → PartStands p settings t.requests (record z { life = life; started = true }) (events ++ took (Started z.life.start) not_message ∷ [])
+    part own of_life h = part_life settings t.requests events (took (Started z.life.start) not_message) z (record z { life = life; started = true }) own
         (rw (itself z.life.start) (ap (λ k. record { stage = k; started = true }) (begun_stage z.life.stage z.life refl ∙ ap (λ (l : Standing). l.stage) (sym is)))) h
-    part own of_ids h = still_ids t.requests events (took (Started z.life.start) not_message) z (record z { life = life; started = true }) own refl refl h
-    part own of_shown h = part_shown t.requests events (took (Started z.life.start) not_message) z (record z { life = life; started = true }) own
+    part own of_ids h = still_ids settings t.requests events (took (Started z.life.start) not_message) z (record z { life = life; started = true }) own refl refl h
+    part own of_shown h = part_shown settings t.requests events (took (Started z.life.start) not_message) z (record z { life = life; started = true }) own
         (λ s. subst (λ (l : Standing). ShownAt l.stage z.shown (result_behind z.life.start (result_of z.life.start events) (took (Started z.life.start) not_message))) (sym is)
         (begun_shown z.life.stage z.life z.shown _ refl (subst (λ o. ShownAt z.life.stage z.shown o) (sym (result_quiet z.life.start (result_of z.life.start events) (took (Started z.life.start) not_message) refl)) s))) h
     part own of_stop h = subst (λ (l : Standing). StopAt l.stage l.stopping (stop_of l.start (events ++ took (Started z.life.start) not_message ∷ []))) (sym is)
-        (begun_stop z.life.stage z.life (λ n. stop_of n (events ++ took (Started z.life.start) not_message ∷ [])) refl (part_quiet of_stop t.requests z events (took (Started z.life.start) not_message) refl h))
-    part own of_asks h = subst (λ (l : Standing). AsksAt l.stage (events ++ took (Started z.life.start) not_message ∷ []) (asks_of l.start (events ++ took (Started z.life.start) not_message ∷ [])) z.asks) (sym is)
-        (begun_asks z.life.stage z.life (events ++ took (Started z.life.start) not_message ∷ []) (λ n. asks_of n (events ++ took (Started z.life.start) not_message ∷ [])) z.asks refl (part_quiet of_asks t.requests z events (took (Started z.life.start) not_message) refl h))
+        (begun_stop z.life.stage z.life (λ n. stop_of n (events ++ took (Started z.life.start) not_message ∷ [])) refl (part_quiet of_stop settings t.requests z events (took (Started z.life.start) not_message) refl h))
+    part own of_asks h = subst (λ (l : Standing). AsksAt l.stage (events ++ took (Started z.life.start) not_message ∷ []) (asks_of settings l.start (events ++ took (Started z.life.start) not_message ∷ [])) z.asks) (sym is)
+        (begun_asks z.life.stage z.life (events ++ took (Started z.life.start) not_message ∷ []) (λ n. asks_of settings n (events ++ took (Started z.life.start) not_message ∷ [])) z.asks refl (part_quiet of_asks settings t.requests z events (took (Started z.life.start) not_message) refl h))
+    part own of_parked h = subst (λ (l : Standing). ParkedAt l.stage (asks_of settings l.start (events ++ took (Started z.life.start) not_message ∷ [])) (parked_of settings l.start (events ++ took (Started z.life.start) not_message ∷ [])) z.parked) (sym is)
+        (begun_parked z.life.stage z.life (λ n. asks_of settings n (events ++ took (Started z.life.start) not_message ∷ [])) (λ n. parked_of settings n (events ++ took (Started z.life.start) not_message ∷ [])) z.parked refl (part_quiet of_parked settings t.requests z events (took (Started z.life.start) not_message) refl h))
 
 -- the start answers a request, or none
 same_table : (limit : ℕ) (x : Forwarding) (t u : Table) → u.requests ≡ t.requests → u.next ≡ t.next → u.limit ≡ t.limit → (IsInOrder t → IsInOrder u) → IdsAt limit x t → IdsAt limit x u
@@ -101,7 +104,7 @@ answered_any : (limit s : ℕ) (t u : Table) (x : Forwarding) (body : List ℕ) 
 answered_any limit s t u x body m None h named taken next same order i = same_table limit (forwarding_behind s x (took (FromServer s body) m)) t u taken next same order (unanswered_ids limit s t x body m h named i)
 answered_any limit s t u x body m (Some k) h named taken next same order i = answered_ids limit s t u x body m k h named taken next same (order i.order) i.order i
 
-hears_answer : (g : Stage) (m : Message) → (is_first_result m && is_initializing g) ≡ false → stage_hears g m ≡ g
+pub hears_answer : (g : Stage) (m : Message) → (is_first_result m && is_initializing g) ≡ false → stage_hears g m ≡ g
 hears_answer Initializing m h = rw (left (is_first_result m) h) refl
   where
     left : (a : Bool) → (a && true) ≡ false → a ≡ false
@@ -116,33 +119,36 @@ heard_stops : (t u : Tables) (events : List Event) (s : ℕ) (body : List ℕ) �
 heard_stops t u events s body os = stops_kept t u events (took (FromServer s body) (message_of body)) os refl
     (λ m. same_either (nat_eq s m) (record { stage = stage_hears (life_of m events).stage (message_of body); started = (life_of m events).started }) (life_of m events) (hears_same (life_of m events).stage (message_of body)))
 
-module _ (settings : Settings) (t u : Tables) (events : List Event) (g s : ℕ) (z : Start) (body : List ℕ) (n : Option ℕ) (life : Standing) (ids : Table) (shown : Option (List ℕ)) (at : slice_get (map number_in t.lasts.items) g ≡ Some s) (within : g < length t.lasts.items) (read : z ≡ get_or t.lasts.items g z)
+module _ (settings : Settings) (t u : Tables) (events : List Event) (g s : ℕ) (z : Start) (body : List ℕ) (n : Option ℕ) (life : Standing) (ids : Table) (shown : Option (List ℕ)) (parked : List route.Ask) (at : slice_get (map number_in t.lasts.items) g ≡ Some s) (within : g < length t.lasts.items) (read : z ≡ get_or t.lasts.items g z)
     (awaits : StopAt z.life.stage z.life.stopping (stop_of z.life.start events) → StopAt life.stage life.stopping (stop_of z.life.start events))
     (gives : ShownAt z.life.stage z.shown (result_of z.life.start events) → ShownAt life.stage shown (result_behind z.life.start (result_of z.life.start events) (took (FromServer z.life.start body) (message_of body))))
     (goes_on : (later : List Event) (asked : List Ask) → AsksAt z.life.stage later asked z.asks → AsksAt life.stage later asked z.asks)
+    (waits : Stands settings t events → PartStands of_parked settings t.requests z events
+    → ParkedAt life.stage (asks_of settings z.life.start (events ++ took (FromServer z.life.start body) (message_of body) ∷ [])) (parked_of settings z.life.start (events ++ took (FromServer z.life.start body) (message_of body) ∷ [])) parked)
     (own : life.start ≡ z.life.start) (group : life.group ≡ z.life.group) (hears : stage_hears z.life.stage (message_of body) ≡ life.stage) (refuses : (is_first_error (message_of body) && is_initializing z.life.stage) ≡ false) (named : NamesAt (answered_id (message_of body)) n)
     (taken : MatchOption n (ids.requests ≡ z.ids.requests) (λ k. ids.requests ≡ without k z.ids.requests)) (next : ids.next ≡ z.ids.next) (limit : ids.limit ≡ z.ids.limit) (order : IsInOrder z.ids → IsInOrder ids)
-    (set : u.lasts.items ≡ slice_set t.lasts.items g (record z { life = life; ids = ids; shown = shown })) (es : u.editors ≡ t.editors) (gs : u.groups ≡ t.groups) (now : u.time ≡ t.time) (os : u.origins ≡ t.origins) (r : u.requests ≡ t.requests) where
+    (set : u.lasts.items ≡ slice_set t.lasts.items g (record z { life = life; ids = ids; shown = shown; parked = parked })) (es : u.editors ≡ t.editors) (gs : u.groups ≡ t.groups) (now : u.time ≡ t.time) (os : u.origins ≡ t.origins) (r : u.requests ≡ t.requests) where
   pub server_moves : Stands settings t events → Stands settings u (events ++ took (FromServer s body) (message_of body) ∷ [])
   server_moves st = start_moves settings t u events (λ k. took (FromServer k body) (message_of body)) g s z y at within read set own group es now (ap (λ v. v.groups) os) r (λ k. refl) (λ k. refl) (λ k. refl) (λ k m. refl)
       (λ k e h. groups_kept settings t.groups u.groups events (took (FromServer k body) (message_of body)) gs (not_refused settings t.groups events k body (message_of body) (ap (λ a. is_first_error (message_of body) && is_initializing a) (stage_seen settings t events g k z st here (e ∙ sym (start_at_place t.lasts.items g s z here at))) ∙ refuses)) h)
       (λ k e. heard_stops t u events k body os) (part st) st
     where
       y : Start
-      y = record z { life = life; ids = ids; shown = shown }
+      y = record z { life = life; ids = ids; shown = shown; parked = parked }
 
       here : slice_get t.lasts.items g ≡ Some z
       here = read_here t.lasts.items g z within read
 
-      part : Stands settings t events → (p : Part) → PartStands p t.requests z events → PartStands p t.requests y (events ++ took (FromServer z.life.start body) (message_of body) ∷ [])
-      part st of_life h = part_life t.requests events (took (FromServer z.life.start body) (message_of body)) z y own (rw (itself z.life.start) (ap (λ k. record { stage = k; started = z.started }) hears)) h
-      part st of_ids h = part_ids t.requests events (took (FromServer z.life.start body) (message_of body)) z y own
+      part : Stands settings t events → (p : Part) → PartStands p settings t.requests z events → PartStands p settings t.requests y (events ++ took (FromServer z.life.start body) (message_of body) ∷ [])
+      part st of_life h = part_life settings t.requests events (took (FromServer z.life.start body) (message_of body)) z y own (rw (itself z.life.start) (ap (λ k. record { stage = k; started = z.started }) hears)) h
+      part st of_ids h = part_ids settings t.requests events (took (FromServer z.life.start body) (message_of body)) z y own
           (answered_any t.requests z.life.start z.ids ids (forwarding_of z.life.start events) body (message_of body) n st.range named taken next limit order) h
-      part st of_shown h = part_shown t.requests events (took (FromServer z.life.start body) (message_of body)) z y own gives h
+      part st of_shown h = part_shown settings t.requests events (took (FromServer z.life.start body) (message_of body)) z y own gives h
       part st of_stop h = subst (λ k. StopAt life.stage life.stopping (stop_of k (events ++ took (FromServer z.life.start body) (message_of body) ∷ []))) (sym own)
           (subst (λ o. StopAt life.stage life.stopping o) (sym (stop_more z.life.start events (took (FromServer z.life.start body) (message_of body)))) (awaits h))
-      part st of_asks h = subst (λ k. AsksAt life.stage (events ++ took (FromServer z.life.start body) (message_of body) ∷ []) (asks_of k (events ++ took (FromServer z.life.start body) (message_of body) ∷ [])) z.asks) (sym own)
-          (goes_on (events ++ took (FromServer z.life.start body) (message_of body) ∷ []) (asks_of z.life.start (events ++ took (FromServer z.life.start body) (message_of body) ∷ [])) (part_quiet of_asks t.requests z events (took (FromServer z.life.start body) (message_of body)) refl h))
+      part st of_asks h = subst (λ k. AsksAt life.stage (events ++ took (FromServer z.life.start body) (message_of body) ∷ []) (asks_of settings k (events ++ took (FromServer z.life.start body) (message_of body) ∷ [])) z.asks) (sym own)
+          (goes_on (events ++ took (FromServer z.life.start body) (message_of body) ∷ []) (asks_of settings z.life.start (events ++ took (FromServer z.life.start body) (message_of body) ∷ [])) (part_quiet of_asks settings t.requests z events (took (FromServer z.life.start body) (message_of body)) refl h))
+      part st of_parked h = subst (λ k. ParkedAt life.stage (asks_of settings k (events ++ took (FromServer z.life.start body) (message_of body) ∷ [])) (parked_of settings k (events ++ took (FromServer z.life.start body) (message_of body) ∷ [])) parked) (sym own) (waits st h)
 
 -- what was given stays; one that is late keeps nothing
 later_given : (n : ℕ) (o : Option (List ℕ)) (body : List ℕ) (m : Message) → is_first_result m ≡ false → result_behind n o (took (FromServer n body) m) ≡ o
@@ -152,7 +158,7 @@ no_first : (a : Bool) → (a && true) ≡ false → a ≡ false
 no_first true h = h
 no_first false h = refl
 
-later_shown : (n : ℕ) (g : Stage) (shown given : Option (List ℕ)) (body : List ℕ) (m : Message) → (is_first_result m && is_early g) ≡ false → ShownAt g shown given → ShownAt g shown (result_behind n given (took (FromServer n body) m))
+pub later_shown : (n : ℕ) (g : Stage) (shown given : Option (List ℕ)) (body : List ℕ) (m : Message) → (is_first_result m && is_early g) ≡ false → ShownAt g shown given → ShownAt g shown (result_behind n given (took (FromServer n body) m))
 later_shown n Unspawned shown given body m h s = (s.0, later_given n given body m (no_first (is_first_result m) h) ∙ s.1)
 later_shown n Spawning shown given body m h s = (s.0, later_given n given body m (no_first (is_first_result m) h) ∙ s.1)
 later_shown n Initializing shown given body m h s = (s.0, later_given n given body m (no_first (is_first_result m) h) ∙ s.1)
@@ -166,14 +172,18 @@ later_begun true other h = refl
 
 -- S5, and all else that isn't the answer to `initialize`
 pub answer_moves : (settings : Settings) (t u : Tables) (events : List Event) (g s : ℕ) (x z : Start) (body : List ℕ) (n : Option ℕ) (ids : Table) → slice_get t.lasts.items g ≡ Some x → slice_get (map number_in t.lasts.items) g ≡ Some s → g < length t.lasts.items → z ≡ get_or t.lasts.items g z
-    → (is_first_result (message_of body) && is_early x.life.stage) ≡ false → (is_first_error (message_of body) && is_initializing x.life.stage) ≡ false → NamesAt (answered_id (message_of body)) n
+    → (is_first_result (message_of body) && is_early x.life.stage) ≡ false → (is_first_error (message_of body) && is_initializing x.life.stage) ≡ false → ParkedStay settings s events (took (FromServer s body) (message_of body)) → NamesAt (answered_id (message_of body)) n
     → MatchOption n (ids.requests ≡ z.ids.requests) (λ k. ids.requests ≡ without k z.ids.requests) → ids.next ≡ z.ids.next → ids.limit ≡ z.ids.limit → (IsInOrder z.ids → IsInOrder ids)
     → u.lasts.items ≡ slice_set t.lasts.items g (record z { ids = ids }) → u.editors ≡ t.editors → u.groups ≡ t.groups → u.time ≡ t.time → u.origins ≡ t.origins → u.requests ≡ t.requests
     → Stands settings t events → Stands settings u (events ++ took (FromServer s body) (message_of body) ∷ [])
-answer_moves settings t u events g s x z body n ids is at within read no_result no_failure named taken next limit order set es gs now os r =
+answer_moves settings t u events g s x z body n ids is at within read no_result no_failure still named taken next limit order set es gs now os r =
     let same : x ≡ z = same_item (sym is ∙ read_here t.lasts.items g z within read) in
     let later : (is_first_result (message_of body) && is_early z.life.stage) ≡ false = ap (λ (w : Start). is_first_result (message_of body) && is_early w.life.stage) (sym same) ∙ no_result in
-    server_moves settings t u events g s z body n z.life ids z.shown at within read (λ h. h) (later_shown z.life.start z.life.stage z.shown (result_of z.life.start events) body (message_of body) later) (λ es asked h. h) refl refl
+    server_moves settings t u events g s z body n z.life ids z.shown z.parked at within read (λ h. h) (later_shown z.life.start z.life.stage z.shown (result_of z.life.start events) body (message_of body) later) (λ es asked h. h)
+    (λ st h. parked_by settings t.requests z events (took (FromServer z.life.start body) (message_of body)) (record {
+      asks = open_stay settings z.life.start events (took (FromServer z.life.start body) (message_of body)) refl;
+      parked = subst (λ k. ParkedStay settings k events (took (FromServer k body) (message_of body))) (sym (start_at_place t.lasts.items g s z (read_here t.lasts.items g z within read) at)) still;
+    }) h) refl refl
     (hears_answer z.life.stage (message_of body) (later_begun (is_first_result (message_of body)) z.life.stage later))
     (ap (λ (w : Start). is_first_error (message_of body) && is_initializing w.life.stage) (sym same) ∙ no_failure) named taken next limit order set es gs now os r
 
@@ -198,6 +208,14 @@ first_shown n g shown given body text m life z is stage first shows s =
     subst (λ (l : Standing). ShownAt l.stage (Some text) (result_behind n given (took (FromServer n body) m))) (sym is)
     (body, ap (λ o. result_behind n o (took (FromServer n body) m)) none ∙ first_given n body m first, ap (λ w. Some w) shows)
 
+result_asks : (m : Message) → is_first_result m ≡ true → is_request m ≡ false
+result_asks (request id method ps) h = never (sym h)
+result_asks other h = refl
+
+error_asks : (m : Message) → is_first_error m ≡ true → is_request m ≡ false
+error_asks (request id method ps) h = never (sym h)
+error_asks other h = refl
+
 -- S2
 pub result_moves : (settings : Settings) (t u : Tables) (events : List Event) (g s : ℕ) (z : Start) (body : List ℕ) (n : Option ℕ) (life : Standing) (ids : Table) (shown : List ℕ) → slice_get (map number_in t.lasts.items) g ≡ Some s → g < length t.lasts.items → z ≡ get_or t.lasts.items g z
     → z.life.stage ≡ Initializing → is_first_result (message_of body) ≡ true → NamesAt (answered_id (message_of body)) n → shown ≡ shown_of (result_bytes body) → life ≡ moved Ready z.life
@@ -205,8 +223,10 @@ pub result_moves : (settings : Settings) (t u : Tables) (events : List Event) (g
     → u.lasts.items ≡ slice_set t.lasts.items g (record z { life = life; ids = ids; shown = Some shown }) → u.editors ≡ t.editors → u.groups ≡ t.groups → u.time ≡ t.time → u.origins ≡ t.origins → u.requests ≡ t.requests
     → Stands settings t events → Stands settings u (events ++ took (FromServer s body) (message_of body) ∷ [])
 result_moves settings t u events g s z body n life ids shown at within read stage first named shows is taken next limit order set es gs now os r =
-    server_moves settings t u events g s z body n life ids (Some shown) at within read (λ _. subst (λ (l : Standing). StopAt l.stage l.stopping (stop_of z.life.start events)) (sym is) tt) (first_shown z.life.start z.life.stage z.shown (result_of z.life.start events) body shown (message_of body) life z.life is stage first shows)
+    server_moves settings t u events g s z body n life ids (Some shown) z.parked at within read (λ _. subst (λ (l : Standing). StopAt l.stage l.stopping (stop_of z.life.start events)) (sym is) tt) (first_shown z.life.start z.life.stage z.shown (result_of z.life.start events) body shown (message_of body) life z.life is stage first shows)
     (λ es asked h. first_asks z.life.stage life z.life es asked z.asks is stage h)
+    (λ st h. first_parked z.life.stage life z.life (asks_of settings z.life.start (events ++ took (FromServer z.life.start body) (message_of body) ∷ [])) (parked_of settings z.life.start (events ++ took (FromServer z.life.start body) (message_of body) ∷ [])) z.parked is stage
+    (part_quiet of_parked settings t.requests z events (took (FromServer z.life.start body) (message_of body)) (result_asks (message_of body) first) h))
     (ap (λ (l : Standing). l.start) is) (ap (λ (l : Standing). l.group) is)
     (rw (stage, first) refl ∙ ap (λ (l : Standing). l.stage) (sym is)) (no_error (message_of body) first (is_initializing z.life.stage)) named taken next limit order set es gs now os r
 
@@ -247,13 +267,14 @@ refusal_moves settings t u events g s z body n ids at within read stage refuses 
     no_result not_json h b = refl
     no_result not_message h b = refl
 
-    part : (p : Part) → PartStands p t.requests z events → PartStands p t.requests y (events ++ took (FromServer z.life.start body) (message_of body) ∷ [])
-    part of_life h = part_life t.requests events (took (FromServer z.life.start body) (message_of body)) z y refl (rw (itself z.life.start) (ap (λ k. record { stage = k; started = z.started }) (hears_answer z.life.stage (message_of body) (no_result (message_of body) refuses (is_initializing z.life.stage))))) h
-    part of_ids h = part_ids t.requests events (took (FromServer z.life.start body) (message_of body)) z y refl
+    part : (p : Part) → PartStands p settings t.requests z events → PartStands p settings t.requests y (events ++ took (FromServer z.life.start body) (message_of body) ∷ [])
+    part of_life h = part_life settings t.requests events (took (FromServer z.life.start body) (message_of body)) z y refl (rw (itself z.life.start) (ap (λ k. record { stage = k; started = z.started }) (hears_answer z.life.stage (message_of body) (no_result (message_of body) refuses (is_initializing z.life.stage))))) h
+    part of_ids h = part_ids settings t.requests events (took (FromServer z.life.start body) (message_of body)) z y refl
         (answered_any t.requests z.life.start z.ids ids (forwarding_of z.life.start events) body (message_of body) n st.range named taken next limit order) h
-    part of_shown h = still_shown t.requests events (took (FromServer z.life.start body) (message_of body)) z y refl refl (no_first (is_first_result (message_of body)) (no_result (message_of body) refuses true)) h
-    part of_stop h = still_stop t.requests events (took (FromServer z.life.start body) (message_of body)) z y refl refl h
-    part of_asks h = still_asks t.requests events (took (FromServer z.life.start body) (message_of body)) z y refl refl refl h
+    part of_shown h = still_shown settings t.requests events (took (FromServer z.life.start body) (message_of body)) z y refl refl (no_first (is_first_result (message_of body)) (no_result (message_of body) refuses true)) h
+    part of_stop h = still_stop settings t.requests events (took (FromServer z.life.start body) (message_of body)) z y refl refl h
+    part of_asks h = still_asks settings t.requests events (took (FromServer z.life.start body) (message_of body)) z y refl refl refl h
+    part of_parked h = still_parked settings t.requests events (took (FromServer z.life.start body) (message_of body)) z y refl refl (error_asks (message_of body) refuses) h
 
 -- X1 to X3
 module _ (settings : Settings) (t u : Tables) (events : List Event) (g s : ℕ) (z : Start) (ev : ℕ → Event) (at : slice_get (map number_in t.lasts.items) g ≡ Some s) (within : g < length t.lasts.items) (here : slice_get t.lasts.items g ≡ Some z) (x : Exits settings.limits.restarts t g z u)
@@ -269,13 +290,14 @@ module _ (settings : Settings) (t u : Tables) (events : List Event) (g s : ℕ) 
       (λ n e h. stopping_less events (ev n) n (spawn n) (one n) (ap (λ (l : Life). is_stopping l.stage) (over n (life_of n events))) ∙ ap (unstopped n) h
       ∙ ap (λ k. unstopped k t.origins.stopping.items) (e ∙ sym (start_at_place t.lasts.items g s z here at)) ∙ sym x.stopping) (part own) st
     where
-      part : x.start.life.start ≡ z.life.start → (p : Part) → PartStands p t.requests z events → PartStands p t.requests x.start (events ++ ev z.life.start ∷ [])
-      part own of_life h = part_life t.requests events (ev z.life.start) z x.start own (over z.life.start (record { stage = z.life.stage; started = z.started })
+      part : x.start.life.start ≡ z.life.start → (p : Part) → PartStands p settings t.requests z events → PartStands p settings t.requests x.start (events ++ ev z.life.start ∷ [])
+      part own of_life h = part_life settings t.requests events (ev z.life.start) z x.start own (over z.life.start (record { stage = z.life.stage; started = z.started })
           ∙ (ap (λ k. record { stage = k; started = z.started }) (ap (λ (l : Standing). l.stage) (sym x.life)) ∙ ap (λ b. record { stage = x.start.life.stage; started = b }) (sym x.started))) h
-      part own of_ids h = part_ids t.requests events (ev z.life.start) z x.start own (λ _. clears z.life.start (forwarding_of z.life.start events)) h
-      part own of_shown h = late_shown t.requests (events ++ ev z.life.start ∷ []) x.start (ap (λ (l : Standing). is_late l.stage) x.life)
-      part own of_stop h = no_stop t.requests (events ++ ev z.life.start ∷ []) x.start (ap (λ (l : Standing). is_stopping l.stage) x.life)
-      part own of_asks h = late_asks t.requests (events ++ ev z.life.start ∷ []) x.start (ap (λ (l : Standing). is_late l.stage) x.life)
+      part own of_ids h = part_ids settings t.requests events (ev z.life.start) z x.start own (λ _. clears z.life.start (forwarding_of z.life.start events)) h
+      part own of_shown h = late_shown settings t.requests (events ++ ev z.life.start ∷ []) x.start (ap (λ (l : Standing). is_late l.stage) x.life)
+      part own of_stop h = no_stop settings t.requests (events ++ ev z.life.start ∷ []) x.start (ap (λ (l : Standing). is_stopping l.stage) x.life)
+      part own of_asks h = late_asks settings t.requests (events ++ ev z.life.start ∷ []) x.start (ap (λ (l : Standing). is_late l.stage) x.life)
+      part own of_parked h = late_parked settings t.requests (events ++ ev z.life.start ∷ []) x.start (ap (λ (l : Standing). is_late l.stage) x.life)
 
 gone_clears : (limit n : ℕ) (f : Forwarding) (ids : Table) → ids.requests ≡ [] → ids.next ≡ 2 → ids.limit ≡ limit → IsInOrder ids → IdsAt limit (forwarding_behind n f (took (ServerGone n) not_message)) ids
 gone_clears limit n f ids r k l o = ended_ids limit n ids f not_message (r, k, l, o)

@@ -21,9 +21,9 @@ use Rattle.mux_tables.specs.declared.tables.Tables.{Tables}
 use Rattle.group_rows.specs.Forwarded.{forwarding_behind, forwarding_of}
 use Rattle.group_rows.specs.Ticks.{is_stopping, stop_of}
 use Rattle.ask_route.specs.declared.ask.Ask as route
-use Rattle.group_rows.specs.Asks.{Ask, asks_of}
+use Rattle.group_rows.specs.Asks.{Ask, Parked, asks_of, parked_of}
 use Rattle.mux_tables.specs.Refusals.{asks_in}
-use Rattle.mux_tables.specs.Stands.{AsksAt, GroupsStand, IdsAt, IdsStand, Part, of_life, of_ids, of_shown, of_stop, of_asks, PartStands, ShownAt, StopAt, Stands, house_in, number_in, stage_in}
+use Rattle.mux_tables.specs.Stands.{AsksAt, GroupsStand, IdsAt, IdsStand, Part, of_life, of_ids, of_shown, of_stop, of_asks, of_parked, ParkedAt, PartStands, ShownAt, StopAt, Stands, house_in, number_in, stage_in}
 use Rattle.mux_tables.proofs.Frames.{names_start, names_editor, spawns, ticks, touches, part_quiet}
 use Rattle.mux_tables.proofs.IdMoves.{ids_more}
 use Rattle.mux_tables.proofs.Moves.{parts_move}
@@ -74,51 +74,56 @@ houses_stay (x ∷ xs) zero z y h e k = ap (λ n. n ∷ map house_in xs) (k ∙ 
 houses_stay (x ∷ xs) (suc g) z y h e k = ap (λ ns. x.life.group ∷ ns) (houses_stay xs g z y (omega arith) e k)
 
 -- its stage goes on
-pub part_life : (limit : ℕ) (events : List Event) (ev : Event) (x y : Start) → y.life.start ≡ x.life.start → life_behind x.life.start (record { stage = x.life.stage; started = x.started }) ev ≡ record { stage = y.life.stage; started = y.started }
-    → PartStands of_life limit x events → PartStands of_life limit y (events ++ ev ∷ [])
-part_life limit events ev x y own step s = subst (λ n. life_of n (events ++ ev ∷ []) ≡ record { stage = y.life.stage; started = y.started }) (sym own) (one_more (life_behind x.life.start) _ _ events ev s ∙ step)
+pub part_life : (settings : Settings) (limit : ℕ) (events : List Event) (ev : Event) (x y : Start) → y.life.start ≡ x.life.start → life_behind x.life.start (record { stage = x.life.stage; started = x.started }) ev ≡ record { stage = y.life.stage; started = y.started }
+    → PartStands of_life settings limit x events → PartStands of_life settings limit y (events ++ ev ∷ [])
+part_life settings limit events ev x y own step s = subst (λ n. life_of n (events ++ ev ∷ []) ≡ record { stage = y.life.stage; started = y.started }) (sym own) (one_more (life_behind x.life.start) _ _ events ev s ∙ step)
 
 -- its open requests go on
-pub part_ids : (limit : ℕ) (events : List Event) (ev : Event) (x y : Start) → y.life.start ≡ x.life.start → (IdsAt limit (forwarding_of x.life.start events) x.ids → IdsAt limit (forwarding_behind x.life.start (forwarding_of x.life.start events) ev) y.ids)
-    → PartStands of_ids limit x events → PartStands of_ids limit y (events ++ ev ∷ [])
-part_ids limit events ev x y own go s = subst (λ n. IdsStand limit n y.ids (events ++ ev ∷ [])) (sym own) (ids_more limit x.life.start x.ids y.ids events ev go s)
+pub part_ids : (settings : Settings) (limit : ℕ) (events : List Event) (ev : Event) (x y : Start) → y.life.start ≡ x.life.start → (IdsAt limit (forwarding_of x.life.start events) x.ids → IdsAt limit (forwarding_behind x.life.start (forwarding_of x.life.start events) ev) y.ids)
+    → PartStands of_ids settings limit x events → PartStands of_ids settings limit y (events ++ ev ∷ [])
+part_ids settings limit events ev x y own go s = subst (λ n. IdsStand limit n y.ids (events ++ ev ∷ [])) (sym own) (ids_more limit x.life.start x.ids y.ids events ev go s)
 
 -- what editors are shown goes on
-pub part_shown : (limit : ℕ) (events : List Event) (ev : Event) (x y : Start) → y.life.start ≡ x.life.start → (ShownAt x.life.stage x.shown (result_of x.life.start events) → ShownAt y.life.stage y.shown (result_behind x.life.start (result_of x.life.start events) ev))
-    → PartStands of_shown limit x events → PartStands of_shown limit y (events ++ ev ∷ [])
-part_shown limit events ev x y own go s = subst (λ n. ShownAt y.life.stage y.shown (result_of n (events ++ ev ∷ []))) (sym own)
+pub part_shown : (settings : Settings) (limit : ℕ) (events : List Event) (ev : Event) (x y : Start) → y.life.start ≡ x.life.start → (ShownAt x.life.stage x.shown (result_of x.life.start events) → ShownAt y.life.stage y.shown (result_behind x.life.start (result_of x.life.start events) ev))
+    → PartStands of_shown settings limit x events → PartStands of_shown settings limit y (events ++ ev ∷ [])
+part_shown settings limit events ev x y own go s = subst (λ n. ShownAt y.life.stage y.shown (result_of n (events ++ ev ∷ []))) (sym own)
     (subst (λ o. ShownAt y.life.stage y.shown o) (sym (one_more (result_behind x.life.start) _ _ events ev refl)) (go s))
 
 -- a part that the event doesn't touch, where the table keeps it
-pub still_life : (limit : ℕ) (events : List Event) (ev : Event) (x y : Start) → y.life ≡ x.life → y.started ≡ x.started → touches of_life ev ≡ false → PartStands of_life limit x events → PartStands of_life limit y (events ++ ev ∷ [])
-still_life limit events ev x y l b q s =
+pub still_life : (settings : Settings) (limit : ℕ) (events : List Event) (ev : Event) (x y : Start) → y.life ≡ x.life → y.started ≡ x.started → touches of_life ev ≡ false → PartStands of_life settings limit x events → PartStands of_life settings limit y (events ++ ev ∷ [])
+still_life settings limit events ev x y l b q s =
     subst (λ c. life_of y.life.start (events ++ ev ∷ []) ≡ record { stage = y.life.stage; started = c }) (sym b)
-    (subst (λ (z : Standing). life_of z.start (events ++ ev ∷ []) ≡ record { stage = z.stage; started = x.started }) (sym l) (part_quiet of_life limit x events ev q s))
+    (subst (λ (z : Standing). life_of z.start (events ++ ev ∷ []) ≡ record { stage = z.stage; started = x.started }) (sym l) (part_quiet of_life settings limit x events ev q s))
 
-pub still_ids : (limit : ℕ) (events : List Event) (ev : Event) (x y : Start) → y.life.start ≡ x.life.start → y.ids ≡ x.ids → touches of_ids ev ≡ false → PartStands of_ids limit x events → PartStands of_ids limit y (events ++ ev ∷ [])
-still_ids limit events ev x y own i q s =
-    subst (λ n. IdsStand limit n y.ids (events ++ ev ∷ [])) (sym own) (subst (λ ids. IdsStand limit x.life.start ids (events ++ ev ∷ [])) (sym i) (part_quiet of_ids limit x events ev q s))
+pub still_ids : (settings : Settings) (limit : ℕ) (events : List Event) (ev : Event) (x y : Start) → y.life.start ≡ x.life.start → y.ids ≡ x.ids → touches of_ids ev ≡ false → PartStands of_ids settings limit x events → PartStands of_ids settings limit y (events ++ ev ∷ [])
+still_ids settings limit events ev x y own i q s =
+    subst (λ n. IdsStand limit n y.ids (events ++ ev ∷ [])) (sym own) (subst (λ ids. IdsStand limit x.life.start ids (events ++ ev ∷ [])) (sym i) (part_quiet of_ids settings limit x events ev q s))
 
-pub still_shown : (limit : ℕ) (events : List Event) (ev : Event) (x y : Start) → y.life ≡ x.life → y.shown ≡ x.shown → touches of_shown ev ≡ false → PartStands of_shown limit x events → PartStands of_shown limit y (events ++ ev ∷ [])
-still_shown limit events ev x y l b q s =
+pub still_shown : (settings : Settings) (limit : ℕ) (events : List Event) (ev : Event) (x y : Start) → y.life ≡ x.life → y.shown ≡ x.shown → touches of_shown ev ≡ false → PartStands of_shown settings limit x events → PartStands of_shown settings limit y (events ++ ev ∷ [])
+still_shown settings limit events ev x y l b q s =
     subst (λ c. ShownAt y.life.stage c (result_of y.life.start (events ++ ev ∷ []))) (sym b)
-    (subst (λ (z : Standing). ShownAt z.stage x.shown (result_of z.start (events ++ ev ∷ []))) (sym l) (part_quiet of_shown limit x events ev q s))
+    (subst (λ (z : Standing). ShownAt z.stage x.shown (result_of z.start (events ++ ev ∷ []))) (sym l) (part_quiet of_shown settings limit x events ev q s))
 
-pub still_stop : (limit : ℕ) (events : List Event) (ev : Event) (x y : Start) → y.life ≡ x.life → touches of_stop ev ≡ false → PartStands of_stop limit x events → PartStands of_stop limit y (events ++ ev ∷ [])
-still_stop limit events ev x y l q s = subst (λ (z : Standing). StopAt z.stage z.stopping (stop_of z.start (events ++ ev ∷ []))) (sym l) (part_quiet of_stop limit x events ev q s)
+pub still_stop : (settings : Settings) (limit : ℕ) (events : List Event) (ev : Event) (x y : Start) → y.life ≡ x.life → touches of_stop ev ≡ false → PartStands of_stop settings limit x events → PartStands of_stop settings limit y (events ++ ev ∷ [])
+still_stop settings limit events ev x y l q s = subst (λ (z : Standing). StopAt z.stage z.stopping (stop_of z.start (events ++ ev ∷ []))) (sym l) (part_quiet of_stop settings limit x events ev q s)
 
-pub still_asks : (limit : ℕ) (events : List Event) (ev : Event) (x y : Start) → y.life ≡ x.life → y.asks ≡ x.asks → touches of_asks ev ≡ false → PartStands of_asks limit x events → PartStands of_asks limit y (events ++ ev ∷ [])
-still_asks limit events ev x y l k q s =
-    subst (λ qs. AsksAt y.life.stage (events ++ ev ∷ []) (asks_of y.life.start (events ++ ev ∷ [])) qs) (sym k)
-    (subst (λ (z : Standing). AsksAt z.stage (events ++ ev ∷ []) (asks_of z.start (events ++ ev ∷ [])) x.asks) (sym l) (part_quiet of_asks limit x events ev q s))
+pub still_asks : (settings : Settings) (limit : ℕ) (events : List Event) (ev : Event) (x y : Start) → y.life ≡ x.life → y.asks ≡ x.asks → touches of_asks ev ≡ false → PartStands of_asks settings limit x events → PartStands of_asks settings limit y (events ++ ev ∷ [])
+still_asks settings limit events ev x y l k q s =
+    subst (λ qs. AsksAt y.life.stage (events ++ ev ∷ []) (asks_of settings y.life.start (events ++ ev ∷ [])) qs) (sym k)
+    (subst (λ (z : Standing). AsksAt z.stage (events ++ ev ∷ []) (asks_of settings z.start (events ++ ev ∷ [])) x.asks) (sym l) (part_quiet of_asks settings limit x events ev q s))
+
+pub still_parked : (settings : Settings) (limit : ℕ) (events : List Event) (ev : Event) (x y : Start) → y.life ≡ x.life → y.parked ≡ x.parked → touches of_parked ev ≡ false → PartStands of_parked settings limit x events → PartStands of_parked settings limit y (events ++ ev ∷ [])
+still_parked settings limit events ev x y l k q s =
+    subst (λ ks. ParkedAt y.life.stage (asks_of settings y.life.start (events ++ ev ∷ [])) (parked_of settings y.life.start (events ++ ev ∷ [])) ks) (sym k)
+    (subst (λ (z : Standing). ParkedAt z.stage (asks_of settings z.start (events ++ ev ∷ [])) (parked_of settings z.start (events ++ ev ∷ [])) x.parked) (sym l) (part_quiet of_parked settings limit x events ev q s))
 
 -- one whose answer to `shutdown` isn't awaited
 stop_at : (stage : Stage) (kept : Option (ℕ × ℕ)) (since : Option ℕ) → is_stopping stage ≡ false → StopAt stage kept since
 stop_at Stopping kept since h = never h
 stop_at other kept since h = tt
 
-pub no_stop : (limit : ℕ) (events : List Event) (y : Start) → is_stopping y.life.stage ≡ false → PartStands of_stop limit y events
-no_stop limit events y h = stop_at y.life.stage y.life.stopping (stop_of y.life.start events) h
+pub no_stop : (settings : Settings) (limit : ℕ) (events : List Event) (y : Start) → is_stopping y.life.stage ≡ false → PartStands of_stop settings limit y events
+no_stop settings limit events y h = stop_at y.life.stage y.life.stopping (stop_of y.life.start events) h
 
 -- nothing is kept of one that is over, or is to be
 abbrev pub is_late : Stage → Bool
@@ -136,8 +141,8 @@ shown_late Spawning shown given h = never (sym h)
 shown_late Initializing shown given h = never (sym h)
 shown_late Ready shown given h = never (sym h)
 
-pub late_shown : (limit : ℕ) (events : List Event) (y : Start) → is_late y.life.stage ≡ true → PartStands of_shown limit y events
-late_shown limit events y h = shown_late y.life.stage y.shown (result_of y.life.start events) h
+pub late_shown : (settings : Settings) (limit : ℕ) (events : List Event) (y : Start) → is_late y.life.stage ≡ true → PartStands of_shown settings limit y events
+late_shown settings limit events y h = shown_late y.life.stage y.shown (result_of y.life.start events) h
 
 asks_late : (stage : Stage) (events : List Event) (asked : List Ask) (kept : List route.Ask) → is_late stage ≡ true → AsksAt stage events asked kept
 asks_late Stopping events asked kept h = tt
@@ -148,14 +153,26 @@ asks_late Spawning events asked kept h = never (sym h)
 asks_late Initializing events asked kept h = never (sym h)
 asks_late Ready events asked kept h = never (sym h)
 
-pub late_asks : (limit : ℕ) (events : List Event) (y : Start) → is_late y.life.stage ≡ true → PartStands of_asks limit y events
-late_asks limit events y h = asks_late y.life.stage events (asks_of y.life.start events) y.asks h
+pub late_asks : (settings : Settings) (limit : ℕ) (events : List Event) (y : Start) → is_late y.life.stage ≡ true → PartStands of_asks settings limit y events
+late_asks settings limit events y h = asks_late y.life.stage events (asks_of settings y.life.start events) y.asks h
+
+parked_late : (stage : Stage) (asked : List Ask) (waiting : List Parked) (kept : List route.Ask) → is_late stage ≡ true → ParkedAt stage asked waiting kept
+parked_late Stopping asked waiting kept h = tt
+parked_late Ending asked waiting kept h = tt
+parked_late Ended asked waiting kept h = tt
+parked_late Unspawned asked waiting kept h = never (sym h)
+parked_late Spawning asked waiting kept h = never (sym h)
+parked_late Initializing asked waiting kept h = never (sym h)
+parked_late Ready asked waiting kept h = never (sym h)
+
+pub late_parked : (settings : Settings) (limit : ℕ) (events : List Event) (y : Start) → is_late y.life.stage ≡ true → PartStands of_parked settings limit y events
+late_parked settings limit events y h = parked_late y.life.stage (asks_of settings y.life.start events) (parked_of settings y.life.start events) y.parked h
 
 -- the event `ev n` names start n alone, and start s is the last one of group g, which goes from z to y
 module _ (settings : Settings) (t u : Tables) (events : List Event) (ev : ℕ → Event) (g s : ℕ) (z y : Start) (at : slice_get (map number_in t.lasts.items) g ≡ Some s) (within : g < length t.lasts.items) (read : z ≡ get_or t.lasts.items g z)
     (set : u.lasts.items ≡ slice_set t.lasts.items g y) (own : y.life.start ≡ z.life.start) (group : y.life.group ≡ z.life.group) (es : u.editors ≡ t.editors) (now : u.time ≡ t.time) (os : u.origins.groups ≡ t.origins.groups) (r : u.requests ≡ t.requests)
     (e : (n : ℕ) → names_editor (ev n) ≡ false) (w : (n : ℕ) → ticks (ev n) ≡ false) (k : (n : ℕ) → spawns (ev n) ≡ false) (one : (n m : ℕ) → names_start m (ev n) ≡ nat_eq n m) where
-  pub start_moves : ((n : ℕ) → n ≡ s → GroupsStand settings t.groups events → GroupsStand settings u.groups (events ++ ev n ∷ [])) → ((n : ℕ) → n ≡ s → StopsMove t u events (ev n)) → ((p : Part) → PartStands p t.requests z events → PartStands p t.requests y (events ++ ev z.life.start ∷ []))
+  pub start_moves : ((n : ℕ) → n ≡ s → GroupsStand settings t.groups events → GroupsStand settings u.groups (events ++ ev n ∷ [])) → ((n : ℕ) → n ≡ s → StopsMove t u events (ev n)) → ((p : Part) → PartStands p settings t.requests z events → PartStands p settings t.requests y (events ++ ev z.life.start ∷ []))
       → Stands settings t events → Stands settings u (events ++ ev s ∷ [])
   start_moves groups stops parts st =
       let here : slice_get t.lasts.items g ≡ Some z = read_here t.lasts.items g z within read in

@@ -5,3 +5,5 @@ pub mod Names
 pub mod Notes
 pub mod Stops
 pub mod Refusals
+pub mod Resumes
+pub mod Puts

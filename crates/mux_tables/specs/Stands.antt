@@ -5,7 +5,8 @@ use Rattle.std.specs.Option.{option_and_then}
 use Rattle.std.specs.Prelude.{Option, Some, None, slice_get, slice_set, ◌+◌}
 use Rattle.ask_route.specs.declared.ask.Ask as route
 use Rattle.ask_route.specs.Tables as asks
-use Rattle.rpc_message.specs.Message.{Id, Message, message_of, request, result_bytes, same_id}
+use Rattle.json_text.specs.Json.{Json}
+use Rattle.rpc_message.specs.Message.{Id, Message, id_bytes, message_of, request, result_bytes, same_id}
 use Rattle.rpc_message.specs.ValueTexts.{IsIdText}
 use Rattle.event_model.specs.declared.phase.Phase.{Phase}
 use Rattle.event_model.specs.declared.phase.Phase.TheVariants.{Absent, Answered, New}
@@ -33,7 +34,7 @@ use Rattle.restart_replay.specs.Standings.{Standing, moved}
 use Rattle.mux_tables.specs.declared.tables.Start.{Start}
 use Rattle.mux_tables.specs.declared.tables.Tables.{Tables}
 use Rattle.mux_tables.specs.Names.{NamesStand}
-use Rattle.group_rows.specs.Asks.{Ask, asking_next, asking_of, asks_of, is_seated, next_ask}
+use Rattle.group_rows.specs.Asks.{Ask, Parked, asking_next, asking_of, asks_of, is_patient, is_seated, is_under, next_ask, parked_of}
 use Rattle.group_rows.specs.Forwarded.{Forwarded, Forwarding, forwarding_of, names}
 use Rattle.group_rows.specs.Ticks.{stop_of, stopping_of}
 
@@ -159,27 +160,62 @@ AsksAt Initializing events open_asks kept = (open_asks ≡ []) × (kept ≡ [])
 AsksAt Ready events open_asks kept = AsksStand events open_asks kept
 AsksAt other events open_asks kept = Unit {0}
 
+-- what waits until an editor runs, as it is kept
+abbrev pub kept_parked : Parked → route.Ask
+kept_parked p = asks.parked (id_bytes p.body) p.body
+
+-- it is a request of this id that may wait
+abbrev pub MayWait : Parked → Type 0
+MayWait p = (method : List ℕ) × (params : Option Json) × (message_of p.body ≡ request p.id method params) × (is_patient method ≡ true)
+
+-- no open ask has its id, and nothing else that waits
+abbrev pub IsFree : List Ask → Parked → Type 0
+IsFree open_asks p = AllByRecursion (λ (a : Ask). is_under (Some p.id) a ≡ false) open_asks
+
+abbrev pub HasOwnId : Parked → Parked → Type 0
+HasOwnId p q = same_id p.id q.id ≡ false
+
+abbrev pub HaveOwnIds : List Parked → Type 0
+HaveOwnIds [] = Unit {0}
+HaveOwnIds (p ∷ ps) = AllByRecursion (HasOwnId p) ps × HaveOwnIds ps
+
+-- what waits at a start that is ready
+pub record ParkedStand (open_asks : List Ask) (waiting : List Parked) (kept : List route.Ask) : Type 0 where
+  pub same : kept ≡ map kept_parked waiting
+  pub bodies : AllByRecursion MayWait waiting
+  pub own : HaveOwnIds waiting
+  pub free : AllByRecursion (IsFree open_asks) waiting
+
+-- by where the start stands
+abbrev pub ParkedAt : Stage → List Ask → List Parked → List route.Ask → Type 0
+ParkedAt Unspawned open_asks waiting kept = (waiting ≡ []) × (kept ≡ [])
+ParkedAt Spawning open_asks waiting kept = (waiting ≡ []) × (kept ≡ [])
+ParkedAt Initializing open_asks waiting kept = (waiting ≡ []) × (kept ≡ [])
+ParkedAt Ready open_asks waiting kept = ParkedStand open_asks waiting kept
+ParkedAt other open_asks waiting kept = Unit {0}
+
 -- the tables of one start; a further one is a name here, and a clause
 pub data Part : Type 0 where
-  of_life of_ids of_shown of_stop of_asks : Part
+  of_life of_ids of_shown of_stop of_asks of_parked : Part
 
-abbrev pub PartStands : Part → ℕ → Start → List Event → Type 0
-PartStands of_life limit x events = life_of x.life.start events ≡ record { stage = x.life.stage; started = x.started }
-PartStands of_ids limit x events = IdsStand limit x.life.start x.ids events
-PartStands of_shown limit x events = ShownAt x.life.stage x.shown (result_of x.life.start events)
-PartStands of_stop limit x events = StopAt x.life.stage x.life.stopping (stop_of x.life.start events)
-PartStands of_asks limit x events = AsksAt x.life.stage events (asks_of x.life.start events) x.asks
+abbrev pub PartStands : Part → Settings → ℕ → Start → List Event → Type 0
+PartStands of_life settings limit x events = life_of x.life.start events ≡ record { stage = x.life.stage; started = x.started }
+PartStands of_ids settings limit x events = IdsStand limit x.life.start x.ids events
+PartStands of_shown settings limit x events = ShownAt x.life.stage x.shown (result_of x.life.start events)
+PartStands of_stop settings limit x events = StopAt x.life.stage x.life.stopping (stop_of x.life.start events)
+PartStands of_asks settings limit x events = AsksAt x.life.stage events (asks_of settings x.life.start events) x.asks
+PartStands of_parked settings limit x events = ParkedAt x.life.stage (asks_of settings x.life.start events) (parked_of settings x.life.start events) x.parked
 
 -- what is kept of the last start of group g stands for what the events say of it
-pub record LastStands (limit : ℕ) (events : List Event) (g : ℕ) (x : Start) : Type 0 where
+pub record LastStands (settings : Settings) (limit : ℕ) (events : List Event) (g : ℕ) (x : Start) : Type 0 where
   pub start : start_of g events ≡ Some x.life.start
   pub home : group_of x.life.start events ≡ Some g
   pub own : x.life.group ≡ g
-  pub parts : (p : Part) → PartStands p limit x events
+  pub parts : (p : Part) → PartStands p settings limit x events
 
 -- the tables of a start that wasn't spawned
 abbrev pub blank : ℕ → ℕ → Start
-blank limit s = record { life = record { start = s; group = 0; stage = Unspawned; stopping = None }; started = false; ids = record { requests = []; next = 2; limit = limit; spare = 0 }; shown = None; asks = [] }
+blank limit s = record { life = record { start = s; group = 0; stage = Unspawned; stopping = None }; started = false; ids = record { requests = []; next = 2; limit = limit; spare = 0 }; shown = None; asks = []; parked = [] }
 
 -- its number
 abbrev pub number_in : Start → ℕ
@@ -203,9 +239,9 @@ abbrev pub IsLost : ℕ → List Start → Type 0
 IsLost g lasts = (place : ℕ) (x : Start) → slice_get lasts place ≡ Some x → x.life.group ≡ g → ⊥
 
 -- what needn't be kept of group g, whose last start is s: it ended, and has nothing to answer
-pub record Lost (limit g s : ℕ) (events : List Event) : Type 0 where
+pub record Lost (settings : Settings) (limit g s : ℕ) (events : List Event) : Type 0 where
   pub last : Start
-  pub stands : LastStands limit events g last
+  pub stands : LastStands settings limit events g last
   pub number : last.life.start ≡ s
   pub ended : last.life.stage ≡ Ended
   pub answered : last.ids.requests ≡ []
@@ -215,11 +251,11 @@ abbrev pub HasEnded : Option ℕ → List Event → Type 0
 HasEnded start events = (s : ℕ) → start ≡ Some s → (life_of s events).stage ≡ Ended
 
 -- the last starts of the groups, but for some whose last one ended
-pub record LastsStand (limit : ℕ) (lasts : List Start) (events : List Event) : Type 0 where
+pub record LastsStand (settings : Settings) (limit : ℕ) (lasts : List Start) (events : List Event) : Type 0 where
   pub rise : Rise 0 lasts
-  pub each : Each (λ place x. LastStands limit events x.life.group x) lasts
-  pub lost : (g s : ℕ) → IsLost g lasts → start_of g events ≡ Some s → Lost limit g s events
-  pub fresh : (s : ℕ) → starts_of events ≤ s → (p : Part) → PartStands p limit (blank limit s) events
+  pub each : Each (λ place x. LastStands settings limit events x.life.group x) lasts
+  pub lost : (g s : ℕ) → IsLost g lasts → start_of g events ≡ Some s → Lost settings limit g s events
+  pub fresh : (s : ℕ) → starts_of events ≤ s → (p : Part) → PartStands p settings limit (blank limit s) events
   pub old : (s g : ℕ) → group_of s events ≡ Some g → (start_of g events ≡ Some s) ⊎ ((life_of s events).stage ≡ Ended)
 
 -- the editors and their groups, and the time
@@ -232,7 +268,7 @@ pub record Stands (settings : Settings) (t : Tables) (events : List Event) : Typ
   pub house : HouseStands settings t events
   pub origins : OriginsStand t.origins.groups.items events
   pub stopping : stopping_of events ≡ t.origins.stopping.items
-  pub lasts : LastsStand t.requests t.lasts.items events
+  pub lasts : LastsStand settings t.requests t.lasts.items events
   pub requests : settings.limits.requests ≡ t.requests
   pub range : t.requests < 2 ^ 32
 
@@ -266,8 +302,8 @@ NamesAsk id None = (n : ℕ) → n < 2 ^ 64 → names id n ≡ false
 NamesAsk id (Some k) = (n : ℕ) → n < 2 ^ 64 → names id n ≡ nat_eq n k
 
 -- an editor's message answers at most asks of start s
-abbrev pub AnswersOne : ℕ → ℕ → Message → List Event → Type 0
-AnswersOne s e m events = (n : ℕ) → nat_eq s n ≡ false → AllByRecursion (λ (a : Ask). is_seated e (answered_id m) a ≡ false) (asks_of n events)
+abbrev pub AnswersOne : Settings → ℕ → ℕ → Message → List Event → Type 0
+AnswersOne settings s e m events = (n : ℕ) → nat_eq s n ≡ false → AllByRecursion (λ (a : Ask). is_seated e (answered_id m) a ≡ false) (asks_of settings n events)
 
 -- its program runs from now on
 abbrev pub begun_at : Stage → Standing → Standing
@@ -282,13 +318,30 @@ is_request other = false
 abbrev pub is_answer : Message → Bool
 is_answer m = is_some (answered_id m)
 
--- an event leaves the asks of a start
-abbrev pub AsksStay : ℕ → List Event → Event → Type 0
-AsksStay s events event = (asking_next s events (asking_of s events) event).asks ≡ asks_of s events
+-- an event leaves the open asks of a start, and what waits there
+abbrev pub OpenStay : Settings → ℕ → List Event → Event → Type 0
+OpenStay settings s events event = (asking_next settings s events (asking_of settings s events) event).asks ≡ asks_of settings s events
+
+abbrev pub ParkedStay : Settings → ℕ → List Event → Event → Type 0
+ParkedStay settings s events event = (asking_next settings s events (asking_of settings s events) event).parked ≡ parked_of settings s events
+
+pub record AsksStay (settings : Settings) (s : ℕ) (events : List Event) (event : Event) : Type 0 where
+  pub asks : OpenStay settings s events event
+  pub parked : ParkedStay settings s events event
+
+-- no request of a start is at work that one editor answers, and no editor's message
+pub record IsAtRest (settings : Settings) (s : ℕ) (events : List Event) : Type 0 where
+  pub asker : (asking_of settings s events).asker ≡ None
+  pub runs : (asking_of settings s events).runs ≡ None
+
+-- the message of editor e is at work
+pub record IsWorking (settings : Settings) (e s : ℕ) (events : List Event) : Type 0 where
+  pub asker : (asking_of settings s events).asker ≡ None
+  pub runs : (asking_of settings s events).runs ≡ Some e
 
 -- a message of an editor answers no ask
-abbrev pub AnswersNone : ℕ → Message → List Event → Type 0
-AnswersNone e m events = (s : ℕ) → AllByRecursion (λ (a : Ask). is_seated e (answered_id m) a ≡ false) (asks_of s events)
+abbrev pub AnswersNone : Settings → ℕ → Message → List Event → Type 0
+AnswersNone settings e m events = (s : ℕ) → AllByRecursion (λ (a : Ask). is_seated e (answered_id m) a ≡ false) (asks_of settings s events)
 
 -- this body is no request, and leaves the editor in its phase
 abbrev pub Keeps : ℕ → List ℕ → List Event → Type 0

@@ -54,15 +54,16 @@ impl Tables {
         requires group { g < length self.old.lasts.items }
         requires editor { e < length self.old.editors }
         requires joined { phase ≢ Absent }
+        ensures count { length self.new.editors ≡ length self.old.editors }
         ensures requests { self.new.requests ≡ self.old.requests }
         ensures versions { self.new.versions ≡ self.old.versions }
         ensures starts { map number_in self.new.lasts.items ≡ map number_in self.old.lasts.items }
         ensures stages { map stage_in self.new.lasts.items ≡ map stage_in self.old.lasts.items }
         ensures given { (settings : Settings) (events : List Event) (body : List ℕ) (x : Start) → slice_get self.old.lasts.items g ≡ Some x
             → x.life.stage ≡ Ready → NamesAsk (answered_id (message_of body)) n → Stands settings self.old events
-            → result ≡ option_map (λ (a : Open). a.bytes) (find (is_seated e (answered_id (message_of body))) (asks_of x.life.start events)) }
+            → result ≡ option_map (λ (a : Open). a.bytes) (find (is_seated e (answered_id (message_of body))) (asks_of settings x.life.start events)) }
         ensures stands { (settings : Settings) (events : List Event) (body : List ℕ) (x : Start) → slice_get self.old.lasts.items g ≡ Some x
-            → NamesAsk (answered_id (message_of body)) n → AnswersOne x.life.start e (message_of body) events
+            → NamesAsk (answered_id (message_of body)) n → AnswersOne settings x.life.start e (message_of body) events
             → places (desk_of e events).phase (message_of body) ≡ false → stops events e (message_of body) ≡ false
             → is_first_open settings.servers events e (message_of body) ≡ false
             → (desk_of e (events ++ heard (FromEditor e body) ∷ [])).phase ≡ phase

@@ -10,6 +10,7 @@ mod notes;
 mod places;
 mod puts;
 mod requests;
+mod resumes;
 mod says;
 mod seats;
 mod serves;

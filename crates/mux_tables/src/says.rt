@@ -19,7 +19,7 @@ ghost use Rattle.rpc_message.specs.Message as message;
 ghost use Rattle.rpc_message.specs.Message.{Id, message_of};
 ghost use Rattle.mux_tables.specs.declared.tables.Start.{Start};
 ghost use Rattle.document_model.specs.Sayings.{nothing, saying_of};
-ghost use Rattle.group_rows.specs.Asks.{Ask, asks_of, is_under};
+ghost use Rattle.group_rows.specs.Asks.{Ask, Parked, asks_of, is_under, parked_of, waits_under};
 ghost use Rattle.group_rows.specs.Forwarded.{is_written, moves_ids};
 ghost use Rattle.group_rows.specs.Texts.{is_synced, worker_of};
 ghost use Rattle.mux_tables.specs.Documents.{AllStand, DocumentsStand, Leaves, Owed, nothing_owed, owes, syncing, to};
@@ -142,12 +142,13 @@ impl Tables {
         Ok(())
     }
 
-    /// An answer to a request of the group's last start goes there, under the id of no ask that is left.
+    /// An answer to a request of the group's last start goes there, under the id of no ask that is left, nor of what waits.
     pub fn respond(&self, outs: &mut Outs, g: usize, text: Body) -> Result<(), Memory>
         requires { g < length self.now.lasts.items }
         ensures does { (settings : Settings) (base : List Event) (s : ℕ) → slice_get (map number_in self.now.lasts.items) g ≡ Some s
             → requests (codes "shutdown") (message_of text) ≡ false → moves_ids (message_of text) ≡ false
-            → AllByRecursion (λ (a : Ask). is_under (answered_id (message_of text)) a ≡ false) (asks_of s (behind base outs.old))
+            → AllByRecursion (λ (a : Ask). is_under (answered_id (message_of text)) a ≡ false) (asks_of settings s (behind base outs.old))
+            → AllByRecursion (λ (p : Parked). waits_under (answered_id (message_of text)) p ≡ false) (parked_of settings s (behind base outs.old))
             → OnOk result (Does (λ t events. Stands settings t events) (send (ToServer s text)) base self.now outs.old self.now outs.new) }
         ensures documents { (settings : Settings) (owed : Owed) (base : List Event) → saying_of (message_of text) ≡ nothing
             → is_synced (message_of text) ≡ false → DocumentsStand settings owed self.now (behind base outs.old)
@@ -346,6 +347,7 @@ impl Tables {
         let life = Life::new(s, g);
         let ids = IdTable::new(alloc, self.requests);
         let asks = Asks::new(alloc);
+        let parked = Asks::new(alloc);
         let documents = Shared::new(alloc, self.versions);
         self.origins.groups.push(g)?;
         self.documents.push(documents)?;
@@ -355,6 +357,7 @@ impl Tables {
             ids,
             shown: None,
             asks,
+            parked,
         })?;
         outs.push(Out::Spawn(s, g))?;
         Ok(())
@@ -376,6 +379,7 @@ impl Tables {
         let life = Life::new(s, group);
         let ids = IdTable::new(alloc, self.requests);
         let asks = Asks::new(alloc);
+        let parked = Asks::new(alloc);
         self.origins.groups.push(group)?;
         self.lasts[g] = Start {
             life,
@@ -383,6 +387,7 @@ impl Tables {
             ids,
             shown: None,
             asks,
+            parked,
         };
         outs.push(Out::Spawn(s, group))?;
         Ok(())

@@ -17,7 +17,7 @@ ghost use Rattle.mux_tables.specs.declared.tables.Start.{Start};
 ghost use Rattle.mux_model.specs.Documents.{encoding_by};
 ghost use Rattle.mux_tables.specs.Documents.{DocumentsStand, Owed, nothing_owed, owes, replaying, to};
 ghost use Rattle.group_rows.specs.Forwarded.{forwarding_of, is_under};
-ghost use Rattle.mux_tables.specs.Stands.{Exits, NamesAt, Stands, any_in, begun_at, forwarded_as, is_early, number_in, stage_in};
+ghost use Rattle.mux_tables.specs.Stands.{Exits, NamesAt, ParkedStay, Stands, any_in, begun_at, forwarded_as, is_early, number_in, stage_in};
 
 use crate::documents::{ready, remove, unready};
 use crate::requests::{answer, forget};
@@ -152,11 +152,13 @@ impl Tables {
         unready(&mut self.documents, g);
         let ids = IdTable::new(alloc, self.requests);
         let asks = Asks::new(alloc);
+        let parked = Asks::new(alloc);
         let last = &mut self.lasts[g];
         last.life.over();
         last.shown = None;
         last.ids = ids;
         last.asks = asks;
+        last.parked = parked;
         end_stop(&mut self.origins.stopping, last.life.start());
         Ok(())
     }
@@ -224,11 +226,13 @@ impl Tables {
         unready(&mut self.documents, g);
         let ids = IdTable::new(alloc, self.requests);
         let asks = Asks::new(alloc);
+        let parked = Asks::new(alloc);
         let last = &mut self.lasts[g];
         last.life.over();
         last.shown = None;
         last.ids = ids;
         last.asks = asks;
+        last.parked = parked;
         end_stop(&mut self.origins.stopping, last.life.start());
     }
 
@@ -274,8 +278,8 @@ impl Tables {
         self.forget(g);
     }
 
-    /// A message came from the group's last start that doesn't answer its `initialize`: what was kept of the request that it
-    /// answers, which isn't open any more. `n` is the number that its id writes.
+    /// A message came from the group's last start that doesn't answer its `initialize`, and by which nothing waits from now on: what was
+    /// kept of the request that it answers, which isn't open any more. `n` is the number that its id writes.
     pub fn hear_answer(&mut self, g: usize, n: Option<u32>) -> Option<Pending>
         requires { g < length self.old.lasts.items }
         ensures requests { self.new.requests ≡ self.old.requests }
@@ -285,7 +289,8 @@ impl Tables {
         ensures moves { (settings : Settings) (events : List Event) (s : ℕ) (body : List ℕ) (x : Start) → slice_get self.old.lasts.items g ≡ Some x
             → slice_get (map number_in self.old.lasts.items) g ≡ Some s
             → (is_first_result (message_of body) && is_early x.life.stage) ≡ false
-            → (is_first_error (message_of body) && is_initializing x.life.stage) ≡ false → NamesAt (answered_id (message_of body)) n
+            → (is_first_error (message_of body) && is_initializing x.life.stage) ≡ false
+            → ParkedStay settings s events (heard (FromServer s body)) → NamesAt (answered_id (message_of body)) n
             → Stands settings self.old events → Stands settings self.new (events ++ heard (FromServer s body) ∷ []) }
         ensures documents { (settings : Settings) (owed : Owed) (events : List Event) (s : ℕ) (body : List ℕ) (x : Start)
             → slice_get self.old.lasts.items g ≡ Some x → slice_get (map number_in self.old.lasts.items) g ≡ Some s

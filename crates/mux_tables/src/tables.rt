@@ -15,8 +15,8 @@ use std::alloc::Global;
 use text_pieces::PieceText;
 
 /// What is kept of the last start of one group: where it stands, whether its program ever ran, the requests that it has to
-/// answer, what editors are shown of the result of its `initialize`, where it gave one and isn't to end, and what it asked of
-/// editors that didn't answer yet.
+/// answer, what editors are shown of the result of its `initialize`, where it gave one and isn't to end, what it asked of
+/// editors that didn't answer yet, and what it asks of one as soon as an editor runs: all of these are parked.
 #[derive(Drop)]
 pub struct Start {
     pub life: Life,
@@ -24,6 +24,7 @@ pub struct Start {
     pub ids: IdTable,
     pub shown: Option<Body>,
     pub asks: Asks,
+    pub parked: Asks,
 }
 
 /// What is kept of the starts, beside the last ones of groups.

@@ -103,3 +103,12 @@ wants_none declared h = ap (λ o. is_true (named_of (codes "workspaceFolders") (
 pub if_ok : {A E : Type 0} (r : Result A E) (a b : A) → a ≡ b → IfOk r (λ x. x ≡ a) → IfOk r (λ x. x ≡ b)
 if_ok (Ok x) a b e h = h ∙ e
 if_ok (Err x) a b e h = tt
+
+-- the answer with the folders of a group, where there is one
+pub answer_none : {A B : Type 0} (f : A → B) (o : Option A) → None ≡ option_map f o → o ≡ None
+answer_none f None e = refl
+answer_none f (Some a) e = absurd (cc)
+
+pub answer_some : {A B : Type 0} (f : A → B) (o : Option A) (b : B) → Some b ≡ option_map f o → (a : A) × (o ≡ Some a) × (b ≡ f a)
+answer_some f (Some a) b e = (a, refl, cc)
+answer_some f None b e = absurd (cc)

@@ -1,12 +1,12 @@
 -- The request that an answer names.
-use Rattle.std.proofs.Common.{◌≡◌, ℕ, ◌+◌, ◌<◌, ◌≤◌, ◌^◌, Bool, true, false, ◌&&◌, cond, List, [], ◌∷◌, map, length, refl, ap, sym, subst, ◌∙◌, arith}
+use Rattle.std.proofs.Common.{◌≡◌, ℕ, ◌+◌, ◌<◌, ◌≤◌, ◌^◌, Bool, true, false, ◌&&◌, cond, List, [], ◌∷◌, ◌++◌, map, length, refl, ap, sym, subst, ◌∙◌, arith}
 use Rattle.std.specs.Prelude.{Option, Some, None, MatchOption, find, option_map, slice_get}
 use Rattle.mux_history.specs.declared.out.Out.{Out}
 use Rattle.rpc_message.specs.Message.{Id}
 use Rattle.event_model.specs.declared.stage.Stage.{Stage}
 use Rattle.event_model.specs.declared.stage.Stage.TheVariants.{Ready, Spawning}
-use Rattle.event_model.specs.Does.{Does, Done}
-use Rattle.event_model.specs.Event.{Event}
+use Rattle.event_model.specs.Does.{Alike, Does, Done}
+use Rattle.event_model.specs.Event.{Event, behind}
 use Rattle.event_model.specs.Row.{Row}
 use Rattle.event_model.specs.Settings.{Settings}
 use Rattle.event_model.specs.Stages.{is_initializing}
@@ -87,3 +87,7 @@ not_spawning stage r e = clash (sym r ∙ e)
 
 pub whole_entry : {K : Type 0} (Holds : K → List Event → Type 0) (row : Row) (base : List Event) (t u : K) (xs ys : List Out) → xs ≡ [] → Holds t base → Does Holds row base t xs u ys → Done Holds row base [] u ys
 whole_entry Holds row base t u xs ys first st d = does_entry st (subst (λ zs. Does Holds row base t zs u ys) first d)
+
+-- a whole entry of a row that sends what another one does
+pub done_alike : {K : Type 0} (Holds : K → List Event → Type 0) {r p : Row} {base : List Event} {xs ys : List Out} {u : K} → Alike r p → Done Holds p base xs u ys → Done Holds r base xs u ys
+done_alike Holds {r} {p} {base} {xs} {ys} {u} a d = record { outs = d.outs ∙ ap (λ zs. xs ++ zs) (sym (a.sends (behind base xs))); stands = d.stands }

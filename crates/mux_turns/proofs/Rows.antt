@@ -43,17 +43,17 @@ is_second {r} {p} {q} e h = alike_then (alike (e ∙ ap (λ c. choose c p q) h))
 module _ (settings : Settings) (before : List Event) (e : ℕ) where
   -- L1
   abbrev by_ready : ℕ → Bool → Row
-  by_ready s b = choose b (each (cancel s) (uncancelled_of e (forwarding_of s before).open_requests)) nothing ⨾ choose b (each (refuse s) (filter (is_with e) (asks_of s before))) nothing
+  by_ready s b = choose b (each (cancel s) (uncancelled_of e (forwarding_of s before).open_requests)) nothing ⨾ choose b (each (refuse s) (filter (is_with e) (asks_of settings s before))) nothing
 
   -- where it isn't ready
-  unready_both : (s : ℕ) → is_ready (life_of s before).stage ≡ false → Alike (cancels before s e ⨾ refusals before s e) nothing
+  unready_both : (s : ℕ) → is_ready (life_of s before).stage ≡ false → Alike (cancels before s e ⨾ refusals settings before s e) nothing
   unready_both s h = alike_then (alike (ap (by_ready s) h)) (record { sends = λ events. refl })
 
   pub ended_left : HasEnded (start_for settings e before) before → Alike (cancels_row settings before e) nothing
-  ended_left h = ended_start (home_of settings e before) (λ g. start_of g before) nothing (λ g s. cancels before s e ⨾ refusals before s e) (λ g s at. unready_both s (ap is_ready (h s at)))
+  ended_left h = ended_start (home_of settings e before) (λ g. start_of g before) nothing (λ g s. cancels before s e ⨾ refusals settings before s e) (λ g s at. unready_both s (ap is_ready (h s at)))
 
-  left_at : (g s : ℕ) → home_of settings e before ≡ Some g → start_of g before ≡ Some s → cancels_row settings before e ≡ (cancels before s e ⨾ refusals before s e)
-  left_at g s h k = some_start (home_of settings e before) (λ g. start_of g before) nothing (λ g s. cancels before s e ⨾ refusals before s e) g s h k
+  left_at : (g s : ℕ) → home_of settings e before ≡ Some g → start_of g before ≡ Some s → cancels_row settings before e ≡ (cancels before s e ⨾ refusals settings before s e)
+  left_at g s h k = some_start (home_of settings e before) (λ g. start_of g before) nothing (λ g s. cancels before s e ⨾ refusals settings before s e) g s h k
 
   pub unready_left : (g s : ℕ) (stage : Stage) → home_of settings e before ≡ Some g → start_of g before ≡ Some s → stage ≡ (life_of s before).stage → is_ready stage ≡ false → Alike (cancels_row settings before e) nothing
   unready_left g s stage h k at r = alike_then (alike (left_at g s h k ∙ ap (by_ready s) (ap is_ready (sym at) ∙ r))) (record { sends = λ events. refl })
@@ -68,10 +68,10 @@ module _ (settings : Settings) (before : List Event) (e : ℕ) where
       go true h = ap (λ r. refuse s a ⨾ r) h
       go false h = h
 
-  pub ready_left : (g s : ℕ) (stage : Stage) (ns : List ℕ) (kept : List route.Ask) → kept ≡ map kept_ask (asks_of s before) → home_of settings e before ≡ Some g → start_of g before ≡ Some s → stage ≡ (life_of s before).stage → is_ready stage ≡ true → ns ≡ uncancelled_of e (forwarding_of s before).open_requests
+  pub ready_left : (g s : ℕ) (stage : Stage) (ns : List ℕ) (kept : List route.Ask) → kept ≡ map kept_ask (asks_of settings s before) → home_of settings e before ≡ Some g → start_of g before ≡ Some s → stage ≡ (life_of s before).stage → is_ready stage ≡ true → ns ≡ uncancelled_of e (forwarding_of s before).open_requests
       → Alike (cancels_row settings before e) (each (cancel s) ns ⨾ each (refusal s) (of_editor e kept))
   ready_left g s stage ns kept own h k at r is = alike_then (alike (left_at g s h k ∙ ap (by_ready s) (ap is_ready (sym at) ∙ r)))
-      (alike_then (record { sends = λ events. refl }) (alike (ap₂ (λ q w. each (cancel s) q ⨾ w) (sym is) (refusal_rows s (asks_of s before) ∙ ap (λ ks. each (refusal s) (of_editor e ks)) (sym own)))))
+      (alike_then (record { sends = λ events. refl }) (alike (ap₂ (λ q w. each (cancel s) q ⨾ w) (sym is) (refusal_rows s (asks_of settings s before) ∙ ap (λ ks. each (refusal s) (of_editor e ks)) (sym own)))))
 
   -- E16 and E17
   module _ (body : List ℕ) where

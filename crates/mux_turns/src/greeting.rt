@@ -58,8 +58,8 @@ fn add_folder(alloc: Global, text: &mut Vec<u8>, folder: &(Body, Body)) -> Resul
     Ok(())
 }
 
-// The list of folders, or null.
-fn folders_text(alloc: Global, folders: &[(Body, Body)]) -> Result<Vec<u8>, Memory>
+/// The list of folders (LSP 3.17, WorkspaceFolder), or null where there is none.
+pub fn folders_text(alloc: Global, folders: &[(Body, Body)]) -> Result<Vec<u8>, Memory>
     ensures { AreUtf8 folders.now → IfOk result (λ text. text.items ≡ folders_text folders.now) }
 {
     let mut text = Vec::new(alloc);

@@ -10,7 +10,7 @@ mod refusals;
 
 pub use answered::{answered_ask, answered_number};
 pub use evicting::{evict, replace, stage_at};
-pub use greeting::{add_comma, bytes_of, opening};
+pub use greeting::{add_comma, bytes_of, folders_text, opening};
 pub use leaves::{Departure, cancel_request, depart, leaving};
 pub use placing::{found, turn_away, waits, welcome};
 pub use refusals::{asked_at, refuse, refuse_early, refuse_request, refuse_wrong, reject};

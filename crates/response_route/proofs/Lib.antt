@@ -1,5 +1,7 @@
 mod Answering
+pub mod Asking
 mod Making
+mod Placing
 mod ReadLaw
 pub mod Responding
 mod Rising

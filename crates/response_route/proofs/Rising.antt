@@ -1,4 +1,4 @@
--- The documents of a result stand one behind the other, and so do the edits in them.
+-- The documents of a result, or of params, stand one behind the other, and so do the edits in them.
 use Rattle.std.proofs.Common.{◌≡◌, ◌⊎◌, ℕ, ◌+◌, ◌-◌, ◌≤◌, Bool, true, false, List, [], ◌∷◌, ◌++◌, length, length-append, take, drop, flat_map, bytes_eq, Option, Some, None, codes, if◌then◌else◌, inl, inr, refl, sym, ◌∙◌, ap, subst, arith}
 use Rattle.std.specs.Prelude.{nat_le}
 use Rattle.std.specs.Option.{option_and_then, option_map}
@@ -20,12 +20,14 @@ use Rattle.doc_text.specs.Changes.{string_text}
 use Rattle.document_model.specs.Notices.{integer_text, new_version}
 use Rattle.event_model.specs.Members.{has_version, listed}
 use Rattle.rpc_message.specs.Changed.{id_edits}
-use Rattle.rpc_message.specs.Message.{Message, message_of, request, notification, result, error, not_json, not_message}
-use Rattle.rpc_message.specs.Parsed.{result_in}
+use Rattle.rpc_message.specs.Envelopes.{not_null}
+use Rattle.rpc_message.specs.Message.{Message, is_null, message_of, request, notification, result, error, not_json, not_message}
+use Rattle.rpc_message.specs.Parsed.{params_in, result_in}
 use Rattle.rpc_message.proofs.Alone.{id_alone}
 use Rattle.rpc_message.proofs.Beside.{id_rise}
 use Rattle.response_route.specs.Edits.{Renaming, versioned, change_documents, workspace_documents, action_documents, in_front, object_documents, documents_of, renamed, document_edits, joined, all_edits}
-use Rattle.response_route.specs.Results.{value_documents, documents_in}
+use Rattle.response_route.specs.Asked.{documents_asked}
+use Rattle.response_route.specs.Results.{documents_in}
 
 -- these values stand one behind the other, from one place up to another
 abbrev pub Rising : ℕ → ℕ → List Json → Type 0
@@ -44,7 +46,7 @@ rising_on (t ∷ ts) us at mid from to h g r = (h.0, h.1, rising_on ts us (span_
 abbrev Rises : (Json → List Json) → Type 0
 Rises f = (t : Json) (at : ℕ) (bs : List ℕ) → value t at bs → Rising at (at + length bs) (f t)
 
-abbrev maybe : (Json → List Json) → Option Json → List Json
+abbrev pub maybe : (Json → List Json) → Option Json → List Json
 maybe f (Some j) = f j
 maybe f None = []
 
@@ -245,7 +247,37 @@ edits_rising r (t ∷ ts) at to es h e = go (document_edits r t) refl (all_edits
     go (Some fs) f None g k = absurd (cc)
     go None f b g k = absurd (cc)
 
--- in a message
+-- in a member of a message
+
+module _ (f : Json → List Json) (each : Rises f) (cs : List ℕ) (other : bytes_eq cs (codes "id") ≡ false) (part : Json → Option Json) (is_named : (t p : Json) → part t ≡ Some p → named_in cs t ≡ Some p)
+    (r : Renaming) (body w : List ℕ) (es : List Edit) where
+  nothing : ◌≡◌ {A = Option (List Edit)} (Some []) (Some es) → Rise body (id_edits body w es)
+  nothing h = subst (λ z. Rise body (id_edits body w z)) (let same : [] ≡ es = cc in same) (id_alone body w)
+
+  by_root : (t p : Json) → tree_of body ≡ Some t → named_in cs t ≡ Some p → all_edits r (f p) ≡ Some es → Rise body (id_edits body w es)
+  by_root (object s ms) p tree there h =
+      let i : InSpan body p = member_in_span body s cs ms p (tree_sound body (object s ms) tree).0 there in
+      let bs : List ℕ = take ((span_of p).to - (span_of p).from) (drop (span_of p).from body) in
+      let to : (span_of p).to ≡ (span_of p).from + length bs = to_is p (span_of p).from bs i.stands in
+      id_rise body w cs s ms p es tree there other
+      (subst (λ n. RiseFrom (span_of p).from n es) (sym to) (edits_rising r (f p) (span_of p).from ((span_of p).from + length bs) es (each p (span_of p).from bs i.stands) h))
+  by_root (word s x) p tree there h = absurd (cc)
+  by_root (number s ds) p tree there h = absurd (cc)
+  by_root (string s ds) p tree there h = absurd (cc)
+  by_root (array s js) p tree there h = absurd (cc)
+
+  by_part : (t : Json) → tree_of body ≡ Some t → (o : Option Json) → part t ≡ o → all_edits r (maybe f o) ≡ Some es → Rise body (id_edits body w es)
+  by_part t tree (Some p) e h = by_root t p tree (is_named t p e) h
+  by_part t tree None e h = nothing h
+
+  part_rise : all_edits r (maybe f (option_and_then part (tree_of body))) ≡ Some es → Rise body (id_edits body w es)
+  part_rise e = go (tree_of body) refl e
+    where
+      go : (o : Option Json) → tree_of body ≡ o → all_edits r (maybe f (option_and_then part o)) ≡ Some es → Rise body (id_edits body w es)
+      go (Some t) tree h = by_part t tree (part t) refl h
+      go None tree h = nothing h
+
+-- in its result
 
 result_named : (m : Message) (t p : Json) → result_in m t ≡ Some p → named_in (codes "result") t ≡ Some p
 result_named (result i v) t p e = e
@@ -256,27 +288,25 @@ result_named not_json t p e = absurd (cc)
 result_named not_message t p e = absurd (cc)
 
 pub message_rise : (r : Renaming) (body w : List ℕ) (es : List Edit) → all_edits r (documents_in body) ≡ Some es → Rise body (id_edits body w es)
-message_rise r body w es e = go (tree_of body) refl e
+message_rise r body w es e = part_rise documents_of documents_rise (codes "result") refl (result_in (message_of body)) (result_named (message_of body)) r body w es e
+
+-- and in its params
+
+pub not_null_is : (o : Option Json) (p : Json) → not_null o ≡ Some p → o ≡ Some p
+not_null_is (Some j) p e = go (is_null j) e
   where
-    nothing : ◌≡◌ {A = Option (List Edit)} (Some []) (Some es) → Rise body (id_edits body w es)
-    nothing h = subst (λ z. Rise body (id_edits body w z)) (let same : [] ≡ es = cc in same) (id_alone body w)
+    go : (b : Bool) → (if b then None else Some j) ≡ Some p → Some j ≡ Some p
+    go true h = absurd (cc)
+    go false h = h
+not_null_is None p e = absurd (cc)
 
-    by_root : (t p : Json) → tree_of body ≡ Some t → named_in (codes "result") t ≡ Some p → all_edits r (documents_of p) ≡ Some es → Rise body (id_edits body w es)
-    by_root (object s ms) p tree there h =
-        let i : InSpan body p = member_in_span body s (codes "result") ms p (tree_sound body (object s ms) tree).0 there in
-        let bs : List ℕ = take ((span_of p).to - (span_of p).from) (drop (span_of p).from body) in
-        let to : (span_of p).to ≡ (span_of p).from + length bs = to_is p (span_of p).from bs i.stands in
-        id_rise body w (codes "result") s ms p es tree there refl
-        (subst (λ n. RiseFrom (span_of p).from n es) (sym to) (edits_rising r (documents_of p) (span_of p).from ((span_of p).from + length bs) es (documents_rise p (span_of p).from bs i.stands) h))
-    by_root (word s x) p tree there h = absurd (cc)
-    by_root (number s ds) p tree there h = absurd (cc)
-    by_root (string s cs) p tree there h = absurd (cc)
-    by_root (array s js) p tree there h = absurd (cc)
+params_named : (m : Message) (t p : Json) → params_in m t ≡ Some p → named_in (codes "params") t ≡ Some p
+params_named (request i n ps) t p e = not_null_is (named_in (codes "params") t) p e
+params_named (notification n ps) t p e = not_null_is (named_in (codes "params") t) p e
+params_named (result i v) t p e = absurd (cc)
+params_named (error i v) t p e = absurd (cc)
+params_named not_json t p e = absurd (cc)
+params_named not_message t p e = absurd (cc)
 
-    by_result : (t : Json) → tree_of body ≡ Some t → (o : Option Json) → result_in (message_of body) t ≡ o → all_edits r (value_documents o) ≡ Some es → Rise body (id_edits body w es)
-    by_result t tree (Some p) f h = by_root t p tree (result_named (message_of body) t p f) h
-    by_result t tree None f h = nothing h
-
-    go : (o : Option Json) → tree_of body ≡ o → all_edits r (value_documents (option_and_then (result_in (message_of body)) o)) ≡ Some es → Rise body (id_edits body w es)
-    go (Some t) tree h = by_result t tree (result_in (message_of body) t) refl h
-    go None tree h = nothing h
+pub asked_rise : (r : Renaming) (body w : List ℕ) (es : List Edit) → all_edits r (documents_asked body) ≡ Some es → Rise body (id_edits body w es)
+asked_rise r body w es e = part_rise action_documents action_rises (codes "params") refl (params_in (message_of body)) (params_named (message_of body)) r body w es e

@@ -1,4 +1,4 @@
--- The edits of a result's versions make a value that nests no deeper.
+-- The edits of the versions in a value make one that nests no deeper, and may be params where the old one may.
 use Rattle.std.proofs.Common.{◌≡◌, ℕ, ◌≤◌, max, Bool, true, false, List, [], ◌∷◌, ◌++◌, flat_map, bytes_eq, Option, Some, None, codes, if◌then◌else◌, refl, sym, ◌∙◌, ap, subst, append-nil, append_assoc, arith}
 use Rattle.std.specs.Option.{option_and_then, option_map}
 use Rattle.json_text.specs.declared.span.Span.{Span}
@@ -13,18 +13,21 @@ use Rattle.json_text.proofs.Swaps.{Swaps, kept, in_array, in_object, SwapsItems,
 use Rattle.json_nodes.specs.Puts.{put_edits, member_edits, new_or, put_members}
 use Rattle.json_nodes.proofs.Swapped.{Says, put_swaps}
 use Rattle.json_nodes.proofs.TwoSwaps.{both}
+use Rattle.rpc_message.specs.Message.{are_params}
 use Rattle.rpc_message.specs.ValueTexts.{IsValueText}
 use Rattle.doc_text.specs.Changes.{string_text}
 use Rattle.document_model.specs.Notices.{integer_text, new_version}
 use Rattle.event_model.specs.Members.{has_version, listed}
 use Rattle.response_route.specs.Answers.{GivesFlat, IsFlatText}
 use Rattle.response_route.specs.Edits.{Renaming, versioned, change_documents, workspace_documents, action_documents, in_front, object_documents, documents_of, renamed, document_edits, joined, all_edits}
+use Rattle.response_route.proofs.Rising.{maybe}
 use Rattle.response_route.proofs.Sides.{Sides, sides, sides_are, in_order}
 
 pub record Made (t : Json) (es : List Edit) : Type 0 where
   pub value : Json
   pub swaps : Swaps t es value
   pub flat : depth value ≤ depth t
+  pub params : are_params (Some value) ≡ are_params (Some t)
 
 abbrev Option_edits : Type 0
 Option_edits = Option (List Edit)
@@ -36,7 +39,7 @@ none_some : {A : Type 0} (es : List Edit) → ◌≡◌ {A = Option_edits} None 
 none_some es e = absurd (cc)
 
 stays : (t : Json) (es : List Edit) → ◌≡◌ {A = Option_edits} (Some []) (Some es) → Made t es
-stays t es e = subst (Made t) (some_is [] es e) (record { value = t; swaps = kept t; flat = omega arith })
+stays t es e = subst (Made t) (some_is [] es e) (record { value = t; swaps = kept t; flat = omega arith; params = refl })
 
 -- edits of two lists
 joined_nil : (o : Option_edits) → o ≡ joined (Some []) o
@@ -85,6 +88,7 @@ put_made (object s ms) w h = record {
   value = object s (put_members (new_value h.0) ms);
   swaps = in_object s ms (put_members (new_value h.0) ms) (member_edits (new_version w) ms) (put_swaps (new_version w) (new_value h.0) ms (version_says h.0 w h.1));
   flat = omega (arith, no_deeper h.0 h.2 ms);
+  params = refl;
 }
 put_made (word s x) w h = stays (word s x) [] refl
 put_made (number s ds) w h = stays (number s ds) [] refl
@@ -115,10 +119,6 @@ module _ (r : Renaming) (gives : GivesFlat r) where
       go false h = stays t es h
 
   -- in a member of an object
-  abbrev maybe : (Json → List Json) → Option Json → List Json
-  maybe f (Some j) = f j
-  maybe f None = []
-
   member_made : (f : Json → List Json) → Makes f → (cs : List ℕ) (t : Json) (es : List Edit) → all_edits r (maybe f (named_in cs t)) ≡ Some es → Made t es
   member_made f each cs (object s ms) es e = go (named cs ms) refl e
     where
@@ -129,6 +129,7 @@ module _ (r : Renaming) (gives : GivesFlat r) where
             value = object s (put_named cs m.value ms);
             swaps = in_object s ms (put_named cs m.value ms) es (named_step cs ms j m.value es n m.swaps);
             flat = omega (arith, members_deep cs ms m.value, m.flat, named_below cs ms j n);
+            params = refl;
           }
       go None n h = stays (object s ms) es h
   member_made f each cs (word s x) es e = stays (word s x) es e
@@ -161,7 +162,7 @@ module _ (r : Renaming) (gives : GivesFlat r) where
   list_made : (f : Json → List Json) → Makes f → Makes (λ j. flat_map f (listed (Some j)))
   list_made f each (array s js) es e =
       let k : ItemsMade js es = items_made f each js es e in
-      record { value = array s k.values; swaps = in_array s js k.values es k.swaps; flat = omega (arith, k.flat) }
+      record { value = array s k.values; swaps = in_array s js k.values es k.swaps; flat = omega (arith, k.flat); params = refl }
   list_made f each (object s ms) es e = stays (object s ms) es e
   list_made f each (word s x) es e = stays (word s x) es e
   list_made f each (number s ds) es e = stays (number s ds) es e
@@ -193,7 +194,7 @@ module _ (r : Renaming) (gives : GivesFlat r) where
   action_is (Some j) = refl
   action_is None = refl
 
-  action_made : Makes action_documents
+  pub action_made : Makes action_documents
   action_made t es e = member_made (λ j. workspace_documents (Some j)) workspace_made (codes "edit") t es (sym (ap (all_edits r) (action_is (named_in (codes "edit") t))) ∙ e)
 
   -- both members of an object, in the order of their places
@@ -210,6 +211,7 @@ module _ (r : Renaming) (gives : GivesFlat r) where
           value = object s new;
           swaps = in_object s ms new (in_order two.first fs gs) (two.makes m.value l.value fs gs m.swaps l.swaps);
           flat = omega (arith, members_deep (codes "edit") (put_named (codes "documentChanges") m.value ms) l.value, members_deep (codes "documentChanges") ms m.value, m.flat, l.flat, named_below (codes "documentChanges") ms j n, named_below (codes "edit") ms k e);
+          params = refl;
         })
 
     two_made : (j k : Json) → named (codes "documentChanges") ms ≡ Some j → named (codes "edit") ms ≡ Some k → (b : Bool) → in_front (Some j) (Some k) ≡ b

@@ -7,7 +7,9 @@ use Rattle.json_text.specs.Computes.{computes}
 use Rattle.json_text.specs.Named.{named}
 use Rattle.json_text.specs.Replace.{replace}
 use Rattle.json_text.specs.Tree.{tree_of}
-use Rattle.rpc_message.specs.Message.{is_integer}
+use Rattle.rpc_message.specs.Changed.{id_edits}
+use Rattle.rpc_message.specs.Message.{is_integer, message_of, no_name_twice}
+use Rattle.response_route.specs.Asked.{asked_text}
 use Rattle.response_route.specs.Edits.{Renaming, result_edits}
 use Rattle.response_route.specs.Versions.{version_now}
 use Rattle.response_route.specs.declared.versions.Stamp.{Stamp}
@@ -54,6 +56,19 @@ not_read = refl
 refused : behind (codes "{\"documentChanges\":[{\"textDocument\":{\"uri\":\"file:///u\",\"version\":1}},{\"textDocument\":{\"uri\":\"file:///u\",\"version\":3}}]}") ≡ None
 unfolding computes named is_integer
 refused = refl
+
+-- V3: a whole request under another id, with these versions
+abbrev given : List ℕ → Option (List ℕ)
+given body = asked_text example body (codes "3")
+
+in_a_request : given (codes "{\"jsonrpc\":\"2.0\",\"id\":\"s\",\"method\":\"workspace/applyEdit\",\"params\":{\"label\":\"l\",\"edit\":{\"documentChanges\":[{\"textDocument\":{\"uri\":\"file:///u\",\"version\":1}}]}}}")
+    ≡ Some (codes "{\"jsonrpc\":\"2.0\",\"id\":3,\"method\":\"workspace/applyEdit\",\"params\":{\"label\":\"l\",\"edit\":{\"documentChanges\":[{\"textDocument\":{\"uri\":\"file:///u\",\"version\":5}}]}}}")
+unfolding computes message_of named no_name_twice is_integer id_edits
+in_a_request = refl
+
+refused_request : given (codes "{\"jsonrpc\":\"2.0\",\"id\":\"s\",\"method\":\"workspace/applyEdit\",\"params\":{\"edit\":{\"documentChanges\":[{\"textDocument\":{\"uri\":\"file:///u\",\"version\":3}}]}}}") ≡ None
+unfolding computes message_of named no_name_twice is_integer id_edits
+refused_request = refl
 
 -- A document was opened as version 5, under the start's version 1, a request went on, and a change made it 6, under the start's version 2.
 abbrev told : Option Stamp → List ℕ → Option (List ℕ)

@@ -1,4 +1,5 @@
 pub mod Answers
+pub mod Asked
 pub mod Edits
 pub mod Reading
 pub mod Results

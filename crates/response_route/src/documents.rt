@@ -174,3 +174,13 @@ pub fn documents_of(alloc: Global, tape: &Tape, node: u32) -> Result<Vec<u32>, M
     add_documents(tape, node, &mut documents)?;
     Ok(documents)
 }
+
+/// The nodes of the documents that have versions in the `edit` of an object, in the order of their places. The time is linear in it.
+pub fn action_documents(alloc: Global, tape: &Tape, node: u32) -> Result<Vec<u32>, Memory>
+    requires { node < length tape.now.nodes }
+    ensures { (t : Json) → At tape.now node t → IfOk result (λ documents. Stand tape.now documents.items (action_documents t)) }
+{
+    let mut documents = Vec::new(alloc);
+    add_action(tape, node, &mut documents)?;
+    Ok(documents)
+}

@@ -22,8 +22,8 @@ returns-in-Ready c = λ settings before body s at st read.
     let own = start_at_place t.lasts.items c.args.g s x.0 x.1 at in
     let here = c.stage.ensures settings before s at st in
     let ready = is_that_ready x.0.life.stage (ap is_ready (sym (kept_stage settings t before c.args.g x.0 x.1 own st) ∙ (sym here ∙ c.in-Ready.is))) in
-    subst (λ stage. IfOk c.built_ready.result (λ answer. answer ≡ built_from_server settings before s stage body (message_of body))) (sym c.in-Ready.is ∙ here)
-    (subst (λ n. IfOk c.built_ready.result (λ answer. answer ≡ built_ready settings before n (message_of body))) own (c.built_ready.ensures settings before body x.0 x.1 ready st read))
+    subst (λ stage. c.built_ready.result ≡ built_from_server settings before s stage body (message_of body)) (sym c.in-Ready.is ∙ here)
+    (subst (λ n. c.built_ready.result ≡ built_ready settings before n (message_of body)) own (c.built_ready.ensures settings before body x.0 x.1 ready st read))
 
 pub returns-in-Stopping : goal.returns-in-Stopping
 returns-in-Stopping c = λ settings before body s at st read.

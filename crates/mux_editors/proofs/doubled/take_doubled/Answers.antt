@@ -21,7 +21,7 @@ returns-then-not-is_served-clause-does c = λ settings before body method id par
     let m = message_of body in
     let at = c.phase_of-phase.ensures.stands settings before st in
     let unserved = ap is_served (sym at) ∙ (sym c.is_served.ensures ∙ c.if-not-is_served.true) in
-    c.in_ok-end_link.ensures.does settings before body (answers_none e m before (ap is_answer says)) (doubled_placed before e id method params m says doubled) (doubled_stops before e id method params m says doubled)
+    c.in_ok-end_link.ensures.does settings before body (answers_none settings e m before (ap is_answer says)) (doubled_placed before e id method params m says doubled) (doubled_stops before e id method params m says doubled)
     (doubled_unopened before e id method params m says doubled settings.servers) (unserved_keeps before e m unserved) (doubled_stays before e id method params m says doubled body refl unserved ∙ sym at) first st ds
 
 pub returns-in_ok-end_served-in-Shutdown-clause-does : goal.returns-in_ok-end_served-in-Shutdown-clause-does
@@ -39,6 +39,6 @@ returns-in_ok-end_link-in_default c = record {
       let m = message_of body in
       let served = ap is_served (sym (c.phase_of-phase.ensures.stands settings before st)) ∙ (sym c.is_served.ensures ∙ c.if-not-is_served.false) in
       let serve = serves_standard method standard (λ is. c.in_default.not-Shutdown (c.class_in.ensures body method id params read says ∙ is)) in
-      c.in_ok-end_link-in_default.ensures.does settings before body (answers_none e m before (ap is_answer says)) (doubled_placed before e id method params m says doubled) (doubled_stops before e id method params m says doubled)
+      c.in_ok-end_link-in_default.ensures.does settings before body (answers_none settings e m before (ap is_answer says)) (doubled_placed before e id method params m says doubled) (doubled_stops before e id method params m says doubled)
       (doubled_unopened before e id method params m says doubled settings.servers) (request_keeps method id params serve before e m says) (stands_so before e body (request id method params) Running says (λ q i h. request_runs method id params serve body q i h) served) first st ds;
 }

@@ -12,4 +12,4 @@ returns-clause-does c = λ settings before body exits first st ds.
     let m = message_of body in
     let off = aside before e m (exit_aside m exits) in
     let stays = desk_now before e body c.phase_of-phase.result (exit_stays (desk_of e before).phase (desk_of e before).initialize body m exits ∙ sym (c.phase_of-phase.ensures.stands settings before st)) in
-    c.in_ok-end_link.ensures.does settings before body (answers_none e m before (exit_answers m exits)) off.placed off.stopped (off.unopened settings.servers) (exit_keeps before e m exits) stays first st ds
+    c.in_ok-end_link.ensures.does settings before body (answers_none settings e m before (exit_answers m exits)) off.placed off.stopped (off.unopened settings.servers) (exit_keeps before e m exits) stays first st ds

@@ -28,7 +28,7 @@ returns-clause-does c = λ settings before body read asks single servers first k
     let xs = c.args.outs.now in
     let own = status_asks (message_of body) asks in
     let k = lspmux_is (message_of body) own in
-    let heard = c.hear_editor.ensures.stands settings before body st (answers_none e (message_of body) before (ap is_answer k.is)) (own_placed before e body own) (own_stops before e body own) (unnamed_unopened settings.servers before e (message_of body) (status_unnamed (message_of body) asks))
+    let heard = c.hear_editor.ensures.stands settings before body st (answers_none settings e (message_of body) before (ap is_answer k.is)) (own_placed before e body own) (own_stops before e body own) (unnamed_unopened settings.servers before e (message_of body) (status_unnamed (message_of body) asks))
     (own_stays before e body own ∙ sym (c.phase_of-phase.ensures.stands settings before st)) in
     let docs = c.hear_editor.ensures.documents settings nothing_owed before body (own_keeps before e body own) ds in
     let told = ok_text (id_bytes body) (status_text (items_of settings before)) in

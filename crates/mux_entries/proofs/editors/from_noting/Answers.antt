@@ -9,21 +9,22 @@ use Rattle.lsp_method.specs.declared.variants.Origin.TheVariants.{Editor}
 use Rattle.mux_model.specs.Methods.{goes_on}
 use Rattle.rpc_message.specs.Message.{message_of, notification}
 use Rattle.mux_tables.specs.Documents.{AllStand}
+use Rattle.mux_editors.proofs.Runs.{aside_row, exit_stays}
 use Rattle.mux_turns.proofs.Rows.{is_first, is_second}
 use Rattle.mux_entries.proofs.EditorBuilt.{served_needs}
-use Rattle.mux_entries.proofs.EditorRows.{done_alike}
+use Rattle.mux_entries.proofs.EditorRows.{alike_behind, alike_past, done_alike}
 use Rattle.mux_entries.proofs.editors.from_noting.Goals as goal
 
 pub returns-in_ok-take_exit-clause-does : goal.returns-in_ok-take_exit-clause-does
 returns-in_ok-take_exit-clause-does c = λ settings before body method params read says served first known settled st ds.
     let exits : notifies (codes "exit") (message_of body) ≡ true = sym (c.is_exit.ensures body read) ∙ c.if-is_exit.true in
-    done_alike (λ k events. AllStand settings k events) (is_first refl (ap (notifies (codes "exit")) (sym says) ∙ exits)) (c.in_ok-take_exit.ensures.does settings before body exits first st ds)
+    done_alike (λ k events. AllStand settings k events) (alike_past (aside_row settings before c.args.e (message_of body) (exit_stays (message_of body) exits)) (is_first refl (ap (notifies (codes "exit")) (sym says) ∙ exits))) (c.in_ok-take_exit.ensures.does settings before body exits first st ds)
 
 pub returns-in_ok-take_passed-clause-does : goal.returns-in_ok-take_passed-clause-does
 returns-in_ok-take_passed-clause-does c = λ settings before body method params read says served first known settled st ds.
     let stays : bytes_eq (codes "exit") method ≡ false = ap (notifies (codes "exit")) (sym says) ∙ (sym (c.is_exit.ensures body read) ∙ c.if-is_exit.false) in
     let going : goes_on (class_of method Editor true) ≡ true = sym (c.goes_on.ensures body method params read says) ∙ c.if-goes_on.true in
-    done_alike (λ k events. AllStand settings k events) (alike_then (is_second refl stays) (is_first refl going))
+    done_alike (λ k events. AllStand settings k events) (alike_behind (alike_then (is_second refl stays) (is_first refl going)))
     (c.in_ok-take_passed.ensures.does settings before body method params read says going served first st ds)
 
 pub returns-in_ok-take_cancel-clause-does : goal.returns-in_ok-take_cancel-clause-does
@@ -31,7 +32,7 @@ returns-in_ok-take_cancel-clause-does c = λ settings before body method params 
     let stays : bytes_eq (codes "exit") method ≡ false = ap (notifies (codes "exit")) (sym says) ∙ (sym (c.is_exit.ensures body read) ∙ c.if-is_exit.false) in
     let off : goes_on (class_of method Editor true) ≡ false = sym (c.goes_on.ensures body method params read says) ∙ c.if-goes_on.false in
     let cancels : bytes_eq (codes "$/cancelRequest") method ≡ true = ap (notifies (codes "$/cancelRequest")) (sym says) ∙ (sym (c.is_cancel.ensures body read) ∙ c.if-is_cancel.true) in
-    done_alike (λ k events. AllStand settings k events) (alike_then (is_second refl stays) (alike_then (is_second refl off) (is_first refl cancels)))
+    done_alike (λ k events. AllStand settings k events) (alike_behind (alike_then (is_second refl stays) (alike_then (is_second refl off) (is_first refl cancels))))
     (c.in_ok-take_cancel.ensures.does settings before body params read (says ∙ ap (λ w. notification w params) (sym ((bytes_eq-Decides (codes "$/cancelRequest") method).0 cancels))) served first known st ds)
 
 pub returns-in_ok-take_notice-clause-does : goal.returns-in_ok-take_notice-clause-does
@@ -41,5 +42,5 @@ returns-in_ok-take_notice-clause-does c = λ settings before body method params 
     let seat = settled.seated e (served_needs (desk_of e before).phase served) in
     let off : goes_on (class_of method Editor true) ≡ false = sym (c.goes_on.ensures body method params read says) ∙ c.if-goes_on.false in
     let other : bytes_eq (codes "$/cancelRequest") method ≡ false = ap (notifies (codes "$/cancelRequest")) (sym says) ∙ (sym (c.is_cancel.ensures body read) ∙ c.if-is_cancel.false) in
-    done_alike (λ k events. AllStand settings k events) (alike_then (is_second refl stays) (alike_then (is_second refl off) (is_second refl other)))
+    done_alike (λ k events. AllStand settings k events) (alike_behind (alike_then (is_second refl stays) (alike_then (is_second refl off) (is_second refl other))))
     (c.in_ok-take_notice.ensures.does settings before body method params seat.group seat.start read says stays served seat.home seat.last first st ds)

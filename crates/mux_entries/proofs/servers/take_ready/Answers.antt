@@ -6,7 +6,7 @@ use Rattle.rpc_message.specs.Message.{message_of, notification, request}
 use Rattle.mux_tables.specs.Documents.{AllStand}
 use Rattle.mux_entries.proofs.EditorRows.{asks_by_sort, done_alike, notes_by_sort, unasking, unnoting}
 use Rattle.mux_entries.proofs.Said.{answer_here, asked, stage_here}
-use Rattle.mux_entries.proofs.Questions.{asks_here, built_here}
+use Rattle.mux_entries.proofs.Questions.{asks_here, built_here, no_request}
 use Rattle.mux_entries.proofs.servers.take_ready.Goals as goal
 
 pub returns-in_ok-take_question-in-Request-clause-does : goal.returns-in_ok-take_question-in-Request-clause-does
@@ -17,7 +17,7 @@ returns-in_ok-take_question-in-Request-clause-does c = λ settings before body s
     let stage = stage_here settings t before c.args.g s x.0 x.1 at st ∙ ready in
     let asks = asks_by_sort (message_of body) (c.sort.ensures body read ∙ ap (λ k. Some k) c.in-Request.is) in
     done_alike (λ k events. AllStand settings k events) (asks_here settings before s body (request asks.id asks.method asks.params) stage asks.is)
-    (c.in_ok-take_question-in-Request.ensures.does settings before body asks.method asks.id asks.params s x.0 read asks.is (built_here settings before s body (request asks.id asks.method asks.params) stage asks.is built) first x.1 ready at st ds)
+    (c.in_ok-take_question-in-Request.ensures.does settings before body asks.method asks.id asks.params s x.0 read asks.is (built_here settings before s body (request asks.id asks.method asks.params) stage asks.is built) first x.1 ready at known settled st ds)
 
 pub returns-in_ok-take_telling-in-Notification-clause-does : goal.returns-in_ok-take_telling-in-Notification-clause-does
 returns-in_ok-take_telling-in-Notification-clause-does c = λ settings before body s read first at known settled built st ds.
@@ -39,4 +39,4 @@ returns-in_ok-take_answer-in-Result-clause-does c = λ settings before body s re
     let unasked = unasking m c.sort.result (c.sort.ensures body read) c.in-Result.is in
     let unnoted = unnoting m c.sort.result (c.sort.ensures body read) c.in-Result.is in
     done_alike (λ k events. AllStand settings k events) (answer_here settings before s body stage unasked unnoted)
-    (c.in_ok-take_answer-in-Result.ensures.does settings before body s x.0 read first x.1 ready at (asked before s m known.asked) known.meant st ds)
+    (c.in_ok-take_answer-in-Result.ensures.does settings before body s x.0 read (no_request m unasked) first x.1 ready at (asked before s m known.asked) known.meant st ds)

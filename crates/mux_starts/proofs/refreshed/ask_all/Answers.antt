@@ -24,10 +24,10 @@ loop-e-preserved c = record {
       let ys = c.loop-e.outs in
       let before = c.loop-e.invariant.does settings base body method id params read says run idle in
       does_knowing (λ k.
-      let kept = kept_behind body (take i numbers) base xs ys (before.done k).outs (each_keeps body method id params says (take i numbers) (behind base xs)) in
+      let kept = kept_behind settings body (take i numbers) base xs ys (before.done k).outs (each_keeps settings body method id params says (take i numbers) (behind base xs)) in
       does_next (ask body) numbers i 0 c.loop-e-test.true before
       (all_does settings t u nothing_owed nothing_owed base ys c.question.new.outs
-      (c.in_ok-question.ensures.does settings base body method id params read says (ap is_running (kept.phases e) ∙ runs_at (behind base xs) numbers i run c.loop-e-test.true) (λ s. kept.askers s ∙ idle s))
+      (c.in_ok-question.ensures.does settings base body method id params read says (ap is_running (kept.phases e) ∙ runs_at (behind base xs) numbers i run c.loop-e-test.true) (λ s. kept.rests s (idle s)))
       (λ _ d. c.in_ok-question.ensures.documents settings nothing_owed base d)));
 }
 

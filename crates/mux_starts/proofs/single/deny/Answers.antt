@@ -5,10 +5,10 @@ use Rattle.event_model.specs.Does.{Does}
 use Rattle.event_model.specs.Event.{behind}
 use Rattle.event_model.specs.Row.{send}
 use Rattle.rpc_message.specs.Texts.{error_text, request_failed}
-use Rattle.group_rows.specs.Asks.{asks_of}
+use Rattle.group_rows.specs.Asks.{asking_of}
 use Rattle.mux_tables.specs.Documents.{AllStand, nothing_owed}
 use Rattle.mux_tables.proofs.DocumentOwed.{all_does}
-use Rattle.mux_starts.proofs.Singles.{answers_one, refuses_one}
+use Rattle.mux_starts.proofs.Singles.{none_under, refuses_one}
 use Rattle.mux_starts.proofs.single.deny.Goals as goal
 
 pub returns : goal.returns
@@ -20,7 +20,8 @@ returns c = record {
       let text = c.in_ok-text.text in
       let is = c.in_ok-text.ensures ∙ ap (λ w. error_text w request_failed) (c.id_bytes.ensures body read) in
       let k = refuses_one text body method id params says is in
+      let open_none = none_under text id (asking_of settings s (behind base xs)) k.answers fresh in
       subst (λ w. Does (λ k events. AllStand settings k events) (send (ToServer s w)) base (t, nothing_owed) xs (t, nothing_owed) ys) is
-      (all_does settings t t nothing_owed nothing_owed base xs ys (c.in_ok-respond.ensures.does settings base s at k.runs k.counts (answers_one text id (asks_of s (behind base xs)) k.answers fresh))
+      (all_does settings t t nothing_owed nothing_owed base xs ys (c.in_ok-respond.ensures.does settings base s at k.runs k.counts open_none.asks open_none.parked)
       (λ _ d. c.in_ok-respond.ensures.documents settings nothing_owed base k.says k.aside d));
 }

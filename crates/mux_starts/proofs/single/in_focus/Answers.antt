@@ -1,6 +1,7 @@
 -- The editor in focus.
 use Rattle.std.proofs.Common.{◌<◌, length, ap, ◌∙◌}
-use Rattle.group_rows.specs.AskRows.{first_in, last_among, running_in}
+use Rattle.group_rows.specs.AskRows.{last_among}
+use Rattle.group_rows.specs.Asks.{first_in, running_in}
 use Rattle.group_rows.specs.Forwarded.{forwarding_of}
 use Rattle.mux_starts.proofs.Singles.{contains_within, first_some, focus_is, focus_none}
 use Rattle.mux_starts.proofs.single.in_focus.Goals as goal

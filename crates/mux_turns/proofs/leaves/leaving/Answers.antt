@@ -29,7 +29,7 @@ returns-clause-leaves c = λ settings before st x here.
     let at = mapped_on number_in t.lasts.items g x here in
     let ready = sym c.is_ready.ensures ∙ c.if-not-is_ready.false in
     let stage = is_that_ready x.life.stage (ap is_ready (sym (kept_stage settings t before g x st here) ∙ sym (c.stage.ensures settings before s at st)) ∙ ready) in
-    let asked = ready_asks x.life.stage before (asks_of s before) x.asks stage ((st.lasts.each g x here).parts of_asks) in (
+    let asked = ready_asks x.life.stage before (asks_of settings s before) x.asks stage ((st.lasts.each g x here).parts of_asks) in (
       stage,
       ready_left settings before c.args.e x.life.group s c.stage.result c.in_ok-requests.requests.items x.asks asked.same (c.in-Some.ensures.home settings before x here st) (group_seen settings t before g s x st here at).1
           (c.stage.ensures settings before s at st) ready (c.in_ok-requests.ensures settings before s at st),

@@ -1,39 +1,30 @@
 -- An editor is asked, which is kept.
-use Rattle.std.proofs.Common.{None, ap, length, refl, ◌++◌, ◌∷◌, [], ◌∙◌}
-use Rattle.std.proofs.lemmas.List.{length-set}
-use Rattle.ask_route.specs.Tables.{asked}
+use Rattle.std.proofs.Common.{decimal, subst}
+use Rattle.mux_history.specs.declared.out.Out.TheVariants.{ToEditor}
+use Rattle.rpc_message.specs.Texts.{with_id_text}
+use Rattle.event_model.specs.Does.{Does}
 use Rattle.event_model.specs.Event.{behind}
-use Rattle.mux_tables.proofs.Putting.{put_by, put_documents, unasked_does, unasked_documents}
-use Rattle.mux_tables.proofs.Starts.{read_here, read_same, stages_stay, starts_stay}
+use Rattle.event_model.specs.Row.{send}
+use Rattle.mux_tables.specs.Stands.{Stands}
+use Rattle.mux_tables.proofs.Numbering.{none_numbered, one_numbered}
+use Rattle.mux_tables.proofs.Putting.{next_says}
 use Rattle.mux_tables.proofs.tables.Tables.put.Goals as goal
 
-pub returns-in_default-clause-count : goal.returns-in_default-clause-count
-returns-in_default-clause-count c = ap length c.ask_number.ensures.kept ∙ length-set c.args.self.now.editors c.args.e _
-
 pub returns-in_default-clause-does : goal.returns-in_default-clause-does
-returns-in_default-clause-does c = λ settings base body method id params x at ready read says runs asker rest free. unasked_does settings c.args.self.now _ base c.args.outs.now c.args.e body c.requires.editor runs c.ask_number.ensures.kept refl refl refl refl None refl c.in_default.ensures.number refl
-
-pub returns-in_default-clause-documents : goal.returns-in_default-clause-documents
-returns-in_default-clause-documents c = λ settings owed base ds. unasked_documents settings owed c.args.self.now _ (behind base c.args.outs.now) refl refl refl ds
-
-pub returns-clause-count : goal.returns-clause-count
-returns-clause-count c = ap length c.ask_number.ensures.kept ∙ length-set c.args.self.now.editors c.args.e _
-
-pub returns-clause-starts : goal.returns-clause-starts
-returns-clause-starts c = starts_stay c.args.self.now.lasts.items c.args.g c.index_mut-last.result.now (record c.index_mut-last.result.now { asks = c.ask.new.self }) c.requires.group c.index_mut-last.ensures.value refl
-
-pub returns-clause-stages : goal.returns-clause-stages
-returns-clause-stages c = stages_stay c.args.self.now.lasts.items c.args.g c.index_mut-last.result.now (record c.index_mut-last.result.now { asks = c.ask.new.self }) c.requires.group c.index_mut-last.ensures.value refl
+returns-in_default-clause-does c = λ settings base body method id params x at ready read says runs work.
+    none_numbered (λ t events. Stands settings t events) (λ n. send (ToEditor c.args.e (with_id_text body (decimal n)))) c.args.e base c.args.outs.now c.args.self.now
+    (λ st. c.in_default.ensures settings (behind base c.args.outs.now) runs st)
 
 pub returns-clause-does : goal.returns-clause-does
-returns-clause-does c = λ settings base body method id params x at ready read says runs asker rest free.
-    let z = c.index_mut-last.result.now in
-    let same = read_same c.args.self.now.lasts.items c.args.g z x c.requires.group c.index_mut-last.ensures.value at in
-    let here = read_here c.args.self.now.lasts.items c.args.g z c.requires.group c.index_mut-last.ensures.value in
-    put_by settings c.args.self.now _ base c.args.outs.now c.args.g c.args.e body x z c.in-Some.n c.in_ok-text.text method id params c.ask.new.self same c.requires.editor runs c.ask_number.ensures.kept refl refl refl refl here ready refl
-    (c.in_ok-ask.ensures.ok ∙ ap (λ m. z.asks ++ asked c.args.e m c.in_ok-id.id ∷ []) c.from.ensures ∙ ap (λ w. z.asks ++ asked c.args.e c.in-Some.n w ∷ []) (c.in_ok-id.ensures body read)) says (c.in_ok-text.ensures body read) asker rest free c.push.new.self c.in-Some.ensures.number c.in_ok-push.ensures.ok
-
-pub returns-clause-documents : goal.returns-clause-documents
-returns-clause-documents c = λ settings owed base ds.
-    let z = c.index_mut-last.result.now in
-    put_documents settings owed c.args.self.now _ base c.args.outs.now c.push.new.self c.args.g c.args.e z c.ask.new.self c.in_ok-text.text (read_here c.args.self.now.lasts.items c.args.g z c.requires.group c.index_mut-last.ensures.value) refl refl refl c.in_ok-push.ensures.ok ds
+returns-clause-does c = λ settings base body method id params x at ready read says runs work.
+    let t = c.args.self.now in
+    let u = c.put_text.new.self in
+    let xs = c.args.outs.now in
+    let ys = c.put_text.new.outs in
+    let now = behind base xs in
+    let e = c.args.e in
+    let n = c.in-Some.n in
+    let is = c.in_ok-text.ensures body read in
+    one_numbered (λ t events. Stands settings t events) (λ n. send (ToEditor e (with_id_text body (decimal n)))) e base xs t n (λ st. c.in-Some.ensures settings now runs st) u ys
+    (λ left next. subst (λ w. Does (λ t events. Stands settings t events) (send (ToEditor e w)) base t xs u ys) is
+    (c.in_ok-put_text.ensures.does settings base body method id params x at ready read runs (next_says body c.in_ok-text.text method id params e n now left next says is) work))

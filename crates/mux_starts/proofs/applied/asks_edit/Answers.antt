@@ -1,8 +1,8 @@
 -- A request that asks for an edit.
 use Rattle.std.proofs.Common.{◌∙◌, ap, bytes_eq, codes, option_map, refl}
 use Rattle.mux_members.proofs.Told.{method_told, no_method_told}
-use Rattle.mux_causes.proofs.Askings.{named_so}
-use Rattle.mux_causes.proofs.rows.asks_edit.Goals as goal
+use Rattle.mux_starts.proofs.Applying.{named_so}
+use Rattle.mux_starts.proofs.applied.asks_edit.Goals as goal
 
 pub returns-in-Some : goal.returns-in-Some
 returns-in-Some c = λ body method id params read says.

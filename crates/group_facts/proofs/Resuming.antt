@@ -1,0 +1,181 @@
+-- L2: why an editor that begins to run is asked what waits at its group's start.
+use Rattle.std.proofs.Common.{◌≡◌, ℕ, ◌^◌, Bool, true, false, not, ◌&&◌, ◌||◌, List, [], ◌∷◌, ◌++◌, append-nil, codes, decimal, nat_eq, if◌then◌else◌, Some, None, ◌⊎◌, inl, inr, refl, sym, ◌∙◌, ap, ap₂, subst, ltb-true}
+use Rattle.std.specs.List.{AllByRecursion}
+use Rattle.std.specs.Option.{option_and_then, option_map_or}
+use Rattle.mux_history.specs.declared.cause.Cause.TheVariants.{FromEditor}
+use Rattle.mux_history.specs.declared.out.Out.{Out}
+use Rattle.mux_history.specs.declared.out.Out.TheVariants.{ToEditor}
+use Rattle.rpc_message.specs.Message.{request, integer, message_of}
+use Rattle.rpc_message.specs.Texts.{with_id_text}
+use Rattle.rpc_message.proofs.Decimals.{decimal_law}
+use Rattle.rpc_message.proofs.Ids.{request_with_id}
+use Rattle.event_model.specs.declared.phase.Phase.TheVariants.{Answered, Down, Running}
+use Rattle.event_model.specs.declared.stage.Stage.TheVariants.{Ready}
+use Rattle.event_model.specs.Event.{Event, behind, heard, notifies, requests, said, with_cause}
+use Rattle.event_model.specs.Phases.{Desk, desk_hears, desk_of, is_new, makes_running}
+use Rattle.event_model.specs.Row.{choose, each, nothing, on, outs, send}
+use Rattle.event_model.specs.Settings.{Settings}
+use Rattle.event_model.specs.Spawns.{start_of}
+use Rattle.event_model.specs.Stages.{life_of}
+use Rattle.event_model.proofs.Frames.{never}
+use Rattle.mux_facts.proofs.DocumentRow.{ready_is}
+use Rattle.mux_facts.proofs.Folds.{desk_more}
+use Rattle.mux_facts.proofs.Reasons.{Because, Reasons, by_choose, by_look, by_nothing, by_on, by_send, by_then}
+use Rattle.mux_facts.proofs.Words.{same_number}
+use Rattle.group_words.specs.Houses.{groups_of, home_of, is_doubled, placed_for}
+use Rattle.group_words.proofs.Frames.{home_stays}
+use Rattle.group_rows.specs.AskRows.{ask, run_at, run_row}
+use Rattle.group_rows.specs.Asks.{Asking, Parked, asking_of, has_number, next_ask, parked_of, serves}
+use Rattle.group_facts.specs.Facts.{Asks, IsParked, is_too_many, leaves, turned_away}
+use Rattle.group_facts.specs.Why.{IsQuestion, IsResumed, Why, asks_something, resumes}
+use Rattle.group_facts.proofs.Asks.{asking_more, resumed_here}
+use Rattle.group_facts.proofs.AskingRows.{still_runs, work_told}
+use Rattle.group_facts.proofs.Begun.{start_did, start_took}
+use Rattle.group_facts.proofs.Homes.{took_home}
+use Rattle.group_facts.proofs.Still.{unended, unshut}
+
+-- a message that makes an editor run turns it not away, nor ends its link
+module _ (settings : Settings) (before : List Event) (e : ℕ) (body : List ℕ) (waited : (desk_of e before).phase ≡ Answered) (runs : makes_running (message_of body) ≡ true) (single : is_doubled before e (message_of body) ≡ false) where
+  and_off : (a : Bool) → (a && false) ≡ false
+  and_off true = refl
+  and_off false = refl
+
+  unturned : turned_away settings before (FromEditor e body) e ≡ false
+  unturned = ap (λ p. nat_eq e e && ((is_new p && requests (codes "initialize") (message_of body)) && is_too_many (placed_for settings before e body (groups_of settings before)))) waited ∙ and_off (nat_eq e e)
+
+  settled : (a n b c d : Bool) → a ≡ false → b ≡ false → c ≡ false → d ≡ false → ((a || (n && (b || c))) || (n && d)) ≡ false
+  settled false n false false false ha hb hc hd = ap₂ (λ x y. x || y) (and_off n) (and_off n)
+  settled true n b c d ha hb hc hd = never ha
+  settled false n true c d ha hb hc hd = never hb
+  settled false n false true d ha hb hc hd = never hc
+  settled false n false false true ha hb hc hd = never hd
+
+  pub stays_there : leaves settings before (FromEditor e body) e ≡ false
+  stays_there = settled (turned_away settings before (FromEditor e body) e) (nat_eq e e) (notifies (codes "exit") (message_of body)) (is_doubled before e (message_of body)) (requests (codes "shutdown") (message_of body))
+      unturned (unended settings before e body (message_of body) runs) single (unshut settings before e body (message_of body) runs)
+
+module _ (settings : Settings) (before : List Event) (e : ℕ) (body : List ℕ) (waited : (desk_of e before).phase ≡ Answered) (runs : makes_running (message_of body) ≡ true) (stays : leaves settings before (FromEditor e body) e ≡ false) where
+  abbrev base : List Event
+  base = with_cause before (FromEditor e body)
+
+  -- each out has its reason, and asks something
+  abbrev R : List Event → Out → Type 0
+  R events out = Why settings before (FromEditor e body) events out × IsQuestion out
+
+  pub began : (desk_of e base).phase ≡ Running
+  began = ap (λ (d : Desk). d.phase) (desk_more e before (heard (FromEditor e body)))
+      ∙ ap (λ b. (if b then desk_hears (desk_of e before).phase (desk_of e before).initialize body (message_of body) else desk_of e before).phase) (same_number e)
+      ∙ ap (λ p. (desk_hears p (desk_of e before).initialize body (message_of body)).phase) waited
+      ∙ ap (λ b. if b then Down else if makes_running (message_of body) then Running else Answered) (unshut settings before e body (message_of body) runs)
+      ∙ ap (λ b. if b then Running else Answered) runs
+
+  module _ (g s : ℕ) (home : home_of settings e before ≡ Some g) (last : start_of g before ≡ Some s) (ready : (life_of s before).stage ≡ Ready) where
+    -- what is known at a place where these still wait
+    record Resumes (events : List Event) (ps : List Parked) : Type 0 where
+      own : (t : ℕ) → (asking_of settings t events).runs ≡ Some e
+      idle : (t : ℕ) → (asking_of settings t events).asker ≡ None
+      at_home : home_of settings e events ≡ Some g
+      start : start_of g events ≡ Some s
+      running : (desk_of e events).phase ≡ Running
+      waits : parked_of settings s events ≡ ps
+
+    -- or no number is left
+    abbrev Goes_on : List Event → List Parked → Type 0
+    Goes_on events ps = Resumes events ps ⊎ (has_number e events ≡ false)
+
+    served : (events : List Event) (ps : List Parked) → Resumes events ps → serves settings events s e ≡ true
+    served events ps k = ap (λ o. option_map_or (nat_eq s) (option_and_then (λ h. start_of h events) o) false) k.at_home ∙ ap (λ o. option_map_or (nat_eq s) o false) k.start ∙ same_number s
+
+    module _ (p : Parked) (q : IsParked s before p) (events : List Event) (rest : List Parked) (k : Resumes events (p ∷ rest)) (room : has_number e events ≡ true) where
+      abbrev text : List ℕ
+      text = with_id_text p.body (decimal (next_ask e events))
+
+      says : message_of text ≡ request (integer (decimal (next_ask e events))) q.method q.params
+      says = request_with_id p.body (decimal (next_ask e events)) p.id (integer (decimal (next_ask e events))) q.method q.params q.says (decimal_law (next_ask e events) (ltb-true (next_ask e events) (2 ^ 64) room))
+
+      abbrev resumed : IsResumed settings before (FromEditor e body) events e text
+      resumed = record {
+        start = s;
+        text = body;
+        from = refl;
+        began = began;
+        waited = waited;
+        stays = stays;
+        group = g;
+        home = home;
+        last = last;
+        ready = ready;
+        served = served events (p ∷ rest) k;
+        own = k.own;
+        idle = k.idle;
+        running = k.running;
+        first = p;
+        rest = rest;
+        waits = k.waits;
+        method = q.method;
+        params = q.params;
+        patient = q.patient;
+        asks = q.says;
+        room = room;
+        bytes = refl;
+        says = says;
+      }
+
+      next : Resumes (events ++ said (ToEditor e text) ∷ []) rest
+      next = record {
+        own = λ t. ap (λ (x : Asking). x.runs) (asking_more settings t events (said (ToEditor e text))) ∙ ((work_told settings t events (asking_of settings t events) e text (message_of text)).1 ∙ k.own t);
+        idle = λ t. ap (λ (x : Asking). x.asker) (asking_more settings t events (said (ToEditor e text))) ∙ ((work_told settings t events (asking_of settings t events) e text (message_of text)).0 ∙ k.idle t);
+        at_home = home_stays settings e events (said (ToEditor e text)) refl ∙ k.at_home;
+        start = start_did g events (ToEditor e text) tt ∙ k.start;
+        running = still_runs events e text e k.running;
+        waits = ap (λ (x : Asking). x.parked) (asking_more settings s events (said (ToEditor e text))) ∙ ap (λ (x : Asking). x.parked) (resumed_here settings events e text before (FromEditor e body) resumed);
+      }
+
+    one_why : (p : Parked) → IsParked s before p → (events : List Event) (rest : List Parked) → Goes_on events (p ∷ rest) → Because R events (ask p.body e)
+    one_why p q events rest (inl k) = by_look (by_choose (λ room. by_send (resumes (resumed p q events rest k room), ap asks_something (says p q events rest k room))) (λ none. by_nothing))
+    one_why p q events rest (inr full) = by_look (by_choose (λ room. never (sym room ∙ full)) (λ none. by_nothing))
+
+    one_next : (p : Parked) → IsParked s before p → (events : List Event) (rest : List Parked) → Goes_on events (p ∷ rest) → Goes_on (behind events (outs (ask p.body e) events)) rest
+    one_next p q events rest k = go (has_number e events) refl k
+      where
+        go : (b : Bool) → has_number e events ≡ b → Goes_on events (p ∷ rest) → Goes_on (behind events (outs (choose b (send (ToEditor e (with_id_text p.body (decimal (next_ask e events))))) nothing) events)) rest
+        go true room (inl k) = inl (next p q events rest k room)
+        go true room (inr full) = never (sym room ∙ full)
+        go false full k = inr (subst (λ z. has_number e z ≡ false) (sym (append-nil events)) full)
+
+    all_why : (ps : List Parked) → AllByRecursion (IsParked s before) ps → (events : List Event) → Goes_on events ps → Because R events (each (λ (p : Parked). ask p.body e) ps)
+    all_why [] all events k = by_nothing
+    all_why (p ∷ ps) all events k = by_then (one_why p all.0 events ps k) (all_why ps all.1 (behind events (outs (ask p.body e) events)) (one_next p all.0 events ps k))
+
+    begins : Resumes base (parked_of settings s before)
+    begins = record {
+      own = λ t. ap (λ (x : Asking). x.runs) (asking_more settings t before (heard (FromEditor e body)));
+      idle = λ t. ap (λ (x : Asking). x.asker) (asking_more settings t before (heard (FromEditor e body)));
+      at_home = took_home settings before e (ap is_new waited) (FromEditor e body) (ap (λ b. nat_eq e e && b) (unshut settings before e body (message_of body) runs) ∙ and_off (nat_eq e e)) ∙ home;
+      start = start_took g before (FromEditor e body) ∙ last;
+      running = began;
+      waits = ap (λ (x : Asking). x.parked) (asking_more settings s before (heard (FromEditor e body)));
+    }
+      where
+        and_off : (a : Bool) → (a && false) ≡ false
+        and_off true = refl
+        and_off false = refl
+
+  run_there : Asks settings before → (g s : ℕ) → home_of settings e before ≡ Some g → start_of g before ≡ Some s → Because R base (run_at settings before e s)
+  run_there all g s home last = by_choose (λ is. let ready = ready_is (life_of s before).stage is in all_why g s home last ready (parked_of settings s before) (all s).parked base (inl (begins g s home last ready))) (λ off. by_nothing)
+
+  run_in : Asks settings before → (g : ℕ) → home_of settings e before ≡ Some g → Because R base (on (start_of g before) nothing (run_at settings before e))
+  run_in all g home = by_on (λ none. by_nothing) (λ s last. run_there all g s home last)
+
+  run_both : Asks settings before → Because R base (run_row settings before e)
+  run_both all = by_on (λ none. by_nothing) (λ g home. run_in all g home)
+
+  parted : (events : List Event) (xs : List Out) → Reasons R events xs → Reasons (λ places out. Why settings before (FromEditor e body) places out) events xs × AllByRecursion IsQuestion xs
+  parted events [] h = (tt, tt)
+  parted events (x ∷ xs) h = let rest = parted (events ++ said x ∷ []) xs h.1 in ((h.0.0, rest.0), (h.0.1, rest.1))
+
+  pub run_why : Asks settings before → Because (Why settings before (FromEditor e body)) base (run_row settings before e)
+  run_why all = record { why = (parted base (outs (run_row settings before e) base) (run_both all).why).0 }
+
+  pub run_questions : Asks settings before → AllByRecursion IsQuestion (outs (run_row settings before e) base)
+  run_questions all = (parted base (outs (run_row settings before e) base) (run_both all).why).1

@@ -1,0 +1,189 @@
+-- Two places of an entry that differ in what editors were asked: nothing else that the reasons of an editor's message look at.
+use Rattle.std.proofs.Common.{◌≡◌, ℕ, Bool, true, false, List, [], ◌∷◌, ◌++◌, cond, map, nat_eq, if◌then◌else◌, Option, None, Some, refl, sym, ◌∙◌, ap, subst, append-nil, append_assoc}
+use Rattle.std.specs.List.{AllByRecursion}
+use Rattle.std.proofs.lemmas.List.Elements.{filter-append}
+use Rattle.mux_history.specs.declared.out.Out.{Out}
+use Rattle.mux_history.specs.declared.out.Out.TheVariants.{ToEditor, ToServer, Spawn, CloseEditor, EndServer}
+use Rattle.position_codec.specs.declared.Encoding.{Encoding}
+use Rattle.document_model.specs.Helds.{HeldText}
+use Rattle.rpc_message.specs.Message.{Message, request, notification, result, error, not_json, not_message, Id, message_of}
+use Rattle.event_model.specs.declared.phase.Phase.{Phase}
+use Rattle.event_model.specs.declared.phase.Phase.TheVariants.{Absent, New, Waiting, Answered, Running, Down, Closed, Gone}
+use Rattle.event_model.specs.Event.{Event, behind, said}
+use Rattle.event_model.specs.Parts.{is_of_server, server_part}
+use Rattle.event_model.specs.Phases.{desk_behind, desk_of, phase_told}
+use Rattle.event_model.specs.Requests.{answered_id, next_number, number_behind, open_behind, open_of, without}
+use Rattle.event_model.specs.Settings.{Settings}
+use Rattle.event_model.specs.Spawns.{start_behind, start_of}
+use Rattle.event_model.specs.Stages.{life_behind, life_of}
+use Rattle.event_model.proofs.Frames.{never}
+use Rattle.mux_model.specs.Documents.{Sent, held_at, sent_behind, sent_of}
+use Rattle.mux_facts.proofs.Folds.{desk_more, life_more, number_more, opens_more}
+use Rattle.mux_facts.proofs.Tellings.{sent_more}
+use Rattle.group_words.specs.Houses.{groups_of, home_of}
+use Rattle.group_words.proofs.Frames.{groups_stay, home_stays, names_home, touches_groups}
+use Rattle.group_rows.specs.Forwarded.{forwarding_behind, forwarding_of}
+use Rattle.group_facts.specs.Facts.{asked_by, server_behind}
+use Rattle.group_facts.specs.Why.{IsQuestion, asks_something}
+use Rattle.group_facts.proofs.Asks.{asked_by_more}
+use Rattle.group_facts.proofs.Begun.{start_more}
+use Rattle.group_facts.proofs.Forwards.{forwarding_more}
+
+-- a body
+abbrev pub IsBody : Out → Type 0
+IsBody (ToEditor e body) = Unit {0}
+IsBody (ToServer s body) = Unit {0}
+IsBody other = ⊥
+
+pub record Same (settings : Settings) (x y : List Event) : Type 0 where
+  pub life : (s : ℕ) → life_of s x ≡ life_of s y
+  pub desk : (e : ℕ) → desk_of e x ≡ desk_of e y
+  pub opens : (e : ℕ) → open_of e x ≡ open_of e y
+  pub forwarding : (s : ℕ) → forwarding_of s x ≡ forwarding_of s y
+  pub sent : (s : ℕ) (u : List ℕ) → sent_of s u x ≡ sent_of s u y
+  pub asked : (s : ℕ) → asked_by s x ≡ asked_by s y
+  pub part : (s : ℕ) → server_part s x ≡ server_part s y
+  pub next : (s : ℕ) → next_number s x ≡ next_number s y
+  pub start : (g : ℕ) → start_of g x ≡ start_of g y
+  pub groups : groups_of settings x ≡ groups_of settings y
+  pub home : (e : ℕ) → home_of settings e x ≡ home_of settings e y
+
+pub same_held : {x y : List Event} (settings : Settings) → Same settings x y → (s : ℕ) (u : List ℕ) → held_at s u x ≡ held_at s u y
+same_held settings k s u = ap (λ (z : Sent). z.held) (k.sent s u)
+
+at_place : {x y z : List Event} (settings : Settings) → x ≡ y → Same settings x z → Same settings y z
+at_place {x} {y} {z} settings e k = subst (λ w. Same settings w z) e k
+
+before_place : {x y z : List Event} (settings : Settings) → y ≡ z → Same settings x y → Same settings x z
+before_place {x} {y} {z} settings e k = subst (λ w. Same settings x w) e k
+
+module _ (settings : Settings) where
+  pub same_itself : (x : List Event) → Same settings x x
+  same_itself x = record { life = λ s. refl; desk = λ e. refl; opens = λ e. refl; forwarding = λ s. refl; sent = λ s u. refl; asked = λ s. refl; part = λ s. refl; next = λ s. refl; start = λ g. refl; groups = refl; home = λ e. refl }
+
+  pub same_both : (x y z : List Event) → Same settings x y → Same settings y z → Same settings x z
+  same_both x y z h k = record {
+    life = λ s. h.life s ∙ k.life s;
+    desk = λ e. h.desk e ∙ k.desk e;
+    opens = λ e. h.opens e ∙ k.opens e;
+    forwarding = λ s. h.forwarding s ∙ k.forwarding s;
+    sent = λ s u. h.sent s u ∙ k.sent s u;
+    asked = λ s. h.asked s ∙ k.asked s;
+    part = λ s. h.part s ∙ k.part s;
+    next = λ s. h.next s ∙ k.next s;
+    start = λ g. h.start g ∙ k.start g;
+    groups = h.groups ∙ k.groups;
+    home = λ e. h.home e ∙ k.home e;
+  }
+
+  touches_none : (out : Out) → IsBody out → touches_groups (said out) ≡ false
+  touches_none (ToEditor e body) h = refl
+  touches_none (ToServer s body) h = refl
+  touches_none (Spawn s g) h = absurd h
+  touches_none (CloseEditor e) h = absurd h
+  touches_none (EndServer s) h = absurd h
+
+  names_none : (e : ℕ) (out : Out) → names_home e (said out) ≡ false
+  names_none e (ToEditor n body) = refl
+  names_none e (ToServer s body) = refl
+  names_none e (Spawn s g) = refl
+  names_none e (CloseEditor n) = refl
+  names_none e (EndServer s) = refl
+
+  -- behind the same body
+  pub same_more : (x y : List Event) (out : Out) → IsBody out → Same settings x y → Same settings (x ++ said out ∷ []) (y ++ said out ∷ [])
+  same_more x y out is h = record {
+    life = λ s. life_more s x (said out) ∙ (ap (λ l. life_behind s l (said out)) (h.life s) ∙ sym (life_more s y (said out)));
+    desk = λ e. desk_more e x (said out) ∙ (ap (λ d. desk_behind e d (said out)) (h.desk e) ∙ sym (desk_more e y (said out)));
+    opens = λ e. opens_more e x (said out) ∙ (ap (λ ids. open_behind e ids (said out)) (h.opens e) ∙ sym (opens_more e y (said out)));
+    forwarding = λ s. forwarding_more s x (said out) ∙ (ap (λ f. forwarding_behind s f (said out)) (h.forwarding s) ∙ sym (forwarding_more s y (said out)));
+    sent = λ s u. sent_more s u x (said out) ∙ (ap (λ z. sent_behind s u z (said out)) (h.sent s u) ∙ sym (sent_more s u y (said out)));
+    asked = λ s. asked_by_more s x (said out) ∙ (ap (λ ids. server_behind s ids (said out)) (h.asked s) ∙ sym (asked_by_more s y (said out)));
+    part = λ s. filter-append (is_of_server s) x (said out ∷ []) ∙ (ap (λ z. z ++ cond (is_of_server s (said out)) (said out ∷ []) []) (h.part s) ∙ sym (filter-append (is_of_server s) y (said out ∷ [])));
+    next = λ s. number_more s x (said out) ∙ (ap (λ n. number_behind s n (said out)) (h.next s) ∙ sym (number_more s y (said out)));
+    start = λ g. start_more g x (said out) ∙ (ap (λ o. start_behind g o (said out)) (h.start g) ∙ sym (start_more g y (said out)));
+    groups = groups_stay settings x (said out) (touches_none out is) ∙ (h.groups ∙ sym (groups_stay settings y (said out) (touches_none out is)));
+    home = λ e. home_stays settings e x (said out) (names_none e out) ∙ (h.home e ∙ sym (home_stays settings e y (said out) (names_none e out)));
+  }
+
+  pub same_behind : (x y : List Event) (xs : List Out) → AllByRecursion IsBody xs → Same settings x y → Same settings (behind x xs) (behind y xs)
+  same_behind x y [] all h = at_place settings (sym (append-nil x)) (before_place settings (sym (append-nil y)) h)
+  same_behind x y (out ∷ xs) all h = at_place settings (append_assoc x (said out ∷ []) (map said xs)) (before_place settings (append_assoc y (said out ∷ []) (map said xs))
+      (same_behind (x ++ said out ∷ []) (y ++ said out ∷ []) xs all.1 (same_more x y out all.0 h)))
+
+  -- behind a request to an editor
+
+  told_phase : (phase : Phase) (initialize : List ℕ) (m : Message) → asks_something m ≡ true → phase_told phase initialize m ≡ phase
+  told_phase Waiting initialize (request id method params) h = refl
+  told_phase Waiting initialize (notification method params) h = never (sym h)
+  told_phase Waiting initialize (result id r) h = never (sym h)
+  told_phase Waiting initialize (error id r) h = never (sym h)
+  told_phase Waiting initialize not_json h = never (sym h)
+  told_phase Waiting initialize not_message h = never (sym h)
+  told_phase Absent initialize m h = refl
+  told_phase New initialize m h = refl
+  told_phase Answered initialize m h = refl
+  told_phase Running initialize m h = refl
+  told_phase Down initialize m h = refl
+  told_phase Closed initialize m h = refl
+  told_phase Gone initialize m h = refl
+
+  told_none : (m : Message) (ids : List Id) → asks_something m ≡ true → without (answered_id m) ids ≡ ids
+  told_none (request id method params) ids h = refl
+  told_none (notification method params) ids h = refl
+  told_none (result id r) ids h = never (sym h)
+  told_none (error id r) ids h = never (sym h)
+  told_none not_json ids h = never (sym h)
+  told_none not_message ids h = never (sym h)
+
+  quiet_sent : (s : ℕ) (u : List ℕ) (n : ℕ) (body : List ℕ) (code : Option Encoding) (held : Option HeldText) → ◌≡◌ {A = Sent} (sent_behind s u (record { encoding = code; held = held }) (said (ToEditor n body))) (record { encoding = code; held = held })
+  quiet_sent s u n body None held = refl
+  quiet_sent s u n body (Some c) held = refl
+
+  same_asked : (x : List Event) (n : ℕ) (body : List ℕ) → asks_something (message_of body) ≡ true → Same settings (x ++ said (ToEditor n body) ∷ []) x
+  same_asked x n body h = record {
+    life = λ s. life_more s x (said (ToEditor n body));
+    desk = λ e. desk_more e x (said (ToEditor n body)) ∙ seated e (nat_eq n e);
+    opens = λ e. opens_more e x (said (ToEditor n body)) ∙ ap (λ ids. if nat_eq n e then ids else open_of e x) (told_none (message_of body) (open_of e x) h) ∙ either (nat_eq n e) (open_of e x);
+    forwarding = λ s. forwarding_more s x (said (ToEditor n body));
+    sent = λ s u. sent_more s u x (said (ToEditor n body)) ∙ quiet_sent s u n body (sent_of s u x).encoding (sent_of s u x).held;
+    asked = λ s. asked_by_more s x (said (ToEditor n body));
+    part = λ s. filter-append (is_of_server s) x (said (ToEditor n body) ∷ []) ∙ append-nil (server_part s x);
+    next = λ s. number_more s x (said (ToEditor n body));
+    start = λ g. start_more g x (said (ToEditor n body));
+    groups = groups_stay settings x (said (ToEditor n body)) refl;
+    home = λ e. home_stays settings e x (said (ToEditor n body)) refl;
+  }
+    where
+      either : (b : Bool) (ids : List Id) → (if b then ids else ids) ≡ ids
+      either true ids = refl
+      either false ids = refl
+
+      seated : (e : ℕ) (b : Bool) → (if b then record { phase = phase_told (desk_of e x).phase (desk_of e x).initialize (message_of body); initialize = (desk_of e x).initialize } else desk_of e x) ≡ desk_of e x
+      seated e true = ap (λ p. record { phase = p; initialize = (desk_of e x).initialize }) (told_phase (desk_of e x).phase (desk_of e x).initialize (message_of body) h)
+      seated e false = refl
+
+  -- and behind some
+  pub same_questions : (x : List Event) (xs : List Out) → AllByRecursion IsQuestion xs → Same settings (behind x xs) x
+  same_questions x [] h = at_place settings (sym (append-nil x)) (same_itself x)
+  same_questions x (ToEditor n body ∷ xs) h = at_place settings (append_assoc x (said (ToEditor n body) ∷ []) (map said xs))
+      (same_both (behind (x ++ said (ToEditor n body) ∷ []) xs) (x ++ said (ToEditor n body) ∷ []) x (same_questions (x ++ said (ToEditor n body) ∷ []) xs h.1) (same_asked x n body h.0))
+  same_questions x (ToServer n body ∷ xs) h = absurd h.0
+  same_questions x (Spawn n g ∷ xs) h = absurd h.0
+  same_questions x (CloseEditor n ∷ xs) h = absurd h.0
+  same_questions x (EndServer n ∷ xs) h = absurd h.0
+
+  pub sym_same : (x y : List Event) → Same settings x y → Same settings y x
+  sym_same x y h = record {
+    life = λ s. sym (h.life s);
+    desk = λ e. sym (h.desk e);
+    opens = λ e. sym (h.opens e);
+    forwarding = λ s. sym (h.forwarding s);
+    sent = λ s u. sym (h.sent s u);
+    asked = λ s. sym (h.asked s);
+    part = λ s. sym (h.part s);
+    next = λ s. sym (h.next s);
+    start = λ g. sym (h.start g);
+    groups = sym h.groups;
+    home = λ e. sym (h.home e);
+  }

@@ -1,0 +1,116 @@
+-- L2: what an editor is asked where it begins to run.
+use Rattle.std.proofs.Common.{◌≡◌, ℕ, true, List, [], ◌∷◌, map, zero, suc, length, refl, ap, sym, subst, ◌∙◌}
+use Rattle.std.specs.Prelude.{Some, slice_get}
+use Rattle.std.specs.List.{AllByRecursion}
+use Rattle.mux_history.specs.declared.cause.Cause.TheVariants.{FromEditor}
+use Rattle.mux_history.specs.declared.out.Out.{Out}
+use Rattle.rpc_message.specs.Message.{message_of}
+use Rattle.event_model.specs.declared.stage.Stage.TheVariants.{Ready}
+use Rattle.event_model.specs.Does.{Alike, Does}
+use Rattle.event_model.specs.Event.{Event, behind, with_cause}
+use Rattle.event_model.specs.Phases.{desk_of, is_running, is_served, makes_running}
+use Rattle.event_model.specs.Row.{each, nothing}
+use Rattle.event_model.specs.Settings.{Settings}
+use Rattle.event_model.specs.Stages.{Life, is_ready, life_of}
+use Rattle.event_model.proofs.Places.{same_item}
+use Rattle.event_model.proofs.Turns.{alike_then, does_alike, does_nothing}
+use Rattle.group_facts.specs.Why.{IsQuestion}
+use Rattle.group_rows.specs.AskRows.{ask}
+use Rattle.group_rows.specs.Asks.{Parked, asks_of, parked_of}
+use Rattle.group_words.specs.Houses.{home_of}
+use Rattle.mux_tables.specs.declared.tables.Start.{Start}
+use Rattle.mux_tables.specs.declared.tables.Tables.{Tables}
+use Rattle.mux_tables.specs.Documents.{AllStand, DocumentsStand, Owed}
+use Rattle.mux_tables.specs.Resumes.{unasked}
+use Rattle.mux_tables.specs.Stands.{IsWorking, MayWait, Stands, number_in, of_life, of_parked}
+use Rattle.mux_tables.proofs.DocumentOwed.{all_does}
+use Rattle.mux_tables.proofs.Waiting.{ready_parked}
+use Rattle.mux_turns.proofs.Departing.{behind_first}
+use Rattle.mux_turns.proofs.Matched.{whole_entry}
+use Rattle.mux_editors.specs.Running.{Begun, may_begin, running_row}
+use Rattle.mux_editors.proofs.Runs.{asks_all, begins_row, ready_run, runs_now, works_now}
+
+module _ (settings : Settings) (t u : Tables) (owed : Owed) (before : List Event) (e : ℕ) (body : List ℕ) (xs ys : List Out) (first : xs ≡ []) where
+  abbrev base : List Event
+  base = with_cause before (FromEditor e body)
+
+  abbrev now : List Event
+  now = behind base xs
+
+  pub silent_begun : Stands settings t base → DocumentsStand settings owed t base → Alike (running_row settings before e (message_of body)) nothing → Begun settings before e body owed t xs
+  silent_begun st ds none = record {
+    done = whole_entry (λ k events. AllStand settings k events) (running_row settings before e (message_of body)) base (t, owed) (t, owed) xs xs first (st, ds) (does_alike (λ _. none) does_nothing);
+    asks = subst (AllByRecursion IsQuestion) (sym first) tt;
+  }
+
+  module _ (served : is_served (desk_of e before).phase ≡ true) (runs : makes_running (message_of body) ≡ true) (begins : may_begin (desk_of e before).phase ≡ true) (st : Stands settings t base) (ds : DocumentsStand settings owed t base)
+      (g : ℕ) (x : Start) (at : slice_get t.lasts.items g ≡ Some x) (ready : x.life.stage ≡ Ready) (home : home_of settings e base ≡ Some x.life.group) where
+    abbrev s : ℕ
+    s = x.life.start
+
+    here : base ≡ now
+    here = sym (behind_first base xs first)
+
+    pub runs_here : is_running (desk_of e now).phase ≡ true
+    runs_here = subst (λ es. is_running (desk_of e es).phase ≡ true) here (ap is_running (runs_now settings before e body served runs))
+
+    pub home_here : home_of settings e now ≡ Some x.life.group
+    home_here = subst (λ es. home_of settings e es ≡ Some x.life.group) here home
+
+    pub works_here : (s : ℕ) → IsWorking settings e s now
+    works_here s = subst (IsWorking settings e s) here (works_now settings before e body served runs s)
+
+    stage : is_ready (life_of s base).stage ≡ true
+    stage = ap (λ (l : Life). is_ready l.stage) ((st.lasts.each g x at).parts of_life) ∙ ap is_ready ready
+
+    row_is : Alike (running_row settings before e (message_of body)) (each (λ (p : Parked). ask p.body e) (parked_of settings s base))
+    row_is = alike_then (begins_row settings before e body served runs begins) (ready_run settings before e body served runs x.life.group s home (st.lasts.each g x at).start stage)
+
+    waiting : AllByRecursion MayWait (parked_of settings s base)
+    waiting = (ready_parked x.life.stage (asks_of settings s base) (parked_of settings s base) x.parked ready ((st.lasts.each g x at).parts of_parked)).bodies
+
+    pub all_begun : Does (λ t events. Stands settings t events) (each (λ (p : Parked). ask p.body e) (parked_of settings s now)) base t xs u ys → (DocumentsStand settings owed t now → DocumentsStand settings owed u (behind base ys)) → Begun settings before e body owed u ys
+    all_begun d docs =
+        let asked = subst (λ es. Does (λ t events. Stands settings t events) (each (λ (p : Parked). ask p.body e) (parked_of settings s es)) base t xs u ys) (sym here) d in
+        let done = whole_entry (λ k events. AllStand settings k events) (running_row settings before e (message_of body)) base (t, owed) (u, owed) xs ys first (st, ds)
+        (does_alike (λ _. row_is) (all_does settings t u owed owed base xs ys asked (λ _ k. docs k))) in
+        record {
+          done = done;
+          asks = subst (AllByRecursion IsQuestion) (sym (done.outs ∙ row_is.sends (behind base []))) (asks_all e (parked_of settings s base) waiting (behind base []));
+        }
+
+-- The last starts, but for what they asked
+
+module _ {X Y : Type 0} (f : X → Y) where
+  pub same_kept : (xs ys : List X) → map f ys ≡ map f xs → (g : ℕ) (y : X) → slice_get ys g ≡ Some y → (x : X) × ((slice_get xs g ≡ Some x) × (f y ≡ f x))
+  same_kept [] [] is g y at = absurd (cc)
+  same_kept [] (w ∷ ys) is g y at = absurd (cc)
+  same_kept (x ∷ xs) [] is g y at = absurd (cc)
+  same_kept (x ∷ xs) (w ∷ ys) is zero y at = (x, (refl, ap f (sym (same_item at)) ∙ first_of is))
+    where
+      first_of : f w ∷ map f ys ≡ f x ∷ map f xs → f w ≡ f x
+      first_of k = cc
+  same_kept (x ∷ xs) (w ∷ ys) is (suc g) y at = same_kept xs ys (rest_of is) g y at
+    where
+      rest_of : f w ∷ map f ys ≡ f x ∷ map f xs → map f ys ≡ map f xs
+      rest_of k = cc
+
+  pub same_length : (xs ys : List X) → map f ys ≡ map f xs → length ys ≡ length xs
+  same_length [] [] is = refl
+  same_length [] (w ∷ ys) is = absurd (cc)
+  same_length (x ∷ xs) [] is = absurd (cc)
+  same_length (x ∷ xs) (w ∷ ys) is = ap suc (same_length xs ys (rest_of is))
+    where
+      rest_of : f w ∷ map f ys ≡ f x ∷ map f xs → map f ys ≡ map f xs
+      rest_of k = cc
+
+-- what is said of a start's group and its number
+pub by_kept : (P : ℕ → ℕ → Type 0) (x y : Start) → unasked x ≡ unasked y → P y.life.group y.life.start → P x.life.group x.life.start
+by_kept P x y is p = subst (λ (w : Start). P w.life.group w.life.start) (sym is) p
+
+numbers_in : (xs : List Start) → map number_in xs ≡ map number_in (map unasked xs)
+numbers_in [] = refl
+numbers_in (x ∷ xs) = ap (λ ns. x.life.start ∷ ns) (numbers_in xs)
+
+pub numbers_kept : (xs ys : List Start) → map unasked ys ≡ map unasked xs → map number_in ys ≡ map number_in xs
+numbers_kept xs ys rest = numbers_in ys ∙ (ap (map number_in) rest ∙ sym (numbers_in xs))

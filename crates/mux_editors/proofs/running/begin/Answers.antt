@@ -1,0 +1,36 @@
+-- L2: where an editor begins to run, it is asked what waits.
+use Rattle.std.proofs.Common.{sym, ◌∙◌}
+use Rattle.event_model.specs.Event.{with_cause}
+use Rattle.event_model.proofs.Places.{item_at}
+use Rattle.event_model.proofs.Turns.{alike_then}
+use Rattle.mux_history.specs.declared.cause.Cause.TheVariants.{FromEditor}
+use Rattle.mux_editors.proofs.Beginning.{all_begun, home_here, runs_here, silent_begun, works_here}
+use Rattle.mux_editors.proofs.Runs.{begins_row, runs_row, unready_run}
+use Rattle.mux_editors.proofs.running.begin.Goals as goal
+
+pub returns-then-not-begins-clause-begun : goal.returns-then-not-begins-clause-begun
+returns-then-not-begins-clause-begun c = λ settings owed before body served runs is first st ds.
+    silent_begun settings c.args.tables.now c.args.tables.now owed before c.args.e body c.args.outs.now c.args.outs.now first st ds (runs_row settings before c.args.e body served runs (sym is ∙ c.if-not-begins.true))
+
+pub returns-in-None-clause-begun : goal.returns-in-None-clause-begun
+returns-in-None-clause-begun c = λ settings owed before body served runs is first st ds.
+    silent_begun settings c.args.tables.now c.args.tables.now owed before c.args.e body c.args.outs.now c.args.outs.now first st ds
+    (alike_then (begins_row settings before c.args.e body served runs (sym is ∙ c.if-not-begins.false)) (unready_run settings before c.args.e body served runs (λ s start. c.in-None.ensures.unready settings (with_cause before (FromEditor c.args.e body)) s st start)))
+
+pub returns-in_ok-resume-in-Some-clause-begun : goal.returns-in_ok-resume-in-Some-clause-begun
+returns-in_ok-resume-in-Some-clause-begun c = λ settings owed before body served runs is first st ds.
+    let t = c.args.tables.now in
+    let u = c.resume.new.self in
+    let e = c.args.e in
+    let xs = c.args.outs.now in
+    let ys = c.resume.new.outs in
+    let base = with_cause before (FromEditor e body) in
+    let g = c.in-Some.g in
+    let x = item_at t.lasts.items g c.in-Some.ensures.inside in
+    let ready = c.in-Some.ensures.ready x.0 x.1 in
+    let home = c.in-Some.ensures.home settings base x.0 x.1 st in
+    let begins = sym is ∙ c.if-not-begins.false in
+    all_begun settings t u owed before e body xs ys first served runs begins st ds g x.0 x.1 ready home
+    (c.in_ok-resume-in-Some.ensures.does settings base x.0 x.1 ready (runs_here settings t u owed before e body xs ys first served runs begins st ds g x.0 x.1 ready home)
+    (home_here settings t u owed before e body xs ys first served runs begins st ds g x.0 x.1 ready home) (works_here settings t u owed before e body xs ys first served runs begins st ds g x.0 x.1 ready home))
+    (λ d. c.in_ok-resume-in-Some.ensures.documents settings owed base d)

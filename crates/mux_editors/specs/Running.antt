@@ -1,0 +1,34 @@
+-- L2: an editor that begins to run by its message is asked what waits at its group's last start.
+use Rattle.std.specs.Prelude.{ℕ, Bool, true, false, List, []}
+use Rattle.std.specs.List.{AllByRecursion}
+use Rattle.mux_history.specs.declared.cause.Cause.TheVariants.{FromEditor}
+use Rattle.mux_history.specs.declared.out.Out.{Out}
+use Rattle.rpc_message.specs.Message.{Message, message_of}
+use Rattle.event_model.specs.declared.phase.Phase.{Phase}
+use Rattle.event_model.specs.declared.phase.Phase.TheVariants.{Answered}
+use Rattle.event_model.specs.Does.{Done}
+use Rattle.event_model.specs.Event.{Event, with_cause}
+use Rattle.event_model.specs.Phases.{desk_of, makes_running}
+use Rattle.event_model.specs.Row.{Row, choose, nothing}
+use Rattle.event_model.specs.Settings.{Settings}
+use Rattle.group_facts.specs.Why.{IsQuestion}
+use Rattle.group_rows.specs.AskRows.{run_row}
+use Rattle.mux_tables.specs.declared.tables.Tables.{Tables}
+use Rattle.mux_tables.specs.Documents.{AllStand, Owed}
+
+-- its `initialize` was answered, and by no message since does it run
+abbrev pub may_begin : Phase → Bool
+may_begin Answered = true
+may_begin _ = false
+
+abbrev pub running_at : Settings → List Event → ℕ → Message → Phase → Row
+running_at settings before e m Answered = choose (makes_running m) (run_row settings before e) nothing
+running_at settings before e m other = nothing
+
+abbrev pub running_row : Settings → List Event → ℕ → Message → Row
+running_row settings before e m = running_at settings before e m (desk_of e before).phase
+
+-- behind the message it was asked what waited, and nothing else was sent
+pub record Begun (settings : Settings) (before : List Event) (e : ℕ) (body : List ℕ) (owed : Owed) (t : Tables) (sent : List Out) : Type 0 where
+  pub done : Done (λ k events. AllStand settings k events) (running_row settings before e (message_of body)) (with_cause before (FromEditor e body)) [] (t, owed) sent
+  pub asks : AllByRecursion IsQuestion sent

@@ -1,0 +1,82 @@
+//! L2: an editor that begins to run.
+ghost use Rattle.std.specs.Prelude.{◌≡◌, ◌<◌, ℕ, List, [], map, false, true, length, OnOk};
+ghost use Rattle.event_model.specs.Event.{Event, with_cause};
+ghost use Rattle.event_model.specs.Phases.{desk_of, is_served, makes_running};
+ghost use Rattle.event_model.specs.Settings.{Settings};
+ghost use Rattle.mux_editors.specs.Running.{Begun, may_begin};
+ghost use Rattle.mux_history.specs.declared.cause.Cause.TheVariants.{FromEditor};
+ghost use Rattle.mux_tables.specs.Documents.{DocumentsStand, Owed, changes_documents, nothing_owed};
+ghost use Rattle.mux_tables.specs.Resumes.{unasked};
+ghost use Rattle.mux_tables.specs.Stands.{AnswersNone, Stands};
+ghost use Rattle.rpc_message.specs.Message.{message_of};
+
+use crate::passed::ready_at;
+use crate::quiet::phase_of;
+use event_model::Phase;
+use message_body::Memory;
+use mux_history::Outs;
+use mux_tables::Tables;
+use std::alloc::Global;
+
+/// Whether an editor begins to run by the next message by which one runs: its `initialize` was answered, and no such message came since.
+pub fn may_begin(tables: &Tables, e: u64) -> bool
+    requires { e < length tables.now.editors }
+    ensures { (settings : Settings) (events : List Event) → Stands settings tables.now events → result ≡ may_begin (desk_of e events).phase }
+{
+    matches!(phase_of(tables, e), Phase::Answered)
+}
+
+/// L2: a message by which an editor runs was heard. Where the editor `begins` to run by it, and the last start of its group is ready, it
+/// is asked what waits there. The time is linear in the bytes that are sent. Where the answer is an error the tables stand for nothing any
+/// more.
+pub fn begin(
+    tables: &mut Tables,
+    alloc: Global,
+    outs: &mut Outs,
+    e: u64,
+    begins: bool,
+) -> Result<(), Memory>
+    requires { e < length tables.old.editors }
+    ensures requests { tables.new.requests ≡ tables.old.requests }
+    ensures versions { tables.new.versions ≡ tables.old.versions }
+    ensures rest { OnOk result (map unasked tables.new.lasts.items ≡ map unasked tables.old.lasts.items) }
+    ensures begun { (settings : Settings) (owed : Owed) (before : List Event) (body : List ℕ) → is_served (desk_of e before).phase ≡ true
+        → makes_running (message_of body) ≡ true → begins ≡ may_begin (desk_of e before).phase → outs.old ≡ []
+        → Stands settings tables.old (with_cause before (FromEditor e body)) → DocumentsStand settings owed tables.old (with_cause before (FromEditor e body))
+        → OnOk result (Begun settings before e body owed tables.new outs.new) }
+{
+    if !begins {
+        return Ok(());
+    }
+    match ready_at(tables, e) {
+        None => Ok(()),
+        Some(g) => {
+            tables.resume(alloc, outs, g, e)?;
+            Ok(())
+        }
+    }
+}
+
+/// A message comes from an editor that is served, by which it runs, and which changes no document and answers nothing that a start asked.
+/// Where the editor begins to run by it, it is asked what waits (L2). Where the answer is an error the tables stand for nothing any more.
+pub fn hear_running(
+    tables: &mut Tables,
+    alloc: Global,
+    outs: &mut Outs,
+    e: u64,
+) -> Result<(), Memory>
+    requires { e < length tables.old.editors }
+    ensures requests { tables.new.requests ≡ tables.old.requests }
+    ensures versions { tables.new.versions ≡ tables.old.versions }
+    ensures rest { OnOk result (map unasked tables.new.lasts.items ≡ map unasked tables.old.lasts.items) }
+    ensures begun { (settings : Settings) (before : List Event) (body : List ℕ) → is_served (desk_of e before).phase ≡ true
+        → makes_running (message_of body) ≡ true → AnswersNone settings e (message_of body) before
+        → changes_documents before e (message_of body) ≡ false → outs.old ≡ []
+        → Stands settings tables.old before → DocumentsStand settings nothing_owed tables.old before
+        → OnOk result (Begun settings before e body nothing_owed tables.new outs.new) }
+{
+    let begins = may_begin(tables, e);
+    tables.hear_editor(e, Phase::Running);
+    begin(tables, alloc, outs, e, begins)?;
+    Ok(())
+}
