@@ -1,4 +1,4 @@
--- S9 to S12, S14 and L2: what a ready start asks of editors and tells them, and E19: what it gets of their answers.
+-- S6, S7, S9 to S12, S14 and L2: what a ready start asks of editors and tells them, and E19: what it gets of their answers.
 use Rattle.std.specs.Prelude.{ℕ, Bool, false, List, bytes_eq, filter, find, codes, decimal, nat_eq}
 use Rattle.std.specs.Prelude.{Option, Some, None, slice_get}
 use Rattle.std.specs.List.{last_or, list_any}
@@ -7,7 +7,7 @@ use Rattle.json_text.specs.Json.{Json}
 use Rattle.mux_history.specs.declared.out.Out.TheVariants.{ToEditor, ToServer}
 use Rattle.lsp_method.specs.Class.{class_of}
 use Rattle.lsp_method.specs.declared.variants.Class.{Class}
-use Rattle.lsp_method.specs.declared.variants.Class.TheVariants.{Broadcast, Cancel, Focused, Folders, Lowest, Refresh}
+use Rattle.lsp_method.specs.declared.variants.Class.TheVariants.{Broadcast, Cancel, Focused, Folders, Lowest, Refresh, Register, Unregister}
 use Rattle.lsp_method.specs.declared.variants.Origin.TheVariants.{Server}
 use Rattle.rpc_message.specs.Message.{Id, Message, id_bytes, id_of}
 use Rattle.rpc_message.specs.Texts.{error_text, ok_text, request_failed, with_id_text}
@@ -28,6 +28,7 @@ use Rattle.group_rows.specs.Answers.{agreed_version, stamp_at}
 use Rattle.group_rows.specs.Asks.{Ask, Parked, asking_of, asks_of, first_in, has_number, is_seated, is_taken, is_under, next_ask, parked_of, running_in}
 use Rattle.group_rows.specs.Forwarded.{Forwarded, forwarding_of}
 use Rattle.group_rows.specs.Leaves.{cancel_text}
+use Rattle.group_rows.specs.LiveRows.{register_row, restore, unregister_row}
 
 -- the editor is asked what the start asks, under the editor's next number, while one is left
 abbrev pub ask : List ℕ → ℕ → Row
@@ -86,11 +87,13 @@ asking_row settings before g s body method Refresh = refresh_row settings before
 asking_row settings before g s body method Folders = folders_row settings before g s body
 asking_row settings before g s body method Focused = focused_row settings before g s body method
 asking_row settings before g s body method Lowest = lowest_row settings before g body
+asking_row settings before g s body method Register = register_row settings before g s body
+asking_row settings before g s body method Unregister = unregister_row settings before g s body
 asking_row settings before g s body method _ = nothing
 
--- L2: an editor begins to run: what waited at its group's start is asked of it
+-- L2: an editor begins to run: it is told of what is registered at its group's start, and then what waited there is asked of it
 abbrev pub run_at : Settings → List Event → ℕ → ℕ → Row
-run_at settings before e s = choose (is_ready (life_of s before).stage) (each (λ (p : Parked). ask p.body e) (parked_of settings s before)) nothing
+run_at settings before e s = choose (is_ready (life_of s before).stage) (restore settings before e s ⨾ each (λ (p : Parked). ask p.body e) (parked_of settings s before)) nothing
 
 abbrev pub run_row : Settings → List Event → ℕ → Row
 run_row settings before e = on (home_of settings e before) nothing (λ g. on (start_of g before) nothing (run_at settings before e))

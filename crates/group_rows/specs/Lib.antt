@@ -13,3 +13,5 @@ pub mod Ticks
 pub mod AskRows
 pub mod Asks
 pub mod AsksExample
+pub mod Live
+pub mod LiveRows
