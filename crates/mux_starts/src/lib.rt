@@ -23,7 +23,9 @@ pub use hasty::{is_first_error, take_hasty};
 pub use recalled::take_recall;
 pub use refreshed::take_refresh;
 pub use refused::take_refused;
-pub use results::{shown_of, take_result};
+pub use results::take_result;
 pub use single::{take_focused, take_lowest, take_repeated};
 pub use starts::take_started;
 pub use ticks::take_tick;
+
+pub use mux_turns::{answered_number, stage_at};

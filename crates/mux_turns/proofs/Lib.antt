@@ -1,10 +1,12 @@
 pub mod Stays
+pub mod Asked
 pub mod Cancels
 pub mod Departing
 pub mod Evictions
 pub mod Folders
 pub mod Joining
 pub mod Keeping
+pub mod Lspmux
 pub mod Matched
 pub mod Numbers
 pub mod Ready

@@ -2,15 +2,19 @@
 #![tactic(auto)]
 
 mod answered;
+mod doubled;
 mod evicting;
 mod greeting;
 mod leaves;
+mod own;
 mod placing;
 mod refusals;
 
 pub use answered::{answered_ask, answered_number};
+pub use doubled::doubles;
 pub use evicting::{evict, replace, stage_at};
-pub use greeting::{add_comma, bytes_of, folders_text, opening};
+pub use greeting::{add_comma, bytes_of, folders_text, opening, shown_of};
 pub use leaves::{Departure, cancel_request, depart, leaving};
+pub use own::asks_lspmux;
 pub use placing::{found, turn_away, waits, welcome};
 pub use refusals::{asked_at, refuse, refuse_early, refuse_request, refuse_wrong, reject};

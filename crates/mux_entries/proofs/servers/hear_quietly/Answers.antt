@@ -9,7 +9,7 @@ use Rattle.mux_history.specs.declared.cause.Cause.TheVariants.{FromServer}
 use Rattle.mux_tables.specs.Documents.{AllStand, nothing_owed}
 use Rattle.mux_tables.specs.Stands.{is_early}
 use Rattle.mux_starts.proofs.Parking.{unasked}
-use Rattle.mux_turns.proofs.Matched.{whole_entry}
+use Rattle.mux_editors.proofs.Turns.{whole_entry}
 use Rattle.mux_entries.proofs.Said.{runs_late, stage_here}
 use Rattle.mux_entries.proofs.servers.hear_quietly.Goals as goal
 
