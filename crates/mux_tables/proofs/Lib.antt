@@ -54,6 +54,7 @@ pub mod Placed
 pub mod Waiting
 pub mod Parking
 pub mod Registering
+pub mod Registered
 pub mod Resuming
 pub mod DocumentResumed
 pub mod Working
