@@ -5,6 +5,7 @@ mod answers;
 mod asks;
 mod documents;
 mod hears;
+mod live;
 mod looks;
 mod notes;
 mod places;
