@@ -1,10 +1,12 @@
 pub mod Stays
 pub mod Asked
+pub mod Calls
 pub mod Cancels
 pub mod Departing
 pub mod Evictions
 pub mod Folders
 pub mod Joining
+pub mod LiveTexts
 pub mod Keeping
 pub mod Lspmux
 pub mod Matched
