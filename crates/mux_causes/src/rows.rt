@@ -190,13 +190,18 @@ fn built_telling(message: &Message) -> bool
     is_told(told_class(message))
 }
 
-// S9 to S12: whether requests of this class are built.
+// S6, S7 and S9 to S12: whether requests of this class are built.
 fn is_asked_of_editors(class: Class) -> bool
     ensures { result ≡ built_asking class }
 {
     matches!(
         class,
-        Class::Refresh | Class::Folders | Class::Focused | Class::Lowest
+        Class::Refresh
+            | Class::Folders
+            | Class::Focused
+            | Class::Lowest
+            | Class::Register
+            | Class::Unregister
     )
 }
 
