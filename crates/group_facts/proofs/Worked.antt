@@ -112,9 +112,9 @@ asked_leaves_is_legal : Legal (with_groups 8) (played (with_groups 8) (two_edito
 unfolding computes url_on_literals message_of named no_name_twice is_integer member_bytes with_id_text id_edits escape_byte digits own_request own_notification goes_nowhere editor_request editor_notification is_focused is_refresh server_notification server_request chars
 asked_leaves_is_legal = legal (with_groups 8) (two_editors ++ asked_leaves) refl
 
-a_registration_is_not_built : taken_from (with_groups 8) [] (two_editors ++ FromServer 0 (codes "{\"jsonrpc\":\"2.0\",\"id\":7,\"method\":\"client/registerCapability\"}") ∷ []) ≡ false
+a_registration_is_built : taken_from (with_groups 8) [] (two_editors ++ FromServer 0 (codes "{\"jsonrpc\":\"2.0\",\"id\":7,\"method\":\"client/registerCapability\"}") ∷ []) ≡ true
 unfolding computes url_on_literals message_of named no_name_twice is_integer member_bytes with_id_text id_edits escape_byte digits own_request own_notification goes_nowhere editor_request editor_notification is_focused is_refresh server_notification server_request chars
-a_registration_is_not_built = refl
+a_registration_is_built = refl
 
 an_edit_is_built : taken_from (with_groups 8) [] (two_editors ++ FromServer 0 (codes "{\"jsonrpc\":\"2.0\",\"id\":7,\"method\":\"workspace/applyEdit\"}") ∷ []) ≡ true
 unfolding computes url_on_literals message_of named no_name_twice is_integer member_bytes with_id_text id_edits escape_byte digits own_request own_notification goes_nowhere editor_request editor_notification is_focused is_refresh server_notification server_request chars
