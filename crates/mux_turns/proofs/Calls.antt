@@ -1,6 +1,6 @@
 -- S6, S7 and L2: requests by which editors are told of registrations, and what they leave as it is.
-use Rattle.std.proofs.Common.{◌≡◌, ℕ, ◌^◌, Bool, true, false, ◌&&◌, List, [], ◌∷◌, ◌++◌, decimal, nat_eq, if◌then◌else◌, refl, ap, sym, subst, ◌∙◌, append-nil, ltb-true}
-use Rattle.std.specs.Prelude.{Option, None}
+use Rattle.std.proofs.Common.{◌≡◌, ℕ, ◌^◌, Bool, true, false, ◌&&◌, List, [], ◌∷◌, ◌++◌, arith, codes, decimal, length, nat_eq, if◌then◌else◌, refl, ap, sym, subst, ◌∙◌, append-nil, ltb-true}
+use Rattle.std.specs.Prelude.{Option, None, Some}
 use Rattle.std.specs.List.{AllByRecursion}
 use Rattle.json_text.specs.Json.{Json}
 use Rattle.mux_history.specs.declared.out.Out.{Out}
@@ -15,12 +15,38 @@ use Rattle.event_model.specs.Settings.{Settings}
 use Rattle.event_model.proofs.Frames.{one_more}
 use Rattle.event_model.proofs.Turns.{behind_more}
 use Rattle.group_rows.specs.Asks.{Asking, asked_next, asking_next, asking_of, has_number, is_own_work, is_patient, next_ask, serves, unparked}
-use Rattle.group_rows.specs.LiveRows.{call}
+use Rattle.group_rows.specs.Live.{register_text, unregister_text}
+use Rattle.group_rows.specs.LiveRows.{call, has_some}
+use Rattle.group_rows.specs.LiveTexts.{AreWritten}
+use Rattle.group_rows.proofs.LiveTexts.{register_says, unregister_says}
 use Rattle.group_words.specs.Houses.{home_of}
 use Rattle.group_words.proofs.Frames.{home_more}
+use Rattle.registrations.specs.declared.registration.Registration.{Registration}
 use Rattle.mux_tables.specs.Puts.{IsNextAsk}
 use Rattle.mux_tables.proofs.Asking.{asking_more}
 use Rattle.mux_turns.specs.Calls.{IsCall}
+
+-- what is told of registrations that are written
+pub register_call : (rs : List Registration) → AreWritten rs → IsCall (register_text rs)
+register_call rs h = record { method = codes "client/registerCapability"; impatient = refl; says = λ n small. let q = register_says rs h n (omega (arith, small)) in (Some q.0, q.1) }
+
+pub unregister_call : (rs : List Registration) → AreWritten rs → IsCall (unregister_text rs)
+unregister_call rs h = record { method = codes "client/unregisterCapability"; impatient = refl; says = λ n small. let q = unregister_says rs h n (omega (arith, small)) in (Some q.0, q.1) }
+
+-- whether there are any
+pub none_there : (rs : List Registration) (b : Bool) → b ≡ nat_eq (length rs) 0 → b ≡ true → has_some rs ≡ false
+none_there [] b is on = refl
+none_there (x ∷ rs) b is on = absurd (clash (sym on ∙ is))
+  where
+    clash : true ≡ false → ⊥
+    clash q = cc
+
+pub some_there : (rs : List Registration) (b : Bool) → b ≡ nat_eq (length rs) 0 → b ≡ false → has_some rs ≡ true
+some_there [] b is off = absurd (clash (sym is ∙ off))
+  where
+    clash : true ≡ false → ⊥
+    clash q = cc
+some_there (x ∷ rs) b is off = refl
 
 -- the text under an editor's next number
 pub next_call : (text : ℕ → List ℕ) (k : IsCall text) (e n : ℕ) (now : List Event) (w : List ℕ) → w ≡ text n → has_number e now ≡ true → n ≡ next_ask e now → (params : Option Json) × IsNextAsk e now k.method params w
