@@ -190,7 +190,8 @@ pub fn take_register(
 {
     let group = tables.group_number(g);
     let numbers = tables.running(group)?;
-    match registered(alloc, message)? {
+    let found = registered(alloc, message)?;
+    match found {
         None => {
             tables.hear_answer(g, None);
             decline(tables, alloc, outs, g, message)?;
@@ -230,7 +231,8 @@ fn take_back(
         → OnOk result (Done (λ k events. AllStand settings k events) (unregister_row settings before x.life.group s body)
         (with_cause before (FromServer s body)) [] (tables.new, nothing_owed) outs.new) }
 {
-    match tables.unregister(g, items)? {
+    let taken = tables.unregister(g, items)?;
+    match taken {
         None => {
             decline(tables, alloc, outs, g, message)?;
             Ok(())
@@ -266,7 +268,8 @@ pub fn take_unregister(
 {
     let group = tables.group_number(g);
     let numbers = tables.running(group)?;
-    match unregistered(alloc, message)? {
+    let found = unregistered(alloc, message)?;
+    match found {
         None => {
             tables.hear_answer(g, None);
             decline(tables, alloc, outs, g, message)?;
