@@ -11,10 +11,10 @@ use Rattle.ask_route.specs.declared.ask.Ask as route
 use Rattle.ask_route.specs.Tables as asks
 use Rattle.mux_history.specs.declared.out.Out.{Out}
 use Rattle.mux_history.specs.declared.out.Out.TheVariants.{ToEditor}
-use Rattle.rpc_message.specs.Message.{Id, Message, id_bytes, integer, message_of, request, same_id}
+use Rattle.rpc_message.specs.Message.{Id, Message, integer, message_of, request, same_id}
 use Rattle.rpc_message.specs.Texts.{with_id_text}
 use Rattle.rpc_message.proofs.Decimals.{decimal_wide_law}
-use Rattle.rpc_message.proofs.Ids.{request_id_bytes, request_with_id}
+use Rattle.rpc_message.proofs.Ids.{request_with_id}
 use Rattle.event_model.specs.declared.phase.Phase.{Phase}
 use Rattle.event_model.specs.declared.phase.Phase.TheVariants.{Running}
 use Rattle.event_model.specs.declared.stage.Stage.{Stage}
@@ -32,7 +32,7 @@ use Rattle.editor_session.specs.Sessions as sessions
 use Rattle.editor_session.specs.Sessions.{absent, is_gone, session_of, unless_gone, with_session}
 use Rattle.group_words.proofs.Frames.{itself}
 use Rattle.group_rows.specs.AskRows.{ask}
-use Rattle.group_rows.specs.Asks.{Parked, Ask, Asking, asked_next, asking_next, asking_of, asks_of, has_number, is_own_work, is_patient, is_taken, is_under, next_ask, parked_of, serves, waits_under}
+use Rattle.group_rows.specs.Asks.{Parked, Ask, Asking, asked_next, asking_next, asking_of, asks_of, has_number, is_own_work, is_patient, is_under, next_ask, parked_of, serves, waits_under}
 use Rattle.mux_tables.specs.declared.tables.Start.{Start}
 use Rattle.mux_tables.specs.declared.tables.Tables.{Tables}
 use Rattle.mux_tables.specs.Documents.{DocumentsStand, Owed}

@@ -31,7 +31,7 @@ use Rattle.registrations.specs.Items.{are_live, others, registered, unregistered
 use Rattle.mux_tables.specs.declared.tables.Start.{Start}
 use Rattle.mux_tables.specs.declared.tables.Tables.{Tables}
 use Rattle.mux_tables.specs.Puts.{IsNextAsk}
-use Rattle.mux_tables.specs.Stands.{AsksStay, LiveAt, NamesAt, PartStands, Stands, is_early, is_request, number_in, of_life, of_live}
+use Rattle.mux_tables.specs.Stands.{AsksStay, LiveAt, NamesAt, Stands, is_early, is_request, number_in, of_life, of_live}
 use Rattle.mux_tables.proofs.Asking.{parked_by}
 use Rattle.mux_tables.proofs.Frames.{open_stay}
 use Rattle.mux_tables.proofs.Moves.{house_moves}

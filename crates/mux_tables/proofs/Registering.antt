@@ -1,14 +1,13 @@
 -- What is registered at a start, one event further (S6, S7).
-use Rattle.std.proofs.Common.{◌≡◌, ℕ, ◌<◌, Bool, true, false, not, ◌&&◌, List, [], ◌∷◌, ◌++◌, map, length, get_or, refl, ap, sym, subst, ◌∙◌, nat_eq, if◌then◌else◌}
-use Rattle.std.specs.Prelude.{Option, Some, None, slice_get, slice_set}
-use Rattle.std.specs.Option.{option_and_then}
+use Rattle.std.proofs.Common.{◌≡◌, ℕ, Bool, true, false, not, ◌&&◌, List, [], ◌∷◌, ◌++◌, refl, ap, sym, subst, ◌∙◌, nat_eq, if◌then◌else◌}
+use Rattle.std.specs.Prelude.{Option, Some, None}
 use Rattle.json_text.specs.Json.{Json}
 use Rattle.lsp_method.specs.Class.{class_of}
 use Rattle.lsp_method.specs.declared.variants.Class.{Class}
 use Rattle.lsp_method.specs.declared.variants.Class.TheVariants.{Lowest, Register, Unregister}
 use Rattle.lsp_method.specs.declared.variants.Origin.TheVariants.{Server}
 use Rattle.mux_history.specs.declared.cause.Cause.TheVariants.{FromServer}
-use Rattle.rpc_message.specs.Message.{Id, Message, message_of, request}
+use Rattle.rpc_message.specs.Message.{Id, Message, request}
 use Rattle.event_model.specs.declared.stage.Stage.{Stage}
 use Rattle.event_model.specs.declared.stage.Stage.TheVariants.{Unspawned, Spawning, Initializing, Ready, Stopping, Ending, Ended}
 use Rattle.event_model.specs.Event.{Event, took}
@@ -61,12 +60,12 @@ same_live false live now e = refl
 by_none : (c : Class) (body : List ℕ) (live : List Registration) → changes_live c ≡ false → live_by c body live ≡ live
 by_none Register body live h = never h
 by_none Unregister body live h = never h
-by_none other body live h = refl
+by_none _ body live h = refl
 
 -- what may wait registers nothing
 patient_none : (c : Class) → may_wait c ≡ true → changes_live c ≡ false
 patient_none Lowest h = refl
-patient_none other h = never (sym h)
+patient_none _ h = never (sym h)
 
 pub patient_quiet : (method : List ℕ) → is_patient method ≡ true → is_registering method ≡ false
 patient_quiet method h = patient_none (class_of method Server false) h

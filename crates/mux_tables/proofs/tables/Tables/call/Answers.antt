@@ -21,7 +21,7 @@ returns-clause-count c = ap length c.ask_number.ensures.kept ∙ length-set c.ar
 
 pub returns-clause-does : goal.returns-clause-does
 returns-clause-does c = λ settings base method params runs next quiet none.
-    call_does settings c.args.self.now _ base c.args.outs.now c.args.e c.args.text method params c.requires runs next c.push.new.self c.in-Some.n quiet none c.in-Some.ensures.number c.ask_number.ensures.kept refl refl refl refl refl c.in_ok-push.ensures.ok
+    call_does settings c.args.self.now _ base c.args.outs.now c.args.e c.args.text method params c.requires runs next c.push.new.self c.in-Some.field-0 quiet none c.in-Some.ensures.number c.ask_number.ensures.kept refl refl refl refl refl c.in_ok-push.ensures.ok
 
 pub returns-clause-documents : goal.returns-clause-documents
 returns-clause-documents c = λ settings owed base ds. told_documents settings owed c.args.self.now _ base c.args.outs.now c.push.new.self c.args.e c.args.text refl refl refl c.in_ok-push.ensures.ok ds
