@@ -17,3 +17,4 @@ pub mod Live
 pub mod LiveExample
 pub mod LiveRows
 pub mod LiveTexts
+pub mod Tokens
