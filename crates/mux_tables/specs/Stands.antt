@@ -84,7 +84,7 @@ pub record OriginsStand (origins : List ℕ) (events : List Event) : Type 0 wher
 
 -- the open requests at a start
 abbrev pub forwarded_of : Numbered → Forwarded
-forwarded_of r = record { number = r.number; editor = r.pending.editor; id = r.pending.id; cancelled = r.pending.cancelled }
+forwarded_of r = record { number = r.number; editor = r.pending.editor; id = r.pending.id; work = r.pending.work; partial = r.pending.partial; cancelled = r.pending.cancelled }
 
 -- the request of this number
 abbrev pub forwarded_as : ℕ → Pending → Forwarded
@@ -366,9 +366,9 @@ Keeps e body events = ((desk_of e (events ++ said (ToEditor e body) ∷ [])).pha
 abbrev pub Welcomes : ℕ → List ℕ → List Event → Type 0
 Welcomes e body events = ((desk_of e (events ++ said (ToEditor e body) ∷ [])).phase ≡ Answered) × (is_request (message_of body) ≡ false)
 
--- e's request under this id is at work, and goes to start s
-abbrev pub Sends : ℕ → ℕ → List ℕ → List Event → Type 0
-Sends s e id events = (forwarding_of s events).sender ≡ Some (record { editor = e; id = id })
+-- e's request under this id is at work, with these tokens for progress, and goes to start s
+abbrev pub Sends : ℕ → ℕ → List ℕ → Option (List ℕ) → Option (List ℕ) → List Event → Type 0
+Sends s e id work partial events = (forwarding_of s events).sender ≡ Some (record { editor = e; id = id; work = work; partial = partial })
 
 -- the others of these starts
 abbrev pub unstopped : ℕ → List ℕ → List ℕ
