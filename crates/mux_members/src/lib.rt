@@ -17,4 +17,4 @@ pub use method::{
 };
 pub use notice::{Notice, notice_in, speaks, string};
 pub use outcome::{encoding, is_first_result, reads_versions};
-pub use params::{has_token, text, token};
+pub use params::{has_token, named_token, text, token};

@@ -35,6 +35,13 @@ pub fn has_token(m: &Message) -> bool
         || is_token(tape, member(tape, params, "partialResultToken"))
 }
 
+/// Whether the last member of this name of a value is a progress token (LSP 3.17, ProgressToken).
+pub fn named_token(tape: &Tape, node: Option<u32>, name: &str) -> bool
+    ensures { is_ascii name.now ≡ true → (o : Option Json) → Found tape.now o node → result ≡ is_token (named_of name.now o) }
+{
+    is_token(tape, member(tape, node, name))
+}
+
 /// The bytes of a token of a request's params, where its last member of this name is one (LSP 3.17, ProgressToken).
 pub fn token<'a>(m: &'a Message, name: &str) -> Option<&'a [u8]>
     ensures { is_ascii name.now ≡ true → (bytes method : List ℕ) (id : Id) (params : Option Json) → IsRead m.now bytes
@@ -42,7 +49,7 @@ pub fn token<'a>(m: &'a Message, name: &str) -> Option<&'a [u8]>
 {
     let tape = m.tape();
     let params = m.params();
-    if is_token(tape, member(tape, params, name)) {
+    if named_token(tape, params, name) {
         member_bytes(tape, params, name)
     } else {
         None
