@@ -1,5 +1,6 @@
 pub mod Answers
 pub mod Openings
+pub mod Progress
 pub mod Refusing
 pub mod Replies
 pub mod Stops

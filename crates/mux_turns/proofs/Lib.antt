@@ -1,4 +1,5 @@
 pub mod Stays
+pub mod Tokens
 pub mod Asked
 pub mod Calls
 pub mod Cancels

@@ -3,3 +3,4 @@ pub mod Founding
 pub mod Leavings
 pub mod Welcomes
 pub mod Responses
+pub mod Tokens
