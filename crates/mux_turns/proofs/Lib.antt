@@ -1,6 +1,6 @@
 pub mod Stays
 pub mod Asked
-pub mod Calls
+pub mod Called
 pub mod Cancels
 pub mod Departing
 pub mod Evictions

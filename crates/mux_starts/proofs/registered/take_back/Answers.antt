@@ -15,7 +15,7 @@ use Rattle.group_rows.proofs.LiveTexts.{again_written, live_written}
 use Rattle.registrations.specs.Items.{again}
 use Rattle.mux_tables.specs.Documents.{AllStand, nothing_owed}
 use Rattle.mux_tables.proofs.Starts.{start_at_place}
-use Rattle.mux_turns.proofs.Calls.{unregister_call}
+use Rattle.mux_turns.proofs.Called.{unregister_call}
 use Rattle.mux_turns.proofs.Matched.{whole_entry}
 use Rattle.mux_starts.proofs.Parking.{hasty}
 use Rattle.mux_starts.proofs.Registering.{gone_of, kept_row, none_taken, some_taken, taken_row, takes_back, told_all}

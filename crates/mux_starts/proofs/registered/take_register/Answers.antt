@@ -18,7 +18,7 @@ use Rattle.rpc_message.specs.Message.{message_of}
 use Rattle.mux_tables.specs.Documents.{AllStand, nothing_owed}
 use Rattle.mux_tables.proofs.Registering.{unregistered_live}
 use Rattle.mux_tables.proofs.Starts.{start_at_place}
-use Rattle.mux_turns.proofs.Calls.{register_call, unregister_call}
+use Rattle.mux_turns.proofs.Called.{register_call, unregister_call}
 use Rattle.mux_turns.proofs.Matched.{not_early, not_first, not_spawning, whole_entry}
 use Rattle.mux_starts.proofs.Early.{asked_named}
 use Rattle.mux_starts.proofs.Parking.{hasty}
