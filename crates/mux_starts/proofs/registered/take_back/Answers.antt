@@ -1,14 +1,11 @@
 -- S7: what is taken back.
-use Rattle.std.proofs.Common.{◌≡◌, ◌<◌, length, None, Some, ap, ap₂, subst, sym, ◌∙◌}
+use Rattle.std.proofs.Common.{◌<◌, length, ap, subst, sym, ◌∙◌}
 use Rattle.std.specs.Prelude.{option_map, slice_get}
 use Rattle.std.specs.List.{All}
 use Rattle.mux_history.specs.declared.cause.Cause.TheVariants.{FromServer}
-use Rattle.event_model.specs.Does.{Does}
 use Rattle.event_model.specs.Event.{with_cause}
-use Rattle.event_model.specs.Row.{each}
-use Rattle.event_model.specs.Stages.{is_first_result}
 use Rattle.event_model.proofs.Turns.{does_alike}
-use Rattle.group_rows.specs.Asks.{goes_to_one, may_wait, running_in}
+use Rattle.group_rows.specs.Asks.{goes_to_one, may_wait}
 use Rattle.group_rows.specs.Live.{live_of, unregister_text}
 use Rattle.group_rows.specs.LiveRows.{call, unregister_row}
 use Rattle.group_rows.proofs.LiveTexts.{again_written, live_written}
