@@ -31,7 +31,7 @@ use Rattle.mux_tables.specs.Stands.{IsWorking, MayWait, Stands, number_in, of_li
 use Rattle.mux_tables.proofs.DocumentOwed.{all_does}
 use Rattle.mux_tables.proofs.Waiting.{ready_parked}
 use Rattle.mux_turns.specs.Calls.{IsCall}
-use Rattle.mux_turns.proofs.Calls.{Quiet, any_quiet, quiet_behind, register_call, runs_on}
+use Rattle.mux_turns.proofs.Called.{Quiet, any_quiet, quiet_behind, register_call, runs_on}
 use Rattle.mux_turns.proofs.Departing.{behind_first}
 use Rattle.mux_turns.proofs.Matched.{whole_entry}
 use Rattle.mux_editors.specs.Running.{Begun, may_begin, running_row}

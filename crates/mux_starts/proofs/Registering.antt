@@ -22,7 +22,7 @@ use Rattle.registrations.specs.Items.{again, are_live, registered, unregistered}
 use Rattle.mux_tables.specs.declared.tables.Tables.{Tables}
 use Rattle.mux_tables.specs.Documents.{AllStand, nothing_owed}
 use Rattle.mux_turns.specs.Calls.{IsCall}
-use Rattle.mux_turns.proofs.Calls.{Quiet, after_quiet, any_quiet, call_quiet}
+use Rattle.mux_turns.proofs.Called.{Quiet, after_quiet, any_quiet, call_quiet}
 use Rattle.mux_starts.proofs.Refreshing.{answered_keeps, kept_all}
 use Rattle.mux_starts.proofs.Singles.{all_running, rests_all, runs_here}
 

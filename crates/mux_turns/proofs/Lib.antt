@@ -1,7 +1,7 @@
 pub mod Stays
 pub mod Tokens
 pub mod Asked
-pub mod Calls
+pub mod Called
 pub mod Cancels
 pub mod Departing
 pub mod Evictions

@@ -4,7 +4,7 @@ use Rattle.event_model.proofs.Turns.{does_knowing, does_then}
 use Rattle.group_rows.specs.Live.{unregister_text}
 use Rattle.group_rows.specs.LiveRows.{has_some, unregister_any}
 use Rattle.mux_tables.specs.Documents.{nothing_owed}
-use Rattle.mux_turns.proofs.Calls.{any_quiet, quiet_behind, rests_on, runs_on}
+use Rattle.mux_turns.proofs.Called.{any_quiet, quiet_behind, rests_on, runs_on}
 use Rattle.mux_starts.proofs.registered.tell_registered.Goals as goal
 
 pub returns-clause-does : goal.returns-clause-does

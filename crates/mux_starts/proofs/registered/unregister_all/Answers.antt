@@ -6,7 +6,7 @@ use Rattle.event_model.proofs.Turns.{does_knowing, does_next, does_whole}
 use Rattle.group_rows.specs.Live.{unregister_text}
 use Rattle.group_rows.specs.LiveRows.{call}
 use Rattle.mux_tables.specs.Documents.{nothing_owed}
-use Rattle.mux_turns.proofs.Calls.{call_quiet, each_quiet, quiet_behind, rests_on, runs_on}
+use Rattle.mux_turns.proofs.Called.{call_quiet, each_quiet, quiet_behind, rests_on, runs_on}
 use Rattle.mux_starts.proofs.Refreshing.{runs_at}
 use Rattle.mux_starts.proofs.registered.unregister_all.Goals as goal
 

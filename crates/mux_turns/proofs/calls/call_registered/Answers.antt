@@ -1,5 +1,5 @@
 -- An editor is told of registrations under its next number.
-use Rattle.std.proofs.Common.{subst, sym}
+use Rattle.std.proofs.Common.{subst}
 use Rattle.mux_history.specs.declared.out.Out.TheVariants.{ToEditor}
 use Rattle.event_model.specs.Does.{Does}
 use Rattle.event_model.specs.Event.{behind}
@@ -8,7 +8,7 @@ use Rattle.group_rows.specs.Live.{register_text}
 use Rattle.mux_tables.specs.Documents.{AllStand}
 use Rattle.mux_tables.proofs.DocumentOwed.{all_does}
 use Rattle.mux_tables.proofs.Numbering.{none_numbered, one_numbered}
-use Rattle.mux_turns.proofs.Calls.{next_call}
+use Rattle.mux_turns.proofs.Called.{next_call}
 use Rattle.mux_turns.proofs.calls.call_registered.Goals as goal
 
 pub returns-in_default-clause-does : goal.returns-in_default-clause-does

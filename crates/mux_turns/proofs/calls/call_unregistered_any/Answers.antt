@@ -2,7 +2,7 @@
 use Rattle.std.proofs.Common.{refl}
 use Rattle.event_model.proofs.Turns.{does_nothing}
 use Rattle.group_rows.specs.LiveRows.{has_some}
-use Rattle.mux_turns.proofs.Calls.{none_there, some_there}
+use Rattle.mux_turns.proofs.Called.{none_there, some_there}
 use Rattle.mux_turns.proofs.Keeping.{chosen, unchosen}
 use Rattle.mux_turns.proofs.calls.call_unregistered_any.Goals as goal
 

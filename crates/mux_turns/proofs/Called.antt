@@ -1,7 +1,7 @@
 -- S6, S7 and L2: requests by which editors are told of registrations, and what they leave as it is.
-use Rattle.std.proofs.Common.{◌≡◌, ℕ, ◌^◌, Bool, true, false, ◌&&◌, List, [], ◌∷◌, ◌++◌, arith, codes, decimal, length, nat_eq, if◌then◌else◌, refl, ap, sym, subst, ◌∙◌, append-nil, ltb-true}
+use Rattle.std.proofs.Common.{◌≡◌, ℕ, suc, ◌^◌, Bool, true, false, ◌&&◌, List, [], ◌∷◌, ◌++◌, arith, codes, decimal, length, nat_eq, if◌then◌else◌, refl, ap, sym, subst, ◌∙◌, append-nil, ltb-true}
 use Rattle.std.specs.Prelude.{Option, None, Some}
-use Rattle.std.specs.List.{AllByRecursion}
+use Rattle.std.proofs.lemmas.Bool.Decides.{nat_tests}
 use Rattle.json_text.specs.Json.{Json}
 use Rattle.mux_history.specs.declared.out.Out.{Out}
 use Rattle.mux_history.specs.declared.out.Out.TheVariants.{ToEditor}
@@ -14,6 +14,8 @@ use Rattle.event_model.specs.Row.{Row, after, choose, each, nothing, outs, send}
 use Rattle.event_model.specs.Settings.{Settings}
 use Rattle.event_model.proofs.Frames.{one_more}
 use Rattle.event_model.proofs.Turns.{behind_more}
+use Rattle.group_facts.proofs.Asks.{registering_hurried}
+use Rattle.group_facts.proofs.AskingRows.{registers_all, unregisters_all}
 use Rattle.group_rows.specs.Asks.{Asking, asked_next, asking_next, asking_of, has_number, is_own_work, is_patient, next_ask, serves, unparked}
 use Rattle.group_rows.specs.Live.{register_text, unregister_text}
 use Rattle.group_rows.specs.LiveRows.{call, has_some}
@@ -28,18 +30,18 @@ use Rattle.mux_turns.specs.Calls.{IsCall}
 
 -- what is told of registrations that are written
 pub register_call : (rs : List Registration) → AreWritten rs → IsCall (register_text rs)
-register_call rs h = record { method = codes "client/registerCapability"; impatient = refl; says = λ n small. let q = register_says rs h n (omega (arith, small)) in (Some q.0, q.1) }
+register_call rs h = record { method = codes "client/registerCapability"; impatient = registering_hurried (codes "client/registerCapability") registers_all; says = λ n small. let q = register_says rs h n (omega (arith, small)) in (Some q.0, q.1) }
 
 pub unregister_call : (rs : List Registration) → AreWritten rs → IsCall (unregister_text rs)
-unregister_call rs h = record { method = codes "client/unregisterCapability"; impatient = refl; says = λ n small. let q = unregister_says rs h n (omega (arith, small)) in (Some q.0, q.1) }
+unregister_call rs h = record { method = codes "client/unregisterCapability"; impatient = registering_hurried (codes "client/unregisterCapability") unregisters_all; says = λ n small. let q = unregister_says rs h n (omega (arith, small)) in (Some q.0, q.1) }
 
 -- whether there are any
 pub none_there : (rs : List Registration) (b : Bool) → b ≡ nat_eq (length rs) 0 → b ≡ true → has_some rs ≡ false
 none_there [] b is on = refl
-none_there (x ∷ rs) b is on = absurd (clash (sym on ∙ is))
+none_there (x ∷ rs) b is on = absurd (clash (length rs) (sym is ∙ on))
   where
-    clash : true ≡ false → ⊥
-    clash q = cc
+    clash : (n : ℕ) → nat_eq (suc n) 0 ≡ true → ⊥
+    clash n q = let none : suc n ≡ 0 = grind (arith, nat_tests) in omega (arith, none)
 
 pub some_there : (rs : List Registration) (b : Bool) → b ≡ nat_eq (length rs) 0 → b ≡ false → has_some rs ≡ true
 some_there [] b is off = absurd (clash (sym is ∙ off))
