@@ -13,3 +13,10 @@ abbrev pub tokens_for : Bool → Bool → ℕ → List ℕ → Option (List ℕ)
 tokens_for work partial n name =
     if bytes_eq (codes "workDoneToken") name && work then Some (mark_text (work_mark n))
     else if bytes_eq (codes "partialResultToken") name && partial then Some (mark_text (partial_mark n)) else None
+
+-- the same of one name, and of two, by the bytes that come
+abbrev pub one_token : List ℕ → ℕ → List ℕ → Option (List ℕ)
+one_token own k name = if bytes_eq own name then Some (mark_text k) else None
+
+abbrev pub two_tokens : List ℕ → List ℕ → List ℕ → Option (List ℕ)
+two_tokens work partial name = if bytes_eq (codes "workDoneToken") name then Some work else if bytes_eq (codes "partialResultToken") name then Some partial else None

@@ -2,6 +2,7 @@
 //! Partial Result Progress).
 ghost use Rattle.std.specs.Prelude.{◌≡◌, ◌<◌, ◌++◌, ℕ, List, true, false, codes, length, IfOk, MatchOption, Option};
 ghost use Rattle.group_rows.specs.Tokens.{begins_as_mark, forwarded_text, is_reserved, mark_edits, mark_text, marked_text, reserves};
+ghost use Rattle.std.specs.Str.{chars};
 ghost use Rattle.event_model.specs.Members.{named_of, params_of};
 ghost use Rattle.json_nodes.specs.At.{At, Found};
 ghost use Rattle.json_nodes.specs.Puts.{put_edits};
@@ -10,7 +11,7 @@ ghost use Rattle.json_text.specs.Json.{Json};
 ghost use Rattle.json_text.specs.Replace.{Rise};
 ghost use Rattle.mux_members.specs.Finds.{is_ascii};
 ghost use Rattle.mux_tables.specs.Tokens.{MarksAt};
-ghost use Rattle.mux_turns.specs.Tokens.{WritesMark, tokens_for};
+ghost use Rattle.mux_turns.specs.Tokens.{WritesMark, one_token, tokens_for, two_tokens};
 ghost use Rattle.rpc_message.specs.Message.{Id, message_of, notification, request};
 ghost use Rattle.rpc_message.specs.Parsed.{IsRead};
 
@@ -101,6 +102,44 @@ pub fn mark_text(alloc: Global, k: u64) -> Result<Vec<u8>, Memory>
     Ok(text)
 }
 
+// The changes that put the daemon's token of this number in the place of each token of a name.
+fn put_one(
+    alloc: Global,
+    tape: &Tape,
+    node: u32,
+    name: &str,
+    k: u64,
+) -> Result<Vec<Change>, Memory>
+    requires { node < length tape.now.nodes }
+    ensures { (t : Json) → At tape.now node t → IfOk result (λ changes. edits_of changes.items ≡ put_edits (one_token (chars name.now) k) t) }
+{
+    let text = mark_text(alloc, k)?;
+    let changes = tape.puts(alloc, node, &[Put { name, text: &text }])?;
+    Ok(changes)
+}
+
+// The changes that put these two in the place of each token of a request.
+fn put_both(
+    alloc: Global,
+    tape: &Tape,
+    node: u32,
+    work: &[u8],
+    partial: &[u8],
+) -> Result<Vec<Change>, Memory>
+    requires { node < length tape.now.nodes }
+    ensures { (t : Json) → At tape.now node t → IfOk result (λ changes. edits_of changes.items ≡ put_edits (two_tokens work.now partial.now) t) }
+{
+    let done = Put {
+        name: "workDoneToken",
+        text: work,
+    };
+    let results = Put {
+        name: "partialResultToken",
+        text: partial,
+    };
+    tape.puts(alloc, node, &[done, results])
+}
+
 // The changes that put the daemon's tokens in the place of those that request n has.
 fn put_marks(
     alloc: Global,
@@ -114,24 +153,16 @@ fn put_marks(
     ensures { (t : Json) → At tape.now node t → IfOk result (λ changes. edits_of changes.items ≡ put_edits (tokens_for work partial n) t) }
 {
     let k = 2 * u64::from(n);
-    let first = mark_text(alloc, k)?;
-    let second = mark_text(alloc, k + 1)?;
-    let done = Put {
-        name: "workDoneToken",
-        text: &first,
-    };
-    let results = Put {
-        name: "partialResultToken",
-        text: &second,
-    };
     if work && partial {
-        tape.puts(alloc, node, &[done, results])
+        let first = mark_text(alloc, k)?;
+        let second = mark_text(alloc, k + 1)?;
+        put_both(alloc, tape, node, &first, &second)
     } else if work {
-        tape.puts(alloc, node, &[done])
+        put_one(alloc, tape, node, "workDoneToken", k)
     } else if partial {
-        tape.puts(alloc, node, &[results])
+        put_one(alloc, tape, node, "partialResultToken", k + 1)
     } else {
-        tape.puts(alloc, node, &[])
+        Ok(Vec::new(alloc))
     }
 }
 

@@ -1,7 +1,7 @@
 -- What a start tells of an open request.
 use Rattle.std.proofs.Common.{codes, subst, sym, ◌∙◌}
 use Rattle.event_model.specs.Members.{named_of}
-use Rattle.mux_starts.proofs.Progress.{passes_nothing, passes_one}
+use Rattle.mux_starts.proofs.Progressing.{passes_nothing, passes_one}
 use Rattle.mux_starts.proofs.progress.telling.Goals as goal
 
 pub returns-in_ok-k-in-None : goal.returns-in_ok-k-in-None

@@ -1,7 +1,7 @@
 -- The number of a mark.
 use Rattle.std.proofs.Common.{subst, sym}
 use Rattle.mux_turns.specs.Tokens.{WritesMark}
-use Rattle.mux_turns.proofs.Tokens.{no_front, unread_mark, unwritten_mark, written_mark}
+use Rattle.mux_turns.proofs.Marks.{no_front, unread_mark, unwritten_mark, written_mark}
 use Rattle.mux_turns.proofs.tokens.mark_in.Goals as goal
 
 pub returns-in_err-digits : goal.returns-in_err-digits

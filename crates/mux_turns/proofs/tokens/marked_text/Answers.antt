@@ -6,7 +6,7 @@ use Rattle.json_text.specs.Replace.{replace}
 use Rattle.json_nodes.specs.At.{Found}
 use Rattle.rpc_message.specs.Message.{message_of}
 use Rattle.rpc_message.specs.Parsed.{params_in}
-use Rattle.mux_turns.proofs.Tokens.{params_marks}
+use Rattle.mux_turns.proofs.Marks.{params_marks}
 use Rattle.mux_turns.proofs.tokens.marked_text.Goals as goal
 
 pub returns : goal.returns

@@ -5,7 +5,7 @@ use Rattle.json_text.specs.Changes.{edits_of}
 use Rattle.json_text.specs.Json.{Json}
 use Rattle.json_nodes.specs.At.{At, Found}
 use Rattle.group_rows.specs.Tokens.{mark_edits}
-use Rattle.mux_turns.proofs.Tokens.{found_some, token_put}
+use Rattle.mux_turns.proofs.Marks.{found_some, token_put}
 use Rattle.mux_turns.proofs.tokens.token_changes.Goals as goal
 
 pub returns-in-Some-clause-edits : goal.returns-in-Some-clause-edits

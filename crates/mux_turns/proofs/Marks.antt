@@ -8,11 +8,11 @@ use Rattle.std.proofs.lemmas.Slice.Eq.{bytes_eq-Decides}
 use Rattle.std.proofs.lemmas.Str.{IsAscii-append, encodes-IsAscii, encodes_same}
 use Rattle.std.proofs.lemmas.Str.Ascii.{IsAscii-from_all}
 use Rattle.json_text.specs.declared.kind.Word.TheVariants.{Null, False, True}
-use Rattle.json_text.specs.Json.{Json, word, number, string, array, object}
+use Rattle.json_text.specs.Json.{Json, word, number, string, array, object, Members, no_members, member}
 use Rattle.json_text.specs.Named.{named_in}
 use Rattle.json_nodes.specs.At.{At, Found}
 use Rattle.json_nodes.specs.Doc.{Doc}
-use Rattle.json_nodes.specs.Puts.{put_edits}
+use Rattle.json_nodes.specs.Puts.{member_edits, put_edits}
 use Rattle.rpc_message.specs.Envelopes.{not_null}
 use Rattle.rpc_message.specs.Message.{Id, message_of, notification, request}
 use Rattle.rpc_message.specs.Parsed.{IsRead, Parsed, params_in}
@@ -22,7 +22,7 @@ use Rattle.mux_members.specs.Tokens.{text_of}
 use Rattle.mux_members.proofs.Encoded.{ascii_fronted}
 use Rattle.mux_members.proofs.Roots.{read_params}
 use Rattle.mux_tables.specs.Tokens.{MarksAt}
-use Rattle.mux_turns.specs.Tokens.{WritesMark, tokens_for}
+use Rattle.mux_turns.specs.Tokens.{WritesMark, one_token, tokens_for, two_tokens}
 use Rattle.mux_turns.proofs.Numbers.{decimals, tested, unread, unwritten}
 
 clash : true ≡ false → ⊥
@@ -139,6 +139,22 @@ token_chars : chars (codes "token") ≡ codes "token"
 unfolding chars
 token_chars = refl
 
+-- nothing comes in the place of nothing
+nothing_member : (ms : Members) → [] ≡ member_edits (λ name. None) ms
+nothing_member no_members = refl
+nothing_member (member s cs j ms) = nothing_member ms
+
+nothing_put : (t : Json) → [] ≡ put_edits (λ name. None) t
+nothing_put (object s ms) = nothing_member ms
+nothing_put (word s w) = refl
+nothing_put (number s ds) = refl
+nothing_put (string s cs) = refl
+nothing_put (array s js) = refl
+
+pub two_put : (w p : List ℕ) (t : Json) → put_edits (λ name. if bytes_eq (chars (codes "workDoneToken")) name then Some w else if bytes_eq (chars (codes "partialResultToken")) name then Some p else None) t ≡ put_edits (two_tokens w p) t
+two_put w p t = ap (λ z. put_edits (λ name. if bytes_eq z name then Some w else if bytes_eq (chars (codes "partialResultToken")) name then Some p else None) t) work_chars
+    ∙ ap (λ z. put_edits (λ name. if bytes_eq (codes "workDoneToken") name then Some w else if bytes_eq z name then Some p else None) t) partial_chars
+
 module _ (n : ℕ) where
   abbrev One : Bool → Option (List ℕ) → Option (List ℕ)
   One b o = if b then Some (mark_text (work_mark n)) else o
@@ -154,27 +170,22 @@ module _ (n : ℕ) where
   and_off true = refl
   and_off false = refl
 
-  abbrev done : List ℕ → List ℕ → Bool
-  done w name = bytes_eq w name
-
-  pub both_put : (t : Json) → put_edits (λ name. One (bytes_eq (chars (codes "workDoneToken")) name) (Two (bytes_eq (chars (codes "partialResultToken")) name) None)) t ≡ put_edits (tokens_for true true n) t
-  both_put t = ap (λ f. put_edits f t) (λ i name. (ap (λ z. One (bytes_eq z name) (Two (bytes_eq (chars (codes "partialResultToken")) name) None)) work_chars
-      ∙ ap (λ z. One (bytes_eq (codes "workDoneToken") name) (Two (bytes_eq z name) None)) partial_chars
-      ∙ ap (λ b. One b (Two (bytes_eq (codes "partialResultToken") name) None)) (and_on (bytes_eq (codes "workDoneToken") name))
+  pub both_put : (t : Json) → put_edits (two_tokens (mark_text (work_mark n)) (mark_text (partial_mark n))) t ≡ put_edits (tokens_for true true n) t
+  both_put t = ap (λ f. put_edits f t) (λ i name. (ap (λ b. One b (Two (bytes_eq (codes "partialResultToken") name) None)) (and_on (bytes_eq (codes "workDoneToken") name))
       ∙ ap (λ b. One (bytes_eq (codes "workDoneToken") name && true) (Two b None)) (and_on (bytes_eq (codes "partialResultToken") name))) i)
 
-  pub work_put : (t : Json) → put_edits (λ name. One (bytes_eq (chars (codes "workDoneToken")) name) None) t ≡ put_edits (tokens_for true false n) t
+  pub work_put : (t : Json) → put_edits (one_token (chars (codes "workDoneToken")) (work_mark n)) t ≡ put_edits (tokens_for true false n) t
   work_put t = ap (λ f. put_edits f t) (λ i name. (ap (λ z. One (bytes_eq z name) None) work_chars
       ∙ ap (λ b. One b None) (and_on (bytes_eq (codes "workDoneToken") name))
       ∙ ap (λ b. One (bytes_eq (codes "workDoneToken") name && true) (Two b None)) (and_off (bytes_eq (codes "partialResultToken") name))) i)
 
-  pub partial_put : (t : Json) → put_edits (λ name. Two (bytes_eq (chars (codes "partialResultToken")) name) None) t ≡ put_edits (tokens_for false true n) t
+  pub partial_put : (t : Json) → put_edits (one_token (chars (codes "partialResultToken")) (partial_mark n)) t ≡ put_edits (tokens_for false true n) t
   partial_put t = ap (λ f. put_edits f t) (λ i name. (ap (λ z. Two (bytes_eq z name) None) partial_chars
       ∙ ap (λ b. One b (Two (bytes_eq (codes "partialResultToken") name) None)) (and_off (bytes_eq (codes "workDoneToken") name))
       ∙ ap (λ b. One (bytes_eq (codes "workDoneToken") name && false) (Two b None)) (and_on (bytes_eq (codes "partialResultToken") name))) i)
 
-  pub none_put : (t : Json) → put_edits (λ name. None) t ≡ put_edits (tokens_for false false n) t
-  none_put t = ap (λ f. put_edits f t) (λ i name. (ap (λ b. One b None) (and_off (bytes_eq (codes "workDoneToken") name))
+  pub none_put : (t : Json) → [] ≡ put_edits (tokens_for false false n) t
+  none_put t = nothing_put t ∙ ap (λ f. put_edits f t) (λ i name. (ap (λ b. One b None) (and_off (bytes_eq (codes "workDoneToken") name))
       ∙ ap (λ b. One (bytes_eq (codes "workDoneToken") name && false) (Two b None)) (and_off (bytes_eq (codes "partialResultToken") name))) i)
 
   pub tokens_given : (work partial : Bool) (t : Json) → work ≡ is_token (named_of (codes "workDoneToken") (Some t)) → partial ≡ is_token (named_of (codes "partialResultToken") (Some t)) → put_edits (tokens_for work partial n) t ≡ token_edits n (Some t)
@@ -212,3 +223,7 @@ params_marks m body method params read text says = ap (λ z. mark_edits text (pa
 pub found_some : (doc : Doc) (o : Option Json) (k : ℕ) → Found doc o (Some k) → (t : Json) × (o ≡ Some t) × At doc k t
 found_some doc None k h = absurd h
 found_some doc (Some t) k h = (t, refl, h)
+
+pub found_none : (doc : Doc) (o : Option Json) → Found doc o None → o ≡ None
+found_none doc None h = refl
+found_none doc (Some t) h = absurd h
