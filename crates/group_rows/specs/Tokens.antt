@@ -1,5 +1,5 @@
 -- Tokens for progress of editors' requests: what a start gets in their place, and what an editor is told of them (LSP 3.17, Work Done Progress and Partial Result Progress).
-use Rattle.std.specs.Prelude.{ℕ, ◌+◌, ◌*◌, Bool, false, ◌&&◌, ◌||◌, List, [], ◌++◌, codes, decimal, find, is_some, bytes_eq, take, if◌then◌else◌}
+use Rattle.std.specs.Prelude.{ℕ, ◌+◌, ◌*◌, Bool, true, false, ◌&&◌, ◌||◌, List, [], ◌++◌, codes, decimal, find, is_some, bytes_eq, take, if◌then◌else◌}
 use Rattle.std.specs.Prelude.{Option, Some, None}
 use Rattle.std.specs.Option.{option_and_then, option_map_or}
 use Rattle.json_text.specs.Json.{Json, string}
@@ -8,9 +8,11 @@ use Rattle.json_nodes.specs.Puts.{put_edits}
 use Rattle.rpc_message.specs.Changed.{changed_text}
 use Rattle.rpc_message.specs.Message.{id_of, same_id}
 use Rattle.mux_history.specs.declared.out.Out.TheVariants.{ToEditor, ToServer}
+use Rattle.event_model.specs.declared.phase.Phase.{Phase}
+use Rattle.event_model.specs.declared.phase.Phase.TheVariants.{Running, Down}
 use Rattle.event_model.specs.Event.{Event}
 use Rattle.event_model.specs.Members.{is_token, named_of, params_of, string_of}
-use Rattle.event_model.specs.Phases.{desk_of, is_there}
+use Rattle.event_model.specs.Phases.{desk_of}
 use Rattle.event_model.specs.Row.{Row, nothing, send, choose, on}
 use Rattle.event_model.specs.Settings.{Settings}
 use Rattle.event_model.specs.Spawns.{start_of}
@@ -76,9 +78,15 @@ mark_edits text None = []
 abbrev pub marked_text : List ℕ → List ℕ → List ℕ
 marked_text text body = replace body (mark_edits text (params_of body))
 
+-- an editor whose request went on runs, or sent `shutdown` since, while it is there
+abbrev pub listens : Phase → Bool
+listens Running = true
+listens Down = true
+listens other = false
+
 -- S13: what a start tells of an open request goes to its editor, while it is there, with the editor's own token
 abbrev pub is_told : List Event → Option Json → Forwarded → Bool
-is_told before token f = is_some (own_token token f) && is_there (desk_of f.editor before).phase
+is_told before token f = is_some (own_token token f) && listens (desk_of f.editor before).phase
 
 abbrev pub tell_progress : List ℕ → Option Json → Forwarded → Row
 tell_progress body token f = on (own_token token f) nothing (λ text. send (ToEditor f.editor (marked_text text body)))
