@@ -1,20 +1,24 @@
 -- The open request that a token for progress is of: what is found among those that are kept is what the events say.
-use Rattle.std.proofs.Common.{◌≡◌, ℕ, ◌+◌, ◌*◌, ◌/◌, ◌%◌, ◌≤◌, ◌<◌, ◌^◌, Bool, true, false, ◌&&◌, List, [], ◌∷◌, map, length, get_or, refl, ap, ap₂, sym, subst, ◌∙◌, cond, arith, nat_eq, if◌then◌else◌}
-use Rattle.std.specs.Prelude.{Option, Some, None, filter, find, is_some, option_map, slice_get}
+use Rattle.std.proofs.Common.{◌≡◌, ℕ, ◌+◌, ◌*◌, ◌/◌, ◌%◌, ◌≤◌, ◌<◌, ◌^◌, Bool, true, false, ◌&&◌, ◌||◌, List, [], ◌∷◌, map, length, get_or, refl, ap, ap₂, sym, subst, ◌∙◌, cond, arith, nat_eq, if◌then◌else◌}
+use Rattle.std.specs.Prelude.{IfOk, Option, Some, None, Result, Ok, Err, filter, find, is_some, option_map, slice_get}
 use Rattle.std.specs.List.{AllByRecursion}
 use Rattle.std.specs.Option.{option_and_then, option_map_or}
 use Rattle.std.proofs.lemmas.Bool.Decides.{nat_tests}
-use Rattle.json_text.specs.Json.{Json}
-use Rattle.rpc_message.specs.Message.{Id, id_of, same_id}
+use Rattle.json_text.specs.Bare.{bare}
+use Rattle.json_text.specs.Json.{Json, array, number, object, string, value, word}
+use Rattle.rpc_message.specs.Message as message
+use Rattle.rpc_message.specs.Message.{Id, id_of, integer, integer_if, is_integer, same_id}
 use Rattle.rpc_message.specs.ValueTexts.{IsIdText}
 use Rattle.event_model.specs.Event.{Event}
-use Rattle.event_model.specs.Phases.{desk_of, is_there}
+use Rattle.event_model.specs.Members.{is_token}
+use Rattle.event_model.specs.Phases.{desk_of}
 use Rattle.event_model.specs.Settings.{Settings}
 use Rattle.event_model.proofs.Frames.{never}
 use Rattle.group_rows.specs.Cancelling.{id_meant}
 use Rattle.group_rows.specs.Forwarded.{Forwarded, forwarding_of}
-use Rattle.group_rows.specs.Tokens.{is_mark, is_told, is_token_of, is_worked, own_token}
+use Rattle.group_rows.specs.Tokens.{is_mark, is_told, is_token_of, is_worked, listens, own_token}
 use Rattle.group_rows.proofs.Cancelling.{text_meant}
+use Rattle.group_rows.proofs.TokenTexts.{HasTokens, IsTokenText, tokens_kept}
 use Rattle.id_rewrite.specs.declared.pending.Pending.{Pending}
 use Rattle.id_rewrite.specs.declared.pending.Numbered.{Numbered}
 use Rattle.id_rewrite.specs.Tables as tables
@@ -23,7 +27,7 @@ use Rattle.id_rewrite.proofs.Finding.{texts_same}
 use Rattle.mux_tables.specs.declared.tables.Start.{Start}
 use Rattle.mux_tables.specs.declared.tables.Tables.{Tables}
 use Rattle.mux_tables.specs.Stands.{Stands, forwarded_as, forwarded_of, number_in, of_ids}
-use Rattle.mux_tables.specs.Tokens.{HasWork, HaveWork, IsTold, MarksAt, is_work, own_of, works}
+use Rattle.mux_tables.specs.Tokens.{IsTold, MarksAt, is_work, own_of, works}
 use Rattle.mux_tables.proofs.Frames.{itself}
 use Rattle.mux_tables.proofs.IdMoves.{rise_from}
 use Rattle.mux_tables.proofs.Noting.{below_next}
@@ -102,36 +106,34 @@ first_of true b h = refl
 first_of false b h = never (sym h)
 
 -- S13: the group's last start
-module _ (settings : Settings) (t : Tables) (before : List Event) (g s : ℕ) (z : Start) (token : Option Json) (at : slice_get (map number_in t.lasts.items) g ≡ Some s) (within : g < length t.lasts.items) (read : z ≡ get_or t.lasts.items g z) (st : Stands settings t before) where
+module _ (settings : Settings) (t : Tables) (before : List Event) (g s : ℕ) (z : Start) (token : Option Json) (at : slice_get (map number_in t.lasts.items) g ≡ Some s) (here : slice_get t.lasts.items g ≡ Some z) (st : Stands settings t before) where
   opened : (forwarding_of s before).open_requests ≡ map forwarded_of z.ids.requests
-  opened =
-      let here = read_here t.lasts.items g z within read in
-      ap (λ n. (forwarding_of n before).open_requests) (sym (start_at_place t.lasts.items g s z here at)) ∙ ((st.lasts.each g z here).parts of_ids).open_requests
+  opened = ap (λ n. (forwarding_of n before).open_requests) (sym (start_at_place t.lasts.items g s z here at)) ∙ ((st.lasts.each g z here).parts of_ids).open_requests
 
   ends : z.ids.next < 2 ^ 32
   ends =
-      let ids = (st.lasts.each g z (read_here t.lasts.items g z within read)).parts of_ids in
+      let ids = (st.lasts.each g z here).parts of_ids in
       let last = ids.ends in
       let low = ids.order.within in
       let range = st.range in
       omega arith
 
   rising : RiseWithin 2 z.ids.next z.ids.requests
-  rising = ((st.lasts.each g z (read_here t.lasts.items g z within read)).parts of_ids).order.rising
+  rising = ((st.lasts.each g z here).parts of_ids).order.rising
 
   -- it is none of the daemon's tokens
   pub unmarked : MarksAt token None → find (is_told before token) (forwarding_of s before).open_requests ≡ None
   unmarked marks = ap (find (is_told before token)) opened ∙ none_above (is_told before token) 0 z.ids.next only 2 z.ids.requests rising (omega arith)
     where
       only : (r : Numbered) → r.number < z.ids.next → is_told before token (forwarded_of r) ≡ true → r.number ≡ 0
-      only r l is = let e = ends in never (sym (first_of (is_some (own_token token (forwarded_of r))) (is_there (desk_of r.pending.editor before).phase) is) ∙ ap is_some (own_none token r marks (omega arith)))
+      only r l is = let e = ends in never (sym (first_of (is_some (own_token token (forwarded_of r))) (listens (desk_of r.pending.editor before).phase) is) ∙ ap is_some (own_none token r marks (omega arith)))
 
   -- it is the daemon's token of number k
   module _ (k : ℕ) (marks : MarksAt token (Some k)) where
     only_own : (r : Numbered) → r.number < z.ids.next → is_told before token (forwarded_of r) ≡ true → r.number ≡ k / 2
     only_own r l is =
         let e = ends in
-        own_off k r (own_token token (forwarded_of r)) (sym (own_so token k r marks (omega arith))) (first_of (is_some (own_token token (forwarded_of r))) (is_there (desk_of r.pending.editor before).phase) is)
+        own_off k r (own_token token (forwarded_of r)) (sym (own_so token k r marks (omega arith))) (first_of (is_some (own_token token (forwarded_of r))) (listens (desk_of r.pending.editor before).phase) is)
 
     found_so : (o : Option Pending) → o ≡ tables.pending_of (k / 2) z.ids.requests → find (is_told before token) (forwarding_of s before).open_requests ≡ passed (is_told before token) (k / 2) z.ids.next only_own o
     found_so o is = ap (find (is_told before token)) opened ∙ (found_only (is_told before token) (k / 2) z.ids.next only_own 2 z.ids.requests rising ∙ ap (passed (is_told before token) (k / 2) z.ids.next only_own) (sym is))
@@ -145,7 +147,7 @@ module _ (settings : Settings) (t : Tables) (before : List Event) (g s : ℕ) (z
       where
         go : (o : Option Pending) → tables.pending_of (k / 2) z.ids.requests ≡ o → o ≡ None
         go None e = refl
-        go (Some p) e = let e = ends in let low = below_next (k / 2) 2 z.ids.next z.ids.requests p rising e in absurd (omega arith)
+        go (Some p) e = let limit = ends in let low = below_next (k / 2) 2 z.ids.next z.ids.requests p rising e in absurd (omega arith)
 
     -- the request of that number is open
     module _ (n : ℕ) (p : Pending) (same : n ≡ k / 2) (is : Some p ≡ tables.pending_of n z.ids.requests) where
@@ -155,16 +157,16 @@ module _ (settings : Settings) (t : Tables) (before : List Event) (g s : ℕ) (z
           let low = below_next n 2 z.ids.next z.ids.requests p rising (sym is) in
           own_so token k (record { number = k / 2; pending = p }) marks (omega arith) ∙ own_here k (k / 2) p refl
 
-      told_by : find (is_told before token) (forwarding_of s before).open_requests ≡ (if is_some (own_of k p) && is_there (desk_of p.editor before).phase then Some (forwarded_as (k / 2) p) else None)
-      told_by = found_so (Some p) (is ∙ ap (λ m. tables.pending_of m z.ids.requests) same) ∙ ap (λ o. if is_some o && is_there (desk_of p.editor before).phase then Some (forwarded_as (k / 2) p) else None) own_is
+      told_by : find (is_told before token) (forwarding_of s before).open_requests ≡ (if is_some (own_of k p) && listens (desk_of p.editor before).phase then Some (forwarded_as (k / 2) p) else None)
+      told_by = found_so (Some p) (is ∙ ap (λ m. tables.pending_of m z.ids.requests) same) ∙ ap (λ o. if is_some o && listens (desk_of p.editor before).phase then Some (forwarded_as (k / 2) p) else None) own_is
 
       pub unowned : None ≡ own_of k p → find (is_told before token) (forwarding_of s before).open_requests ≡ None
-      unowned none = told_by ∙ ap (λ o. if is_some o && is_there (desk_of p.editor before).phase then Some (forwarded_as (k / 2) p) else None) (sym none)
+      unowned none = told_by ∙ ap (λ o. if is_some o && listens (desk_of p.editor before).phase then Some (forwarded_as (k / 2) p) else None) (sym none)
 
-      pub away : (text : List ℕ) → Some text ≡ own_of k p → is_there (desk_of p.editor before).phase ≡ false → find (is_told before token) (forwarding_of s before).open_requests ≡ None
+      pub away : (text : List ℕ) → Some text ≡ own_of k p → listens (desk_of p.editor before).phase ≡ false → find (is_told before token) (forwarding_of s before).open_requests ≡ None
       away text own off = told_by ∙ ap₂ (λ o b. if is_some o && b then Some (forwarded_as (k / 2) p) else None) (sym own) off
 
-      pub told : (text : List ℕ) → Some text ≡ own_of k p → is_there (desk_of p.editor before).phase ≡ true → IsTold before token (forwarding_of s before).open_requests p.editor text
+      pub told : (text : List ℕ) → Some text ≡ own_of k p → listens (desk_of p.editor before).phase ≡ true → IsTold before token (forwarding_of s before).open_requests p.editor text
       told text own on = record {
         request = forwarded_as (k / 2) p;
         found = told_by ∙ ap₂ (λ o b. if is_some o && b then Some (forwarded_as (k / 2) p) else None) (sym own) on;
@@ -203,14 +205,31 @@ found_filtered e q test (r ∷ rs) h = go (nat_eq r.pending.editor e) (q (Some r
     go true false m k o rest = rw (m, k, o) rest
     go false b m k o rest = rw m rest
 
-module _ (e : ℕ) (id : Id) (w : List ℕ) (named : Option Json) (text : IsIdText id w) (names : option_and_then id_of named ≡ Some id) where
-  work_is : (o : Option (List ℕ)) → HasWork o → is_token_of named o ≡ is_work w o
-  work_is None h = refl
-  work_is (Some bytes) h = ap₂ (λ a b. option_map_or (λ i. option_map_or (same_id i) a false) b false) (text_meant h.0 bytes h.1) names ∙ sym (texts_same id h.0 w bytes text h.1)
+-- the text of a token is an id's
+id_text : (bytes : List ℕ) → IsTokenText bytes → (id : Id) × IsIdText id bytes
+id_text bytes h = go h.text.tree h.text.stands (ap (λ j. is_token (Some j)) h.text.same ∙ h.token)
+  where
+    go : (t : Json) → value t 0 bytes → is_token (Some (bare t)) ≡ true → (id : Id) × IsIdText id bytes
+    go (number s ds) v k = by_digits (is_integer ds) refl
+      where
+        by_digits : (b : Bool) → is_integer ds ≡ b → (id : Id) × IsIdText id bytes
+        by_digits true whole = (integer ds, record { tree = number s ds; stands = v; is = ap (λ b. integer_if b ds) whole })
+        by_digits false part = never (sym k ∙ ap (λ b. b || false) part)
+    go (string s cs) v k = (message.text cs, record { tree = string s cs; stands = v; is = refl })
+    go (word s w) v k = never (sym k)
+    go (array s js) v k = never (sym k)
+    go (object s ms) v k = never (sym k)
 
-  worked_is : (rs : List Numbered) → HaveWork (map forwarded_of rs) → option_map (λ (f : Forwarded). f.number) (find (is_worked e named) (map forwarded_of rs)) ≡ option_map (λ (r : Numbered). r.number) (find (is_first e (works w)) rs)
+module _ (e : ℕ) (id : Id) (w : List ℕ) (named : Option Json) (is_text : IsIdText id w) (names : option_and_then id_of named ≡ Some id) where
+  work_is : (o : Option (List ℕ)) → ((bytes : List ℕ) → o ≡ Some bytes → IsTokenText bytes) → is_token_of named o ≡ is_work w o
+  work_is None f = refl
+  work_is (Some bytes) f =
+      let h = id_text bytes (f bytes refl) in
+      ap₂ (λ a b. option_map_or (λ i. option_map_or (same_id i) a false) b false) (text_meant h.0 bytes h.1) names ∙ sym (texts_same id h.0 w bytes is_text h.1)
+
+  worked_is : (rs : List Numbered) → AllByRecursion HasTokens (map forwarded_of rs) → option_map (λ (f : Forwarded). f.number) (find (is_worked e named) (map forwarded_of rs)) ≡ option_map (λ (r : Numbered). r.number) (find (is_first e (works w)) rs)
   worked_is [] h = refl
-  worked_is (r ∷ rs) h = ap (λ b. option_map (λ (f : Forwarded). f.number) (cond (nat_eq r.pending.editor e && b) (Some (forwarded_of r)) (find (is_worked e named) (map forwarded_of rs)))) (work_is r.pending.work h.0) ∙ go (is_first e (works w) r) (worked_is rs h.1)
+  worked_is (r ∷ rs) h = ap (λ b. option_map (λ (f : Forwarded). f.number) (cond (nat_eq r.pending.editor e && b) (Some (forwarded_of r)) (find (is_worked e named) (map forwarded_of rs)))) (work_is r.pending.work h.0.work) ∙ go (is_first e (works w) r) (worked_is rs h.1)
     where
       go : (b : Bool) → option_map (λ (f : Forwarded). f.number) (find (is_worked e named) (map forwarded_of rs)) ≡ option_map (λ (x : Numbered). x.number) (find (is_first e (works w)) rs)
           → option_map (λ (f : Forwarded). f.number) (cond b (Some (forwarded_of r)) (find (is_worked e named) (map forwarded_of rs))) ≡ option_map (λ (x : Numbered). x.number) (cond b (Some r) (find (is_first e (works w)) rs))
@@ -218,10 +237,16 @@ module _ (e : ℕ) (id : Id) (w : List ℕ) (named : Option Json) (text : IsIdTe
       go false rest = rest
 
   pub worked_seen : (settings : Settings) (t : Tables) (events : List Event) (g s : ℕ) (z : Start) (n : Option ℕ) → slice_get (map number_in t.lasts.items) g ≡ Some s → g < length t.lasts.items → z ≡ get_or t.lasts.items g z
-      → n ≡ find (λ k. works w (tables.pending_of k z.ids.requests)) (tables.numbers_of e z.ids.requests) → HaveWork (forwarding_of s events).open_requests → Stands settings t events
+      → n ≡ find (λ k. works w (tables.pending_of k z.ids.requests)) (tables.numbers_of e z.ids.requests) → Stands settings t events
       → n ≡ option_map (λ (f : Forwarded). f.number) (find (is_worked e named) (forwarding_of s events).open_requests)
-  worked_seen settings t events g s z n at within read is have st =
-      let o = opened settings t events g s z named at within read st in
-      let tests : Own (works w) (λ k. works w (tables.pending_of k z.ids.requests)) z.ids.requests = own_tests (works w) (λ k. works w (tables.pending_of k z.ids.requests)) 2 z.ids.next z.ids.requests (rising settings t events g s z named at within read st) (λ k l. refl) in
+  worked_seen settings t events g s z n at within read is st =
+      let o = opened settings t events g s z named at (read_here t.lasts.items g z within read) st in
+      let tests : Own (works w) (λ k. works w (tables.pending_of k z.ids.requests)) z.ids.requests = own_tests (works w) (λ k. works w (tables.pending_of k z.ids.requests)) 2 z.ids.next z.ids.requests (rising settings t events g s z named at (read_here t.lasts.items g z within read) st) (λ k l. refl) in
       is ∙ (found_filtered e (works w) (λ k. works w (tables.pending_of k z.ids.requests)) z.ids.requests tests
-      ∙ (sym (worked_is z.ids.requests (subst HaveWork o have)) ∙ ap (λ fs. option_map (λ (f : Forwarded). f.number) (find (is_worked e named) fs)) (sym o)))
+      ∙ (sym (worked_is z.ids.requests (subst (AllByRecursion HasTokens) o (tokens_kept s events))) ∙ ap (λ fs. option_map (λ (f : Forwarded). f.number) (find (is_worked e named) fs)) (sym o)))
+
+  pub worked_ok : {E : Type 0} (settings : Settings) (t : Tables) (events : List Event) (g s : ℕ) (z : Start) (result : Result (Option ℕ) E) → slice_get (map number_in t.lasts.items) g ≡ Some s → g < length t.lasts.items → z ≡ get_or t.lasts.items g z
+      → IfOk result (λ n. n ≡ find (λ k. works w (tables.pending_of k z.ids.requests)) (tables.numbers_of e z.ids.requests)) → Stands settings t events
+      → IfOk result (λ n. n ≡ option_map (λ (f : Forwarded). f.number) (find (is_worked e named) (forwarding_of s events).open_requests))
+  worked_ok settings t events g s z (Ok n) at within read is st = worked_seen settings t events g s z n at within read is st
+  worked_ok settings t events g s z (Err f) at within read is st = tt

@@ -1,37 +1,26 @@
 -- Which open request a token for progress is of: one of the daemon's, as a start tells of it, and one of an editor's own (LSP 3.17, Work Done Progress and Partial Result Progress).
 use Rattle.std.specs.Prelude.{◌≡◌, ℕ, ◌<◌, ◌^◌, ◌%◌, Bool, true, false, List, find, nat_eq, if◌then◌else◌}
 use Rattle.std.specs.Prelude.{Option, Some, None}
-use Rattle.std.specs.List.{AllByRecursion}
 use Rattle.json_text.specs.Json.{Json}
-use Rattle.rpc_message.specs.Message.{Id}
-use Rattle.rpc_message.specs.ValueTexts.{IsIdText}
 use Rattle.event_model.specs.Event.{Event}
-use Rattle.event_model.specs.Phases.{desk_of, is_there}
+use Rattle.event_model.specs.Phases.{desk_of}
 use Rattle.id_rewrite.specs.Forms.{same_form}
 use Rattle.id_rewrite.specs.declared.pending.Pending.{Pending}
 use Rattle.group_rows.specs.Forwarded.{Forwarded}
-use Rattle.group_rows.specs.Tokens.{is_mark, is_told, own_token}
+use Rattle.group_rows.specs.Tokens.{is_mark, is_told, listens, own_token}
 
 -- the number of the daemon's token that this is, where it is one
 abbrev pub MarksAt : Option Json → Option ℕ → Type 0
 MarksAt token None = (k : ℕ) → k < 2 ^ 64 → is_mark token k ≡ false
 MarksAt token (Some n) = (k : ℕ) → k < 2 ^ 64 → is_mark token k ≡ nat_eq k n
 
--- a start's token is of this editor's open request, has this token of the editor in its place, and the editor is there
+-- a start's token is of this editor's open request, has this token of the editor in its place, and the editor runs or is down
 pub record IsTold (before : List Event) (token : Option Json) (open_requests : List Forwarded) (e : ℕ) (text : List ℕ) : Type 0 where
   pub request : Forwarded
   pub found : find (is_told before token) open_requests ≡ Some request
   pub asker : request.editor ≡ e
   pub own : own_token token request ≡ Some text
-  pub there : is_there (desk_of e before).phase ≡ true
-
--- what is kept of each request's work token is the text of an integer or a string
-abbrev pub HasWork : Option (List ℕ) → Type 0
-HasWork None = Unit {0}
-HasWork (Some bytes) = (id : Id) × IsIdText id bytes
-
-abbrev pub HaveWork : List Forwarded → Type 0
-HaveWork fs = AllByRecursion (λ (f : Forwarded). HasWork f.work) fs
+  pub there : listens (desk_of e before).phase ≡ true
 
 -- a token of a request stands for what these bytes do
 abbrev pub is_work : List ℕ → Option (List ℕ) → Bool
