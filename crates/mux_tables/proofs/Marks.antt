@@ -1,6 +1,6 @@
 -- The open request that a token for progress is of: what is found among those that are kept is what the events say.
 use Rattle.std.proofs.Common.{◌≡◌, ℕ, ◌+◌, ◌*◌, ◌/◌, ◌%◌, ◌≤◌, ◌<◌, ◌^◌, Bool, true, false, ◌&&◌, ◌||◌, List, [], ◌∷◌, map, length, get_or, refl, ap, ap₂, sym, subst, ◌∙◌, cond, arith, nat_eq, if◌then◌else◌}
-use Rattle.std.specs.Prelude.{IfOk, Option, Some, None, Result, Ok, Err, filter, find, is_some, option_map, slice_get}
+use Rattle.std.specs.Prelude.{IfOk, Option, Some, None, Result, Ok, Err, find, is_some, option_map, slice_get}
 use Rattle.std.specs.List.{AllByRecursion}
 use Rattle.std.specs.Option.{option_and_then, option_map_or}
 use Rattle.std.proofs.lemmas.Bool.Decides.{nat_tests}
@@ -14,9 +14,8 @@ use Rattle.event_model.specs.Members.{is_token}
 use Rattle.event_model.specs.Phases.{desk_of}
 use Rattle.event_model.specs.Settings.{Settings}
 use Rattle.event_model.proofs.Frames.{never}
-use Rattle.group_rows.specs.Cancelling.{id_meant}
 use Rattle.group_rows.specs.Forwarded.{Forwarded, forwarding_of}
-use Rattle.group_rows.specs.Tokens.{is_mark, is_told, is_token_of, is_worked, listens, own_token}
+use Rattle.group_rows.specs.Tokens.{is_told, is_token_of, is_worked, listens, own_token}
 use Rattle.group_rows.proofs.Cancelling.{text_meant}
 use Rattle.group_rows.proofs.TokenTexts.{HasTokens, IsTokenText, tokens_kept}
 use Rattle.id_rewrite.specs.declared.pending.Pending.{Pending}

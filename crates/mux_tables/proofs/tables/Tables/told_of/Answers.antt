@@ -1,6 +1,6 @@
 -- What a start's token stands for.
-use Rattle.std.proofs.Common.{◌≡◌, false, true, arith, refl, ap, sym, subst, ◌∙◌}
-use Rattle.std.specs.Prelude.{Option, Some, None, MatchOption, find}
+use Rattle.std.proofs.Common.{◌≡◌, arith, ap, sym, subst, ◌∙◌}
+use Rattle.std.specs.Prelude.{None, MatchOption, find}
 use Rattle.event_model.proofs.Places.{item_at}
 use Rattle.group_rows.specs.Forwarded.{forwarding_of}
 use Rattle.group_rows.specs.Tokens.{is_told, listens}

@@ -1,5 +1,4 @@
 -- Which request has a work token.
-use Rattle.std.specs.Prelude.{IfOk, Result, Ok, Err}
 use Rattle.mux_tables.proofs.Marks.{worked_ok}
 use Rattle.mux_tables.proofs.tables.Tables.worked.Goals as goal
 
