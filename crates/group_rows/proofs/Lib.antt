@@ -15,3 +15,4 @@ pub mod WorkedAsks
 pub mod WorkedLive
 pub mod LiveTexts
 pub mod TokenTexts
+pub mod WorkedTokens

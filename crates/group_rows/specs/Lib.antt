@@ -18,3 +18,4 @@ pub mod LiveExample
 pub mod LiveRows
 pub mod LiveTexts
 pub mod Tokens
+pub mod TokensExample
