@@ -23,6 +23,7 @@ use Rattle.mux_facts.proofs.Keeps.{events_more}
 use Rattle.group_words.specs.Example.{with_groups}
 use Rattle.group_rows.specs.AsksExample.{asked_leaves, two_asked}
 use Rattle.group_rows.specs.LiveExample.{registers}
+use Rattle.group_rows.specs.TokensExample.{marking, progressing, working}
 use Rattle.group_rows.specs.Example.{all_outs, both_ask, closing, switching, two_editors, two_groups}
 use Rattle.group_rows.specs.Forwarded.{forwarding_of}
 use Rattle.group_rows.specs.Rows.{outs_of}
@@ -116,6 +117,14 @@ asked_leaves_is_legal = legal (with_groups 8) (two_editors ++ asked_leaves) refl
 registers_is_legal : Legal (with_groups 8) (played (with_groups 8) (two_editors ++ registers))
 unfolding computes url_on_literals message_of named no_name_twice is_integer member_bytes with_id_text id_edits escape_byte digits own_request own_notification goes_nowhere editor_request editor_notification is_focused is_refresh server_notification server_request chars
 registers_is_legal = legal (with_groups 8) (two_editors ++ registers) refl
+
+marked_are_legal : Legal (with_groups 8) (played (with_groups 8) (two_editors ++ (marking ++ progressing)))
+unfolding computes url_on_literals message_of named no_name_twice is_integer member_bytes with_id_text id_edits escape_byte digits own_request own_notification goes_nowhere editor_request editor_notification is_focused is_refresh server_notification server_request chars
+marked_are_legal = legal (with_groups 8) (two_editors ++ (marking ++ progressing)) refl
+
+work_is_legal : Legal (with_groups 8) (played (with_groups 8) (two_editors ++ (marking ++ working)))
+unfolding computes url_on_literals message_of named no_name_twice is_integer member_bytes with_id_text id_edits escape_byte digits own_request own_notification goes_nowhere editor_request editor_notification is_focused is_refresh server_notification server_request chars
+work_is_legal = legal (with_groups 8) (two_editors ++ (marking ++ working)) refl
 
 a_token_is_not_built : taken_from (with_groups 8) [] (two_editors ++ FromServer 0 (codes "{\"jsonrpc\":\"2.0\",\"id\":7,\"method\":\"window/workDoneProgress/create\"}") ∷ []) ≡ false
 unfolding computes url_on_literals message_of named no_name_twice is_integer member_bytes with_id_text id_edits escape_byte digits own_request own_notification goes_nowhere editor_request editor_notification is_focused is_refresh server_notification server_request chars

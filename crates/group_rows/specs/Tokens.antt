@@ -78,13 +78,13 @@ mark_edits text None = []
 abbrev pub marked_text : List ℕ → List ℕ → List ℕ
 marked_text text body = replace body (mark_edits text (params_of body))
 
--- an editor whose request went on runs, or sent `shutdown` since, while it is there
+-- an editor that runs or is down: it may hear more than responses (LSP 3.17, Initialize Request)
 abbrev pub listens : Phase → Bool
 listens Running = true
 listens Down = true
 listens other = false
 
--- S13: what a start tells of an open request goes to its editor, while it is there, with the editor's own token
+-- S13: what a start tells of an open request goes to its editor, while it runs or is down, with the editor's own token
 abbrev pub is_told : List Event → Option Json → Forwarded → Bool
 is_told before token f = is_some (own_token token f) && listens (desk_of f.editor before).phase
 

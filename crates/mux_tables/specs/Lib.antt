@@ -7,3 +7,4 @@ pub mod Stops
 pub mod Refusals
 pub mod Resumes
 pub mod Puts
+pub mod Tokens

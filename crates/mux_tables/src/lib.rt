@@ -18,5 +18,7 @@ mod serves;
 mod statuses;
 mod stops;
 mod tables;
+mod tokens;
 
 pub use tables::{Origins, Start, Tables};
+pub use tokens::Told;
