@@ -2,7 +2,7 @@
 -- Not built of an editor: `lspmux/stop` (E6). Tokens are built of open requests alone, not of what a start creates (S8).
 -- Not built of a start while it is ready: the classes of S8 and S15. Nor the end of a program whose group lives.
 -- Of S2, what is read back must be what was meant: editors are shown all of the result.
-use Rattle.std.specs.Prelude.{ℕ, Bool, true, false, not, ◌||◌, List, bytes_eq}
+use Rattle.std.specs.Prelude.{ℕ, Bool, true, false, not, ◌&&◌, ◌||◌, List, bytes_eq}
 use Rattle.std.specs.Prelude.{Some}
 use Rattle.std.specs.Option.{option_map_or}
 use Rattle.mux_history.specs.declared.cause.Cause.{Cause}
@@ -12,11 +12,13 @@ use Rattle.lsp_method.specs.Class.{class_of}
 use Rattle.lsp_method.specs.declared.variants.Class.{Class}
 use Rattle.lsp_method.specs.declared.variants.Class.TheVariants.{Broadcast, Cancel, Focused, Folders, Initialize, Lowest, Other, Progress, Refresh, Register, Shutdown, Unregister, Wrong}
 use Rattle.lsp_method.specs.declared.variants.Origin.TheVariants.{Editor, Server}
-use Rattle.rpc_message.specs.Message.{Message, request, notification, result, message_of, result_bytes}
+use Rattle.rpc_message.specs.Message.{Id, Message, request, notification, result, message_of, result_bytes}
+use Rattle.event_model.specs.declared.phase.Phase.{Phase}
 use Rattle.event_model.specs.declared.stage.Stage.{Stage}
 use Rattle.event_model.specs.declared.stage.Stage.TheVariants.{Initializing, Ready, Stopping, Ending}
 use Rattle.event_model.specs.Event.{Event, events_of}
-use Rattle.event_model.specs.Phases.{is_malformed}
+use Rattle.event_model.specs.Phases.{is_begun, is_malformed}
+use Rattle.event_model.specs.Requests.{is_open}
 use Rattle.event_model.specs.Settings.{Settings}
 use Rattle.event_model.specs.Spawns.{group_of}
 use Rattle.event_model.specs.Stages.{life_of, is_first_result}
@@ -33,6 +35,10 @@ is_standard Shutdown = true
 is_standard Wrong = true
 is_standard Other = true
 is_standard _ = false
+
+-- E3: a request of the editor under this id is open
+abbrev pub doubles : Phase → Id → List Id → Bool
+doubles phase id ids = is_begun phase && is_open id ids
 
 -- E3 to E5, E7 to E10 and J2
 abbrev pub built_request : List ℕ → Bool

@@ -52,15 +52,15 @@ is_notification (error id e) h = absurd (cc)
 is_notification not_json h = absurd (cc)
 is_notification not_message h = absurd (cc)
 
-pub response_built : (phase : Phase) (ids : List Id) (m : Message) (x : Sort) → sort_of m ≡ Some x → (x ≡ sort.Result) ⊎ (x ≡ sort.Error) → true ≡ built_from_editor phase ids m
-response_built phase ids (result id v) x h k = refl
-response_built phase ids (error id e) x h k = refl
-response_built phase ids not_json x h k = refl
-response_built phase ids not_message x h k = refl
-response_built phase ids (request id method params) x h (inl e) = absurd (cc)
-response_built phase ids (request id method params) x h (inr e) = absurd (cc)
-response_built phase ids (notification method params) x h (inl e) = absurd (cc)
-response_built phase ids (notification method params) x h (inr e) = absurd (cc)
+pub other_built : (m : Message) (x : Sort) → sort_of m ≡ Some x → (x ≡ sort.Notification) ⊎ ((x ≡ sort.Result) ⊎ (x ≡ sort.Error)) → true ≡ built_from_editor m
+other_built (result id v) x h k = refl
+other_built (error id e) x h k = refl
+other_built not_json x h k = refl
+other_built not_message x h k = refl
+other_built (notification method params) x h k = refl
+other_built (request id method params) x h (inl e) = absurd (cc)
+other_built (request id method params) x h (inr (inl e)) = absurd (cc)
+other_built (request id method params) x h (inr (inr e)) = absurd (cc)
 
 -- of a start
 

@@ -19,6 +19,7 @@ pub use cancelled::{Target, take_cancel};
 pub use doubled::{take_doubled, take_doubled_own};
 pub use handed::take_reply;
 pub use initializes::take_initialize;
+pub use mux_turns::{asks_lspmux, doubles};
 pub use notices::take_notice;
 pub use opened::take_open;
 pub use parting::{take_down, take_exit, take_gone, take_shutdown};
@@ -27,5 +28,3 @@ pub use quiet::{take_closed, take_early, take_malformed, take_quiet, take_wrong}
 pub use requests::take_request;
 pub use status::take_status;
 pub use worked::take_work_cancel;
-
-pub use mux_turns::{asks_lspmux, doubles};

@@ -32,10 +32,11 @@ use message_body::{Body, Memory};
 use mux_editors::{
     asks_lspmux, doubles, take_cancel, take_closed, take_doubled, take_doubled_own, take_down,
     take_early, take_exit, take_gone, take_initialize, take_malformed, take_notice, take_open,
-    take_passed, take_quiet, take_reply, take_request, take_shutdown, take_status, take_wrong,
+    take_passed, take_quiet, take_reply, take_request, take_shutdown, take_status,
+    take_work_cancel, take_wrong,
 };
 use mux_history::Outs;
-use mux_members::{class_in, goes_on, is_cancel, is_exit, is_initialize, is_open};
+use mux_members::{cancels_work, class_in, goes_on, is_cancel, is_exit, is_initialize, is_open};
 use mux_tables::Tables;
 use rpc_message::{Malformed, Message, Sort};
 use std::alloc::Global;
@@ -252,6 +253,9 @@ fn from_noting(
         Ok(())
     } else if is_cancel(message) {
         take_cancel(tables, alloc, outs, e, message)?;
+        Ok(())
+    } else if cancels_work(message) {
+        take_work_cancel(tables, alloc, outs, e, message)?;
         Ok(())
     } else {
         take_notice(tables, alloc, outs, e, message)?;

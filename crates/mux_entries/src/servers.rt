@@ -1,4 +1,4 @@
-//! What the program of a start says: S1 to S7, S9 to S12, S14, and what goes to each editor.
+//! What the program of a start says: S1 to S7, S9 to S14, and what goes to each editor.
 ghost use Rattle.std.specs.Prelude.{◌≡◌, ◌<◌, ◌≤◌, ℕ, List, [], map, Option, Some, false, true, length, OnOk, slice_get};
 ghost use Rattle.event_model.specs.declared.stage.Stage.TheVariants.{Initializing, Ready};
 ghost use Rattle.event_model.specs.Does.{Alike, Done};
@@ -32,9 +32,9 @@ use message_body::{Body, Memory};
 use mux_history::Outs;
 use mux_members::{asked_class, is_first_result, told_class};
 use mux_starts::{
-    answered_number, is_first_error, stage_at, take_answer, take_broadcast, take_ending, take_focused,
-    take_folders, take_hasty, take_lowest, take_recall, take_refresh, take_refused, take_register, take_repeated,
-    take_result, take_stopping, take_unregister,
+    answered_number, is_first_error, stage_at, take_answer, take_broadcast, take_ending,
+    take_focused, take_folders, take_hasty, take_lowest, take_progress, take_recall, take_refresh,
+    take_refused, take_register, take_repeated, take_result, take_stopping, take_unregister,
 };
 use mux_tables::Tables;
 use rpc_message::{Malformed, Message, Sort};
@@ -216,7 +216,7 @@ fn take_question(
     }
 }
 
-// S14, and what goes to each editor: a notification comes from a start that is ready; other classes aren't built.
+// S13, S14, and what goes to each editor: a notification comes from a start that is ready; other classes aren't built.
 fn take_telling(
     tables: &mut Tables,
     alloc: Global,
@@ -238,6 +238,10 @@ fn take_telling(
     match told_class(message) {
         Class::Cancel => {
             take_recall(tables, alloc, outs, g, message)?;
+            Ok(())
+        }
+        Class::Progress => {
+            take_progress(tables, alloc, outs, g, message)?;
             Ok(())
         }
         _ => {

@@ -1,6 +1,5 @@
 -- Tokens for progress, as they are read and written.
-use Rattle.std.proofs.Common.{◌≡◌, ℕ, ◌+◌, ◌<◌, ◌≤◌, ◌^◌, Bool, true, false, ◌&&◌, ◌||◌, List, [], ◌∷◌, ◌++◌, length, length-take, min, take, nat_eq, refl, ap, sym, subst, ◌∙◌, arith, codes, bytes_eq, decimal, if◌then◌else◌}
-use Rattle.std.specs.Bool.{Decides}
+use Rattle.std.proofs.Common.{◌≡◌, ℕ, ◌<◌, ◌^◌, Bool, true, false, ◌&&◌, List, [], ◌++◌, length, length-take, min, take, refl, ap, sym, ◌∙◌, arith, codes, bytes_eq, decimal, if◌then◌else◌}
 use Rattle.std.specs.Prelude.{Option, Some, None, encode_utf8_all}
 use Rattle.std.specs.Str.{IsAscii, chars}
 use Rattle.std.proofs.lemmas.Fmt.{IsAscii-decimal}
@@ -17,7 +16,7 @@ use Rattle.rpc_message.specs.Envelopes.{not_null}
 use Rattle.rpc_message.specs.Message.{Id, message_of, notification, request}
 use Rattle.rpc_message.specs.Parsed.{IsRead, Parsed, params_in}
 use Rattle.event_model.specs.Members.{is_token, named_of, params_of}
-use Rattle.group_rows.specs.Tokens.{begins_as_mark, is_mark, is_reserved, mark, mark_edits, mark_text, new_mark, new_token, partial_mark, token_edits, work_mark}
+use Rattle.group_rows.specs.Tokens.{begins_as_mark, is_reserved, mark, mark_edits, mark_text, new_mark, partial_mark, token_edits, work_mark}
 use Rattle.mux_members.specs.Tokens.{text_of}
 use Rattle.mux_members.proofs.Encoded.{ascii_fronted}
 use Rattle.mux_members.proofs.Roots.{read_params}

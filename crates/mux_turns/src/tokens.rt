@@ -103,13 +103,7 @@ pub fn mark_text(alloc: Global, k: u64) -> Result<Vec<u8>, Memory>
 }
 
 // The changes that put the daemon's token of this number in the place of each token of a name.
-fn put_one(
-    alloc: Global,
-    tape: &Tape,
-    node: u32,
-    name: &str,
-    k: u64,
-) -> Result<Vec<Change>, Memory>
+fn put_one(alloc: Global, tape: &Tape, node: u32, name: &str, k: u64) -> Result<Vec<Change>, Memory>
     requires { node < length tape.now.nodes }
     ensures { (t : Json) → At tape.now node t → IfOk result (λ changes. edits_of changes.items ≡ put_edits (one_token (chars name.now) k) t) }
 {
@@ -153,12 +147,14 @@ fn put_marks(
     ensures { (t : Json) → At tape.now node t → IfOk result (λ changes. edits_of changes.items ≡ put_edits (tokens_for work partial n) t) }
 {
     let k = 2 * u64::from(n);
-    if work && partial {
-        let first = mark_text(alloc, k)?;
-        let second = mark_text(alloc, k + 1)?;
-        put_both(alloc, tape, node, &first, &second)
-    } else if work {
-        put_one(alloc, tape, node, "workDoneToken", k)
+    if work {
+        if partial {
+            let first = mark_text(alloc, k)?;
+            let second = mark_text(alloc, k + 1)?;
+            put_both(alloc, tape, node, &first, &second)
+        } else {
+            put_one(alloc, tape, node, "workDoneToken", k)
+        }
     } else if partial {
         put_one(alloc, tape, node, "partialResultToken", k + 1)
     } else {
