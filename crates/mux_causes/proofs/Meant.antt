@@ -52,15 +52,15 @@ is_notification (error id e) h = absurd (cc)
 is_notification not_json h = absurd (cc)
 is_notification not_message h = absurd (cc)
 
-pub other_built : (m : Message) (x : Sort) → sort_of m ≡ Some x → (x ≡ sort.Notification) ⊎ ((x ≡ sort.Result) ⊎ (x ≡ sort.Error)) → true ≡ built_from_editor m
-other_built (result id v) x h k = refl
-other_built (error id e) x h k = refl
-other_built not_json x h k = refl
-other_built not_message x h k = refl
-other_built (notification method params) x h k = refl
-other_built (request id method params) x h (inl e) = absurd (cc)
-other_built (request id method params) x h (inr (inl e)) = absurd (cc)
-other_built (request id method params) x h (inr (inr e)) = absurd (cc)
+pub unasked_built : (m : Message) (x : Sort) → sort_of m ≡ Some x → (x ≡ sort.Notification) ⊎ ((x ≡ sort.Result) ⊎ (x ≡ sort.Error)) → true ≡ built_from_editor m
+unasked_built (result id v) x h k = refl
+unasked_built (error id e) x h k = refl
+unasked_built not_json x h k = refl
+unasked_built not_message x h k = refl
+unasked_built (notification method params) x h k = refl
+unasked_built (request id method params) x h (inl e) = absurd (cc)
+unasked_built (request id method params) x h (inr (inl e)) = absurd (cc)
+unasked_built (request id method params) x h (inr (inr e)) = absurd (cc)
 
 -- of a start
 

@@ -20,8 +20,8 @@ use Rattle.mux_editors.proofs.Runs.{then_rest}
 use Rattle.mux_editors.proofs.Serving.{request_keeps, request_makes}
 use Rattle.mux_editors.proofs.requests.take_request.Goals as goal
 
-pub returns-in_ok-refuse_reserved-clause-does : goal.returns-in_ok-refuse_reserved-clause-does
-returns-in_ok-refuse_reserved-clause-does c = λ settings before body method id params read says other served first st ds.
+pub returns-then-reserved-clause-does : goal.returns-then-reserved-clause-does
+returns-then-reserved-clause-does c = λ settings before body method id params read says other served first st ds.
     let e = c.args.e in
     let m = message_of body in
     let base = with_cause before (FromEditor e body) in
