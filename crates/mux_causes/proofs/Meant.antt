@@ -10,7 +10,6 @@ use Rattle.rpc_message.specs.declared.envelope.Envelope.TheVariants.{Request, No
 use Rattle.rpc_message.specs.Envelopes.{Tells}
 use Rattle.rpc_message.specs.Parsed.{IsRead, Parsed}
 use Rattle.rpc_message.specs.Sorts.{sort_of}
-use Rattle.event_model.specs.declared.phase.Phase.{Phase}
 use Rattle.event_model.specs.declared.stage.Stage.{Stage}
 use Rattle.event_model.specs.declared.stage.Stage.TheVariants.{Unspawned, Spawning, Initializing, Ready, Stopping, Ending, Ended}
 use Rattle.event_model.specs.Event.{Event}

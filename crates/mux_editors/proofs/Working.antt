@@ -1,11 +1,10 @@
 -- E11: the open request whose work an editor cancels, and the row.
-use Rattle.std.proofs.Common.{◌≡◌, ℕ, ◌<◌, Bool, true, false, ◌&&◌, cond, List, [], ◌∷◌, find, refl, ap, sym, subst, ◌∙◌, codes}
+use Rattle.std.proofs.Common.{◌≡◌, ℕ, Bool, true, false, ◌&&◌, cond, List, [], ◌∷◌, find, refl, ap, sym, ◌∙◌, codes}
 use Rattle.std.specs.Prelude.{Option, Some, None, option_map}
 use Rattle.std.specs.Option.{option_and_then, option_map_or}
 use Rattle.json_text.specs.Json.{Json}
 use Rattle.mux_history.specs.declared.out.Out.TheVariants.{ToServer}
-use Rattle.rpc_message.specs.Message.{Id, id_of, message_of, notification, same_id}
-use Rattle.event_model.specs.declared.stage.Stage.{Stage}
+use Rattle.rpc_message.specs.Message.{id_of, message_of, notification, same_id}
 use Rattle.event_model.specs.Does.{Alike}
 use Rattle.event_model.specs.Event.{Event}
 use Rattle.event_model.specs.Members.{named_of}

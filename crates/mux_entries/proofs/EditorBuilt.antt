@@ -16,8 +16,7 @@ use Rattle.document_model.specs.Sayings.{saying_of, speaks}
 use Rattle.event_model.specs.declared.phase.Phase.{Phase}
 use Rattle.event_model.specs.declared.phase.Phase.TheVariants.{Absent, New, Waiting, Answered, Running, Down, Closed, Gone}
 use Rattle.event_model.specs.Event.{Event, requests}
-use Rattle.event_model.specs.Phases.{desk_of, is_begun, is_served, is_there, needs_server}
-use Rattle.event_model.specs.Requests.{is_open, open_of}
+use Rattle.event_model.specs.Phases.{desk_of, is_served, is_there, needs_server}
 use Rattle.group_facts.specs.Built.{built_from_editor, built_request, is_standard}
 use Rattle.group_facts.specs.Facts.{is_early}
 use Rattle.group_rows.specs.Rows.{asks_lspmux, names_lspmux}

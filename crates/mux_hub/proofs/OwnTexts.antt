@@ -36,7 +36,7 @@ use Rattle.group_rows.specs.Texts.{is_synced, texts_of, worker_behind, worker_of
 use Rattle.group_facts.specs.Built.{built}
 use Rattle.group_facts.specs.Legal.{Legal}
 use Rattle.group_facts.specs.OwnTexts.{AllHaveHolders, AllOnOwnTexts, HasHolders, OnOwnTexts, OwnTexts, OwnTextsFrom, HasOwn}
-use Rattle.group_facts.specs.Why.{IsBehindSync, IsQuestion, Why, WhyToServer, begins, cancels, exits, forwarded, greets, notes, resolves, responds, shuts, tells}
+use Rattle.group_facts.specs.Why.{IsBehindSync, IsQuestion, Why, WhyToServer, begins, cancels, cancels_work, exits, forwarded, greets, notes, resolves, responds, shuts, tells}
 use Rattle.group_facts.proofs.Asides.{answer_aside, spoken_aside, unsynced}
 use Rattle.group_facts.proofs.Known.{facts_hold}
 use Rattle.group_facts.proofs.Same.{IsBody, same_behind, same_held, same_questions}
@@ -146,6 +146,7 @@ module _ (settings : Settings) (t : Tables) (before : List Event) (st : Stands s
   by_reason cause events s body (tells k) goes = never (sym goes ∙ spoken_aside (message_of body) k.spoken)
   by_reason cause events s body (shuts k) goes = unsynced body _ k.says refl goes
   by_reason cause events s body (cancels k) goes = unsynced body _ k.says refl goes
+  by_reason cause events s body (cancels_work k) goes = unsynced body _ k.says refl goes
   by_reason cause events s body (responds k) goes = never (sym goes ∙ answer_aside (message_of body) k.response)
   by_reason cause events s body (resolves k) goes = never (sym goes ∙ answer_aside (message_of body) k.response)
   by_reason cause events s body (exits k) goes = unsynced body _ k.says refl goes

@@ -16,4 +16,6 @@ mod statuses;
 #[cfg(test)]
 mod tests;
 #[cfg(test)]
+mod tokens;
+#[cfg(test)]
 mod versions;

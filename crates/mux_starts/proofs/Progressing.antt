@@ -1,17 +1,16 @@
 -- S13: what a start tells of an open request, by its row.
-use Rattle.std.proofs.Common.{◌≡◌, ℕ, Bool, true, false, cond, List, [], ◌∷◌, find, refl, ap, sym, subst, ◌∙◌, codes, if◌then◌else◌}
+use Rattle.std.proofs.Common.{◌≡◌, ℕ, Bool, true, false, cond, List, [], ◌∷◌, find, ap, sym, subst, ◌∙◌, codes, if◌then◌else◌}
 use Rattle.std.specs.Prelude.{Option, Some, None}
 use Rattle.std.specs.List.{AllByRecursion}
 use Rattle.json_text.specs.Json.{Json}
 use Rattle.mux_history.specs.declared.out.Out.TheVariants.{ToEditor}
 use Rattle.rpc_message.specs.Message.{message_of, notification}
-use Rattle.event_model.specs.Does.{Alike}
 use Rattle.event_model.specs.Event.{Event}
 use Rattle.event_model.specs.Members.{named_of}
 use Rattle.event_model.specs.Row.{nothing, on, send}
 use Rattle.event_model.proofs.Turns.{alike, alike_then}
 use Rattle.group_rows.specs.Forwarded.{Forwarded, forwarding_of}
-use Rattle.group_rows.specs.Tokens.{is_mark, is_told, marked_text, own_token, partial_mark, progress_row, tell_progress, work_mark}
+use Rattle.group_rows.specs.Tokens.{is_mark, is_told, marked_text, own_token, partial_mark, tell_progress, work_mark}
 use Rattle.group_rows.proofs.TokenTexts.{HasTokens, IsTokenText, marked_says, tokens_kept}
 use Rattle.mux_starts.specs.declared.progress.Telling.{Telling}
 use Rattle.mux_starts.specs.Progress.{Passes}

@@ -31,7 +31,7 @@ pub struct Telling {
 }
 
 // What a notification of the group's last start tells of an open request, with the editor's own token.
-fn telling(
+fn telling_of(
     tables: &Tables,
     alloc: Global,
     g: usize,
@@ -85,7 +85,7 @@ pub fn take_progress(
         → OnOk result (Done (λ k events. AllStand settings k events) (progress_row s before body params)
         (with_cause before (FromServer s body)) [] (tables.new, nothing_owed) outs.new) }
 {
-    let told = telling(tables, alloc, g, message)?;
+    let told = telling_of(tables, alloc, g, message)?;
     tables.hear_answer(g, None);
     match told {
         None => Ok(()),

@@ -1,5 +1,5 @@
 -- The notification goes on with the daemon's token.
-use Rattle.std.proofs.Common.{ap, arith, codes, refl, subst, ◌∙◌, ◌*◌, ◌<◌}
+use Rattle.std.proofs.Common.{ap, arith, codes, subst, ◌∙◌, ◌*◌, ◌<◌, ◌^◌}
 use Rattle.event_model.specs.Does.{Does}
 use Rattle.event_model.specs.Event.{requests}
 use Rattle.event_model.specs.Row.{send}
@@ -23,8 +23,9 @@ returns c = record {
       let xs = c.args.outs.now in
       let ys = c.notify.new.outs in
       let text = mark_text (work_mark c.args.n) in
-      let new = marked_says text body (codes "window/workDoneProgress/cancel") params (mark_token (work_mark c.args.n) (omega (arith, low))) says in
-      let is = c.in_ok-text.ensures body (codes "window/workDoneProgress/cancel") params read says ∙ ap (λ w. marked_text w body) (c.deref.ensures.value ∙ c.in_ok-token.ensures) in
+      let below : 2 * c.args.n < 10 ^ 64 = omega (arith, low) in
+      let new = marked_says text body (codes "window/workDoneProgress/cancel") params (mark_token (work_mark c.args.n) below) says in
+      let is = c.in_ok-text.ensures body (codes "window/workDoneProgress/cancel") params read says ∙ ap (λ w. marked_text w body) (c.deref.ensures.value ∙ (c.in_ok-token.ensures ∙ ap (λ m. mark_text (2 * m)) c.from.ensures)) in
       let said = ap message_of is ∙ new.1 in
       subst (λ w. Does (λ k events. AllStand settings k events) (send (ToServer s w)) base (t, nothing_owed) xs (t, nothing_owed) ys) is
       (all_does settings t t nothing_owed nothing_owed base xs ys

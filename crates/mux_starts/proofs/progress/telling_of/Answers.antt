@@ -3,7 +3,7 @@ use Rattle.std.proofs.Common.{ap, codes, ◌∙◌}
 use Rattle.event_model.specs.Members.{named_of}
 use Rattle.group_rows.specs.Tokens.{marked_text}
 use Rattle.mux_starts.proofs.Progressing.{passes_nothing, passes_one}
-use Rattle.mux_starts.proofs.progress.telling.Goals as goal
+use Rattle.mux_starts.proofs.progress.telling_of.Goals as goal
 
 pub returns-in-None : goal.returns-in-None
 returns-in-None c = λ settings before body method params s read says at st.
