@@ -13,7 +13,7 @@ use crate::fault::ChangeFault;
 use crate::number::unsigned;
 use json_span::Tape;
 use json_text::Kind;
-use json_token::decode;
+use json_span::decode;
 use std::alloc::Global;
 
 // The member of a position: a number of lines or of units.

@@ -3,3 +3,4 @@ pub mod Envelopes
 pub mod Finds
 pub mod Notices
 pub mod Results
+pub mod Members

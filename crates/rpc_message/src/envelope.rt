@@ -10,7 +10,7 @@ use crate::id::is_integer;
 use crate::names::names_once;
 use json_nodes::Values;
 use json_text::Kind;
-use json_token::spells_text;
+use json_span::spells_text;
 use message_body::Memory;
 use std::alloc::Global;
 
