@@ -2,7 +2,6 @@
 use Rattle.std.proofs.Common.{◌≡◌, ℕ, Bool, true, false, ◌&&◌, ◌||◌, List, [], ◌∷◌, ◌++◌, nat_eq, codes, if◌then◌else◌, Option, Some, None, ◌⊎◌, inl, inr, refl, sym, ◌∙◌, ap, subst, arith}
 use Rattle.std.specs.List.{AllByRecursion}
 use Rattle.mux_history.specs.declared.cause.Cause.{Cause}
-use Rattle.mux_history.specs.declared.cause.Why as link
 use Rattle.mux_history.specs.declared.cause.Cause.TheVariants.{Joined, FromEditor, EditorGone, Started, StartFailed, FromServer, ServerGone, Drained, Tick}
 use Rattle.mux_history.specs.declared.out.Out.{Out}
 use Rattle.mux_history.specs.declared.out.Out.TheVariants.{ToEditor, ToServer, Spawn, CloseEditor, EndServer}
@@ -29,8 +28,8 @@ use Rattle.group_rows.specs.Rows.{outs_of}
 use Rattle.group_facts.specs.Built.{built_behind}
 use Rattle.group_facts.specs.Facts.{ends_link, is_unready, is_up, leaves, shuts}
 use Rattle.group_facts.specs.Settled.{HasSeat}
-use Rattle.group_facts.specs.Why.{IsAsk, IsResumed, Why, WhyToEditor, answers, asks, passes, recalls, refuses, rejects, resumes, spreads, turns_away, welcomes}
-use Rattle.group_facts.proofs.Asks.{is_question, listed, response_asks_none, resumed_here, resumed_off, taken}
+use Rattle.group_facts.specs.Why.{IsAsk, IsResumed, Why, WhyToEditor, answers, asks, passes, recalls, refuses, registers, rejects, resumes, spreads, turns_away, welcomes}
+use Rattle.group_facts.proofs.Asks.{registering_made, is_question, listed, response_asks_none, resumed_here, resumed_off, taken}
 use Rattle.group_facts.proofs.AskSeats.{MidSeat, asks_more, did_all, took_all}
 use Rattle.group_facts.proofs.AskingRows.{still_runs}
 use Rattle.group_facts.proofs.Facts.{Facts}
@@ -190,6 +189,7 @@ module _ (settings : Settings) (range : InRange settings) (before : List Event) 
   told_seated : (events : List Event) (e : ℕ) (body : List ℕ) → WhyToEditor settings before cause events e body → (s : ℕ) → AllByRecursion (Seat s) (asks_of settings s events) → AllByRecursion (Seat s) (asks_of settings s (events ++ said (ToEditor e body) ∷ []))
   told_seated events e body (asks k) s h = asked_more events e body k s h
   told_seated events e body (resumes k) s h = resumed_more events e body k s h
+  told_seated events e body (registers k) s h = asks_more settings (Seat s) s events (said (ToEditor e body)) _ (ap (λ (x : Asking). x.asks) (registering_made settings events e body before cause k s)) h
   told_seated events e body (rejects k) s h = did_all settings (Seat s) s events (ToEditor e body) (ap is_question k.says) h
   told_seated events e body (refuses k) s h = did_all settings (Seat s) s events (ToEditor e body) (ap is_question k.says) h
   told_seated events e body (answers k) s h = did_all settings (Seat s) s events (ToEditor e body) (ap is_question k.says) h

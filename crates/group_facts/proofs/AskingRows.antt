@@ -1,4 +1,4 @@
--- S9, S11, S12, S14 and what goes to each editor: why a ready start's requests and notifications are answered and go on; E19: why an editor's response does.
+-- S6, S7, S9 to S12, S14 and what goes to each editor: why a ready start's requests and notifications are answered and go on; E19: why an editor's response does.
 use Rattle.std.proofs.Common.{◌≡◌, ℕ, ◌^◌, ◌<◌, Bool, true, false, ◌&&◌, ◌||◌, not, cond, List, [], ◌∷◌, ◌++◌, append-nil, filter, find, codes, decimal, nat_eq, if◌then◌else◌, Option, Some, None, is_some, refl, sym, ◌∙◌, ap, subst, ltb-true, arith}
 use Rattle.std.specs.List.{AllByRecursion, last_or, list_any, range_with_len}
 use Rattle.std.specs.Option.{option_and_then, option_map, option_map_or}
@@ -12,11 +12,11 @@ use Rattle.mux_history.specs.declared.out.Out.{Out}
 use Rattle.mux_history.specs.declared.out.Out.TheVariants.{ToEditor, ToServer}
 use Rattle.lsp_method.specs.Class.{class_of, goes_nowhere, is_focused, is_refresh, own_notification, own_request, server_request}
 use Rattle.lsp_method.specs.declared.variants.Class.{Class}
-use Rattle.lsp_method.specs.declared.variants.Class.TheVariants.{Broadcast, Cancel, Folders, Focused, Lowest, Refresh}
+use Rattle.lsp_method.specs.declared.variants.Class.TheVariants.{Broadcast, Cancel, Folders, Focused, Lowest, Refresh, Register, Unregister}
 use Rattle.lsp_method.specs.declared.variants.Origin.TheVariants.{Server}
 use Rattle.rpc_message.specs.Message.{Message, request, notification, result, error, not_json, not_message, Id, id_bytes, id_of, integer, integer_if, message_of}
 use Rattle.rpc_message.specs.ValueTexts.{IsIdText}
-use Rattle.rpc_message.specs.Texts.{ok_text, request_failed, with_id_text}
+use Rattle.rpc_message.specs.Texts.{error_text, invalid_params, ok_text, request_failed, with_id_text}
 use Rattle.rpc_message.proofs.Decimals.{decimal_integer, decimal_law}
 use Rattle.rpc_message.proofs.Fixed.{id_as_response, ok_law}
 use Rattle.rpc_message.proofs.Ids.{error_with_id, request_id_bytes, request_with_id, result_with_id}
@@ -38,6 +38,7 @@ use Rattle.mux_facts.specs.Allowed.{is_response}
 use Rattle.mux_facts.proofs.Bodies.{refusal_says}
 use Rattle.mux_facts.proofs.DocumentRow.{ready_is}
 use Rattle.mux_facts.proofs.Folds.{desk_more, life_more}
+use Rattle.mux_facts.proofs.Keeps.{behind_both}
 use Rattle.mux_facts.proofs.Lists.{all_filtered, all_of, found_is}
 use Rattle.mux_facts.proofs.Reasons.{Because, by_choose, by_look, by_nothing, by_on, by_send, by_then}
 use Rattle.mux_facts.proofs.Words.{number_same, open_last, same_number}
@@ -46,12 +47,17 @@ use Rattle.group_words.specs.Rows.{folders_text}
 use Rattle.group_rows.specs.AskRows.{ask, ask_edit, asking_row, broadcast, cancelled_row, current_version, edited, else_first, hand_back, in_focus, is_among, is_edit, notified_row, question_row, response_at, response_row}
 use Rattle.group_rows.specs.Asks.{Ask, Asker, Asking, Parked, asked_next, asker_of, asking_next, asking_of, asks_of, first_in, goes_to_one, has_number, has_running, idle_asking, is_own_work, is_patient, is_seated, is_single, is_taken, is_under, may_wait, next_ask, parks, running_in, serves, unparked, waits_under}
 use Rattle.group_rows.specs.Forwarded.{Forwarded, forwarding_of, names}
+use Rattle.registrations.specs.declared.registration.Registration.{Registration}
+use Rattle.registrations.specs.Items.{again}
 use Rattle.group_rows.specs.Leaves.{cancel_text}
+use Rattle.group_rows.specs.Live.{is_registering, live_of, register_text, unregister_text}
+use Rattle.group_rows.specs.LiveRows.{accept, call, decline, has_some, register_row, registering, unregister_any, unregister_row}
+use Rattle.group_rows.proofs.LiveTexts.{again_written, live_written, register_says, registered_written, unregister_says}
 use Rattle.group_rows.proofs.Versions.{AllMeant, current_flat}
 use Rattle.group_rows.proofs.Cancels.{cancel_says, params_tree}
 use Rattle.group_facts.specs.Built.{built_asking}
 use Rattle.group_facts.specs.Facts.{Asks, IsAsked, IsWritten, Written, asked_by}
-use Rattle.group_facts.specs.Why.{IsRecall, Why, asks, denied, granted, handed_back, listed, moves, recalls, resolves, spreads, unapplied}
+use Rattle.group_facts.specs.Why.{IsChange, IsRecall, IsRegistering, Registering, Resolution, Why, asks, denied, displaces, enrolled, enrols, granted, handed_back, listed, moves, recalls, registers, released, releases, resolves, spreads, unapplied, unenrolled, unreleased}
 use Rattle.group_facts.proofs.Asks.{asked_by_more, asked_of_more, asking_more}
 use Rattle.group_facts.proofs.Forwards.{get_all, zip_all}
 use Rattle.group_facts.proofs.Nulls.{null_said}
@@ -246,6 +252,16 @@ module _ (settings : Settings) (before : List Event) (all : Asks settings before
   pub response_why : (m : Message) → message_of body ≡ m → Mine (response_row settings before e body m)
   response_why m says = subst (λ z. Mine (response_row settings before e body z)) says by_home
 
+-- S6 and S7: the methods of the daemon's own requests
+
+pub registers_all : is_registering (codes "client/registerCapability") ≡ true
+unfolding server_request
+registers_all = refl
+
+pub unregisters_all : is_registering (codes "client/unregisterCapability") ≡ true
+unfolding server_request
+unregisters_all = refl
+
 -- Messages of a start that is ready
 
 module _ (settings : Settings) (before : List Event) (s : ℕ) (body : List ℕ) (stage : (life_of s before).stage ≡ Ready) where
@@ -407,6 +423,122 @@ module _ (settings : Settings) (before : List Event) (s : ℕ) (body : List ℕ)
         said_null : message_of (ok_text (id_bytes body) (codes "null")) ≡ result (Some id) (word (record { from = 0; to = 0 }) Null)
         said_null = null_said body id method params says
 
+    -- S6 and S7
+
+    answered_null : Resolution settings before (FromServer s body) s id (ok_text (id_bytes body) (codes "null")) → Because R now (accept s body)
+    answered_null how = by_send (resolves (record { id = id; resolution = how; ready = still_ready; stays = rests; response = ap is_response is; answers = ap answered_id is; waits = waits_now }))
+      where
+        is : message_of (ok_text (id_bytes body) (codes "null")) ≡ result (Some id) (word (record { from = 0; to = 0 }) Null)
+        is = null_said body id method params says
+
+    refused : Resolution settings before (FromServer s body) s id (error_text (id_bytes body) invalid_params) → Because R now (decline s body)
+    refused how = let is = refusal_says body id method params invalid_params says in
+        by_send (resolves (record { id = id; resolution = how; ready = still_ready; stays = rests; response = ap is_response is; answers = ap answered_id is; waits = waits_now }))
+
+    -- no editor answers the request, and each of these runs
+    record Turning (es : List ℕ) (events : List Event) : Type 0 where
+      work : AtWork events
+      run : AllRun settings before events es
+
+    turned : (es : List ℕ) (events : List Event) (n : ℕ) (text : List ℕ) → Turning es events → Turning es (events ++ said (ToEditor n text) ∷ [])
+    turned es events n text h = record { work = work_behind events n text h.work; run = all_still settings before events n text es h.run }
+
+    behind_call : (text : ℕ → List ℕ) (e : ℕ) (es : List ℕ) (events : List Event) → Turning es events → Turning es (behind events (outs (call text e) events))
+    behind_call text e es events h = go (has_number e events)
+      where
+        go : (b : Bool) → Turning es (behind events (outs (choose b (send (ToEditor e (text (next_ask e events)))) nothing) events))
+        go true = turned es events e (text (next_ask e events)) h
+        go false = subst (Turning es) (sym (append-nil events)) h
+
+    behind_any : (b : Bool) (text : ℕ → List ℕ) (e : ℕ) (es : List ℕ) (events : List Event) → Turning es events → Turning es (behind events (outs (choose b (call text e) nothing) events))
+    behind_any true text e es events h = behind_call text e es events h
+    behind_any false text e es events h = subst (Turning es) (sym (append-nil events)) h
+
+    -- behind the answer
+    turning_now : Turning (running_in settings g before) (behind now (outs (accept s body) now))
+    turning_now = record {
+      work = work_answered now s (ok_text (id_bytes body) (codes "null")) work_now;
+      run = all_of (λ e. (desk_of e now).phase ≡ Running) (λ e. (desk_of e (behind now (outs (accept s body) now))).phase ≡ Running) (λ e at. ap (λ (d : Desk). d.phase) (desk_more e now (said (ToServer s (ok_text (id_bytes body) (codes "null"))))) ∙ at) (running_in settings g before) (run_now g);
+    }
+
+    module _ (c : Class) (class : class_of method Server false ≡ c) (many : goes_to_one c ≡ false) where
+      unasked_by : (events : List Event) → AtWork events → (t : ℕ) → (asking_of settings t events).asker ≡ None
+      unasked_by events work t = (work t).0 ∙ go (nat_eq s t)
+        where
+          go : (b : Bool) → (if b then asker_of body (message_of body) else None) ≡ None
+          go true = ap (asker_of body) says ∙ ap (λ b. if b then Some (record { id = id; bytes = id_bytes body }) else None) (ap goes_to_one class ∙ many)
+          go false = refl
+
+      changed : (e : ℕ) → IsIn settings before g e → IsChange settings before (FromServer s body) e s body c
+      changed e seat = record { from = refl; id = id; method = method; params = params; asks = says; kind = class; fresh = fresh; group = g; kept = at_home; home = seat.home; ran = seat.ran }
+
+      -- one of the daemon's own requests
+      record Calls (text : ℕ → List ℕ) : Type 0 where
+        told : (e : ℕ) → IsIn settings before g e → (n : ℕ) → Registering settings before (FromServer s body) e s n (text n)
+        name : List ℕ
+        named : is_registering name ≡ true
+        writes : (n : ℕ) → n < 2 ^ 128 → (ps : Json) × (message_of (text n) ≡ request (integer (decimal n)) name (Some ps))
+
+      call_why : (text : ℕ → List ℕ) → Calls text → (e : ℕ) (es : List ℕ) (events : List Event) → IsIn settings before g e → Turning (e ∷ es) events → Because R events (call text e)
+      call_why text k e es events seat h = by_look (by_choose (λ room. by_send (registers (made room))) (λ none. by_nothing))
+        where
+          made : has_number e events ≡ true → IsRegistering settings before (FromServer s body) events e (text (next_ask e events))
+          made room =
+              let small : next_ask e events < 2 ^ 64 = ltb-true (next_ask e events) (2 ^ 64) room in
+              let is = k.writes (next_ask e events) (omega (arith, small)) in
+              record {
+                start = s;
+                told = k.told e seat (next_ask e events);
+                ready = stage;
+                running = h.run.0;
+                idle = unasked_by events h.work;
+                room = room;
+                method = k.name;
+                params = Some is.0;
+                named = k.named;
+                says = is.1;
+              }
+
+      any_why : (b : Bool) (text : ℕ → List ℕ) → Calls text → (e : ℕ) (es : List ℕ) (events : List Event) → IsIn settings before g e → Turning (e ∷ es) events → Because R events (choose b (call text e) nothing)
+      any_why b text k e es events seat h = by_choose (λ some. call_why text k e es events seat h) (λ none. by_nothing)
+
+      all_called : (text : ℕ → List ℕ) → Calls text → (es : List ℕ) (events : List Event) → AllByRecursion (IsIn settings before g) es → Turning es events → Because R events (each (call text) es)
+      all_called text k [] events seats h = by_nothing
+      all_called text k (e ∷ es) events seats h = by_then (call_why text k e es events seats.0 h) (all_called text k es (behind events (outs (call text e) events)) seats.1 (rest (behind_call text e (e ∷ es) events h)))
+        where
+          rest : {events : List Event} → Turning (e ∷ es) events → Turning es events
+          rest k = record { work = k.work; run = k.run.1 }
+
+      both_called : (gone items : List Registration) → Calls (unregister_text gone) → Calls (register_text items) → (es : List ℕ) (events : List Event) → AllByRecursion (IsIn settings before g) es → Turning es events → Because R events (each (registering gone items) es)
+      both_called gone items j k [] events seats h = by_nothing
+      both_called gone items j k (e ∷ es) events seats h = by_then
+          (by_then (any_why (has_some gone) (unregister_text gone) j e es events seats.0 h) (call_why (register_text items) k e es mid seats.0 there))
+          (both_called gone items j k es (behind events (outs (registering gone items e) events)) seats.1 (subst (Turning es) (sym (behind_both events (outs (unregister_any gone e) events) (outs (call (register_text items) e) mid))) (rest (behind_call (register_text items) e (e ∷ es) mid there))))
+        where
+          mid : List Event
+          mid = behind events (outs (unregister_any gone e) events)
+
+          there : Turning (e ∷ es) (behind events (outs (unregister_any gone e) events))
+          there = behind_any (has_some gone) (unregister_text gone) e (e ∷ es) events h
+
+          rest : {events : List Event} → Turning (e ∷ es) events → Turning es events
+          rest k = record { work = k.work; run = k.run.1 }
+
+    register_why : class_of method Server false ≡ Register → Because R now (register_row settings before g s body)
+    register_why class = by_on (λ none. refused (unenrolled body method params refl says class none refl))
+        (λ items found. by_then (answered_null (enrolled body method params items refl says class found refl))
+        (both_called Register class refl (again items (live_of settings s before)) items
+        (record { told = λ e seat n. displaces body items (changed Register class refl e seat) found refl; name = codes "client/unregisterCapability"; named = unregisters_all; writes = unregister_says (again items (live_of settings s before)) (again_written items (live_of settings s before) (live_written settings s before)) })
+        (record { told = λ e seat n. enrols body items (changed Register class refl e seat) found refl; name = codes "client/registerCapability"; named = registers_all; writes = register_says items (registered_written body items found) })
+        (running_in settings g before) (behind now (outs (accept s body) now)) (all_in settings before g) turning_now))
+
+    unregister_why : class_of method Server false ≡ Unregister → Because R now (unregister_row settings before g s body)
+    unregister_why class = by_on (λ none. refused (unreleased body method params refl says class none refl))
+        (λ items found. by_then (answered_null (released body method params items refl says class found refl))
+        (all_called Unregister class refl (unregister_text (again items (live_of settings s before)))
+        (record { told = λ e seat n. releases body items (changed Unregister class refl e seat) found refl; name = codes "client/unregisterCapability"; named = unregisters_all; writes = unregister_says (again items (live_of settings s before)) (again_written items (live_of settings s before) (live_written settings s before)) })
+        (running_in settings g before) (behind now (outs (accept s body) now)) (all_in settings before g) turning_now))
+
     -- of those that run one has this
     abbrev Here : ℕ → Type 0
     Here e = ((desk_of e now).phase ≡ Running) × IsIn settings before g e
@@ -463,6 +595,8 @@ module _ (settings : Settings) (before : List Event) (s : ℕ) (body : List ℕ)
         (λ e found. let k : Here e = focus_is Here (running_in settings g before) (forwarding_of s before).open_requests e all_here found in by_choose (λ edit. edit_why class e edit k) (λ plain. asked_why plain (λ patient. never (sym patient ∙ unhurried Focused class refl)) e now k.1 work_now (λ single. refl) k.0))
     asking_why Lowest class built = by_on (λ none. by_nothing) (λ e found. let k : Here e = first_is Here (running_in settings g before) e all_here found in asked_why (other_method Lowest class refl) (λ patient. ap (λ o. option_map_or (λ h. is_some (first_in (running_in settings h before))) o false) at_home ∙ ap is_some found) e now k.1 work_now (λ single. refl) k.0)
     asking_why Folders class built = folders_why class
+    asking_why Register class built = register_why class
+    asking_why Unregister class built = unregister_why class
     asking_why _ class built = by_nothing
 
   pub question_why : AllMeant before → Written settings before → (id : Id) (method : List ℕ) (params : Option Json) → message_of body ≡ request id method params

@@ -16,7 +16,7 @@ use Rattle.rpc_message.specs.Texts.{error_text, initialized_text, ok_text, reque
 use Rattle.json_text.specs.Json.{Json}
 use Rattle.lsp_method.specs.Class.{class_of}
 use Rattle.lsp_method.specs.declared.variants.Class.{Class}
-use Rattle.lsp_method.specs.declared.variants.Class.TheVariants.{Broadcast, Cancel, Focused, Folders, Lowest, Refresh}
+use Rattle.lsp_method.specs.declared.variants.Class.TheVariants.{Broadcast, Cancel, Focused, Folders, Lowest, Refresh, Register, Unregister}
 use Rattle.lsp_method.specs.declared.variants.Origin.TheVariants.{Server}
 use Rattle.event_model.specs.declared.phase.Phase.{Phase}
 use Rattle.event_model.specs.declared.phase.Phase.TheVariants.{New, Waiting, Answered, Running, Down}
@@ -42,6 +42,10 @@ use Rattle.group_words.specs.Houses.{at_group, declared_for, emptied, groups_hea
 use Rattle.group_words.specs.Placing.{busy, changed, end_where, ended, founded, is_live, with_editor, is_due}
 use Rattle.group_words.specs.Rows.{end_group, end_start, initialize_row, placed_row}
 use Rattle.group_words.proofs.Frames.{changed_length, groups_more, groups_stay, touches_groups}
+use Rattle.registrations.specs.declared.registration.Registration.{Registration}
+use Rattle.registrations.specs.Items.{again}
+use Rattle.group_rows.specs.Live.{live_of, register_text, unregister_text}
+use Rattle.group_rows.specs.LiveRows.{accept, call, has_some, registering, restore, unregister_any}
 use Rattle.group_rows.specs.Cancelling.{cancelling_at, cancelling_row}
 use Rattle.group_rows.specs.Forwarded.{Forwarded, forwarding_of}
 use Rattle.group_rows.specs.Leaves.{cancel, cancel_text, cancels, closings, leave_bodies, leave_row, refusals, refuse, uncancelled_of}
@@ -241,8 +245,24 @@ module _ (settings : Settings) (before : List Event) where
   quiet_parked e [] events = by_nothing
   quiet_parked e (p ∷ ps) events = by_then (by_look (by_choose (λ room. by_send tt) (λ none. by_nothing))) (quiet_parked e ps (behind events (outs (ask p.body e) events)))
 
+  -- the daemon's own requests about registrations
+  quiet_call : (text : ℕ → List ℕ) (e : ℕ) (events : List Event) → Quiet events (call text e)
+  quiet_call text e events = by_look (by_choose (λ room. by_send tt) (λ none. by_nothing))
+
+  quiet_any : (b : Bool) (text : ℕ → List ℕ) (e : ℕ) (events : List Event) → Quiet events (choose b (call text e) nothing)
+  quiet_any b text e events = by_choose (λ some. quiet_call text e events) (λ none. by_nothing)
+
+  quiet_calls : (text : ℕ → List ℕ) (es : List ℕ) (events : List Event) → Quiet events (each (call text) es)
+  quiet_calls text [] events = by_nothing
+  quiet_calls text (e ∷ es) events = by_then (quiet_call text e events) (quiet_calls text es (behind events (outs (call text e) events)))
+
+  quiet_registering : (gone items : List Registration) (es : List ℕ) (events : List Event) → Quiet events (each (registering gone items) es)
+  quiet_registering gone items [] events = by_nothing
+  quiet_registering gone items (e ∷ es) events =
+      by_then (by_then (quiet_any (has_some gone) (unregister_text gone) e events) (quiet_call (register_text items) e (behind events (outs (unregister_any gone e) events)))) (quiet_registering gone items es (behind events (outs (registering gone items e) events)))
+
   quiet_run_at : (e s : ℕ) (events : List Event) → Quiet events (run_at settings before e s)
-  quiet_run_at e s events = by_choose (λ ready. quiet_parked e (parked_of settings s before) events) (λ off. by_nothing)
+  quiet_run_at e s events = by_choose (λ ready. by_then (quiet_any (has_some (live_of settings s before)) (register_text (live_of settings s before)) e events) (quiet_parked e (parked_of settings s before) (behind events (outs (restore settings before e s) events)))) (λ off. by_nothing)
 
   quiet_run_in : (e g : ℕ) (events : List Event) → Quiet events (on (start_of g before) nothing (run_at settings before e))
   quiet_run_in e g events = by_on (λ none. by_nothing) (λ s start. quiet_run_at e s events)
@@ -329,6 +349,10 @@ module _ (settings : Settings) (before : List Event) where
   quiet_asking g s body method Folders events = by_on (λ none. by_nothing) (λ x found. by_send tt)
   quiet_asking g s body method Focused events = by_on (λ none. by_send tt) (λ e found. by_choose (λ edit. quiet_edit s e body events) (λ plain. quiet_ask body e events))
   quiet_asking g s body method Lowest events = by_on (λ none. by_nothing) (λ e found. quiet_ask body e events)
+  quiet_asking g s body method Register events = by_on (λ none. by_send tt)
+      (λ items found. by_then (by_send tt) (quiet_registering (again items (live_of settings s before)) items (running_in settings g before) (behind events (outs (accept s body) events))))
+  quiet_asking g s body method Unregister events = by_on (λ none. by_send tt)
+      (λ items found. by_then (by_send tt) (quiet_calls (unregister_text (again items (live_of settings s before))) (running_in settings g before) (behind events (outs (accept s body) events))))
   quiet_asking g s body method _ events = by_nothing
 
   quiet_notified : (s : ℕ) (body : List ℕ) (params : Option Json) (c : Class) (events : List Event) → Quiet events (notified_row settings s before body params c)

@@ -28,7 +28,7 @@ use Rattle.group_rows.specs.Asks.{next_ask}
 use Rattle.group_rows.specs.Forwarded.{Forwarded, Forwarding}
 use Rattle.group_facts.specs.Facts.{IsAlone, IsWaiting, is_early}
 use Rattle.group_facts.specs.Lively.{lives_at}
-use Rattle.group_facts.specs.Why.{IsBehindSync, IsBeside, IsQuestion, Turn, Why, WhyToEditor, WhyToServer, answers, asks, asks_something, begins, cancels, exits, forwarded, greeted, greets, is_uncancelled, notes, passes, recalls, refuses, rejects, resolves, responds, resumes, shuts, spreads, stays, tells, turns_away, versions_at, welcomes}
+use Rattle.group_facts.specs.Why.{IsBehindSync, IsBeside, IsQuestion, Turn, Why, WhyToEditor, WhyToServer, answers, asks, asks_something, begins, cancels, exits, forwarded, greeted, greets, is_uncancelled, notes, passes, recalls, refuses, registers, rejects, resolves, responds, resumes, shuts, spreads, stays, tells, turns_away, versions_at, welcomes}
 use Rattle.group_facts.proofs.Same.{IsBody, Same, same_behind, same_held, same_questions}
 use Rattle.group_facts.proofs.Still.{Goes, Still, goes_body}
 
@@ -47,7 +47,7 @@ running_fine (error id r) h = refl
 running_fine not_json h = never (sym h)
 running_fine not_message h = never (sym h)
 
-module _ (settings : Settings) (before : List Event) (e : ℕ) (body : List ℕ) (runs : makes_running (message_of body) ≡ true) (questions : List Out) (asked : AllByRecursion IsQuestion questions) where
+module _ (settings : Settings) (before : List Event) (e : ℕ) (body : List ℕ) (runs : makes_running (message_of body) ≡ true) (questions : List Out) (asked : AllByRecursion (IsQuestion e) questions) where
   abbrev cause : Cause
   cause = FromEditor e body
 
@@ -62,7 +62,7 @@ module _ (settings : Settings) (before : List Event) (e : ℕ) (body : List ℕ)
     y = behind (behind base questions) xs
 
     S : Same settings y x
-    S = same_behind settings (behind base questions) base xs all (same_questions settings base questions asked)
+    S = same_behind settings (behind base questions) base xs all (same_questions settings e base questions asked)
 
     stage_of : (s : ℕ) → (life_of s y).stage ≡ (life_of s x).stage
     stage_of s = ap (λ (l : Life). l.stage) (S.life s)
@@ -81,7 +81,7 @@ module _ (settings : Settings) (before : List Event) (e : ℕ) (body : List ℕ)
       stays = k.stays;
       silent = k.silent;
       questions = questions ++ k.questions;
-      asks = all_join IsQuestion questions k.questions asked k.asks;
+      asks = all_join (IsQuestion n) questions k.questions (subst (λ z. AllByRecursion (IsQuestion z) questions) (let is : FromEditor e body ≡ FromEditor n text = from in let same : e ≡ n = cc in same) asked) k.asks;
       place = same_place (with_cause before (FromEditor n text)) (ap (with_cause before) from) (k.questions ++ _) k.place ∙ ap (behind (with_cause before (FromEditor n text))) (sym (append_assoc questions k.questions _));
     }
 
@@ -215,6 +215,7 @@ module _ (settings : Settings) (before : List Event) (e : ℕ) (body : List ℕ)
     editor_moved n b goes (asks k) = none_from k.start k.asked (k.source).from
     editor_moved n b goes (spreads k) = none_from k.start b (k.source).from
     editor_moved n b goes (recalls k) = none_from k.start k.asked (k.source).from
+    editor_moved n b goes (registers k) = no_question b (integer (decimal (next_ask n x))) k.method k.params goes k.says
     editor_moved n b goes (resumes k) = no_question b (integer (decimal (next_ask n x))) k.method k.params goes k.says
 
     out_moved : (out : Out) → Goes out → Why settings before cause x out → Why settings before cause y out
@@ -241,6 +242,6 @@ module _ (settings : Settings) (before : List Event) (e : ℕ) (body : List ℕ)
   -- of a row that sends the same there
   pub row_moved : (row : Row) → Still settings row → Because R base row → Because R (behind base questions) row
   row_moved row still h = record {
-    why = subst (λ zs. Reasons R (behind base questions) zs) (sym (still.same (behind base questions) base (same_questions settings base questions asked)))
+    why = subst (λ zs. Reasons R (behind base questions) zs) (sym (still.same (behind base questions) base (same_questions settings e base questions asked)))
         (subst (λ z. Reasons R z (outs row base)) (append-nil (behind base questions)) (all_moved (outs row base) (still.goes base) [] tt (subst (λ z. Reasons R z (outs row base)) (sym (append-nil base)) h.why)));
   }

@@ -444,9 +444,9 @@ module _ (settings : Settings) (before : List Event) (n : ℕ) (body : List ℕ)
 
           go : (b : Bool) → makes_running m ≡ b → Rests (outs (choose (makes_running m) (run_row settings before n) nothing ⨾ served) now)
           go false stops = subst (λ c. Rests (outs (choose c (run_row settings before n) nothing ⨾ served) now)) (sym stops) (subst (λ z. Rests (outs served z)) (sym (append-nil now)) rest)
-          go true runs = subst (λ c. Rests (outs (choose c (run_row settings before n) nothing ⨾ served) now)) (sym runs) (subst Rests (ap (λ zs. asked ++ zs) (still.same now (behind now asked) (sym_same settings (behind now asked) now (same_questions settings now asked questions))))
+          go true runs = subst (λ c. Rests (outs (choose c (run_row settings before n) nothing ⨾ served) now)) (sym runs) (subst Rests (ap (λ zs. asked ++ zs) (still.same now (behind now asked) (sym_same settings (behind now asked) now (same_questions settings n now asked questions))))
               (subst (OpenAt settings n Nobody) (sym (behind_both now asked (outs served now)))
-              (open_moved settings n Nobody (behind now (outs served now)) (behind (behind now asked) (outs served now)) (same_behind settings (behind now asked) now (outs served now) (all_of Goes IsBody goes_body (outs served now) (still.goes now)) (same_questions settings now asked questions)) rest)))
+              (open_moved settings n Nobody (behind now (outs served now)) (behind (behind now asked) (outs served now)) (same_behind settings (behind now asked) now (outs served now) (all_of Goes IsBody goes_body (outs served now) (still.goes now)) (same_questions settings n now asked questions)) rest)))
             where
               running : makes_running (message_of body) ≡ true
               running = ap makes_running says ∙ runs
@@ -454,7 +454,7 @@ module _ (settings : Settings) (before : List Event) (n : ℕ) (body : List ℕ)
               asked : List Out
               asked = outs (run_row settings before n) now
 
-              questions : AllByRecursion IsQuestion asked
+              questions : AllByRecursion (IsQuestion n) asked
               questions = run_questions settings before n body at running (stays_there settings before n body at running (ap (is_doubled before n) says ∙ single)) (facts.steady).asks
 
               still : Still settings served

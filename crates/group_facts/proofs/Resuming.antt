@@ -1,5 +1,5 @@
 -- L2: why an editor that begins to run is asked what waits at its group's start.
-use Rattle.std.proofs.Common.{◌≡◌, ℕ, ◌^◌, Bool, true, false, not, ◌&&◌, ◌||◌, List, [], ◌∷◌, ◌++◌, append-nil, codes, decimal, nat_eq, if◌then◌else◌, Some, None, ◌⊎◌, inl, inr, refl, sym, ◌∙◌, ap, ap₂, subst, ltb-true}
+use Rattle.std.proofs.Common.{◌≡◌, ℕ, ◌^◌, ◌<◌, Bool, true, false, ◌&&◌, ◌||◌, List, [], ◌∷◌, ◌++◌, append-nil, codes, decimal, nat_eq, if◌then◌else◌, Some, None, ◌⊎◌, inl, inr, refl, sym, ◌∙◌, ap, ap₂, subst, ltb-true, arith}
 use Rattle.std.specs.List.{AllByRecursion}
 use Rattle.std.specs.Option.{option_and_then, option_map_or}
 use Rattle.mux_history.specs.declared.cause.Cause.TheVariants.{FromEditor}
@@ -26,10 +26,15 @@ use Rattle.group_words.specs.Houses.{groups_of, home_of, is_doubled, placed_for}
 use Rattle.group_words.proofs.Frames.{home_stays}
 use Rattle.group_rows.specs.AskRows.{ask, run_at, run_row}
 use Rattle.group_rows.specs.Asks.{Asking, Parked, asking_of, has_number, next_ask, parked_of, serves}
+use Rattle.registrations.specs.declared.registration.Registration.{Registration}
+use Rattle.group_rows.specs.Live.{live_of, register_text}
+use Rattle.group_rows.specs.LiveRows.{call, has_some, restore}
+use Rattle.group_rows.proofs.LiveTexts.{live_written, register_says}
+use Rattle.json_text.specs.Json.{Json}
 use Rattle.group_facts.specs.Facts.{Asks, IsParked, is_too_many, leaves, turned_away}
-use Rattle.group_facts.specs.Why.{IsQuestion, IsResumed, Why, asks_something, resumes}
-use Rattle.group_facts.proofs.Asks.{asking_more, resumed_here}
-use Rattle.group_facts.proofs.AskingRows.{still_runs, work_told}
+use Rattle.group_facts.specs.Why.{IsQuestion, IsRegistering, IsResumed, Why, asks_something, registers, restores, resumes}
+use Rattle.group_facts.proofs.Asks.{asking_more, registering_made, resumed_here}
+use Rattle.group_facts.proofs.AskingRows.{registers_all, still_runs, work_told}
 use Rattle.group_facts.proofs.Begun.{start_did, start_took}
 use Rattle.group_facts.proofs.Homes.{took_home}
 use Rattle.group_facts.proofs.Still.{unended, unshut}
@@ -58,9 +63,9 @@ module _ (settings : Settings) (before : List Event) (e : ℕ) (body : List ℕ)
   abbrev base : List Event
   base = with_cause before (FromEditor e body)
 
-  -- each out has its reason, and asks something
+  -- each out has its reason, and asks the editor something
   abbrev R : List Event → Out → Type 0
-  R events out = Why settings before (FromEditor e body) events out × IsQuestion out
+  R events out = Why settings before (FromEditor e body) events out × IsQuestion e out
 
   pub began : (desk_of e base).phase ≡ Running
   began = ap (λ (d : Desk). d.phase) (desk_more e before (heard (FromEditor e body)))
@@ -131,8 +136,65 @@ module _ (settings : Settings) (before : List Event) (e : ℕ) (body : List ℕ)
         waits = ap (λ (x : Asking). x.parked) (asking_more settings s events (said (ToEditor e text))) ∙ ap (λ (x : Asking). x.parked) (resumed_here settings events e text before (FromEditor e body) resumed);
       }
 
+    -- what is live
+    abbrev live : List Registration
+    live = live_of settings s before
+
+    module _ (events : List Event) (ps : List Parked) (k : Resumes events ps) (room : has_number e events ≡ true) where
+      abbrev all_text : List ℕ
+      all_text = register_text live (next_ask e events)
+
+      all_says : (params : Json) × (message_of all_text ≡ request (integer (decimal (next_ask e events))) (codes "client/registerCapability") (Some params))
+      all_says = register_says live (live_written settings s before) (next_ask e events) (let small : next_ask e events < 2 ^ 64 = ltb-true (next_ask e events) (2 ^ 64) room in omega (arith, small))
+
+      abbrev restored : IsRegistering settings before (FromEditor e body) events e all_text
+      restored = record {
+        start = s;
+        told = restores (record { text = body; from = refl; began = began; waited = waited; group = g; home = home; last = last }) refl;
+        ready = ready;
+        running = k.running;
+        idle = k.idle;
+        room = room;
+        method = codes "client/registerCapability";
+        params = Some all_says.0;
+        named = registers_all;
+        says = all_says.1;
+      }
+
+      restored_next : Resumes (events ++ said (ToEditor e all_text) ∷ []) ps
+      restored_next =
+          let same : (t : ℕ) → asking_of settings t (events ++ said (ToEditor e all_text) ∷ []) ≡ asking_of settings t events = λ t. asking_more settings t events (said (ToEditor e all_text)) ∙ registering_made settings events e all_text before (FromEditor e body) restored t in
+          record {
+            own = λ t. ap (λ (x : Asking). x.runs) (same t) ∙ k.own t;
+            idle = λ t. ap (λ (x : Asking). x.asker) (same t) ∙ k.idle t;
+            at_home = home_stays settings e events (said (ToEditor e all_text)) refl ∙ k.at_home;
+            start = start_did g events (ToEditor e all_text) tt ∙ k.start;
+            running = still_runs events e all_text e k.running;
+            waits = ap (λ (x : Asking). x.parked) (same s) ∙ k.waits;
+          }
+
+    call_why : (events : List Event) (ps : List Parked) → Resumes events ps → Because R events (call (register_text live) e)
+    call_why events ps k = by_look (by_choose (λ room. by_send (registers (restored events ps k room), (refl, ap asks_something (all_says events ps k room).1))) (λ none. by_nothing))
+
+    restore_why : (events : List Event) (ps : List Parked) → Resumes events ps → Because R events (restore settings before e s)
+    restore_why events ps k = by_choose (λ some. call_why events ps k) (λ none. by_nothing)
+
+    call_next : (events : List Event) (ps : List Parked) → Resumes events ps → Goes_on (behind events (outs (call (register_text live) e) events)) ps
+    call_next events ps k = go (has_number e events) refl
+      where
+        go : (b : Bool) → has_number e events ≡ b → Goes_on (behind events (outs (choose b (send (ToEditor e (register_text live (next_ask e events)))) nothing) events)) ps
+        go true room = inl (restored_next events ps k room)
+        go false full = inr (subst (λ z. has_number e z ≡ false) (sym (append-nil events)) full)
+
+    restore_next : (events : List Event) (ps : List Parked) → Resumes events ps → Goes_on (behind events (outs (restore settings before e s) events)) ps
+    restore_next events ps k = go (has_some live)
+      where
+        go : (b : Bool) → Goes_on (behind events (outs (choose b (call (register_text live) e) nothing) events)) ps
+        go true = call_next events ps k
+        go false = inl (subst (λ z. Resumes z ps) (sym (append-nil events)) k)
+
     one_why : (p : Parked) → IsParked s before p → (events : List Event) (rest : List Parked) → Goes_on events (p ∷ rest) → Because R events (ask p.body e)
-    one_why p q events rest (inl k) = by_look (by_choose (λ room. by_send (resumes (resumed p q events rest k room), ap asks_something (says p q events rest k room))) (λ none. by_nothing))
+    one_why p q events rest (inl k) = by_look (by_choose (λ room. by_send (resumes (resumed p q events rest k room), (refl, ap asks_something (says p q events rest k room)))) (λ none. by_nothing))
     one_why p q events rest (inr full) = by_look (by_choose (λ room. never (sym room ∙ full)) (λ none. by_nothing))
 
     one_next : (p : Parked) → IsParked s before p → (events : List Event) (rest : List Parked) → Goes_on events (p ∷ rest) → Goes_on (behind events (outs (ask p.body e) events)) rest
@@ -162,7 +224,9 @@ module _ (settings : Settings) (before : List Event) (e : ℕ) (body : List ℕ)
         and_off false = refl
 
   run_there : Asks settings before → (g s : ℕ) → home_of settings e before ≡ Some g → start_of g before ≡ Some s → Because R base (run_at settings before e s)
-  run_there all g s home last = by_choose (λ is. let ready = ready_is (life_of s before).stage is in all_why g s home last ready (parked_of settings s before) (all s).parked base (inl (begins g s home last ready))) (λ off. by_nothing)
+  run_there all g s home last = by_choose (λ is. let ready = ready_is (life_of s before).stage is in
+      by_then (restore_why g s home last ready base (parked_of settings s before) (begins g s home last ready))
+      (all_why g s home last ready (parked_of settings s before) (all s).parked (behind base (outs (restore settings before e s) base)) (restore_next g s home last ready base (parked_of settings s before) (begins g s home last ready)))) (λ off. by_nothing)
 
   run_in : Asks settings before → (g : ℕ) → home_of settings e before ≡ Some g → Because R base (on (start_of g before) nothing (run_at settings before e))
   run_in all g home = by_on (λ none. by_nothing) (λ s last. run_there all g s home last)
@@ -170,12 +234,12 @@ module _ (settings : Settings) (before : List Event) (e : ℕ) (body : List ℕ)
   run_both : Asks settings before → Because R base (run_row settings before e)
   run_both all = by_on (λ none. by_nothing) (λ g home. run_in all g home)
 
-  parted : (events : List Event) (xs : List Out) → Reasons R events xs → Reasons (λ places out. Why settings before (FromEditor e body) places out) events xs × AllByRecursion IsQuestion xs
+  parted : (events : List Event) (xs : List Out) → Reasons R events xs → Reasons (λ places out. Why settings before (FromEditor e body) places out) events xs × AllByRecursion (IsQuestion e) xs
   parted events [] h = (tt, tt)
   parted events (x ∷ xs) h = let rest = parted (events ++ said x ∷ []) xs h.1 in ((h.0.0, rest.0), (h.0.1, rest.1))
 
   pub run_why : Asks settings before → Because (Why settings before (FromEditor e body)) base (run_row settings before e)
   run_why all = record { why = (parted base (outs (run_row settings before e) base) (run_both all).why).0 }
 
-  pub run_questions : Asks settings before → AllByRecursion IsQuestion (outs (run_row settings before e) base)
+  pub run_questions : Asks settings before → AllByRecursion (IsQuestion e) (outs (run_row settings before e) base)
   run_questions all = (parted base (outs (run_row settings before e) base) (run_both all).why).1

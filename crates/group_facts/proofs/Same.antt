@@ -164,14 +164,14 @@ module _ (settings : Settings) where
       seated e false = refl
 
   -- and behind some
-  pub same_questions : (x : List Event) (xs : List Out) → AllByRecursion IsQuestion xs → Same settings (behind x xs) x
-  same_questions x [] h = at_place settings (sym (append-nil x)) (same_itself x)
-  same_questions x (ToEditor n body ∷ xs) h = at_place settings (append_assoc x (said (ToEditor n body) ∷ []) (map said xs))
-      (same_both (behind (x ++ said (ToEditor n body) ∷ []) xs) (x ++ said (ToEditor n body) ∷ []) x (same_questions (x ++ said (ToEditor n body) ∷ []) xs h.1) (same_asked x n body h.0))
-  same_questions x (ToServer n body ∷ xs) h = absurd h.0
-  same_questions x (Spawn n g ∷ xs) h = absurd h.0
-  same_questions x (CloseEditor n ∷ xs) h = absurd h.0
-  same_questions x (EndServer n ∷ xs) h = absurd h.0
+  pub same_questions : (e : ℕ) (x : List Event) (xs : List Out) → AllByRecursion (IsQuestion e) xs → Same settings (behind x xs) x
+  same_questions e x [] h = at_place settings (sym (append-nil x)) (same_itself x)
+  same_questions e x (ToEditor n body ∷ xs) h = at_place settings (append_assoc x (said (ToEditor n body) ∷ []) (map said xs))
+      (same_both (behind (x ++ said (ToEditor n body) ∷ []) xs) (x ++ said (ToEditor n body) ∷ []) x (same_questions e (x ++ said (ToEditor n body) ∷ []) xs h.1) (same_asked x n body h.0.1))
+  same_questions e x (ToServer n body ∷ xs) h = absurd h.0
+  same_questions e x (Spawn n g ∷ xs) h = absurd h.0
+  same_questions e x (CloseEditor n ∷ xs) h = absurd h.0
+  same_questions e x (EndServer n ∷ xs) h = absurd h.0
 
   pub sym_same : (x y : List Event) → Same settings x y → Same settings y x
   sym_same x y h = record {

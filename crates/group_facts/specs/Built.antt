@@ -1,6 +1,6 @@
 -- Which causes meet only rows of the table over several editors and groups that are built, until all are.
 -- Not built of an editor: `lspmux/stop` (E6), and while it is served requests that go on with tokens (E10), and the notification that cancels the work of one (E11).
--- Not built of a start while it is ready: the classes of S6 to S8, S13 and S15. Nor the end of a program whose group lives.
+-- Not built of a start while it is ready: the classes of S8, S13 and S15. Nor the end of a program whose group lives.
 -- Of S2, what is read back must be what was meant: editors are shown all of the result.
 use Rattle.std.specs.Prelude.{ℕ, Bool, true, false, not, ◌&&◌, ◌||◌, List, bytes_eq, codes}
 use Rattle.std.specs.Prelude.{Option, Some}
@@ -11,7 +11,7 @@ use Rattle.mux_history.specs.declared.entry.Entry.{Entry}
 use Rattle.json_text.specs.Json.{Json}
 use Rattle.lsp_method.specs.Class.{class_of}
 use Rattle.lsp_method.specs.declared.variants.Class.{Class}
-use Rattle.lsp_method.specs.declared.variants.Class.TheVariants.{Broadcast, Cancel, Focused, Folders, Initialize, Lowest, Other, Refresh, Shutdown, Wrong}
+use Rattle.lsp_method.specs.declared.variants.Class.TheVariants.{Broadcast, Cancel, Focused, Folders, Initialize, Lowest, Other, Refresh, Register, Shutdown, Unregister, Wrong}
 use Rattle.lsp_method.specs.declared.variants.Origin.TheVariants.{Editor, Server}
 use Rattle.rpc_message.specs.Message.{Message, request, notification, result, Id, message_of, result_bytes}
 use Rattle.event_model.specs.declared.phase.Phase.{Phase}
@@ -77,12 +77,14 @@ abbrev pub built_early : List ℕ → Message → Bool
 built_early body (result id r) = not (is_first_result (result id r)) || is_shown_whole body
 built_early body other = true
 
--- S9 to S12
+-- S6, S7 and S9 to S12
 abbrev pub built_asking : Class → Bool
 built_asking Refresh = true
 built_asking Folders = true
 built_asking Focused = true
 built_asking Lowest = true
+built_asking Register = true
+built_asking Unregister = true
 built_asking _ = false
 
 -- S14, and what goes to each editor

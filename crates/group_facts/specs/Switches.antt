@@ -24,7 +24,7 @@ pub record IsSwitched (settings : Settings) (before : List Event) (cause : Cause
   pub group : ℕ
   pub start : start_of group before ≡ Some s
   pub questions : List Out
-  pub asks : AllByRecursion IsQuestion questions
+  pub asks : AllByRecursion (IsQuestion editor) questions
   pub place : events ≡ behind (with_cause before cause) (questions ++ map (λ text. ToServer s text) (sync_bodies settings.limits.versions (λ u. held_at s u before) editor (texts_of settings group before).opens))
 
 -- at a body that goes behind a sync

@@ -8,13 +8,14 @@ use Rattle.document_model.specs.Sayings.{saying_of, speaks}
 use Rattle.mux_history.specs.declared.cause.Cause.{Cause}
 use Rattle.mux_history.specs.declared.cause.Cause.TheVariants.{Started, FromServer, FromEditor}
 use Rattle.lsp_method.specs.Class.{class_of}
-use Rattle.lsp_method.specs.declared.variants.Class.TheVariants.{Broadcast, Cancel, Focused, Folders, Refresh}
+use Rattle.lsp_method.specs.declared.variants.Class.{Class}
+use Rattle.lsp_method.specs.declared.variants.Class.TheVariants.{Broadcast, Cancel, Focused, Folders, Refresh, Register, Unregister}
 use Rattle.lsp_method.specs.declared.variants.Origin.TheVariants.{Editor, Server}
 use Rattle.mux_history.specs.declared.entry.Entry.{Entry}
 use Rattle.mux_history.specs.declared.out.Out.{Out}
 use Rattle.mux_history.specs.declared.out.Out.TheVariants.{ToEditor, ToServer, Spawn, CloseEditor, EndServer}
 use Rattle.rpc_message.specs.Message.{Message, request, Id, id_bytes, id_of, message_of, notification, result, error, integer}
-use Rattle.rpc_message.specs.Texts.{error_text, initialized_text, ok_text, request_failed, with_id_text}
+use Rattle.rpc_message.specs.Texts.{error_text, initialized_text, invalid_params, ok_text, request_failed, with_id_text}
 use Rattle.rpc_message.specs.ValueTexts.{IsIdText}
 use Rattle.event_model.specs.declared.phase.Phase.TheVariants.{Answered, Running, Waiting}
 use Rattle.event_model.specs.declared.stage.Stage.{Stage}
@@ -33,6 +34,8 @@ use Rattle.mux_facts.specs.Allowed.{AllowsSaying, is_response}
 use Rattle.mux_model.specs.Documents.{held_at}
 use Rattle.mux_model.specs.Methods.{goes_on}
 use Rattle.document_model.specs.Helds.{HeldText}
+use Rattle.registrations.specs.declared.registration.Registration.{Registration}
+use Rattle.registrations.specs.Items.{again, registered}
 use Rattle.group_words.specs.declared.kept.Kept.{Kept}
 use Rattle.group_words.specs.Houses.{groups_of, home_of}
 use Rattle.group_words.specs.Rows.{folders_text}
@@ -43,6 +46,7 @@ use Rattle.group_rows.specs.Cancelling.{number_named, numbered_text}
 use Rattle.group_rows.specs.Ends.{answers_shutdown}
 use Rattle.group_rows.specs.Forwarded.{Forwarded, Sender, answered_by, forwarding_of}
 use Rattle.group_rows.specs.Leaves.{cancel_text}
+use Rattle.group_rows.specs.Live.{is_registering, live_of, register_text, taken_back, unregister_text}
 use Rattle.group_rows.specs.Rows.{sync_bodies}
 use Rattle.group_rows.specs.Texts.{texts_of}
 use Rattle.group_facts.specs.Built.{is_left}
@@ -87,14 +91,14 @@ pub record IsGreeting (before : List Event) (cause : Cause) (events : List Event
   pub part : server_part s events ≡ server_part s before ++ heard cause ∷ []
   pub says : message_of body ≡ notification (codes "initialized") params
 
--- a request to an editor
+-- a request to this editor
 abbrev pub asks_something : Message → Bool
 asks_something (request id method params) = true
 asks_something other = false
 
-abbrev pub IsQuestion : Out → Type 0
-IsQuestion (ToEditor e body) = asks_something (message_of body) ≡ true
-IsQuestion other = ⊥
+abbrev pub IsQuestion : ℕ → Out → Type 0
+IsQuestion e (ToEditor n body) = (n ≡ e) × (asks_something (message_of body) ≡ true)
+IsQuestion e other = ⊥
 
 -- s, the ready start of e's group, was told of e's documents and of nothing else in this entry, which is about a message of e that changes no document (LSP 3.17, Text Document Synchronization); before it e may have been asked, as it begins to run
 pub record IsBehindSync (settings : Settings) (before : List Event) (events : List Event) (s e : ℕ) (asked : List ℕ) : Type 0 where
@@ -104,7 +108,7 @@ pub record IsBehindSync (settings : Settings) (before : List Event) (events : Li
   pub stays : requests (codes "shutdown") (message_of asked) ≡ false
   pub silent : speaks (saying_of (message_of asked)) ≡ false
   pub questions : List Out
-  pub asks : AllByRecursion IsQuestion questions
+  pub asks : AllByRecursion (IsQuestion e) questions
   pub place : events ≡ behind (with_cause before (FromEditor e asked)) (questions ++ map (λ text. ToServer s text) (sync_bodies settings.limits.versions (λ u. held_at s u before) e (texts_of settings group before).opens))
 
 -- the request of an editor, which is at work, goes under the next number to s, which is ready
@@ -201,13 +205,17 @@ pub record IsReply (before : List Event) (cause : Cause) (events : List Event) (
   pub stays : moves before cause s ≡ false
   pub response : is_response (message_of body) ≡ true
 
--- what answers it: the response of the editor that was asked (E19), a refusal since that editor left (L1), null since each editor is asked (S9), the folders of the group (S10), a refusal since none runs (S11), or that an edit wasn't applied, since a version in it stands for no text that the editor in focus has (V3)
+-- what answers it: the response of the editor that was asked (E19), a refusal since that editor left (L1), null since each editor is asked (S9), the folders of the group (S10), a refusal since none runs (S11), that an edit wasn't applied, since a version in it stands for no text that the editor in focus has (V3), null since its items are registered (S6) or taken back (S7), or a refusal of them
 pub data Resolution (settings : Settings) (before : List Event) (cause : Cause) (s : ℕ) (id : Id) (body : List ℕ) : Type 0 where
   handed_back : (e : ℕ) (answer : List ℕ) (a : Ask) → cause ≡ FromEditor e answer → find (is_seated e (answered_id (message_of answer))) (asks_of settings s before) ≡ Some a → a.id ≡ id → body ≡ with_id_text answer a.bytes → Resolution settings before cause s id body
   refused_for : (a : Ask) → list_any (is_under (Some id)) (asks_of settings s before) ≡ true → a.id ≡ id → body ≡ error_text a.bytes request_failed → Resolution settings before cause s id body
   granted : (asked method : List ℕ) (params : Option Json) → cause ≡ FromServer s asked → message_of asked ≡ request id method params → class_of method Server false ≡ Refresh → body ≡ ok_text (id_bytes asked) (codes "null") → Resolution settings before cause s id body
   listed : (asked method : List ℕ) (params : Option Json) (g : ℕ) (x : Kept) → cause ≡ FromServer s asked → message_of asked ≡ request id method params → class_of method Server false ≡ Folders → group_of s before ≡ Some g → slice_get (groups_of settings before) g ≡ Some x → body ≡ ok_text (id_bytes asked) (folders_text x.key.folders) → Resolution settings before cause s id body
   denied : (asked method : List ℕ) (params : Option Json) → cause ≡ FromServer s asked → message_of asked ≡ request id method params → class_of method Server false ≡ Focused → body ≡ error_text (id_bytes asked) request_failed → Resolution settings before cause s id body
+  enrolled : (asked method : List ℕ) (params : Option Json) (items : List Registration) → cause ≡ FromServer s asked → message_of asked ≡ request id method params → class_of method Server false ≡ Register → registered asked ≡ Some items → body ≡ ok_text (id_bytes asked) (codes "null") → Resolution settings before cause s id body
+  unenrolled : (asked method : List ℕ) (params : Option Json) → cause ≡ FromServer s asked → message_of asked ≡ request id method params → class_of method Server false ≡ Register → registered asked ≡ None → body ≡ error_text (id_bytes asked) invalid_params → Resolution settings before cause s id body
+  released : (asked method : List ℕ) (params : Option Json) (items : List Registration) → cause ≡ FromServer s asked → message_of asked ≡ request id method params → class_of method Server false ≡ Unregister → taken_back asked (live_of settings s before) ≡ Some items → body ≡ ok_text (id_bytes asked) (codes "null") → Resolution settings before cause s id body
+  unreleased : (asked method : List ℕ) (params : Option Json) → cause ≡ FromServer s asked → message_of asked ≡ request id method params → class_of method Server false ≡ Unregister → taken_back asked (live_of settings s before) ≡ None → body ≡ error_text (id_bytes asked) invalid_params → Resolution settings before cause s id body
   unapplied : (asked method number : List ℕ) (params : Option Json) (e : ℕ) → cause ≡ FromServer s asked → message_of asked ≡ request id method params → is_edit method ≡ true → asked_text (current_version settings before s e) asked number ≡ None → body ≡ ok_text (id_bytes asked) not_applied → Resolution settings before cause s id body
 
 -- an open request of s, which is ready, is answered
@@ -373,6 +381,50 @@ pub record IsResumed (settings : Settings) (before : List Event) (cause : Cause)
   pub bytes : body ≡ with_id_text first.body (decimal (next_ask e events))
   pub says : message_of body ≡ request (integer (decimal (next_ask e events))) method params
 
+-- registrations are changed by this request of s, to whose group e belongs, which runs
+pub record IsChange (settings : Settings) (before : List Event) (cause : Cause) (e s : ℕ) (asked : List ℕ) (class : Class) : Type 0 where
+  pub from : cause ≡ FromServer s asked
+  pub id : Id
+  pub method : List ℕ
+  pub params : Option Json
+  pub asks : message_of asked ≡ request id method params
+  pub kind : class_of method Server false ≡ class
+  pub fresh : is_taken (Some id) (asking_of settings s before) ≡ false
+  pub group : ℕ
+  pub kept : group_of s before ≡ Some group
+  pub home : home_of settings e before ≡ Some group
+  pub ran : (desk_of e before).phase ≡ Running
+
+-- e begins to run, in the group whose last start is s
+pub record IsRestoring (settings : Settings) (before : List Event) (cause : Cause) (e s : ℕ) : Type 0 where
+  pub text : List ℕ
+  pub from : cause ≡ FromEditor e text
+  pub began : (desk_of e (with_cause before cause)).phase ≡ Running
+  pub waited : (desk_of e before).phase ≡ Answered
+  pub group : ℕ
+  pub home : home_of settings e before ≡ Some group
+  pub last : start_of group before ≡ Some s
+
+-- what is taken back since its ids come again, and what is registered (S6), what is taken back (S7), and all that is live (L2)
+pub data Registering (settings : Settings) (before : List Event) (cause : Cause) (e s n : ℕ) (body : List ℕ) : Type 0 where
+  displaces : (asked : List ℕ) (items : List Registration) → IsChange settings before cause e s asked Register → registered asked ≡ Some items → body ≡ unregister_text (again items (live_of settings s before)) n → Registering settings before cause e s n body
+  enrols : (asked : List ℕ) (items : List Registration) → IsChange settings before cause e s asked Register → registered asked ≡ Some items → body ≡ register_text items n → Registering settings before cause e s n body
+  releases : (asked : List ℕ) (items : List Registration) → IsChange settings before cause e s asked Unregister → taken_back asked (live_of settings s before) ≡ Some items → body ≡ unregister_text (again items (live_of settings s before)) n → Registering settings before cause e s n body
+  restores : IsRestoring settings before cause e s → body ≡ register_text (live_of settings s before) n → Registering settings before cause e s n body
+
+-- the daemon's own request about registrations at a ready start, to an editor that runs, under its next number
+pub record IsRegistering (settings : Settings) (before : List Event) (cause : Cause) (events : List Event) (e : ℕ) (body : List ℕ) : Type 0 where
+  pub start : ℕ
+  pub told : Registering settings before cause e start (next_ask e events) body
+  pub ready : (life_of start before).stage ≡ Ready
+  pub running : (desk_of e events).phase ≡ Running
+  pub idle : (s : ℕ) → (asking_of settings s events).asker ≡ None
+  pub room : has_number e events ≡ true
+  pub method : List ℕ
+  pub params : Option Json
+  pub named : is_registering method ≡ true
+  pub says : message_of body ≡ request (integer (decimal (next_ask e events))) method params
+
 -- a notification of the start without a row of its own, as it came
 pub record IsSpread (settings : Settings) (before : List Event) (cause : Cause) (events : List Event) (e : ℕ) (body : List ℕ) : Type 0 where
   pub start : ℕ
@@ -411,6 +463,7 @@ pub data WhyToEditor (settings : Settings) (before : List Event) (cause : Cause)
   passes : IsPassing settings before cause events e body → WhyToEditor settings before cause events e body
   asks : IsAsk settings before cause events e body → WhyToEditor settings before cause events e body
   resumes : IsResumed settings before cause events e body → WhyToEditor settings before cause events e body
+  registers : IsRegistering settings before cause events e body → WhyToEditor settings before cause events e body
   spreads : IsSpread settings before cause events e body → WhyToEditor settings before cause events e body
   recalls : IsRecall settings before cause events e body → WhyToEditor settings before cause events e body
 

@@ -12,3 +12,5 @@ pub mod Statuses
 pub mod Stops
 pub mod Versions
 pub mod WorkedAsks
+pub mod WorkedLive
+pub mod LiveTexts

@@ -14,4 +14,6 @@ pub mod AskRows
 pub mod Asks
 pub mod AsksExample
 pub mod Live
+pub mod LiveExample
 pub mod LiveRows
+pub mod LiveTexts

@@ -1,6 +1,5 @@
 -- S6, S7 and the first part of L2: what editors are told of registrations (LSP 3.17, Register Capability and Unregister Capability).
 use Rattle.std.specs.Prelude.{ℕ, Bool, true, false, List, [], ◌∷◌, codes}
-use Rattle.std.specs.Prelude.{Option, Some, None}
 use Rattle.mux_history.specs.declared.out.Out.TheVariants.{ToEditor, ToServer}
 use Rattle.rpc_message.specs.Message.{id_bytes}
 use Rattle.rpc_message.specs.Texts.{error_text, invalid_params, ok_text}

@@ -169,17 +169,17 @@ module _ (settings : Settings) (before : List Event) (n : ℕ) (body : List ℕ)
   refused_rests p at begun fresh code = refused_at now always_now refl refl p at begun fresh code
 
   -- behind what it is asked, as it begins to run
-  asked_more : (xs : List Out) → AllByRecursion IsQuestion xs → (place : List Event) → Always ClientRule3 (editor_part n place) → (opening n place).spoke ≡ true
+  asked_more : (xs : List Out) → AllByRecursion (IsQuestion n) xs → (place : List Event) → Always ClientRule3 (editor_part n place) → (opening n place).spoke ≡ true
       → Always ClientRule3 (editor_part n (behind place xs)) × (opening n (behind place xs) ≡ opening n place)
   asked_more [] all place kept spoke = (subst (λ z. Always ClientRule3 (editor_part n z)) (sym (append-nil place)) kept, ap (opening n) (append-nil place))
   asked_more (ToEditor e b ∷ xs) all place kept spoke =
       let event : Event = said (ToEditor e b) in
       let same : opening n (place ++ event ∷ []) ≡ opening n place = word_more opening_behind (record { initializes = []; answered = false; spoke = false }) (is_of_editor n) place event ∙ by_number (nat_eq e n) in
-      let rest = asked_more xs all.1 (place ++ event ∷ []) (rule_more ClientRule3 (is_of_editor n) place event kept (λ is. heard_question (opening n place) (message_of b) all.0 ∙ spoke)) (ap (λ (o : Opening). o.spoke) same ∙ spoke) in
+      let rest = asked_more xs all.1 (place ++ event ∷ []) (rule_more ClientRule3 (is_of_editor n) place event kept (λ is. heard_question (opening n place) (message_of b) all.0.1 ∙ spoke)) (ap (λ (o : Opening). o.spoke) same ∙ spoke) in
       (subst (λ z. Always ClientRule3 (editor_part n z)) (append_assoc place (event ∷ []) (map said xs)) rest.0, ap (opening n) (sym (append_assoc place (event ∷ []) (map said xs))) ∙ rest.1 ∙ same)
     where
       by_number : (c : Bool) → cond c (opening_told (opening n place) (message_of b)) (opening n place) ≡ opening n place
-      by_number true = told_question (opening n place) (message_of b) all.0
+      by_number true = told_question (opening n place) (message_of b) all.0.1
       by_number false = refl
   asked_more (ToServer s b ∷ xs) all place kept spoke = absurd all.0
   asked_more (Spawn s g ∷ xs) all place kept spoke = absurd all.0
@@ -195,7 +195,7 @@ module _ (settings : Settings) (before : List Event) (n : ℕ) (body : List ℕ)
       let spoke : (opening n now).spoke ≡ true = ap (λ (o : Opening). o.spoke) opening_now ∙ speaks_now (opening n before).spoke (opening n before).answered false (subst (λ z. Link z (desk_of n before).initialize (opening n before)) at h.link).1 refl in
       let more = asked_more xs all now always_now spoke in
       subst (Here n) (sym (behind_both now xs (ToEditor n (error_text (id_bytes body) invalid_request) ∷ [])))
-      (refused_at (behind now xs) more.0 ((same_questions settings now xs all).desk n) more.1 Answered at refl fresh invalid_request)
+      (refused_at (behind now xs) more.0 ((same_questions settings n now xs all).desk n) more.1 Answered at refl fresh invalid_request)
 
   -- or its link is to be ended, and it leaves
   closed_now : Here n (now ++ said (CloseEditor n) ∷ [])

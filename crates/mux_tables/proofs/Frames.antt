@@ -24,11 +24,14 @@ use Rattle.id_rewrite.specs.Tables.{Table}
 use Rattle.mux_tables.specs.declared.tables.Start.{Start}
 use Rattle.group_rows.specs.Asks.{Asking, asked_behind, asker_of, asking_next, asking_of, idle_asking, next_ask, parks}
 use Rattle.group_rows.specs.Forwarded.{Forwarding, forwarding_behind, forwarding_of, forwards, moves_ids, numbered}
-use Rattle.mux_tables.specs.Stands.{EditorsStand, GroupsStand, OriginsStand, IdsAt, IdsStand, Part, of_life, of_ids, of_shown, PartStands, LastStands, ShownAt, of_stop, StopAt, of_asks, of_parked, AsksStay, OpenStay, is_answer, is_request}
+use Rattle.mux_tables.specs.Stands.{EditorsStand, GroupsStand, OriginsStand, IdsAt, IdsStand, Part, of_life, of_ids, of_shown, PartStands, LastStands, ShownAt, of_stop, StopAt, of_asks, of_parked, of_live, AsksStay, LiveStay, OpenStay, is_answer, is_request}
 use Rattle.mux_tables.proofs.Asking.{asks_by, parked_by, told_asking, unanswered, unhanded, unwaited}
 use Rattle.mux_tables.proofs.Counted.{counted_same, next_more}
 use Rattle.mux_tables.proofs.Named.{goes_so, meant_by, named_by}
+use Rattle.mux_tables.proofs.Registering.{live_by_stay, silent_live}
+use Rattle.group_rows.specs.Live.{live_next, live_of}
 use Rattle.group_rows.specs.Ticks.{stop_next, stop_of}
+use Rattle.registrations.specs.declared.registration.Registration.{Registration}
 
 pub itself : (n : ℕ) → nat_eq n n ≡ true
 itself n = grind (arith, nat_tests)
@@ -193,6 +196,10 @@ touches of_parked (took (ServerGone n) m) = true
 touches of_parked (did (ToEditor e body) m) = is_request m
 touches of_parked (did (ToServer n body) m) = is_answer m
 touches of_parked other = false
+touches of_live (took (FromServer n body) m) = is_request m
+touches of_live (took (StartFailed n) m) = true
+touches of_live (took (ServerGone n) m) = true
+touches of_live other = false
 
 hears_quiet : (g : Stage) (m : Message) → is_first_result m ≡ false → stage_hears g m ≡ g
 hears_quiet Initializing m h = rw h refl
@@ -346,6 +353,22 @@ either_open other h = refl
 pub asks_stay : (settings : Settings) (s : ℕ) (events : List Event) (ev : Event) → touches of_parked ev ≡ false → AsksStay settings s events ev
 asks_stay settings s events ev h = record { asks = open_stay settings s events ev (either_open ev h); parked = parked_quiet settings s events (asking_of settings s events) ev h }
 
+-- what is registered at a start
+live_alone : (settings : Settings) (s : ℕ) (events : List Event) (live : List Registration) (ev : Event) → names_start s ev ≡ false → live_next settings s events live ev ≡ live
+live_alone settings s events live (took (FromServer n body) (request id method ps)) h = rw h refl
+live_alone settings s events live (took (StartFailed n) m) h = rw h refl
+live_alone settings s events live (took (ServerGone n) m) h = rw h refl
+live_alone settings s events live other h = refl
+
+live_quiet : (settings : Settings) (s : ℕ) (events : List Event) (live : List Registration) (ev : Event) → touches of_live ev ≡ false → live_next settings s events live ev ≡ live
+live_quiet settings s events live (took (FromServer n body) m) h = silent_live settings s n events live body m h
+live_quiet settings s events live (took (StartFailed n) m) h = never h
+live_quiet settings s events live (took (ServerGone n) m) h = never h
+live_quiet settings s events live other h = refl
+
+pub live_stay : (settings : Settings) (s : ℕ) (events : List Event) (ev : Event) → touches of_live ev ≡ false → LiveStay settings s events ev
+live_stay settings s events ev h = live_quiet settings s events (live_of settings s events) ev h
+
 -- an event of another start, and an event of another kind
 ids_by : (limit s : ℕ) (t : Table) (events : List Event) (ev : Event) → SameForwarding (forwarding_behind s (forwarding_of s events) ev) (forwarding_of s events) → IdsStand limit s t events → IdsStand limit s t (events ++ ev ∷ [])
 ids_by limit s t events ev same i = subst (λ x. IdsAt limit x t) (sym (one_more (forwarding_behind s) _ _ events ev refl)) (record { next = same.next ∙ i.next; open_requests = same.open_requests ∙ i.open_requests; ends = i.ends; order = i.order })
@@ -360,6 +383,7 @@ part_apart of_shown settings limit x events ev h a s = shown_by settings limit x
 part_apart of_stop settings limit x events ev h a s = stop_by settings limit x events ev (stop_alone x.life.start events (stop_of x.life.start events) ev h) s
 part_apart of_asks settings limit x events ev h a s = asks_by settings limit x events ev a.asks s
 part_apart of_parked settings limit x events ev h a s = parked_by settings limit x events ev a s
+part_apart of_live settings limit x events ev h a s = live_by_stay settings limit x events ev (live_alone settings x.life.start events (live_of settings x.life.start events) ev h) s
 
 pub part_quiet : (p : Part) (settings : Settings) (limit : ℕ) (x : Start) (events : List Event) (ev : Event) → touches p ev ≡ false → PartStands p settings limit x events → PartStands p settings limit x (events ++ ev ∷ [])
 part_quiet of_life settings limit x events ev h s = one_more (life_behind x.life.start) _ _ events ev s ∙ life_quiet x.life.start _ ev h
@@ -368,6 +392,7 @@ part_quiet of_shown settings limit x events ev h s = shown_by settings limit x e
 part_quiet of_stop settings limit x events ev h s = stop_by settings limit x events ev (stop_quiet x.life.start events (stop_of x.life.start events) ev h) s
 part_quiet of_asks settings limit x events ev h s = asks_by settings limit x events ev (open_stay settings x.life.start events ev h) s
 part_quiet of_parked settings limit x events ev h s = parked_by settings limit x events ev (asks_stay settings x.life.start events ev h) s
+part_quiet of_live settings limit x events ev h s = live_by_stay settings limit x events ev (live_stay settings x.life.start events ev h) s
 
 -- the last start of a group, where the event doesn't name it, and no start is spawned for the group
 pub last_stands : (settings : Settings) (limit : ℕ) (events : List Event) (ev : Event) (g : ℕ) (x : Start) → names_start x.life.start ev ≡ false → AsksStay settings x.life.start events ev → ((o : Option ℕ) → start_behind g o ev ≡ o) → LastStands settings limit events g x → LastStands settings limit (events ++ ev ∷ []) g x

@@ -53,6 +53,8 @@ pub mod Live
 pub mod Placed
 pub mod Waiting
 pub mod Parking
+pub mod Registering
+pub mod Registered
 pub mod Resuming
 pub mod DocumentResumed
 pub mod Working

@@ -22,6 +22,7 @@ use Rattle.mux_tables.specs.Stands.{HasOwnId, HaveOwnIds, IsFree, MayWait, Names
 use Rattle.mux_tables.proofs.Apart.{id_flip}
 use Rattle.mux_tables.proofs.Asking.{asking_more, asks_more}
 use Rattle.mux_tables.proofs.Frames.{itself, open_stay}
+use Rattle.mux_tables.proofs.Registering.{live_by_stay, other_live, patient_quiet}
 use Rattle.mux_tables.proofs.Served.{hears_answer, later_shown, server_moves}
 use Rattle.mux_tables.proofs.Starts.{read_here, read_same, start_at_place}
 use Rattle.mux_tables.proofs.Waiting.{all_so, all_then, none_any, none_either, ready_parked}
@@ -100,8 +101,8 @@ module _ (settings : Settings) (t u : Tables) (events : List Event) (g s : ℕ) 
   no_failure b = ap (λ m. is_first_error m && b) says
 
   pub park_moves : Stands settings t events → Stands settings u (events ++ took (FromServer s body) (message_of body) ∷ [])
-  park_moves st = server_moves settings t u events g s z body None z.life z.ids z.shown kept at within read (λ h. h) (later_shown z.life.start z.life.stage z.shown _ body (message_of body) (no_result (is_early z.life.stage)))
-      (λ later asked h. h) waits refl refl (hears_answer z.life.stage (message_of body) (no_result (is_initializing z.life.stage))) (no_failure (is_initializing z.life.stage))
+  park_moves st = server_moves settings t u events g s z body None z.life z.ids z.shown kept z.live at within read (λ h. h) (later_shown z.life.start z.life.stage z.shown _ body (message_of body) (no_result (is_early z.life.stage)))
+      (λ later asked h. h) waits (λ st h. live_by_stay settings t.requests z events ev (other_live settings z.life.start z.life.start events body method (message_of body) id params says (patient_quiet method patient)) h) refl refl (hears_answer z.life.stage (message_of body) (no_result (is_initializing z.life.stage))) (no_failure (is_initializing z.life.stage))
       (subst (λ m. NamesAt (answered_id m) None) (sym says) (λ n small. refl)) refl refl refl (λ o. o) set es gs now os r st
 
 -- the same, as the code has it

@@ -11,10 +11,10 @@ use Rattle.ask_route.specs.declared.ask.Ask as route
 use Rattle.ask_route.specs.Tables as asks
 use Rattle.mux_history.specs.declared.out.Out.{Out}
 use Rattle.mux_history.specs.declared.out.Out.TheVariants.{ToEditor}
-use Rattle.rpc_message.specs.Message.{Id, Message, id_bytes, integer, message_of, request, same_id}
+use Rattle.rpc_message.specs.Message.{Id, Message, integer, message_of, request, same_id}
 use Rattle.rpc_message.specs.Texts.{with_id_text}
 use Rattle.rpc_message.proofs.Decimals.{decimal_wide_law}
-use Rattle.rpc_message.proofs.Ids.{request_id_bytes, request_with_id}
+use Rattle.rpc_message.proofs.Ids.{request_with_id}
 use Rattle.event_model.specs.declared.phase.Phase.{Phase}
 use Rattle.event_model.specs.declared.phase.Phase.TheVariants.{Running}
 use Rattle.event_model.specs.declared.stage.Stage.{Stage}
@@ -32,12 +32,12 @@ use Rattle.editor_session.specs.Sessions as sessions
 use Rattle.editor_session.specs.Sessions.{absent, is_gone, session_of, unless_gone, with_session}
 use Rattle.group_words.proofs.Frames.{itself}
 use Rattle.group_rows.specs.AskRows.{ask}
-use Rattle.group_rows.specs.Asks.{Parked, Ask, Asking, asked_next, asking_next, asking_of, asks_of, has_number, is_own_work, is_patient, is_taken, is_under, next_ask, parked_of, serves, waits_under}
+use Rattle.group_rows.specs.Asks.{Parked, Ask, Asking, asked_next, asking_next, asking_of, asks_of, has_number, is_own_work, is_patient, is_under, next_ask, parked_of, serves, waits_under}
 use Rattle.mux_tables.specs.declared.tables.Start.{Start}
 use Rattle.mux_tables.specs.declared.tables.Tables.{Tables}
 use Rattle.mux_tables.specs.Documents.{DocumentsStand, Owed}
 use Rattle.mux_tables.specs.Puts.{IsAtWork, IsNextAsk}
-use Rattle.mux_tables.specs.Stands.{AreApart, AsksAt, AsksStand, CountStands, EditorsStand, HasText, IsAtRest, IsOther, Part, of_life, of_ids, of_shown, of_stop, of_asks, of_parked, ParkedAt, ParkedStand, PartStands, Stands, WasAsked, is_beside, is_request, kept_ask, phase_in}
+use Rattle.mux_tables.specs.Stands.{AreApart, AsksAt, AsksStand, CountStands, EditorsStand, HasText, IsAtRest, IsOther, Part, of_life, of_ids, of_shown, of_stop, of_asks, of_parked, of_live, ParkedAt, ParkedStand, PartStands, Stands, WasAsked, is_beside, is_request, kept_ask, phase_in}
 use Rattle.mux_tables.proofs.Apart.{id_flip}
 use Rattle.mux_tables.proofs.Asking.{asking_more, asks_later}
 use Rattle.mux_tables.proofs.Counted.{asked_more, next_more}
@@ -93,7 +93,7 @@ module _ (settings : Settings) (t : List Session) (events : List Event) (e : ℕ
       go false h = refl
       go true h = absurd (cc)
 
-  none_left : ◌≡◌ {A = Option ℕ} None (sessions.next_ask x) → has_number e events ≡ false
+  pub none_left : ◌≡◌ {A = Option ℕ} None (sessions.next_ask x) → has_number e events ≡ false
   none_left is = left ∙ none_there is
 
   none_set : ◌≡◌ {A = Option ℕ} None (sessions.next_ask x) → with_session t e (unless_gone sessions.asked x) ≡ t
@@ -257,6 +257,7 @@ module _ (settings : Settings) (t u : Tables) (base : List Event) (xs : List Out
       part of_stop h = part_quiet of_stop settings t.requests z before ev refl h
       part of_asks h = subst (λ (k : Stage). AsksAt k (before ++ ev ∷ []) (asks_of settings z.life.start (before ++ ev ∷ [])) kept) (sym ready) (stands (ready_asks z.life.stage before qs z.asks ready h))
       part of_parked h = subst (λ (k : Stage). ParkedAt k (asks_of settings z.life.start (before ++ ev ∷ [])) (parked_of settings z.life.start (before ++ ev ∷ [])) z.parked) (sym ready) (waits (ready_parked z.life.stage qs ps_now z.parked ready h))
+      part of_live h = part_quiet of_live settings t.requests z before ev refl h
 
       moves : Some n ≡ sessions.next_ask (session_of t.editors e) → Stands settings t before → Stands settings u (before ++ ev ∷ [])
       moves is st = house_and_lasts settings t u before ev (λ m. refl) refl os r

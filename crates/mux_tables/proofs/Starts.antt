@@ -22,8 +22,10 @@ use Rattle.group_rows.specs.Forwarded.{forwarding_behind, forwarding_of}
 use Rattle.group_rows.specs.Ticks.{is_stopping, stop_of}
 use Rattle.ask_route.specs.declared.ask.Ask as route
 use Rattle.group_rows.specs.Asks.{Ask, Parked, asks_of, parked_of}
+use Rattle.group_rows.specs.Live.{live_of}
+use Rattle.registrations.specs.declared.registration.Registration.{Registration}
 use Rattle.mux_tables.specs.Refusals.{asks_in}
-use Rattle.mux_tables.specs.Stands.{AsksAt, GroupsStand, IdsAt, IdsStand, Part, of_life, of_ids, of_shown, of_stop, of_asks, of_parked, ParkedAt, PartStands, ShownAt, StopAt, Stands, house_in, number_in, stage_in}
+use Rattle.mux_tables.specs.Stands.{AsksAt, GroupsStand, IdsAt, IdsStand, Part, of_life, of_ids, of_shown, of_stop, of_asks, of_parked, of_live, LiveAt, ParkedAt, PartStands, ShownAt, StopAt, Stands, house_in, number_in, stage_in}
 use Rattle.mux_tables.proofs.Frames.{names_start, names_editor, spawns, ticks, touches, part_quiet}
 use Rattle.mux_tables.proofs.IdMoves.{ids_more}
 use Rattle.mux_tables.proofs.Moves.{parts_move}
@@ -117,6 +119,11 @@ still_parked settings limit events ev x y l k q s =
     subst (λ ks. ParkedAt y.life.stage (asks_of settings y.life.start (events ++ ev ∷ [])) (parked_of settings y.life.start (events ++ ev ∷ [])) ks) (sym k)
     (subst (λ (z : Standing). ParkedAt z.stage (asks_of settings z.start (events ++ ev ∷ [])) (parked_of settings z.start (events ++ ev ∷ [])) x.parked) (sym l) (part_quiet of_parked settings limit x events ev q s))
 
+pub still_live : (settings : Settings) (limit : ℕ) (events : List Event) (ev : Event) (x y : Start) → y.life ≡ x.life → y.live ≡ x.live → touches of_live ev ≡ false → PartStands of_live settings limit x events → PartStands of_live settings limit y (events ++ ev ∷ [])
+still_live settings limit events ev x y l k q s =
+    subst (λ ks. LiveAt y.life.stage (live_of settings y.life.start (events ++ ev ∷ [])) ks) (sym k)
+    (subst (λ (z : Standing). LiveAt z.stage (live_of settings z.start (events ++ ev ∷ [])) x.live) (sym l) (part_quiet of_live settings limit x events ev q s))
+
 -- one whose answer to `shutdown` isn't awaited
 stop_at : (stage : Stage) (kept : Option (ℕ × ℕ)) (since : Option ℕ) → is_stopping stage ≡ false → StopAt stage kept since
 stop_at Stopping kept since h = never h
@@ -167,6 +174,18 @@ parked_late Ready asked waiting kept h = never (sym h)
 
 pub late_parked : (settings : Settings) (limit : ℕ) (events : List Event) (y : Start) → is_late y.life.stage ≡ true → PartStands of_parked settings limit y events
 late_parked settings limit events y h = parked_late y.life.stage (asks_of settings y.life.start events) (parked_of settings y.life.start events) y.parked h
+
+live_late : (stage : Stage) (live kept : List Registration) → is_late stage ≡ true → LiveAt stage live kept
+live_late Stopping live kept h = tt
+live_late Ending live kept h = tt
+live_late Ended live kept h = tt
+live_late Unspawned live kept h = never (sym h)
+live_late Spawning live kept h = never (sym h)
+live_late Initializing live kept h = never (sym h)
+live_late Ready live kept h = never (sym h)
+
+pub late_live : (settings : Settings) (limit : ℕ) (events : List Event) (y : Start) → is_late y.life.stage ≡ true → PartStands of_live settings limit y events
+late_live settings limit events y h = live_late y.life.stage (live_of settings y.life.start events) y.live h
 
 -- the event `ev n` names start n alone, and start s is the last one of group g, which goes from z to y
 module _ (settings : Settings) (t u : Tables) (events : List Event) (ev : ℕ → Event) (g s : ℕ) (z y : Start) (at : slice_get (map number_in t.lasts.items) g ≡ Some s) (within : g < length t.lasts.items) (read : z ≡ get_or t.lasts.items g z)

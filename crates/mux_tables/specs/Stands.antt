@@ -36,7 +36,9 @@ use Rattle.mux_tables.specs.declared.tables.Tables.{Tables}
 use Rattle.mux_tables.specs.Names.{NamesStand}
 use Rattle.group_rows.specs.Asks.{Ask, Parked, asking_next, asking_of, asks_of, is_patient, is_seated, is_under, next_ask, parked_of}
 use Rattle.group_rows.specs.Forwarded.{Forwarded, Forwarding, forwarding_of, names}
+use Rattle.group_rows.specs.Live.{live_next, live_of}
 use Rattle.group_rows.specs.Ticks.{stop_of, stopping_of}
+use Rattle.registrations.specs.declared.registration.Registration.{Registration}
 
 -- the editors: how many joined, and of each its phase, its group, the id of its `initialize`, and before that what it meant by `lspmux/open`
 abbrev pub phase_in : Option Session → Phase
@@ -194,9 +196,17 @@ ParkedAt Initializing open_asks waiting kept = (waiting ≡ []) × (kept ≡ [])
 ParkedAt Ready open_asks waiting kept = ParkedStand open_asks waiting kept
 ParkedAt other open_asks waiting kept = Unit {0}
 
+-- what is registered at a start, as it is kept, by where it stands: before it is ready nothing is
+abbrev pub LiveAt : Stage → List Registration → List Registration → Type 0
+LiveAt Unspawned live kept = (live ≡ []) × (kept ≡ [])
+LiveAt Spawning live kept = (live ≡ []) × (kept ≡ [])
+LiveAt Initializing live kept = (live ≡ []) × (kept ≡ [])
+LiveAt Ready live kept = kept ≡ live
+LiveAt other live kept = Unit {0}
+
 -- the tables of one start; a further one is a name here, and a clause
 pub data Part : Type 0 where
-  of_life of_ids of_shown of_stop of_asks of_parked : Part
+  of_life of_ids of_shown of_stop of_asks of_parked of_live : Part
 
 abbrev pub PartStands : Part → Settings → ℕ → Start → List Event → Type 0
 PartStands of_life settings limit x events = life_of x.life.start events ≡ record { stage = x.life.stage; started = x.started }
@@ -205,6 +215,7 @@ PartStands of_shown settings limit x events = ShownAt x.life.stage x.shown (resu
 PartStands of_stop settings limit x events = StopAt x.life.stage x.life.stopping (stop_of x.life.start events)
 PartStands of_asks settings limit x events = AsksAt x.life.stage events (asks_of settings x.life.start events) x.asks
 PartStands of_parked settings limit x events = ParkedAt x.life.stage (asks_of settings x.life.start events) (parked_of settings x.life.start events) x.parked
+PartStands of_live settings limit x events = LiveAt x.life.stage (live_of settings x.life.start events) x.live
 
 -- what is kept of the last start of group g stands for what the events say of it
 pub record LastStands (settings : Settings) (limit : ℕ) (events : List Event) (g : ℕ) (x : Start) : Type 0 where
@@ -215,7 +226,7 @@ pub record LastStands (settings : Settings) (limit : ℕ) (events : List Event) 
 
 -- the tables of a start that wasn't spawned
 abbrev pub blank : ℕ → ℕ → Start
-blank limit s = record { life = record { start = s; group = 0; stage = Unspawned; stopping = None }; started = false; ids = record { requests = []; next = 2; limit = limit; spare = 0 }; shown = None; asks = []; parked = [] }
+blank limit s = record { life = record { start = s; group = 0; stage = Unspawned; stopping = None }; started = false; ids = record { requests = []; next = 2; limit = limit; spare = 0 }; shown = None; asks = []; parked = []; live = [] }
 
 -- its number
 abbrev pub number_in : Start → ℕ
@@ -328,6 +339,10 @@ ParkedStay settings s events event = (asking_next settings s events (asking_of s
 pub record AsksStay (settings : Settings) (s : ℕ) (events : List Event) (event : Event) : Type 0 where
   pub asks : OpenStay settings s events event
   pub parked : ParkedStay settings s events event
+
+-- and what is registered there
+abbrev pub LiveStay : Settings → ℕ → List Event → Event → Type 0
+LiveStay settings s events event = live_next settings s events (live_of settings s events) event ≡ live_of settings s events
 
 -- no request of a start is at work that one editor answers, and no editor's message
 pub record IsAtRest (settings : Settings) (s : ℕ) (events : List Event) : Type 0 where

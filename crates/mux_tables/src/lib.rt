@@ -9,6 +9,7 @@ mod looks;
 mod notes;
 mod places;
 mod puts;
+mod registers;
 mod requests;
 mod resumes;
 mod says;

@@ -38,6 +38,7 @@ use focus_switch::Shared;
 use id_rewrite::{IdTable, Pending};
 use message_body::{Body, Memory};
 use mux_history::{Out, Outs};
+use registrations::Live;
 use restart_replay::Life;
 use std::alloc::Global;
 
@@ -348,6 +349,7 @@ impl Tables {
         let ids = IdTable::new(alloc, self.requests);
         let asks = Asks::new(alloc);
         let parked = Asks::new(alloc);
+        let live = Live::new(alloc);
         let documents = Shared::new(alloc, self.versions);
         self.origins.groups.push(g)?;
         self.documents.push(documents)?;
@@ -358,6 +360,7 @@ impl Tables {
             shown: None,
             asks,
             parked,
+            live,
         })?;
         outs.push(Out::Spawn(s, g))?;
         Ok(())
@@ -380,6 +383,7 @@ impl Tables {
         let ids = IdTable::new(alloc, self.requests);
         let asks = Asks::new(alloc);
         let parked = Asks::new(alloc);
+        let live = Live::new(alloc);
         self.origins.groups.push(group)?;
         self.lasts[g] = Start {
             life,
@@ -388,6 +392,7 @@ impl Tables {
             shown: None,
             asks,
             parked,
+            live,
         };
         outs.push(Out::Spawn(s, group))?;
         Ok(())

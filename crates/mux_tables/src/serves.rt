@@ -17,7 +17,7 @@ ghost use Rattle.mux_tables.specs.declared.tables.Start.{Start};
 ghost use Rattle.mux_model.specs.Documents.{encoding_by};
 ghost use Rattle.mux_tables.specs.Documents.{DocumentsStand, Owed, nothing_owed, owes, replaying, to};
 ghost use Rattle.group_rows.specs.Forwarded.{forwarding_of, is_under};
-ghost use Rattle.mux_tables.specs.Stands.{Exits, NamesAt, ParkedStay, Stands, any_in, begun_at, forwarded_as, is_early, number_in, stage_in};
+ghost use Rattle.mux_tables.specs.Stands.{Exits, LiveStay, NamesAt, ParkedStay, Stands, any_in, begun_at, forwarded_as, is_early, number_in, stage_in};
 
 use crate::documents::{ready, remove, unready};
 use crate::requests::{answer, forget};
@@ -30,6 +30,7 @@ use id_rewrite::{IdTable, Pending};
 use message_body::{Body, Memory};
 use mux_history::Outs;
 use position_codec::Encoding;
+use registrations::Live;
 use restart_replay::Life;
 use std::alloc::Global;
 
@@ -153,12 +154,14 @@ impl Tables {
         let ids = IdTable::new(alloc, self.requests);
         let asks = Asks::new(alloc);
         let parked = Asks::new(alloc);
+        let live = Live::new(alloc);
         let last = &mut self.lasts[g];
         last.life.over();
         last.shown = None;
         last.ids = ids;
         last.asks = asks;
         last.parked = parked;
+        last.live = live;
         end_stop(&mut self.origins.stopping, last.life.start());
         Ok(())
     }
@@ -227,12 +230,14 @@ impl Tables {
         let ids = IdTable::new(alloc, self.requests);
         let asks = Asks::new(alloc);
         let parked = Asks::new(alloc);
+        let live = Live::new(alloc);
         let last = &mut self.lasts[g];
         last.life.over();
         last.shown = None;
         last.ids = ids;
         last.asks = asks;
         last.parked = parked;
+        last.live = live;
         end_stop(&mut self.origins.stopping, last.life.start());
     }
 
@@ -278,8 +283,9 @@ impl Tables {
         self.forget(g);
     }
 
-    /// A message came from the group's last start that doesn't answer its `initialize`, and by which nothing waits from now on: what was
-    /// kept of the request that it answers, which isn't open any more. `n` is the number that its id writes.
+    /// A message came from the group's last start that doesn't answer its `initialize`, by which nothing waits from now on, and which
+    /// changes nothing of what is registered: what was kept of the request that it answers, which isn't open any more. `n` is the number
+    /// that its id writes.
     pub fn hear_answer(&mut self, g: usize, n: Option<u32>) -> Option<Pending>
         requires { g < length self.old.lasts.items }
         ensures requests { self.new.requests ≡ self.old.requests }
@@ -290,7 +296,8 @@ impl Tables {
             → slice_get (map number_in self.old.lasts.items) g ≡ Some s
             → (is_first_result (message_of body) && is_early x.life.stage) ≡ false
             → (is_first_error (message_of body) && is_initializing x.life.stage) ≡ false
-            → ParkedStay settings s events (heard (FromServer s body)) → NamesAt (answered_id (message_of body)) n
+            → ParkedStay settings s events (heard (FromServer s body)) → LiveStay settings s events (heard (FromServer s body))
+            → NamesAt (answered_id (message_of body)) n
             → Stands settings self.old events → Stands settings self.new (events ++ heard (FromServer s body) ∷ []) }
         ensures documents { (settings : Settings) (owed : Owed) (events : List Event) (s : ℕ) (body : List ℕ) (x : Start)
             → slice_get self.old.lasts.items g ≡ Some x → slice_get (map number_in self.old.lasts.items) g ≡ Some s

@@ -10,13 +10,15 @@ use focus_switch::Shared;
 use group_table::Groups;
 use id_rewrite::IdTable;
 use message_body::{Body, Memory};
+use registrations::Live;
 use restart_replay::Life;
 use std::alloc::Global;
 use text_pieces::PieceText;
 
 /// What is kept of the last start of one group: where it stands, whether its program ever ran, the requests that it has to
 /// answer, what editors are shown of the result of its `initialize`, where it gave one and isn't to end, what it asked of
-/// editors that didn't answer yet, and what it asks of one as soon as an editor runs: all of these are parked.
+/// editors that didn't answer yet, what it asks of one as soon as an editor runs: all of these are parked, and what it registered
+/// and didn't take back.
 #[derive(Drop)]
 pub struct Start {
     pub life: Life,
@@ -25,6 +27,7 @@ pub struct Start {
     pub shown: Option<Body>,
     pub asks: Asks,
     pub parked: Asks,
+    pub live: Live,
 }
 
 /// What is kept of the starts, beside the last ones of groups.

@@ -1,0 +1,19 @@
+-- What is kept of registrations is the texts of values, of which requests can be written.
+use Rattle.std.specs.Prelude.{ℕ, List}
+use Rattle.std.specs.List.{AllByRecursion}
+use Rattle.json_text.specs.Bare.{nowhere}
+use Rattle.json_text.specs.Json.{Json, string}
+use Rattle.rpc_message.specs.ValueTexts.{IsShallowText, IsValueText}
+use Rattle.registrations.specs.declared.registration.Registration.{Registration}
+
+-- an item is the text of a value, three levels down in a body, and its id and its method are those of strings
+pub record IsWrittenItem (r : Registration) : Type 0 where
+  pub tree : Json
+  pub item : IsShallowText 1021 tree r.item
+  pub named : List ℕ
+  pub id : IsValueText (string nowhere named) r.id
+  pub called : List ℕ
+  pub method : IsValueText (string nowhere called) r.method
+
+abbrev pub AreWritten : List Registration → Type 0
+AreWritten rs = AllByRecursion IsWrittenItem rs
