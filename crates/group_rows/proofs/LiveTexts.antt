@@ -24,7 +24,7 @@ use Rattle.rpc_message.specs.Message.{Message, request, notification, result, er
 use Rattle.rpc_message.specs.ValueTexts.{IsShallowText, IsValueText}
 use Rattle.rpc_message.proofs.Opening.{value_says}
 use Rattle.rpc_message.proofs.Replies.{request_law}
-use Rattle.doc_text.specs.Changes.{string_text}
+use Rattle.document_model.specs.Strings.{string_text}
 use Rattle.capability_meet.specs.Parts.{bracketed, listed}
 use Rattle.capability_meet.proofs.MeetSays.{array_says, first_item, one_more_item}
 use Rattle.event_model.specs.Event.{Event, did, took}
