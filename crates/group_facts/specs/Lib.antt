@@ -1,4 +1,5 @@
 pub mod Built
+pub mod Ceilings
 pub mod Example
 pub mod Facts
 pub mod Legal

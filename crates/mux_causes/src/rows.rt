@@ -26,11 +26,10 @@ ghost use Rattle.rpc_message.specs.Parsed.{IsRead};
 use event_model::{Phase, Stage};
 use lsp_method::Class;
 use message_body::{Body, Memory};
-use mux_editors::{asks_lspmux, doubles};
 use mux_history::Cause;
 use mux_members::{asked_class, cancels_work, class_in, has_token, is_first_result, told_class};
-use mux_starts::shown_of;
 use mux_tables::Tables;
+use mux_turns::{asks_lspmux, doubles, shown_of};
 use rpc_message::{Malformed, Message, Sort};
 use std::alloc::Global;
 
@@ -191,13 +190,18 @@ fn built_telling(message: &Message) -> bool
     is_told(told_class(message))
 }
 
-// S9 to S12: whether requests of this class are built.
+// S6, S7 and S9 to S12: whether requests of this class are built.
 fn is_asked_of_editors(class: Class) -> bool
     ensures { result ≡ built_asking class }
 {
     matches!(
         class,
-        Class::Refresh | Class::Folders | Class::Focused | Class::Lowest
+        Class::Refresh
+            | Class::Folders
+            | Class::Focused
+            | Class::Lowest
+            | Class::Register
+            | Class::Unregister
     )
 }
 

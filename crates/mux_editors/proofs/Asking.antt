@@ -36,7 +36,7 @@ use Rattle.mux_tables.proofs.Starts.{start_at_place}
 use Rattle.mux_editors.proofs.Classes.{Serves}
 use Rattle.mux_editors.proofs.Synced.{alike_since, at_work, same_sync}
 
-module _ (settings : Settings) (t : Tables) (before : List Event) (body method : List ℕ) (id : Id) (params : Option Json) (e i s n : ℕ) (x : Start) (xs : List Out) (asked : AllByRecursion IsQuestion xs)
+module _ (settings : Settings) (t : Tables) (before : List Event) (body method : List ℕ) (id : Id) (params : Option Json) (e i s n : ℕ) (x : Start) (xs : List Out) (asked : AllByRecursion (IsQuestion e) xs)
     (at : slice_get t.lasts.items i ≡ Some x) (number : slice_get (map number_in t.lasts.items) i ≡ Some s) (ready : x.life.stage ≡ Ready) (next : n ≡ x.ids.next) (left : x.ids.next < x.ids.limit)
     (says : message_of body ≡ request id method params) (serves : Serves method) (passed : is_own method ≡ false) where
   abbrev base : List Event

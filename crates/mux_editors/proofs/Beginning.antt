@@ -1,5 +1,5 @@
--- L2: what an editor is asked where it begins to run.
-use Rattle.std.proofs.Common.{◌≡◌, ℕ, true, List, [], ◌∷◌, map, zero, suc, length, refl, ap, sym, subst, ◌∙◌}
+-- L2: what an editor is told and asked where it begins to run.
+use Rattle.std.proofs.Common.{◌≡◌, ℕ, true, List, [], ◌∷◌, ◌++◌, map, zero, suc, length, refl, ap, sym, subst, ◌∙◌}
 use Rattle.std.specs.Prelude.{Some, slice_get}
 use Rattle.std.specs.List.{AllByRecursion}
 use Rattle.mux_history.specs.declared.cause.Cause.TheVariants.{FromEditor}
@@ -9,15 +9,20 @@ use Rattle.event_model.specs.declared.stage.Stage.TheVariants.{Ready}
 use Rattle.event_model.specs.Does.{Alike, Does}
 use Rattle.event_model.specs.Event.{Event, behind, with_cause}
 use Rattle.event_model.specs.Phases.{desk_of, is_running, is_served, makes_running}
-use Rattle.event_model.specs.Row.{each, nothing}
+use Rattle.event_model.specs.Row.{Row, after, each, nothing, outs}
 use Rattle.event_model.specs.Settings.{Settings}
 use Rattle.event_model.specs.Stages.{Life, is_ready, life_of}
 use Rattle.event_model.proofs.Places.{same_item}
-use Rattle.event_model.proofs.Turns.{alike_then, does_alike, does_nothing}
+use Rattle.event_model.proofs.Turns.{alike_then, does_alike, does_nothing, does_then}
 use Rattle.group_facts.specs.Why.{IsQuestion}
 use Rattle.group_rows.specs.AskRows.{ask}
-use Rattle.group_rows.specs.Asks.{Parked, asks_of, parked_of}
+use Rattle.group_rows.specs.Asks.{Asking, Parked, asks_of, parked_of}
+use Rattle.group_rows.specs.Live.{live_of, register_text}
+use Rattle.group_rows.specs.LiveRows.{has_some, register_any}
+use Rattle.group_rows.proofs.LiveTexts.{live_written}
 use Rattle.group_words.specs.Houses.{home_of}
+use Rattle.mux_facts.proofs.Lists.{all_join}
+use Rattle.registrations.specs.declared.registration.Registration.{Registration}
 use Rattle.mux_tables.specs.declared.tables.Start.{Start}
 use Rattle.mux_tables.specs.declared.tables.Tables.{Tables}
 use Rattle.mux_tables.specs.Documents.{AllStand, DocumentsStand, Owed}
@@ -25,10 +30,12 @@ use Rattle.mux_tables.specs.Resumes.{unasked}
 use Rattle.mux_tables.specs.Stands.{IsWorking, MayWait, Stands, number_in, of_life, of_parked}
 use Rattle.mux_tables.proofs.DocumentOwed.{all_does}
 use Rattle.mux_tables.proofs.Waiting.{ready_parked}
+use Rattle.mux_turns.specs.Calls.{IsCall}
+use Rattle.mux_turns.proofs.Called.{Quiet, any_quiet, quiet_behind, register_call, runs_on}
 use Rattle.mux_turns.proofs.Departing.{behind_first}
 use Rattle.mux_turns.proofs.Matched.{whole_entry}
 use Rattle.mux_editors.specs.Running.{Begun, may_begin, running_row}
-use Rattle.mux_editors.proofs.Runs.{asks_all, begins_row, ready_run, runs_now, works_now}
+use Rattle.mux_editors.proofs.Runs.{asks_all, begins_row, ready_run, restores_all, runs_now, works_now}
 
 module _ (settings : Settings) (t u : Tables) (owed : Owed) (before : List Event) (e : ℕ) (body : List ℕ) (xs ys : List Out) (first : xs ≡ []) where
   abbrev base : List Event
@@ -40,7 +47,7 @@ module _ (settings : Settings) (t u : Tables) (owed : Owed) (before : List Event
   pub silent_begun : Stands settings t base → DocumentsStand settings owed t base → Alike (running_row settings before e (message_of body)) nothing → Begun settings before e body owed t xs
   silent_begun st ds none = record {
     done = whole_entry (λ k events. AllStand settings k events) (running_row settings before e (message_of body)) base (t, owed) (t, owed) xs xs first (st, ds) (does_alike (λ _. none) does_nothing);
-    asks = subst (AllByRecursion IsQuestion) (sym first) tt;
+    asks = subst (AllByRecursion (IsQuestion e)) (sym first) tt;
   }
 
   module _ (served : is_served (desk_of e before).phase ≡ true) (runs : makes_running (message_of body) ≡ true) (begins : may_begin (desk_of e before).phase ≡ true) (st : Stands settings t base) (ds : DocumentsStand settings owed t base)
@@ -63,21 +70,60 @@ module _ (settings : Settings) (t u : Tables) (owed : Owed) (before : List Event
     stage : is_ready (life_of s base).stage ≡ true
     stage = ap (λ (l : Life). is_ready l.stage) ((st.lasts.each g x at).parts of_life) ∙ ap is_ready ready
 
-    row_is : Alike (running_row settings before e (message_of body)) (each (λ (p : Parked). ask p.body e) (parked_of settings s base))
+    abbrev live : List Registration
+    live = live_of settings s base
+
+    pub called : IsCall (register_text live)
+    called = register_call live (live_written settings s base)
+
+    pub live_here : live_of settings s now ≡ live
+    live_here = ap (live_of settings s) (sym here)
+
+    abbrev asking : Row
+    asking = each (λ (p : Parked). ask p.body e) (parked_of settings s base)
+
+    row_is : Alike (running_row settings before e (message_of body)) (after (register_any live e) asking)
     row_is = alike_then (begins_row settings before e body served runs begins) (ready_run settings before e body served runs x.life.group s home (st.lasts.each g x at).start stage)
 
     waiting : AllByRecursion MayWait (parked_of settings s base)
     waiting = (ready_parked x.life.stage (asks_of settings s base) (parked_of settings s base) x.parked ready ((st.lasts.each g x at).parts of_parked)).bodies
 
-    pub all_begun : Does (λ t events. Stands settings t events) (each (λ (p : Parked). ask p.body e) (parked_of settings s now)) base t xs u ys → (DocumentsStand settings owed t now → DocumentsStand settings owed u (behind base ys)) → Begun settings before e body owed u ys
-    all_begun d docs =
-        let asked = subst (λ es. Does (λ t events. Stands settings t events) (each (λ (p : Parked). ask p.body e) (parked_of settings s es)) base t xs u ys) (sym here) d in
-        let done = whole_entry (λ k events. AllStand settings k events) (running_row settings before e (message_of body)) base (t, owed) (u, owed) xs ys first (st, ds)
-        (does_alike (λ _. row_is) (all_does settings t u owed owed base xs ys asked (λ _ k. docs k))) in
-        record {
-          done = done;
-          asks = subst (AllByRecursion IsQuestion) (sym (done.outs ∙ row_is.sends (behind base []))) (asks_all e (parked_of settings s base) waiting (behind base []));
-        }
+    -- behind what it is told of registrations
+    module _ (zs : List Out) (told : zs ≡ xs ++ outs (register_any (live_of settings s now) e) now) where
+      abbrev mid : List Event
+      mid = behind base zs
+
+      quiet : Quiet settings now mid
+      quiet = quiet_behind settings (register_any (live_of settings s now) e) base xs zs told
+          (any_quiet settings (register_text (live_of settings s now)) (subst (λ rs. IsCall (register_text rs)) (sym live_here) called) (has_some (live_of settings s now)) e now)
+
+      pub runs_mid : is_running (desk_of e mid).phase ≡ true
+      runs_mid = runs_on settings now mid quiet e runs_here
+
+      pub home_mid : home_of settings e mid ≡ Some x.life.group
+      home_mid = quiet.homes e ∙ home_here
+
+      pub works_mid : (n : ℕ) → IsWorking settings e n mid
+      works_mid n =
+          let same = quiet.asking n (works_here n).asker in
+          record { asker = ap (λ (a : Asking). a.asker) same ∙ (works_here n).asker; runs = ap (λ (a : Asking). a.runs) same ∙ (works_here n).runs }
+
+      parked_mid : parked_of settings s mid ≡ parked_of settings s base
+      parked_mid = ap (λ (a : Asking). a.parked) (quiet.asking s (works_here s).asker) ∙ ap (parked_of settings s) (sym here)
+
+      pub all_begun : (w : Tables) → Does (λ k events. AllStand settings k events) (register_any (live_of settings s now) e) base (t, owed) xs (w, owed) zs
+          → Does (λ t events. Stands settings t events) (each (λ (p : Parked). ask p.body e) (parked_of settings s mid)) base w zs u ys → (DocumentsStand settings owed w mid → DocumentsStand settings owed u (behind base ys)) → Begun settings before e body owed u ys
+      all_begun w d one docs =
+          let first_part = subst (λ rs. Does (λ k events. AllStand settings k events) (register_any rs e) base (t, owed) xs (w, owed) zs) live_here d in
+          let second_part = subst (λ ps. Does (λ t events. Stands settings t events) (each (λ (p : Parked). ask p.body e) ps) base w zs u ys) parked_mid one in
+          let done = whole_entry (λ k events. AllStand settings k events) (running_row settings before e (message_of body)) base (t, owed) (u, owed) xs ys first (st, ds)
+          (does_alike (λ _. row_is) (does_then first_part (all_does settings w u owed owed base zs ys second_part (λ _ k. docs k)))) in
+          let told_first = outs (register_any live e) (behind base []) in
+          record {
+            done = done;
+            asks = subst (AllByRecursion (IsQuestion e)) (sym (done.outs ∙ row_is.sends (behind base [])))
+                (all_join (IsQuestion e) told_first (outs asking (behind (behind base []) told_first)) (restores_all e live called (behind base [])) (asks_all e (parked_of settings s base) waiting (behind (behind base []) told_first)));
+          }
 
 -- The last starts, but for what they asked
 

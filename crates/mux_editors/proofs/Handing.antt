@@ -71,10 +71,10 @@ module _ (body text w : List ℕ) (x : Asking) (response : is_response (message_
   handed (Some a) is fits go = let own : w ≡ a.bytes = cc in let k = one a own fits in go a.id k.0 k.1
 
 -- what was found before the response fits behind what the editor was asked by it
-pub fits_behind : (settings : Settings) (s : ℕ) (base : List Event) (xs : List Out) (o : Option Ask) → IfSome o (λ a. HasText a × AllByRecursion (λ (b : Ask). is_under (Some a.id) b ≡ false) (asks_of settings s base))
-    → IfSome o (λ a. AllByRecursion (λ (p : Parked). waits_under (Some a.id) p ≡ false) (parked_of settings s base)) → (asking_of settings s base).asker ≡ None → AllByRecursion IsQuestion xs → IfSome o (Fits (asking_of settings s (behind base xs)))
-fits_behind settings s base xs None fits waits asker asked = tt
-fits_behind settings s base xs (Some a) fits waits asker asked = (fits.0, still_unused settings s (Some a.id) base xs asked asker (fits.1, waits))
+pub fits_behind : (settings : Settings) (e s : ℕ) (base : List Event) (xs : List Out) (o : Option Ask) → IfSome o (λ a. HasText a × AllByRecursion (λ (b : Ask). is_under (Some a.id) b ≡ false) (asks_of settings s base))
+    → IfSome o (λ a. AllByRecursion (λ (p : Parked). waits_under (Some a.id) p ≡ false) (parked_of settings s base)) → (asking_of settings s base).asker ≡ None → AllByRecursion (IsQuestion e) xs → IfSome o (Fits (asking_of settings s (behind base xs)))
+fits_behind settings e s base xs None fits waits asker asked = tt
+fits_behind settings e s base xs (Some a) fits waits asker asked = (fits.0, still_unused settings s (Some a.id) e base xs asked asker (fits.1, waits))
 
 pub handed_does : (settings : Settings) (t : Tables) (base : List Event) (xs ys : List Out) (body text w : List ℕ) (s : ℕ) (o : Option Ask) → Some w ≡ option_map (λ (a : Ask). a.bytes) o → text ≡ with_id_text body w → Does (λ t events. Stands settings t events) (send (ToServer s text)) base t xs t ys
     → Does (λ t events. Stands settings t events) (on o nothing (hand_back s body)) base t xs t ys

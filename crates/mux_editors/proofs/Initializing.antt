@@ -46,7 +46,7 @@ use Rattle.mux_tables.specs.declared.tables.Tables.{Tables}
 use Rattle.mux_tables.specs.Documents.{AllStand, nothing_owed}
 use Rattle.mux_tables.specs.Stands.{HasEnded, Stands, phase_in}
 use Rattle.mux_tables.proofs.Frames.{itself}
-use Rattle.mux_editors.specs.Ceilings.{HaveCeilings, IsCeiling}
+use Rattle.group_facts.specs.Ceilings.{HaveCeilings, IsCeiling}
 use Rattle.mux_turns.specs.Founding.{IsNext}
 use Rattle.mux_turns.specs.Welcomes.{IsShown}
 use Rattle.mux_turns.proofs.Evictions.{numbered_heard}

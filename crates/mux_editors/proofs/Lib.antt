@@ -1,6 +1,5 @@
 pub mod Handing
 pub mod Asides
-pub mod Asked
 pub mod Asking
 pub mod Beginning
 pub mod Cancelling
@@ -14,3 +13,4 @@ pub mod Runs
 pub mod Serving
 pub mod Synced
 mod Telling
+pub mod Turns

@@ -21,27 +21,8 @@ use Rattle.group_words.specs.Houses.{is_doubled, is_first_open, meant_of, places
 use Rattle.mux_facts.proofs.Words.{id_same}
 use Rattle.mux_tables.specs.Documents.{changes_documents}
 use Rattle.mux_tables.proofs.Frames.{itself}
+use Rattle.mux_turns.proofs.Lspmux.{either_asks}
 use Rattle.mux_editors.proofs.Asides.{desk_now}
-
--- as the code tells them apart
-pub or_first : (a b : Bool) → a ≡ true → a ≡ (a || b)
-or_first true b h = refl
-or_first false b h = absurd (cc)
-
-pub or_second : (a b : Bool) → a ≡ false → b ≡ (a || b)
-or_second false b h = refl
-or_second true b h = absurd (cc)
-
-by_either : (a b : Bool) (m : Message) → requests (codes "lspmux/open") m ≡ a → requests (codes "lspmux/status") m ≡ b → asks_lspmux m ≡ (a || b)
-by_either a b (request id method params) h k = ap (λ x. x || bytes_eq (codes "lspmux/status") method) h ∙ ap (λ x. a || x) k
-by_either a b (notification method params) h k = k ∙ ap (λ x. x || b) h
-by_either a b (result id r) h k = k ∙ ap (λ x. x || b) h
-by_either a b (error id x) h k = k ∙ ap (λ x. x || b) h
-by_either a b not_json h k = k ∙ ap (λ x. x || b) h
-by_either a b not_message h k = k ∙ ap (λ x. x || b) h
-
-pub either_asks : (m : Message) → asks_lspmux m ≡ (requests (codes "lspmux/open") m || requests (codes "lspmux/status") m)
-either_asks m = by_either (requests (codes "lspmux/open") m) (requests (codes "lspmux/status") m) m refl refl
 
 pub status_asks : (m : Message) → requests (codes "lspmux/status") m ≡ true → asks_lspmux m ≡ true
 status_asks m h = either_asks m ∙ (ap (λ b. requests (codes "lspmux/open") m || b) h ∙ later (requests (codes "lspmux/open") m))

@@ -49,7 +49,7 @@ module _ (method : List ℕ) (params : Option Json) (going : goes_on (class_of m
   pub passed_synced : (text : List ℕ) → message_of text ≡ notification method params → is_synced (message_of text) ≡ true
   passed_synced text says = ap is_synced says ∙ going_synced method going params
 
-  module _ (settings : Settings) (t u : Tables) (before : List Event) (body text : List ℕ) (e g s : ℕ) (xs ys : List Out) (asked : AllByRecursion IsQuestion xs) (is : text ≡ body) (says : message_of body ≡ notification method params) where
+  module _ (settings : Settings) (t u : Tables) (before : List Event) (body text : List ℕ) (e g s : ℕ) (xs ys : List Out) (asked : AllByRecursion (IsQuestion e) xs) (is : text ≡ body) (says : message_of body ≡ notification method params) where
     abbrev base : List Event
     base = with_cause before (FromEditor e body)
 

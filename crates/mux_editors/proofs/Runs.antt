@@ -1,5 +1,5 @@
 -- A message by which an editor that is served runs (L2): what it leaves as it was, and what it may begin.
-use Rattle.std.proofs.Common.{◌≡◌, ℕ, ◌^◌, Bool, true, false, not, ◌&&◌, ◌||◌, List, [], ◌∷◌, ◌++◌, map, bytes_eq, codes, decimal, nat_eq, if◌then◌else◌, refl, ap, sym, subst, ◌∙◌, append-nil, append_assoc, ltb-true}
+use Rattle.std.proofs.Common.{◌≡◌, ℕ, ◌^◌, Bool, true, false, not, ◌&&◌, ◌||◌, List, [], ◌∷◌, ◌++◌, map, bytes_eq, codes, decimal, nat_eq, if◌then◌else◌, refl, ap, ap₂, sym, subst, ◌∙◌, append-nil, append_assoc, ltb-true}
 use Rattle.std.specs.Prelude.{Option, Some, None}
 use Rattle.std.specs.List.{AllByRecursion}
 use Rattle.std.specs.Option.{option_and_then}
@@ -30,9 +30,14 @@ use Rattle.group_facts.proofs.Homes.{took_home}
 use Rattle.group_facts.proofs.Still.{unshut}
 use Rattle.group_rows.specs.AskRows.{ask, run_at, run_row}
 use Rattle.group_rows.specs.Asks.{Ask, Asking, Parked, asked_next, asking_next, asking_of, has_number, is_own_work, is_patient, is_under, next_ask, parked_of, serves, unparked, waits_under}
+use Rattle.group_rows.specs.Live.{live_of, register_text}
+use Rattle.group_rows.specs.LiveRows.{call, has_some, register_any, restore}
 use Rattle.group_rows.specs.Texts.{worker_behind, worker_of}
 use Rattle.group_words.specs.Houses.{home_of, is_doubled, stops}
+use Rattle.registrations.specs.declared.registration.Registration.{Registration}
 use Rattle.mux_tables.specs.Stands.{IsWorking, MayWait, start_for}
+use Rattle.mux_tables.proofs.Registering.{live_more}
+use Rattle.mux_turns.specs.Calls.{IsCall}
 use Rattle.mux_turns.proofs.Rows.{ended_start, is_first, is_second, some_start}
 use Rattle.mux_editors.specs.Handing.{IsUnused}
 use Rattle.mux_editors.specs.Running.{may_begin, running_at, running_row}
@@ -118,12 +123,15 @@ module _ (settings : Settings) (before : List Event) (e : ℕ) (body : List ℕ)
   parked_now : (s : ℕ) → parked_of settings s base ≡ parked_of settings s before
   parked_now s = ap (λ (x : Asking). x.parked) (asking_more settings s before (heard (FromEditor e body)))
 
+  live_now : (s : ℕ) → live_of settings s base ≡ live_of settings s before
+  live_now s = live_more settings s before (heard (FromEditor e body))
+
   module _ (g s : ℕ) (home : home_of settings e base ≡ Some g) (start : start_of g base ≡ Some s) where
     row_at : run_row settings before e ≡ run_at settings before e s
     row_at = some_start (home_of settings e before) (λ g. start_of g before) nothing (λ g. run_at settings before e) g s (sym home_now ∙ home) (sym (start_now g) ∙ start)
 
-    pub ready_run : is_ready (life_of s base).stage ≡ true → Alike (run_row settings before e) (each (λ (p : Parked). ask p.body e) (parked_of settings s base))
-    ready_run h = alike_then (is_first row_at (sym (stage_now s) ∙ h)) (alike (ap (λ ps. each (λ (p : Parked). ask p.body e) ps) (sym (parked_now s))))
+    pub ready_run : is_ready (life_of s base).stage ≡ true → Alike (run_row settings before e) (after (restore settings base e s) (each (λ (p : Parked). ask p.body e) (parked_of settings s base)))
+    ready_run h = alike_then (is_first row_at (sym (stage_now s) ∙ h)) (alike (ap₂ (λ rs ps. after (register_any rs e) (each (λ (p : Parked). ask p.body e) ps)) (sym (live_now s)) (sym (parked_now s))))
 
   pub unready_run : ((s : ℕ) → start_for settings e base ≡ Some s → is_ready (life_of s base).stage ≡ false) → Alike (run_row settings before e) nothing
   unready_run h = ended_start (home_of settings e before) (λ g. start_of g before) nothing (λ g. run_at settings before e)
@@ -191,16 +199,28 @@ exit_stays m h = go (is_malformed m) (notifies (codes "exit") m) h
 
 -- What is asked
 
-asks_one : (e : ℕ) (p : Parked) → MayWait p → (events : List Event) → AllByRecursion IsQuestion (outs (ask p.body e) events)
+asks_one : (e : ℕ) (p : Parked) → MayWait p → (events : List Event) → AllByRecursion (IsQuestion e) (outs (ask p.body e) events)
 asks_one e p w events = go (has_number e events) refl
   where
-    go : (b : Bool) → has_number e events ≡ b → AllByRecursion IsQuestion (outs (choose b (send (ToEditor e (with_id_text p.body (decimal (next_ask e events))))) nothing) events)
-    go true room = let n = next_ask e events in (ap asks_something (request_with_id p.body (decimal n) p.id (integer (decimal n)) w.0 w.1 w.2 (decimal_law n (ltb-true n (2 ^ 64) room))), tt)
+    go : (b : Bool) → has_number e events ≡ b → AllByRecursion (IsQuestion e) (outs (choose b (send (ToEditor e (with_id_text p.body (decimal (next_ask e events))))) nothing) events)
+    go true room = let n = next_ask e events in ((refl, ap asks_something (request_with_id p.body (decimal n) p.id (integer (decimal n)) w.0 w.1 w.2 (decimal_law n (ltb-true n (2 ^ 64) room)))), tt)
     go false full = tt
 
-pub asks_all : (e : ℕ) (ps : List Parked) → AllByRecursion MayWait ps → (events : List Event) → AllByRecursion IsQuestion (outs (each (λ (p : Parked). ask p.body e) ps) events)
+pub asks_all : (e : ℕ) (ps : List Parked) → AllByRecursion MayWait ps → (events : List Event) → AllByRecursion (IsQuestion e) (outs (each (λ (p : Parked). ask p.body e) ps) events)
 asks_all e [] all events = tt
-asks_all e (p ∷ ps) all events = let xs = outs (ask p.body e) events in all_join IsQuestion xs (outs (each (λ (p : Parked). ask p.body e) ps) (behind events xs)) (asks_one e p all.0 events) (asks_all e ps all.1 (behind events xs))
+asks_all e (p ∷ ps) all events = let xs = outs (ask p.body e) events in all_join (IsQuestion e) xs (outs (each (λ (p : Parked). ask p.body e) ps) (behind events xs)) (asks_one e p all.0 events) (asks_all e ps all.1 (behind events xs))
+
+-- and what is told before
+pub restores_all : (e : ℕ) (rs : List Registration) → IsCall (register_text rs) → (events : List Event) → AllByRecursion (IsQuestion e) (outs (register_any rs e) events)
+restores_all e rs k events = any (has_some rs)
+  where
+    one : (b : Bool) → has_number e events ≡ b → AllByRecursion (IsQuestion e) (outs (choose b (send (ToEditor e (register_text rs (next_ask e events)))) nothing) events)
+    one true room = ((refl, ap asks_something (k.says (next_ask e events) (ltb-true (next_ask e events) (2 ^ 64) room)).1), tt)
+    one false full = tt
+
+    any : (b : Bool) → AllByRecursion (IsQuestion e) (outs (choose b (call (register_text rs) e) nothing) events)
+    any true = one (has_number e events) refl
+    any false = tt
 
 -- Behind what is asked
 
@@ -250,13 +270,13 @@ module _ (settings : Settings) (s : ℕ) (id : Option Id) where
       told not_json k = never (sym k)
       told not_message k = never (sym k)
 
-  all_rest : (events : List Event) (xs : List Out) → AllByRecursion IsQuestion xs → Rests (asking_of settings s events) → Rests (asking_of settings s (behind events xs))
-  all_rest events [] q h = subst (λ es. Rests (asking_of settings s es)) (sym (append-nil events)) h
-  all_rest events (ToEditor n body ∷ xs) q h = subst (λ es. Rests (asking_of settings s es)) (append_assoc events (said (ToEditor n body) ∷ []) (map said xs)) (all_rest (events ++ said (ToEditor n body) ∷ []) xs q.1 (one_rests events n body q.0 h))
-  all_rest events (ToServer n body ∷ xs) q h = absurd q.0
-  all_rest events (Spawn n g ∷ xs) q h = absurd q.0
-  all_rest events (CloseEditor n ∷ xs) q h = absurd q.0
-  all_rest events (EndServer n ∷ xs) q h = absurd q.0
+  all_rest : (e : ℕ) (events : List Event) (xs : List Out) → AllByRecursion (IsQuestion e) xs → Rests (asking_of settings s events) → Rests (asking_of settings s (behind events xs))
+  all_rest e events [] q h = subst (λ es. Rests (asking_of settings s es)) (sym (append-nil events)) h
+  all_rest e events (ToEditor n body ∷ xs) q h = subst (λ es. Rests (asking_of settings s es)) (append_assoc events (said (ToEditor n body) ∷ []) (map said xs)) (all_rest e (events ++ said (ToEditor n body) ∷ []) xs q.1 (one_rests events n body q.0.1 h))
+  all_rest e events (ToServer n body ∷ xs) q h = absurd q.0
+  all_rest e events (Spawn n g ∷ xs) q h = absurd q.0
+  all_rest e events (CloseEditor n ∷ xs) q h = absurd q.0
+  all_rest e events (EndServer n ∷ xs) q h = absurd q.0
 
-  pub still_unused : (events : List Event) (xs : List Out) → AllByRecursion IsQuestion xs → (asking_of settings s events).asker ≡ None → IsUnused id (asking_of settings s events) → IsUnused id (asking_of settings s (behind events xs))
-  still_unused events xs q asker unused = let k = all_rest events xs q (record { asker = asker; unused = unused }) in k.unused
+  pub still_unused : (e : ℕ) (events : List Event) (xs : List Out) → AllByRecursion (IsQuestion e) xs → (asking_of settings s events).asker ≡ None → IsUnused id (asking_of settings s events) → IsUnused id (asking_of settings s (behind events xs))
+  still_unused e events xs q asker unused = let k = all_rest e events xs q (record { asker = asker; unused = unused }) in k.unused

@@ -33,16 +33,16 @@ sync_same : (versions e : ℕ) (h k : List ℕ → Option HeldText) (os : List O
 sync_same versions e h k os same = flat_same (λ (o : Open). synced versions o (h o.uri)) (λ (o : Open). synced versions o (k o.uri)) (λ o. ap (synced versions o) (same o.uri)) (filter (λ (o : Open). nat_eq o.editor e) os)
 
 -- what is open stays where editors are asked
-asked_texts : (settings : Settings) (g : ℕ) (events : List Event) (xs : List Out) → AllByRecursion IsQuestion xs → texts_of settings g (behind events xs) ≡ texts_of settings g events
-asked_texts settings g events [] h = ap (texts_of settings g) (append-nil events)
-asked_texts settings g events (ToEditor n body ∷ xs) h = ap (texts_of settings g) (sym (append_assoc events (said (ToEditor n body) ∷ []) (map said xs)))
-    ∙ (asked_texts settings g (events ++ said (ToEditor n body) ∷ []) xs h.1 ∙ texts_more settings g events (said (ToEditor n body)))
-asked_texts settings g events (ToServer n body ∷ xs) h = absurd h.0
-asked_texts settings g events (Spawn n k ∷ xs) h = absurd h.0
-asked_texts settings g events (CloseEditor n ∷ xs) h = absurd h.0
-asked_texts settings g events (EndServer n ∷ xs) h = absurd h.0
+asked_texts : (settings : Settings) (e g : ℕ) (events : List Event) (xs : List Out) → AllByRecursion (IsQuestion e) xs → texts_of settings g (behind events xs) ≡ texts_of settings g events
+asked_texts settings e g events [] h = ap (texts_of settings g) (append-nil events)
+asked_texts settings e g events (ToEditor n body ∷ xs) h = ap (texts_of settings g) (sym (append_assoc events (said (ToEditor n body) ∷ []) (map said xs)))
+    ∙ (asked_texts settings e g (events ++ said (ToEditor n body) ∷ []) xs h.1 ∙ texts_more settings g events (said (ToEditor n body)))
+asked_texts settings e g events (ToServer n body ∷ xs) h = absurd h.0
+asked_texts settings e g events (Spawn n k ∷ xs) h = absurd h.0
+asked_texts settings e g events (CloseEditor n ∷ xs) h = absurd h.0
+asked_texts settings e g events (EndServer n ∷ xs) h = absurd h.0
 
-module _ (settings : Settings) (before : List Event) (body : List ℕ) (e : ℕ) (xs : List Out) (asked : AllByRecursion IsQuestion xs) where
+module _ (settings : Settings) (before : List Event) (body : List ℕ) (e : ℕ) (xs : List Out) (asked : AllByRecursion (IsQuestion e) xs) where
   abbrev base : List Event
   base = with_cause before (FromEditor e body)
 
@@ -51,7 +51,7 @@ module _ (settings : Settings) (before : List Event) (body : List ℕ) (e : ℕ)
 
   -- editors were asked since, and nothing else was sent
   pub alike_since : Same settings now base
-  alike_since = same_questions settings base xs asked
+  alike_since = same_questions settings e base xs asked
 
   pub at_work : worker_of now ≡ Some e
   at_work = still_works base xs ∙ one_more worker_behind None (worker_of before) before (heard (FromEditor e body)) refl
@@ -73,4 +73,4 @@ module _ (settings : Settings) (before : List Event) (body : List ℕ) (e : ℕ)
 
     pub same_sync : syncing settings now g s e ≡ sync_bodies settings.limits.versions (λ u. held_at s u before) e (texts_of settings g before).opens
     same_sync = sync_same settings.limits.versions e (λ u. held_at s u now) (λ u. held_at s u before) (texts_of settings g now).opens now_held
-        ∙ ap (λ (w : Texts). sync_bodies settings.limits.versions (λ u. held_at s u before) e w.opens) (asked_texts settings g base xs asked ∙ still_texts)
+        ∙ ap (λ (w : Texts). sync_bodies settings.limits.versions (λ u. held_at s u before) e w.opens) (asked_texts settings e g base xs asked ∙ still_texts)

@@ -1,4 +1,4 @@
--- L2: an editor that begins to run by its message is asked what waits at its group's last start.
+-- L2: an editor that begins to run by its message is told of what is registered at its group's last start, and asked what waits there.
 use Rattle.std.specs.Prelude.{ℕ, Bool, true, false, List, []}
 use Rattle.std.specs.List.{AllByRecursion}
 use Rattle.mux_history.specs.declared.cause.Cause.TheVariants.{FromEditor}
@@ -28,7 +28,7 @@ running_at settings before e m other = nothing
 abbrev pub running_row : Settings → List Event → ℕ → Message → Row
 running_row settings before e m = running_at settings before e m (desk_of e before).phase
 
--- behind the message it was asked what waited, and nothing else was sent
+-- behind the message it was told of what is registered and asked what waited, and nothing else was sent
 pub record Begun (settings : Settings) (before : List Event) (e : ℕ) (body : List ℕ) (owed : Owed) (t : Tables) (sent : List Out) : Type 0 where
   pub done : Done (λ k events. AllStand settings k events) (running_row settings before e (message_of body)) (with_cause before (FromEditor e body)) [] (t, owed) sent
-  pub asks : AllByRecursion IsQuestion sent
+  pub asks : AllByRecursion (IsQuestion e) sent

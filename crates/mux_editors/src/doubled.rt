@@ -1,14 +1,11 @@
 //! E3: requests of an editor under an id that is open.
 ghost use Rattle.std.specs.Prelude.{◌≡◌, ◌<◌, ℕ, List, [], Option, false, true, codes, length, OnOk};
-ghost use Rattle.event_model.specs.declared.phase.Phase.TheVariants.{Waiting};
 ghost use Rattle.event_model.specs.Does.{Done};
 ghost use Rattle.event_model.specs.Event.{Event, requests, with_cause};
 ghost use Rattle.event_model.specs.Phases.{desk_of, is_begun, is_served};
-ghost use Rattle.event_model.specs.Requests.{is_open, open_of};
+ghost use Rattle.event_model.specs.Requests.{open_of};
 ghost use Rattle.event_model.specs.Settings.{Settings};
 ghost use Rattle.group_facts.specs.Built.{doubles, is_standard};
-ghost use Rattle.group_facts.specs.Facts.{Known};
-ghost use Rattle.group_facts.specs.Settled.{Settled, is_answered};
 ghost use Rattle.group_rows.specs.Rows.{asks_lspmux, closing_row};
 ghost use Rattle.json_text.specs.Json.{Json};
 ghost use Rattle.lsp_method.specs.Class.{class_of};
@@ -18,7 +15,6 @@ ghost use Rattle.mux_tables.specs.Documents.{AllStand, DocumentsStand, nothing_o
 ghost use Rattle.mux_tables.specs.Stands.{Stands};
 ghost use Rattle.rpc_message.specs.Message.{Id, message_of, request};
 ghost use Rattle.rpc_message.specs.Parsed.{IsRead};
-ghost use Rattle.rpc_message.specs.ValueTexts.{IsIdText};
 
 use crate::parting::end_link;
 use crate::quiet::phase_of;
@@ -29,48 +25,8 @@ use mux_history::Outs;
 use mux_members::class_in;
 use mux_tables::Tables;
 use mux_turns::{depart, leaving};
-use rpc_message::{Message, same_id};
+use rpc_message::Message;
 use std::alloc::Global;
-
-// Of an editor that waits: whether this is the id of its `initialize`.
-fn is_own(tables: &Tables, e: u64, id: &[u8]) -> bool
-    ensures { (settings : Settings) (before : List Event) (i : Id) → Settled settings before → Stands settings tables.now before → IsIdText i id.now
-        → (desk_of e before).phase ≡ Waiting → result ≡ is_open i (open_of e before) }
-{
-    if e >= tables.editors.count() {
-        return false;
-    }
-    match tables.initialize_id(e) {
-        Some(own) => same_id(id, own.bytes()),
-        None => false,
-    }
-}
-
-// Of an editor that got its result: whether a request of it under this id is open at the last start of its group.
-fn is_sent(tables: &Tables, e: u64, id: &[u8]) -> bool
-    ensures { (settings : Settings) (before : List Event) (i : Id) → Known settings before → Settled settings before
-        → Stands settings tables.now before → IsIdText i id.now → is_answered (desk_of e before).phase ≡ true → result ≡ is_open i (open_of e before) }
-{
-    match tables.place(e) {
-        Some(g) => tables.lasts[g].ids.find(e, id).is_some(),
-        None => false,
-    }
-}
-
-/// E3: whether an editor in this phase has begun, and a request of it is open under this id (JSON-RPC 2.0, section 4). The time is that
-/// of one look-up.
-pub fn doubles(tables: &Tables, e: u64, phase: Phase, id: &[u8]) -> bool
-    ensures { (settings : Settings) (before : List Event) (i : Id) → Known settings before → Settled settings before
-        → Stands settings tables.now before → IsIdText i id.now → phase ≡ (desk_of e before).phase → result ≡ doubles phase i (open_of e before) }
-{
-    match phase {
-        Phase::Waiting => is_own(tables, e, id),
-        Phase::Answered => is_sent(tables, e, id),
-        Phase::Running => is_sent(tables, e, id),
-        Phase::Down => is_sent(tables, e, id),
-        _ => false,
-    }
-}
 
 // A `shutdown` of an editor that is served ends its link: its documents are closed by the message, and it has none when its link is
 // to be ended.

@@ -12,7 +12,7 @@ ghost use Rattle.group_words.specs.declared.placed.Placed.TheVariants.{Joins};
 ghost use Rattle.group_words.specs.Houses.{groups_of, placed_for, places, server_for};
 ghost use Rattle.group_words.specs.Rows.{initialize_row, placed_row};
 ghost use Rattle.json_text.specs.Json.{Json};
-ghost use Rattle.mux_editors.specs.Ceilings.{HaveCeilings};
+ghost use Rattle.group_facts.specs.Ceilings.{HaveCeilings};
 ghost use Rattle.mux_history.specs.declared.cause.Cause.TheVariants.{FromEditor};
 ghost use Rattle.mux_tables.specs.Documents.{AllStand, DocumentsStand, nothing_owed};
 ghost use Rattle.mux_tables.specs.Stands.{Stands};

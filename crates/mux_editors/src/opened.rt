@@ -1,11 +1,11 @@
-//! E4: which server an editor means, and which requests are the multiplexer's own.
+//! E4: which server an editor means.
 ghost use Rattle.std.specs.Prelude.{◌≡◌, ◌<◌, ℕ, List, [], Option, true, codes, length, OnOk};
 ghost use Rattle.event_model.specs.declared.phase.Phase.TheVariants.{Waiting};
 ghost use Rattle.event_model.specs.Does.{Does, Done};
 ghost use Rattle.event_model.specs.Event.{Event, behind, requests, with_cause};
 ghost use Rattle.event_model.specs.Phases.{desk_of};
 ghost use Rattle.event_model.specs.Settings.{Settings};
-ghost use Rattle.group_rows.specs.Rows.{asks_lspmux, named_row, open_row};
+ghost use Rattle.group_rows.specs.Rows.{named_row, open_row};
 ghost use Rattle.group_words.specs.Houses.{is_first_open};
 ghost use Rattle.json_text.specs.Json.{Json};
 ghost use Rattle.mux_history.specs.declared.cause.Cause.TheVariants.{FromEditor};
@@ -19,18 +19,10 @@ use event_model::{Phase, Server};
 use group_keys::server_asked;
 use message_body::Memory;
 use mux_history::Outs;
-use mux_members::{is_open, is_status};
 use mux_tables::Tables;
 use mux_turns::refuse;
 use rpc_message::{ErrorCode, Message, ok_reply};
 use std::alloc::Global;
-
-/// E4 and E5: whether a message is a request of the multiplexer's own.
-pub fn asks_lspmux(message: &Message) -> bool
-    ensures { (body : List ℕ) → IsRead message.now body → result ≡ asks_lspmux (message_of body) }
-{
-    is_open(message) || is_status(message)
-}
 
 // Whether an `lspmux/open` of an editor in this phase is the first one of a new editor.
 fn is_first(tables: &Tables, e: u64, phase: Phase) -> bool

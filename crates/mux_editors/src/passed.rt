@@ -70,7 +70,7 @@ fn go_on(
     ensures requests { tables.new.requests ≡ tables.old.requests }
     ensures versions { tables.new.versions ≡ tables.old.versions }
     ensures does { (settings : Settings) (before : List Event) (body method : List ℕ) (params : Option Json) (s : ℕ) → IsRead message.now body
-        → message_of body ≡ notification method params → goes_on (class_of method Editor true) ≡ true → AllByRecursion IsQuestion outs.old
+        → message_of body ≡ notification method params → goes_on (class_of method Editor true) ≡ true → AllByRecursion (IsQuestion e) outs.old
         → slice_get (map number_in tables.old.lasts.items) g ≡ Some s → (x : Start) → slice_get tables.old.lasts.items g ≡ Some x
         → OnOk result (Does (λ k events. AllStand settings k events) (sync_row settings before x.life.group s e ⨾ send (ToServer s body)) (with_cause before (FromEditor e body))
         (tables.old, nothing_owed) outs.old (tables.new, nothing_owed) outs.new) }

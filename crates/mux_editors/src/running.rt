@@ -1,11 +1,17 @@
 //! L2: an editor that begins to run.
-ghost use Rattle.std.specs.Prelude.{◌≡◌, ◌<◌, ℕ, List, [], map, false, true, length, OnOk};
-ghost use Rattle.event_model.specs.Event.{Event, with_cause};
-ghost use Rattle.event_model.specs.Phases.{desk_of, is_served, makes_running};
+ghost use Rattle.std.specs.Prelude.{◌≡◌, ◌<◌, ℕ, List, [], None, Some, map, false, true, length, OnOk, slice_get};
+ghost use Rattle.event_model.specs.declared.stage.Stage.TheVariants.{Ready};
+ghost use Rattle.event_model.specs.Does.{Does};
+ghost use Rattle.event_model.specs.Event.{Event, behind, with_cause};
+ghost use Rattle.event_model.specs.Phases.{desk_of, is_running, is_served, makes_running};
 ghost use Rattle.event_model.specs.Settings.{Settings};
+ghost use Rattle.group_rows.specs.Asks.{asking_of};
+ghost use Rattle.group_rows.specs.Live.{live_of};
+ghost use Rattle.group_rows.specs.LiveRows.{register_any};
 ghost use Rattle.mux_editors.specs.Running.{Begun, may_begin};
 ghost use Rattle.mux_history.specs.declared.cause.Cause.TheVariants.{FromEditor};
-ghost use Rattle.mux_tables.specs.Documents.{DocumentsStand, Owed, changes_documents, nothing_owed};
+ghost use Rattle.mux_tables.specs.declared.tables.Start.{Start};
+ghost use Rattle.mux_tables.specs.Documents.{AllStand, DocumentsStand, Owed, changes_documents, nothing_owed};
 ghost use Rattle.mux_tables.specs.Resumes.{unasked};
 ghost use Rattle.mux_tables.specs.Stands.{AnswersNone, Stands};
 ghost use Rattle.rpc_message.specs.Message.{message_of};
@@ -16,6 +22,7 @@ use event_model::Phase;
 use message_body::Memory;
 use mux_history::Outs;
 use mux_tables::Tables;
+use mux_turns::register_text;
 use std::alloc::Global;
 
 /// Whether an editor begins to run by the next message by which one runs: its `initialize` was answered, and no such message came since.
@@ -26,9 +33,40 @@ pub fn may_begin(tables: &Tables, e: u64) -> bool
     matches!(phase_of(tables, e), Phase::Answered)
 }
 
+// L2: an editor that runs is told of all that is registered at the group's last start, which is ready, under its next number, while one
+// below 2^64 is left. Nothing is at work that one editor answers. Where the answer is an error the tables stand for nothing any more.
+fn restore(
+    tables: &mut Tables,
+    alloc: Global,
+    outs: &mut Outs,
+    g: usize,
+    e: u64,
+) -> Result<(), Memory>
+    requires group { g < length tables.old.lasts.items }
+    requires editor { e < length tables.old.editors }
+    ensures requests { tables.new.requests ≡ tables.old.requests }
+    ensures versions { tables.new.versions ≡ tables.old.versions }
+    ensures lasts { tables.new.lasts ≡ tables.old.lasts }
+    ensures count { OnOk result (length tables.new.editors ≡ length tables.old.editors) }
+    ensures does { (settings : Settings) (owed : Owed) (base : List Event) (x : Start) → slice_get tables.old.lasts.items g ≡ Some x → x.life.stage ≡ Ready
+        → is_running (desk_of e (behind base outs.old)).phase ≡ true → ((s : ℕ) → (asking_of settings s (behind base outs.old)).asker ≡ None)
+        → OnOk result (Does (λ k events. AllStand settings k events)
+        (register_any (live_of settings x.life.start (behind base outs.old)) e) base (tables.old, owed) outs.old (tables.new, owed) outs.new) }
+{
+    if tables.live(g).is_empty() {
+        return Ok(());
+    }
+    let Some(n) = tables.next_ask(e) else {
+        return Ok(());
+    };
+    let text = register_text(alloc, tables.live(g), n)?;
+    tables.call(outs, e, text)?;
+    Ok(())
+}
+
 /// L2: a message by which an editor runs was heard. Where the editor `begins` to run by it, and the last start of its group is ready, it
-/// is asked what waits there. The time is linear in the bytes that are sent. Where the answer is an error the tables stand for nothing any
-/// more.
+/// is told of all that is registered there, and then asked what waits there. The time is linear in the bytes that are sent. Where the
+/// answer is an error the tables stand for nothing any more.
 pub fn begin(
     tables: &mut Tables,
     alloc: Global,
@@ -51,6 +89,7 @@ pub fn begin(
     match ready_at(tables, e) {
         None => Ok(()),
         Some(g) => {
+            restore(tables, alloc, outs, g, e)?;
             tables.resume(alloc, outs, g, e)?;
             Ok(())
         }

@@ -35,8 +35,7 @@ use Rattle.mux_tables.specs.Documents.{AllStand, DocumentsStand, nothing_owed}
 use Rattle.mux_tables.specs.Stands.{Stands}
 use Rattle.mux_tables.proofs.DocumentHeard.{drained_documents}
 use Rattle.mux_tables.proofs.Heard.{drained_moves}
-use Rattle.mux_turns.proofs.Matched.{whole_entry}
-use Rattle.mux_turns.proofs.Rows.{is_first, is_second}
+use Rattle.mux_editors.proofs.Turns.{is_first, is_second, whole_entry}
 
 -- a whole entry of a row that sends what another one does
 pub done_alike : {K : Type 0} (Holds : K → List Event → Type 0) {r p : Row} {base : List Event} {xs ys : List Out} {u : K} → Alike r p → Done Holds p base xs u ys → Done Holds r base xs u ys

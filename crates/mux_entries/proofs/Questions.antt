@@ -4,7 +4,7 @@ use Rattle.std.specs.Prelude.{Some}
 use Rattle.std.specs.List.{AllByRecursion}
 use Rattle.lsp_method.specs.Class.{class_of}
 use Rattle.lsp_method.specs.declared.variants.Class.{Class}
-use Rattle.lsp_method.specs.declared.variants.Class.TheVariants.{Broadcast, Cancel, Focused, Folders, Lowest, Refresh}
+use Rattle.lsp_method.specs.declared.variants.Class.TheVariants.{Broadcast, Cancel, Focused, Folders, Lowest, Refresh, Register, Unregister}
 use Rattle.lsp_method.specs.declared.variants.Origin.TheVariants.{Server}
 use Rattle.rpc_message.specs.declared.sort.Sort.TheVariants as sort
 use Rattle.rpc_message.specs.Message.{Message, message_of, request}
@@ -29,12 +29,14 @@ use Rattle.group_rows.specs.Rows as rows
 use Rattle.mux_tables.specs.Stands.{is_request}
 
 -- classes that aren't built
-pub unbuilt_class : {A : Type 0} (c : Class) → (c ≡ Refresh → ⊥) → (c ≡ Folders → ⊥) → (c ≡ Focused → ⊥) → (c ≡ Lowest → ⊥) → built_asking c ≡ true → A
-unbuilt_class Refresh r d f l h = absurd (r refl)
-unbuilt_class Folders r d f l h = absurd (d refl)
-unbuilt_class Focused r d f l h = absurd (f refl)
-unbuilt_class Lowest r d f l h = absurd (l refl)
-unbuilt_class other r d f l h = never (sym h)
+pub unbuilt_class : {A : Type 0} (c : Class) → (c ≡ Refresh → ⊥) → (c ≡ Folders → ⊥) → (c ≡ Focused → ⊥) → (c ≡ Lowest → ⊥) → (c ≡ Register → ⊥) → (c ≡ Unregister → ⊥) → built_asking c ≡ true → A
+unbuilt_class Refresh r d f l g u h = absurd (r refl)
+unbuilt_class Folders r d f l g u h = absurd (d refl)
+unbuilt_class Focused r d f l g u h = absurd (f refl)
+unbuilt_class Lowest r d f l g u h = absurd (l refl)
+unbuilt_class Register r d f l g u h = absurd (g refl)
+unbuilt_class Unregister r d f l g u h = absurd (u refl)
+unbuilt_class other r d f l g u h = never (sym h)
 
 pub broadcasts : (c : Class) → (c ≡ Cancel → ⊥) → built_telling c ≡ true → c ≡ Broadcast
 broadcasts Cancel other h = absurd (other refl)

@@ -45,8 +45,8 @@ use Rattle.mux_tables.specs.declared.tables.Tables.{Tables}
 use Rattle.mux_tables.specs.Stands.{NamesAt, Stands, number_in, of_life}
 use Rattle.mux_tables.proofs.Starts.{start_at_place}
 use Rattle.mux_starts.specs.Answers.{IsAsked}
-use Rattle.mux_turns.specs.Welcomes.{AllAsking, IsShown}
-use Rattle.mux_turns.proofs.Rows.{is_first, is_second}
+use Rattle.mux_starts.specs.Welcomes.{AllAsking, IsShown}
+use Rattle.mux_editors.proofs.Turns.{is_first, is_second}
 use Rattle.rpc_message.specs.declared.sort.Sort.TheVariants as sort
 use Rattle.rpc_message.specs.Sorts.{sort_of}
 use Rattle.mux_editors.proofs.Asides.{malformed_aside}

@@ -14,7 +14,7 @@ ghost use Rattle.group_words.specs.Houses.{is_doubled, places, stops};
 ghost use Rattle.json_text.specs.Json.{Json};
 ghost use Rattle.lsp_method.specs.Class.{class_of};
 ghost use Rattle.lsp_method.specs.declared.variants.Origin.TheVariants.{Editor};
-ghost use Rattle.mux_editors.specs.Ceilings.{HaveCeilings};
+ghost use Rattle.group_facts.specs.Ceilings.{HaveCeilings};
 ghost use Rattle.mux_editors.specs.Running.{running_row};
 ghost use Rattle.mux_history.specs.declared.cause.Cause.TheVariants.{EditorGone, FromEditor, Joined};
 ghost use Rattle.mux_history.specs.declared.cause.Why.{Why};

@@ -7,7 +7,7 @@ ghost use Rattle.group_facts.specs.Built.{built_behind};
 ghost use Rattle.group_facts.specs.Facts.{Known};
 ghost use Rattle.group_facts.specs.Settled.{Settled};
 ghost use Rattle.group_rows.specs.Rows.{outs_of, row_of};
-ghost use Rattle.mux_editors.specs.Ceilings.{HaveCeilings};
+ghost use Rattle.group_facts.specs.Ceilings.{HaveCeilings};
 ghost use Rattle.mux_history.specs.Cores.{body_length};
 ghost use Rattle.mux_model.specs.Fits.{fits_behind};
 ghost use Rattle.mux_tables.specs.Documents.{AllStand, DocumentsStand, nothing_owed};

@@ -1,4 +1,4 @@
-//! What the program of a start says: S1 to S5, S9 to S12, S14, and what goes to each editor.
+//! What the program of a start says: S1 to S7, S9 to S12, S14, and what goes to each editor.
 ghost use Rattle.std.specs.Prelude.{◌≡◌, ◌<◌, ◌≤◌, ℕ, List, [], map, Option, Some, false, true, length, OnOk, slice_get};
 ghost use Rattle.event_model.specs.declared.stage.Stage.TheVariants.{Initializing, Ready};
 ghost use Rattle.event_model.specs.Does.{Alike, Done};
@@ -32,12 +32,11 @@ use message_body::{Body, Memory};
 use mux_history::Outs;
 use mux_members::{asked_class, is_first_result, told_class};
 use mux_starts::{
-    is_first_error, take_answer, take_broadcast, take_ending, take_focused, take_folders,
-    take_hasty, take_lowest, take_recall, take_refresh, take_refused, take_repeated, take_result,
-    take_stopping,
+    answered_number, is_first_error, stage_at, take_answer, take_broadcast, take_ending, take_focused,
+    take_folders, take_hasty, take_lowest, take_recall, take_refresh, take_refused, take_register, take_repeated,
+    take_result, take_stopping, take_unregister,
 };
 use mux_tables::Tables;
-use mux_turns::{answered_number, stage_at};
 use rpc_message::{Malformed, Message, Sort};
 use std::alloc::Global;
 
@@ -139,7 +138,7 @@ fn take_first(
     }
 }
 
-// S9 to S12: a request comes from a start that is ready, under the id of no open ask; other classes aren't built.
+// S6, S7 and S9 to S12: a request comes from a start that is ready, under the id of no open ask; other classes aren't built.
 fn take_class(
     tables: &mut Tables,
     alloc: Global,
@@ -174,6 +173,14 @@ fn take_class(
         }
         Class::Lowest => {
             take_lowest(tables, alloc, outs, g, message)?;
+            Ok(())
+        }
+        Class::Register => {
+            take_register(tables, alloc, outs, g, message)?;
+            Ok(())
+        }
+        Class::Unregister => {
+            take_unregister(tables, alloc, outs, g, message)?;
             Ok(())
         }
         _ => Ok(()),

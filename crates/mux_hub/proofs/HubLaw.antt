@@ -21,7 +21,7 @@ use Rattle.group_rows.specs.Rows.{outs_of}
 use Rattle.mux_tables.specs.declared.tables.Tables.{Tables}
 use Rattle.mux_tables.specs.Documents.{DocumentsStand, nothing_owed}
 use Rattle.mux_tables.specs.Stands.{Stands}
-use Rattle.mux_editors.specs.Ceilings.{HaveCeilings}
+use Rattle.group_facts.specs.Ceilings.{HaveCeilings}
 use Rattle.mux_causes.specs.Backlogs.{BacklogsStand}
 use Rattle.mux_hub.specs.Entries.{emits, entry_of, most_events, passes}
 use Rattle.mux_hub.specs.Faults.{Counted, step_fault_of}

@@ -81,30 +81,30 @@ module _ (settings : Settings) (t : Tables) (before : List Event) (st : Stands s
   bodies_only s (b ∷ bodies) = (tt, bodies_only s bodies)
 
   -- what an editor is asked as it begins to run
-  worker_asked : (xs : List Out) (w : Option ℕ) → AllByRecursion IsQuestion xs → fold worker_behind w (map said xs) ≡ w
-  worker_asked [] w h = refl
-  worker_asked (ToEditor n b ∷ xs) w h = worker_asked xs w h.1
-  worker_asked (ToServer n b ∷ xs) w h = absurd h.0
-  worker_asked (Spawn n g ∷ xs) w h = absurd h.0
-  worker_asked (CloseEditor n ∷ xs) w h = absurd h.0
-  worker_asked (EndServer n ∷ xs) w h = absurd h.0
+  worker_asked : (e : ℕ) (xs : List Out) (w : Option ℕ) → AllByRecursion (IsQuestion e) xs → fold worker_behind w (map said xs) ≡ w
+  worker_asked e [] w h = refl
+  worker_asked e (ToEditor n b ∷ xs) w h = worker_asked e xs w h.1
+  worker_asked e (ToServer n b ∷ xs) w h = absurd h.0
+  worker_asked e (Spawn n g ∷ xs) w h = absurd h.0
+  worker_asked e (CloseEditor n ∷ xs) w h = absurd h.0
+  worker_asked e (EndServer n ∷ xs) w h = absurd h.0
 
-  group_asked : (s : ℕ) (xs : List Out) (w : Option ℕ) → AllByRecursion IsQuestion xs → fold (group_behind s) w (map said xs) ≡ w
-  group_asked s [] w h = refl
-  group_asked s (ToEditor n b ∷ xs) w h = group_asked s xs w h.1
-  group_asked s (ToServer n b ∷ xs) w h = absurd h.0
-  group_asked s (Spawn n g ∷ xs) w h = absurd h.0
-  group_asked s (CloseEditor n ∷ xs) w h = absurd h.0
-  group_asked s (EndServer n ∷ xs) w h = absurd h.0
+  group_asked : (e s : ℕ) (xs : List Out) (w : Option ℕ) → AllByRecursion (IsQuestion e) xs → fold (group_behind s) w (map said xs) ≡ w
+  group_asked e s [] w h = refl
+  group_asked e s (ToEditor n b ∷ xs) w h = group_asked e s xs w h.1
+  group_asked e s (ToServer n b ∷ xs) w h = absurd h.0
+  group_asked e s (Spawn n g ∷ xs) w h = absurd h.0
+  group_asked e s (CloseEditor n ∷ xs) w h = absurd h.0
+  group_asked e s (EndServer n ∷ xs) w h = absurd h.0
 
-  texts_asked : (g : ℕ) (events : List Event) (xs : List Out) → AllByRecursion IsQuestion xs → texts_of settings g (behind events xs) ≡ texts_of settings g events
-  texts_asked g events [] h = ap (texts_of settings g) (append-nil events)
-  texts_asked g events (ToEditor n b ∷ xs) h = ap (texts_of settings g) (first_behind events (ToEditor n b) xs)
-      ∙ (texts_asked g (events ++ said (ToEditor n b) ∷ []) xs h.1 ∙ texts_more settings g events (said (ToEditor n b)))
-  texts_asked g events (ToServer n b ∷ xs) h = absurd h.0
-  texts_asked g events (Spawn n k ∷ xs) h = absurd h.0
-  texts_asked g events (CloseEditor n ∷ xs) h = absurd h.0
-  texts_asked g events (EndServer n ∷ xs) h = absurd h.0
+  texts_asked : (e g : ℕ) (events : List Event) (xs : List Out) → AllByRecursion (IsQuestion e) xs → texts_of settings g (behind events xs) ≡ texts_of settings g events
+  texts_asked e g events [] h = ap (texts_of settings g) (append-nil events)
+  texts_asked e g events (ToEditor n b ∷ xs) h = ap (texts_of settings g) (first_behind events (ToEditor n b) xs)
+      ∙ (texts_asked e g (events ++ said (ToEditor n b) ∷ []) xs h.1 ∙ texts_more settings g events (said (ToEditor n b)))
+  texts_asked e g events (ToServer n b ∷ xs) h = absurd h.0
+  texts_asked e g events (Spawn n k ∷ xs) h = absurd h.0
+  texts_asked e g events (CloseEditor n ∷ xs) h = absurd h.0
+  texts_asked e g events (EndServer n ∷ xs) h = absurd h.0
 
   -- the editor's documents were told to the start of its group
   behind_sync : (events : List Event) (s e : ℕ) (asked : List ℕ) → IsBehindSync settings before events s e asked → (w g : ℕ) → worker_of events ≡ Some w → group_of s events ≡ Some g
@@ -119,17 +119,17 @@ module _ (settings : Settings) (t : Tables) (before : List Event) (st : Stands s
       let now : List Event = with_cause before (FromEditor e asked) in
       let mid : List Event = behind now k.questions in
       let place : events ≡ behind mid (to s bodies) = k.place ∙ behind_both now k.questions (to s bodies) in
-      let at_work : worker_of mid ≡ Some e = outs_more worker_behind None (Some e) now k.questions (one_more worker_behind None (worker_of before) before (heard (FromEditor e asked)) refl) ∙ worker_asked k.questions (Some e) k.asks in
+      let at_work : worker_of mid ≡ Some e = outs_more worker_behind None (Some e) now k.questions (one_more worker_behind None (worker_of before) before (heard (FromEditor e asked)) refl) ∙ worker_asked e k.questions (Some e) k.asks in
       let worker : w ≡ e = same_item (sym works ∙ (ap worker_of place ∙ (outs_more worker_behind None (Some e) mid (to s bodies) at_work ∙ worker_told s bodies (Some e)))) in
       let lived : group_of s before ≡ Some k.group = subst (λ n. group_of n before ≡ Some k.group) x.1 (subst (λ n. group_of x.0.last.life.start before ≡ Some n) x.0.group (st.lasts.each x.0.place x.0.last x.0.at).home) in
-      let lives : group_of s mid ≡ Some k.group = outs_more (group_behind s) None (Some k.group) now k.questions (one_more (group_behind s) None (Some k.group) before (heard (FromEditor e asked)) lived) ∙ group_asked s k.questions (Some k.group) k.asks in
+      let lives : group_of s mid ≡ Some k.group = outs_more (group_behind s) None (Some k.group) now k.questions (one_more (group_behind s) None (Some k.group) before (heard (FromEditor e asked)) lived) ∙ group_asked e s k.questions (Some k.group) k.asks in
       let group : g ≡ k.group = same_item (sym home ∙ (ap (group_of s) place ∙ (outs_more (group_behind s) None (Some k.group) mid (to s bodies) lives ∙ group_told s s bodies (Some k.group)))) in
       let spelt : AllSpelt (texts_of settings k.group before).opens = subst (λ (x : Texts). AllSpelt x.opens) (sym shared.texts.texts) shared.texts.spelt in
       let speak : AllSpeak bodies = sync_speaks settings.limits.versions e (λ v. held_at s v before) (texts_of settings k.group before).opens (subst (λ n. n < 2 ^ 32) (sym ds.versions) ds.range) spelt in
       let texts : texts_of settings k.group events ≡ texts_of settings k.group (behind now (to s bodies)) =
-      ap (texts_of settings k.group) place ∙ (texts_told settings k.group s mid bodies speak ∙ (texts_asked k.group now k.questions k.asks ∙ sym (texts_told settings k.group s now bodies speak))) in
+      ap (texts_of settings k.group) place ∙ (texts_told settings k.group s mid bodies speak ∙ (texts_asked e k.group now k.questions k.asks ∙ sym (texts_told settings k.group s now bodies speak))) in
       let same : held_at s u events ≡ held_at s u (behind now (to s bodies)) =
-      ap (held_at s u) place ∙ same_held settings (same_behind settings mid now (to s bodies) (bodies_only s bodies) (same_questions settings now k.questions k.asks)) s u in
+      ap (held_at s u) place ∙ same_held settings (same_behind settings mid now (to s bodies) (bodies_only s bodies) (same_questions settings e now k.questions k.asks)) s u in
       let own = own_texts settings k.group s e shared.start.code before asked d.0 k.stays k.silent shared.versions few shared.texts holds u o
       (subst (λ (x : Texts). found e u x ≡ Some o) texts (subst (λ n. found e u (texts_of settings n events) ≡ Some o) group (subst (λ n. found n u (texts_of settings g events) ≡ Some o) worker is))) in
       subst (HasOwn o) (sym same) (agrees (held_at s u (behind now (to s bodies))) own.0 own.1 own.2)

@@ -9,7 +9,7 @@ use Rattle.group_facts.specs.OwnTexts.{OwnTexts}
 use Rattle.mux_tables.specs.declared.tables.Tables.{Tables}
 use Rattle.mux_tables.specs.Documents.{DocumentsStand, nothing_owed}
 use Rattle.mux_tables.specs.Stands.{Stands}
-use Rattle.mux_editors.specs.Ceilings.{HaveCeilings}
+use Rattle.group_facts.specs.Ceilings.{HaveCeilings}
 use Rattle.mux_causes.specs.Backlogs.{BacklogsStand}
 use Rattle.mux_hub.specs.Entries.{most_events}
 use Rattle.mux_hub.specs.Starts.{servers_of}

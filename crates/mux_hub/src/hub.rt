@@ -1,6 +1,6 @@
 // The hub: the tables, the journal, and whether a step had a fault.
 ghost use Rattle.std.specs.Prelude.{◌≡◌, ℕ, ◌+◌, ◌^◌, ◌≤◌, ◌<◌, ◌↔◌, List, [], ◌∷◌, ◌++◌, Bool, true, false, length, nat_lt, if◌then◌else◌, Some, None, IsTrue, IsNone, IfOk, OnOk, OnErr, IsErrOf, IfErr, slice_get};
-ghost use Rattle.mux_editors.specs.Ceilings.{HaveCeilings};
+ghost use Rattle.group_facts.specs.Ceilings.{HaveCeilings};
 ghost use Rattle.outside_io.specs.Faults.{Rose};
 ghost use Rattle.mux_history.specs.declared.entry.Entry.{Entry};
 ghost use Rattle.mux_history.specs.Cores.{body_length, joined, spawns};

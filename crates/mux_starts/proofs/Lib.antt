@@ -10,3 +10,4 @@ pub mod Parking
 pub mod Singles
 pub mod Refreshing
 pub mod Recalls
+pub mod Registering

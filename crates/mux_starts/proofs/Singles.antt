@@ -8,7 +8,7 @@ use Rattle.json_text.specs.Json.{Json}
 use Rattle.mux_history.specs.declared.cause.Cause.TheVariants.{FromServer}
 use Rattle.mux_history.specs.declared.out.Out.{Out}
 use Rattle.rpc_message.specs.Message.{Id, id_bytes, message_of, request, result}
-use Rattle.rpc_message.specs.Texts.{error_text, ok_text, request_failed}
+use Rattle.rpc_message.specs.Texts.{Code, error_text, ok_text, request_failed}
 use Rattle.rpc_message.specs.ValueTexts.{IsResponseIdText}
 use Rattle.rpc_message.proofs.Fixed.{id_as_response, ok_law}
 use Rattle.rpc_message.proofs.Ids.{request_id_bytes}
@@ -210,10 +210,13 @@ pub results_one : (text : List ℕ) (id : Id) (v : Json) → message_of text ≡
 results_one text id v e = record { runs = ap (requests (codes "shutdown")) e; counts = ap moves_ids e; says = ap saying_of e; aside = ap is_synced e; answers = ap answered_id e }
 
 module _ (text body method : List ℕ) (id : Id) (params : Option Json) (says : message_of body ≡ request id method params) where
-  pub refuses_one : text ≡ error_text (id_bytes body) request_failed → AnswersOne text id
-  refuses_one is =
-      let e = refused_says text body (id_bytes body) method id params request_failed is refl says in
+  pub refuses_as : (code : Code) → text ≡ error_text (id_bytes body) code → AnswersOne text id
+  refuses_as code is =
+      let e = refused_says text body (id_bytes body) method id params code is refl says in
       record { runs = ap (requests (codes "shutdown")) e; counts = ap moves_ids e; says = ap saying_of e; aside = ap is_synced e; answers = ap answered_id e }
+
+  pub refuses_one : text ≡ error_text (id_bytes body) request_failed → AnswersOne text id
+  refuses_one is = refuses_as request_failed is
 
   pub grants_one : text ≡ ok_text (id_bytes body) (codes "null") → AnswersOne text id
   grants_one is = results_one text id null_tree (ap message_of is ∙ null_says body id method params says)

@@ -9,6 +9,7 @@ ghost use Rattle.event_model.specs.Row.{each};
 ghost use Rattle.event_model.specs.Settings.{Settings};
 ghost use Rattle.group_rows.specs.AskRows.{ask, refresh_row};
 ghost use Rattle.group_rows.specs.Asks.{asking_of, is_single, is_taken};
+ghost use Rattle.group_rows.specs.Live.{is_registering};
 ghost use Rattle.json_text.specs.Json.{Json};
 ghost use Rattle.mux_history.specs.declared.cause.Cause.TheVariants.{FromServer};
 ghost use Rattle.mux_tables.specs.declared.tables.Start.{Start};
@@ -60,7 +61,7 @@ pub fn take_refresh(
     ensures versions { tables.new.versions ≡ tables.old.versions }
     ensures does { (settings : Settings) (before : List Event) (body method : List ℕ) (id : Id) (params : Option Json) (s : ℕ) (x : Start)
         → IsRead message.now body → message_of body ≡ request id method params → is_single method ≡ false
-        → is_taken (Some id) (asking_of settings s before) ≡ false → outs.old ≡ []
+        → is_registering method ≡ false → is_taken (Some id) (asking_of settings s before) ≡ false → outs.old ≡ []
         → slice_get tables.old.lasts.items g ≡ Some x → x.life.stage ≡ Ready → slice_get (map number_in tables.old.lasts.items) g ≡ Some s
         → Stands settings tables.old before → DocumentsStand settings nothing_owed tables.old before
         → OnOk result (Done (λ k events. AllStand settings k events) (refresh_row settings before x.life.group s body)

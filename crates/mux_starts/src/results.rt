@@ -1,5 +1,5 @@
 //! S2: the first result of a start.
-ghost use Rattle.std.specs.Prelude.{◌≡◌, ◌<◌, ℕ, List, [], Option, Some, true, length, map, IfOk, OnOk, slice_get};
+ghost use Rattle.std.specs.Prelude.{◌≡◌, ◌<◌, ℕ, List, [], Option, Some, true, length, map, OnOk, slice_get};
 ghost use Rattle.event_model.specs.declared.stage.Stage.TheVariants.{Initializing};
 ghost use Rattle.event_model.specs.Does.{Does, Done};
 ghost use Rattle.event_model.specs.Event.{Event, behind, with_cause};
@@ -19,29 +19,13 @@ ghost use Rattle.mux_turns.specs.Welcomes.{AllAsking, IsGreeted, IsShown, Tells}
 ghost use Rattle.rpc_message.specs.Message.{Id, id_bytes, message_of, result as outcome, result_bytes};
 ghost use Rattle.rpc_message.specs.Parsed.{IsRead};
 
-use capability_meet::{CapFault, shown};
-use message_body::{Body, Memory};
+use message_body::Memory;
 use mux_history::Outs;
 use mux_members::encoding;
 use mux_tables::Tables;
-use mux_turns::answered_number;
+use mux_turns::{answered_number, shown_of};
 use rpc_message::{Message, initialized, ok_reply};
 use std::alloc::Global;
-
-/// What editors are shown of the bytes of a start's result; nothing where they are no JSON text. Bytes longer than 268,435,456 are
-/// answered as out of memory.
-pub fn shown_of(alloc: Global, answer: &[u8]) -> Result<Body, Memory>
-    ensures { IfOk result (λ body. body ≡ shown_of answer.now) }
-{
-    if answer.len() > 268_435_456 {
-        return Err(Memory);
-    }
-    match shown(alloc, answer) {
-        Ok(body) => Ok(body),
-        Err(CapFault::NotJson) => Ok(Body::new(Vec::new(alloc))),
-        Err(CapFault::Memory) => Err(Memory),
-    }
-}
 
 // An editor that waits is answered, under the id of its `initialize`.
 fn greet(

@@ -1,10 +1,14 @@
 pub mod Stays
+pub mod Asked
+pub mod Called
 pub mod Cancels
 pub mod Departing
 pub mod Evictions
 pub mod Folders
 pub mod Joining
+pub mod LiveTexts
 pub mod Keeping
+pub mod Lspmux
 pub mod Matched
 pub mod Numbers
 pub mod Ready

@@ -1,3 +1,4 @@
+pub mod Calls
 pub mod Founding
 pub mod Leavings
 pub mod Welcomes

@@ -1,12 +1,13 @@
-//! The `initialize` that the daemon sends to the starts of a group (LSP 3.17, Initialize Request).
+//! The `initialize` that the daemon sends to the starts of a group, and what editors are shown of its result (LSP 3.17, Initialize Request).
 ghost use Rattle.std.specs.Prelude.{◌≡◌, ◌++◌, IfOk, IsUtf8, OnOk, Option, option_map};
 ghost use Rattle.capability_meet.specs.Parts.{comma};
-ghost use Rattle.group_words.specs.Rows.{folder_text, folders_text, initialize_of, is_true, root_of, wants_folders};
+ghost use Rattle.group_words.specs.Rows.{folder_text, folders_text, initialize_of, is_true, root_of, shown_of, wants_folders};
 ghost use Rattle.json.specs.Print.{quoted};
 ghost use Rattle.json_nodes.specs.Nodes.{kind_of};
 ghost use Rattle.json_text.specs.Json.{Json};
 ghost use Rattle.group_facts.specs.Settled.{AreUtf8};
 
+use capability_meet::{CapFault, shown};
 use group_words::Kept;
 use json_span::{JsonFault, Tape, quote};
 use json_text::Kind;
@@ -131,4 +132,19 @@ pub fn opening(alloc: Global, kept: &Kept) -> Result<Body, Memory>
         declared,
         Some(folders.as_slice()),
     )
+}
+
+/// What editors are shown of the bytes of a start's result; nothing where they are no JSON text. Bytes longer than 268,435,456 are
+/// answered as out of memory.
+pub fn shown_of(alloc: Global, answer: &[u8]) -> Result<Body, Memory>
+    ensures { IfOk result (λ body. body ≡ shown_of answer.now) }
+{
+    if answer.len() > 268_435_456 {
+        return Err(Memory);
+    }
+    match shown(alloc, answer) {
+        Ok(body) => Ok(body),
+        Err(CapFault::NotJson) => Ok(Body::new(Vec::new(alloc))),
+        Err(CapFault::Memory) => Err(Memory),
+    }
 }

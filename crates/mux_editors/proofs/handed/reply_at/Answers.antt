@@ -47,7 +47,7 @@ returns-in_ok-hand_back-clause-does c = λ settings before body x read response 
     let docs = c.hear_response-id.ensures.documents settings nothing_owed before body (reply_keeps before e m response) ds in
     let begun = c.in_ok-begin.ensures.begun settings nothing_owed before body served runs (c.may_begin-begins.ensures settings before st) first heard docs in
     let given = c.hear_response-id.ensures.given settings before body x here ready named st in
-    let fits = fits_behind settings s base xs found (found_fits settings t before g e body x here ready st) (found_unwaited settings t before g e body x here ready st) (works_now settings before e body served runs s).asker begun.asks in
+    let fits = fits_behind settings e s base xs found (found_fits settings t before g e body x here ready st) (found_unwaited settings t before g e body x here ready st) (works_now settings before e body served runs s).asker begun.asks in
     let there = ap (λ ns. slice_get ns g) (numbers_kept u.lasts.items v.lasts.items c.in_ok-begin.ensures.rest ∙ c.hear_response-id.ensures.starts) ∙ at in
     then_rest begun.done (does_alike (λ _. ready_reply settings before e x.life.group s body home last (ap is_ready (kept_stage settings t before g x st here) ∙ stage))
     (all_does settings v v nothing_owed nothing_owed base xs ys (c.in_ok-hand_back.ensures.does settings base body s found read response given fits there) (λ _ d. c.in_ok-hand_back.ensures.documents settings nothing_owed base body s found read response given fits d)))

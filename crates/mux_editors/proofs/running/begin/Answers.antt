@@ -1,10 +1,13 @@
 -- L2: where an editor begins to run, it is asked what waits.
-use Rattle.std.proofs.Common.{sym, ◌∙◌}
+use Rattle.std.proofs.Common.{ap, sym, subst, ◌∙◌}
+use Rattle.std.specs.Prelude.{slice_get}
 use Rattle.event_model.specs.Event.{with_cause}
 use Rattle.event_model.proofs.Places.{item_at}
 use Rattle.event_model.proofs.Turns.{alike_then}
 use Rattle.mux_history.specs.declared.cause.Cause.TheVariants.{FromEditor}
-use Rattle.mux_editors.proofs.Beginning.{all_begun, home_here, runs_here, silent_begun, works_here}
+use Rattle.mux_tables.specs.Documents.{AllStand}
+use Rattle.mux_turns.proofs.Departing.{behind_first}
+use Rattle.mux_editors.proofs.Beginning.{all_begun, home_mid, runs_here, runs_mid, silent_begun, works_here, works_mid}
 use Rattle.mux_editors.proofs.Runs.{begins_row, runs_row, unready_run}
 use Rattle.mux_editors.proofs.running.begin.Goals as goal
 
@@ -20,9 +23,11 @@ returns-in-None-clause-begun c = λ settings owed before body served runs is fir
 pub returns-in_ok-resume-in-Some-clause-begun : goal.returns-in_ok-resume-in-Some-clause-begun
 returns-in_ok-resume-in-Some-clause-begun c = λ settings owed before body served runs is first st ds.
     let t = c.args.tables.now in
+    let w = c.restore.new.tables in
     let u = c.resume.new.self in
     let e = c.args.e in
     let xs = c.args.outs.now in
+    let zs = c.restore.new.outs in
     let ys = c.resume.new.outs in
     let base = with_cause before (FromEditor e body) in
     let g = c.in-Some.g in
@@ -30,7 +35,10 @@ returns-in_ok-resume-in-Some-clause-begun c = λ settings owed before body serve
     let ready = c.in-Some.ensures.ready x.0 x.1 in
     let home = c.in-Some.ensures.home settings base x.0 x.1 st in
     let begins = sym is ∙ c.if-not-begins.false in
-    all_begun settings t u owed before e body xs ys first served runs begins st ds g x.0 x.1 ready home
-    (c.in_ok-resume-in-Some.ensures.does settings base x.0 x.1 ready (runs_here settings t u owed before e body xs ys first served runs begins st ds g x.0 x.1 ready home)
-    (home_here settings t u owed before e body xs ys first served runs begins st ds g x.0 x.1 ready home) (works_here settings t u owed before e body xs ys first served runs begins st ds g x.0 x.1 ready home))
+    let works = works_here settings t u owed before e body xs ys first served runs begins st ds g x.0 x.1 ready home in
+    let restored = c.in_ok-restore-in-Some.ensures.does settings owed base x.0 x.1 ready (runs_here settings t u owed before e body xs ys first served runs begins st ds g x.0 x.1 ready home) (λ s. (works s).asker) in
+    let told = (restored.done (subst (λ es. AllStand settings (t, owed) es) (sym (behind_first base xs first)) (st, ds))).outs in
+    all_begun settings t u owed before e body xs ys first served runs begins st ds g x.0 x.1 ready home zs told w restored
+    (c.in_ok-resume-in-Some.ensures.does settings base x.0 (ap (λ ls. slice_get ls.items g) c.restore.ensures.lasts ∙ x.1) ready (runs_mid settings t u owed before e body xs ys first served runs begins st ds g x.0 x.1 ready home zs told)
+    (home_mid settings t u owed before e body xs ys first served runs begins st ds g x.0 x.1 ready home zs told) (works_mid settings t u owed before e body xs ys first served runs begins st ds g x.0 x.1 ready home zs told))
     (λ d. c.in_ok-resume-in-Some.ensures.documents settings owed base d)

@@ -11,7 +11,7 @@ use Rattle.rpc_message.specs.Message.{message_of}
 use Rattle.mux_tables.specs.Documents.{AllStand}
 use Rattle.mux_editors.proofs.Classes.{not_own, shutdown_later, shutdown_named, swapped}
 use Rattle.mux_editors.proofs.Runs.{aside_row, shutdown_stays}
-use Rattle.mux_turns.proofs.Rows.{is_first, is_second}
+use Rattle.mux_editors.proofs.Turns.{is_first, is_second}
 use Rattle.mux_entries.proofs.EditorBuilt.{misplaced_class, other_class, other_right}
 use Rattle.mux_entries.proofs.EditorRows.{alike_behind, alike_past, done_alike}
 use Rattle.mux_entries.proofs.editors.from_asking.Goals as goal

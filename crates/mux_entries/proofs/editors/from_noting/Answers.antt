@@ -10,7 +10,7 @@ use Rattle.mux_model.specs.Methods.{goes_on}
 use Rattle.rpc_message.specs.Message.{message_of, notification}
 use Rattle.mux_tables.specs.Documents.{AllStand}
 use Rattle.mux_editors.proofs.Runs.{aside_row, exit_stays}
-use Rattle.mux_turns.proofs.Rows.{is_first, is_second}
+use Rattle.mux_editors.proofs.Turns.{is_first, is_second}
 use Rattle.mux_entries.proofs.EditorBuilt.{served_needs}
 use Rattle.mux_entries.proofs.EditorRows.{alike_behind, alike_past, done_alike}
 use Rattle.mux_entries.proofs.editors.from_noting.Goals as goal

@@ -5,7 +5,7 @@ use Rattle.event_model.specs.Row.{nothing}
 use Rattle.event_model.proofs.Turns.{does_nothing}
 use Rattle.mux_history.specs.declared.cause.Cause.TheVariants.{Joined}
 use Rattle.mux_tables.specs.Documents.{AllStand, nothing_owed}
-use Rattle.mux_turns.proofs.Matched.{whole_entry}
+use Rattle.mux_editors.proofs.Turns.{whole_entry}
 use Rattle.mux_entries.proofs.editors.joined.Goals as goal
 
 pub returns-clause-does : goal.returns-clause-does

@@ -11,7 +11,7 @@ use Rattle.group_rows.specs.Asks.{asking_of, is_taken}
 use Rattle.mux_tables.specs.Documents.{AllStand}
 use Rattle.mux_tables.proofs.Homes.{group_seen}
 use Rattle.mux_tables.proofs.Starts.{start_at_place}
-use Rattle.mux_turns.proofs.Rows.{is_first, is_second}
+use Rattle.mux_editors.proofs.Turns.{is_first, is_second}
 use Rattle.mux_entries.proofs.EditorRows.{done_alike, done_quietly}
 use Rattle.mux_entries.proofs.Questions.{built_else, question_there}
 use Rattle.mux_entries.proofs.servers.take_question.Goals as goal

@@ -19,7 +19,7 @@ use Rattle.mux_tables.specs.Documents.{AllStand, nothing_owed}
 use Rattle.mux_tables.proofs.DocumentOwed.{all_does}
 use Rattle.mux_starts.proofs.Early.{asked_named}
 use Rattle.mux_turns.proofs.Matched.{not_early, not_first, not_spawning, whole_entry}
-use Rattle.mux_starts.proofs.Parking.{hasty, many_hasty}
+use Rattle.mux_starts.proofs.Parking.{hasty, many_hasty, other_keeps}
 use Rattle.mux_starts.proofs.Refreshing.{answered_keeps, kept_all}
 use Rattle.mux_starts.proofs.Singles.{all_running, fresh_here, grants_one, none_under, rests_all, runs_here}
 use Rattle.mux_starts.proofs.refreshed.take_refresh.Goals as goal
@@ -28,7 +28,7 @@ pub ask_all-requires : goal.ask_all-requires
 ask_all-requires c = subst (λ ns. All (λ e. e < length c.hear_answer.new.self.editors) ns) (sym c.deref.ensures.value) (subst (λ n. All (λ e. e < n) c.in_ok-numbers.numbers.items) (sym (ap length c.hear_answer.ensures.editors)) c.in_ok-numbers.ensures.inside)
 
 pub returns-clause-does : goal.returns-clause-does
-returns-clause-does c = λ settings before body method id params s x read says many fresh first here ready at st ds.
+returns-clause-does c = λ settings before body method id params s x read says many other fresh first here ready at st ds.
     let m = message_of body in
     let base = with_cause before (FromServer s body) in
     let u = c.hear_answer.new.self in
@@ -41,7 +41,7 @@ returns-clause-does c = λ settings before body method id params s x read says m
     let k = grants_one text body method id params says is in
     let those = c.deref.ensures.value ∙ (c.in_ok-numbers.ensures.those settings before st ∙ ap (λ h. running_in settings h before) (c.group_number-group.ensures x here)) in
     let stay = hasty settings before s body id method params says (many_hasty method many) in
-    let moved = c.hear_answer.ensures.moves settings before s body x here at (not_early (is_first_result m) x.life.stage ready) (not_first (is_first_error m) x.life.stage ready) stay (asked_named m id method params says) st in
+    let moved = c.hear_answer.ensures.moves settings before s body x here at (not_early (is_first_result m) x.life.stage ready) (not_first (is_first_error m) x.life.stage ready) stay (other_keeps settings before s body id method params says other) (asked_named m id method params says) st in
     let docs = c.hear_answer.ensures.documents settings nothing_owed before s body x here at (not_first (is_first_result m) x.life.stage ready) (λ e. not_spawning x.life.stage ready e) st ds in
     let open_none = none_under text id (asking_of settings s (behind base xs)) k.answers (fresh_here settings before s body xs first id stay fresh) in
     let granted = all_does settings u u nothing_owed nothing_owed base xs ys

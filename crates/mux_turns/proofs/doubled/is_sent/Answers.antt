@@ -2,8 +2,8 @@
 use Rattle.std.proofs.Common.{ap, ◌∙◌}
 use Rattle.std.specs.Prelude.{is_some}
 use Rattle.mux_tables.proofs.Starts.{read_here}
-use Rattle.mux_editors.proofs.Asked.{sent_here, sent_nowhere}
-use Rattle.mux_editors.proofs.doubled.is_sent.Goals as goal
+use Rattle.mux_turns.proofs.Asked.{sent_here, sent_nowhere}
+use Rattle.mux_turns.proofs.doubled.is_sent.Goals as goal
 
 pub returns-in-Some : goal.returns-in-Some
 returns-in-Some c = λ settings before i facts known st text served.

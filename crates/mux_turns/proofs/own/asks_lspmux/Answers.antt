@@ -2,8 +2,8 @@
 use Rattle.std.proofs.Common.{codes, sym, ◌∙◌}
 use Rattle.event_model.specs.Event.{requests}
 use Rattle.rpc_message.specs.Message.{message_of}
-use Rattle.mux_editors.proofs.Lspmux.{either_asks, or_first, or_second}
-use Rattle.mux_editors.proofs.opened.asks_lspmux.Goals as goal
+use Rattle.mux_turns.proofs.Lspmux.{either_asks, or_first, or_second}
+use Rattle.mux_turns.proofs.own.asks_lspmux.Goals as goal
 
 pub returns-then-is_open : goal.returns-then-is_open
 returns-then-is_open c = λ body read.

@@ -3,8 +3,8 @@ use Rattle.std.proofs.Common.{ap, sym, ◌∙◌}
 use Rattle.event_model.specs.Requests.{open_of}
 use Rattle.group_facts.specs.Built.{doubles}
 use Rattle.group_facts.specs.Settled.{is_answered}
-use Rattle.mux_editors.proofs.Asked.{alone_else}
-use Rattle.mux_editors.proofs.doubled.doubles.Goals as goal
+use Rattle.mux_turns.proofs.Asked.{alone_else}
+use Rattle.mux_turns.proofs.doubled.doubles.Goals as goal
 
 pub returns-in-Waiting : goal.returns-in-Waiting
 returns-in-Waiting c = λ settings before i facts known st text phase. c.is_own.ensures settings before i known st text (sym phase ∙ c.in-Waiting.is) ∙ ap (λ p. doubles p i (open_of c.args.e before)) (sym c.in-Waiting.is)

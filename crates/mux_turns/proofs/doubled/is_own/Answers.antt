@@ -1,8 +1,8 @@
 -- The id of an editor's `initialize`.
 use Rattle.std.proofs.Common.{subst, sym, arith}
 use Rattle.rpc_message.specs.ValueTexts.{IsIdText}
-use Rattle.mux_editors.proofs.Asked.{own_here, own_nowhere, own_past}
-use Rattle.mux_editors.proofs.doubled.is_own.Goals as goal
+use Rattle.mux_turns.proofs.Asked.{own_here, own_nowhere, own_past}
+use Rattle.mux_turns.proofs.doubled.is_own.Goals as goal
 
 pub returns-then-e-count : goal.returns-then-e-count
 returns-then-e-count c = λ settings before i known st text waits. own_past settings c.args.tables.now before c.args.e i known st waits (omega (arith, c.count.ensures, c.if-e-count.true))
