@@ -29,7 +29,6 @@ use Rattle.group_facts.specs.Facts.{IsWritten, Known}
 use Rattle.group_facts.specs.Settled.{AreUtf8, Settled}
 use Rattle.group_facts.proofs.Forwards.{get_all}
 use Rattle.mux_starts.specs.Openings.{IsOpening, is_spawning}
-use Rattle.mux_turns.proofs.Rows.{is_second}
 
 -- a start whose program isn't awaited gives nothing
 unawaited : (settings : Settings) (s : ℕ) (before : List Event) (stage : Stage) → is_spawning stage ≡ false → started settings s before stage ≡ nothing

@@ -21,6 +21,7 @@ pub use broadcasts::take_broadcast;
 pub use ends::{take_ending, take_left, take_stopping};
 pub use folders::take_folders;
 pub use hasty::{is_first_error, take_hasty};
+pub use mux_turns::{answered_number, stage_at};
 pub use recalled::take_recall;
 pub use refreshed::take_refresh;
 pub use refused::take_refused;
@@ -29,5 +30,3 @@ pub use results::take_result;
 pub use single::{take_focused, take_lowest, take_repeated};
 pub use starts::take_started;
 pub use ticks::take_tick;
-
-pub use mux_turns::{answered_number, stage_at};

@@ -4,7 +4,6 @@ use Rattle.event_model.specs.Event.{behind}
 use Rattle.event_model.specs.Row.{each}
 use Rattle.event_model.proofs.Turns.{does_knowing, does_next, does_whole}
 use Rattle.group_rows.specs.LiveRows.{registering}
-use Rattle.mux_tables.specs.Documents.{nothing_owed}
 use Rattle.mux_turns.proofs.Called.{each_quiet, quiet_behind, rests_on, runs_on}
 use Rattle.mux_starts.proofs.Registering.{registering_quiet}
 use Rattle.mux_starts.proofs.Refreshing.{runs_at}

@@ -1,14 +1,11 @@
 -- S7: what is taken back.
-use Rattle.std.proofs.Common.{◌≡◌, ◌<◌, length, None, Some, ap, ap₂, subst, sym, ◌∙◌}
+use Rattle.std.proofs.Common.{◌<◌, length, ap, subst, sym, ◌∙◌}
 use Rattle.std.specs.Prelude.{option_map, slice_get}
 use Rattle.std.specs.List.{All}
 use Rattle.mux_history.specs.declared.cause.Cause.TheVariants.{FromServer}
-use Rattle.event_model.specs.Does.{Does}
 use Rattle.event_model.specs.Event.{with_cause}
-use Rattle.event_model.specs.Row.{each}
-use Rattle.event_model.specs.Stages.{is_first_result}
 use Rattle.event_model.proofs.Turns.{does_alike}
-use Rattle.group_rows.specs.Asks.{goes_to_one, may_wait, running_in}
+use Rattle.group_rows.specs.Asks.{goes_to_one, may_wait}
 use Rattle.group_rows.specs.Live.{live_of, unregister_text}
 use Rattle.group_rows.specs.LiveRows.{call, unregister_row}
 use Rattle.group_rows.proofs.LiveTexts.{again_written, live_written}
@@ -56,9 +53,9 @@ returns-in_ok-unregister_all-in-Some-clause-does c = λ settings before body met
     let moved = c.in_ok-taken.ensures.stands settings before body method id params s x here ready at says class fresh named st in
     let docs = c.in_ok-taken.ensures.documents settings nothing_owed before body method id params s x here ready at says st ds in
     let taken = some_taken body items live named c.in-Some.gone.items (ap (option_map (λ v. v.items)) (sym c.in-Some.is) ∙ (c.in_ok-taken.ensures.gone settings before x here ready st ∙ ap (λ n. gone_of items (live_of settings n before)) own)) in
-    let granted = c.in_ok-accept.ensures.does settings base body method id params s read says (ap (λ ns. slice_get ns c.args.g) c.in_ok-taken.ensures.starts ∙ at) (fresh_here settings before s body xs first id stay fresh) in
+    let granted = c.in_ok-accept-in-Some.ensures.does settings base body method id params s read says (ap (λ ns. slice_get ns c.args.g) c.in_ok-taken.ensures.starts ∙ at) (fresh_here settings before s body xs first id stay fresh) in
     let called = unregister_call (again items live) (again_written items live (live_written settings s before)) in
     whole_entry (λ k events. AllStand settings k events) (unregister_row settings before x.life.group s body) base (u, nothing_owed) (v, nothing_owed) xs zs first (moved, docs)
     (does_alike (λ _. taken_row settings before x.life.group s body items taken.0)
     (told_all settings before s x.life.group body method id params xs first says (ap goes_to_one class) u v ys zs c.args.numbers.now those (call (unregister_text (again items live))) granted
-    (λ runs idle. takes_back settings base u v ys zs c.args.numbers.now c.deref.result.now (again items live) (c.deref.ensures.value ∙ taken.1) called (λ a. c.in_ok-unregister_all.ensures.does settings base a runs idle))))
+    (λ runs idle. takes_back settings base u v ys zs c.args.numbers.now c.deref.result.now (again items live) (c.deref.ensures.value ∙ taken.1) called (λ a. c.in_ok-unregister_all-in-Some.ensures.does settings base a runs idle))))

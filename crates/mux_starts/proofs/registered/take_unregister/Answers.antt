@@ -1,14 +1,12 @@
 -- S7: a whole request that takes back.
-use Rattle.std.proofs.Common.{◌≡◌, ◌<◌, length, None, Some, ap, ap₂, subst, sym, ◌∙◌}
+use Rattle.std.proofs.Common.{◌<◌, length, Some, ap, subst, sym, ◌∙◌}
 use Rattle.std.specs.Prelude.{option_map, slice_get}
 use Rattle.std.specs.List.{All}
 use Rattle.mux_history.specs.declared.cause.Cause.TheVariants.{FromServer}
-use Rattle.event_model.specs.Does.{Does}
 use Rattle.event_model.specs.Event.{with_cause}
-use Rattle.event_model.specs.Row.{each}
 use Rattle.event_model.specs.Stages.{is_first_result}
 use Rattle.event_model.proofs.Turns.{does_alike}
-use Rattle.group_rows.specs.Asks.{goes_to_one, may_wait, running_in}
+use Rattle.group_rows.specs.Asks.{may_wait, running_in}
 use Rattle.group_rows.specs.Live.{if_live, live_of}
 use Rattle.group_rows.specs.LiveRows.{unregister_row}
 use Rattle.group_words.specs.Houses.{is_first_error}
@@ -24,10 +22,10 @@ use Rattle.mux_starts.proofs.Singles.{fresh_here}
 use Rattle.mux_starts.proofs.registered.take_unregister.Goals as goal
 
 pub take_back-requires-clause-editors : goal.take_back-requires-clause-editors
-take_back-requires-clause-editors c = subst (λ ns. All (λ e. e < length c.args.tables.now.editors) ns) (sym c.deref-2.ensures.value) c.in_ok-numbers.ensures.inside
+take_back-requires-clause-editors c = subst (λ ns. All (λ e. e < length c.args.tables.now.editors) ns) (sym c.deref-in-Some.ensures.value) c.in_ok-numbers.ensures.inside
 
-pub returns-in_ok-decline-in-None-clause-does : goal.returns-in_ok-decline-in-None-clause-does
-returns-in_ok-decline-in-None-clause-does c = λ settings before body method id params s x read says class fresh first here ready at st ds.
+pub returns-in-None-clause-does : goal.returns-in-None-clause-does
+returns-in-None-clause-does c = λ settings before body method id params s x read says class fresh first here ready at st ds.
     let m = message_of body in
     let base = with_cause before (FromServer s body) in
     let u = c.hear_answer.new.self in
@@ -41,8 +39,8 @@ returns-in_ok-decline-in-None-clause-does c = λ settings before body method id 
     (does_alike (λ _. kept_row settings before x.life.group s body none)
     (c.in_ok-decline-in-None.ensures.does settings base body method id params s read says (ap (λ ns. slice_get ns c.args.g) c.hear_answer.ensures.starts ∙ at) (fresh_here settings before s body xs first id stay fresh)))
 
-pub returns-in_ok-take_back-in-Some-clause-does : goal.returns-in_ok-take_back-in-Some-clause-does
-returns-in_ok-take_back-in-Some-clause-does c = λ settings before body method id params s x read says class fresh first here ready at st ds.
+pub returns-clause-does : goal.returns-clause-does
+returns-clause-does c = λ settings before body method id params s x read says class fresh first here ready at st ds.
     let named = sym (c.in_ok-found.ensures body read) ∙ (ap (option_map (λ v. v.items)) c.in-Some.is ∙ ap Some (sym c.deref.ensures.value)) in
-    let those = c.deref-2.ensures.value ∙ (c.in_ok-numbers.ensures.those settings before st ∙ ap (λ h. running_in settings h before) (c.group_number-group.ensures x here)) in
+    let those = c.deref-in-Some.ensures.value ∙ (c.in_ok-numbers.ensures.those settings before st ∙ ap (λ h. running_in settings h before) (c.group_number-group.ensures x here)) in
     c.in_ok-take_back-in-Some.ensures.does settings before body method id params s x read says class named those fresh first here ready at st ds
