@@ -18,6 +18,7 @@ pub use cancelled::{Target, take_cancel};
 pub use doubled::{take_doubled, take_doubled_own};
 pub use handed::take_reply;
 pub use initializes::take_initialize;
+pub use mux_turns::{asks_lspmux, doubles};
 pub use notices::take_notice;
 pub use opened::take_open;
 pub use parting::{take_down, take_exit, take_gone, take_shutdown};
@@ -25,5 +26,3 @@ pub use passed::take_passed;
 pub use quiet::{take_closed, take_early, take_malformed, take_quiet, take_wrong};
 pub use requests::take_request;
 pub use status::take_status;
-
-pub use mux_turns::{asks_lspmux, doubles};

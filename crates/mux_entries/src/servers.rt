@@ -32,9 +32,9 @@ use message_body::{Body, Memory};
 use mux_history::Outs;
 use mux_members::{asked_class, is_first_result, told_class};
 use mux_starts::{
-    answered_number, is_first_error, stage_at, take_answer, take_broadcast, take_ending, take_focused,
-    take_folders, take_hasty, take_lowest, take_recall, take_refresh, take_refused, take_register, take_repeated,
-    take_result, take_stopping, take_unregister,
+    answered_number, is_first_error, stage_at, take_answer, take_broadcast, take_ending,
+    take_focused, take_folders, take_hasty, take_lowest, take_recall, take_refresh, take_refused,
+    take_register, take_repeated, take_result, take_stopping, take_unregister,
 };
 use mux_tables::Tables;
 use rpc_message::{Malformed, Message, Sort};
