@@ -1,2 +1,3 @@
 mod Numbering
 mod Keeping
+mod Telling

@@ -207,8 +207,11 @@ abbrev pub left : ℕ → Table → Table
 left editor t = record { names = t.names; next = t.next; begins = t.begins; parts = less editor t.parts }
 
 -- the live tokens in order, each with whether it has begun
+abbrev pub all_in : List (ℕ × Text) → List (ℕ × List ℕ) → List (ℕ × Bool)
+all_in names begins = map (λ n. (n, is_some (at n begins))) (keys_of names)
+
 abbrev pub all_of : Table → List (ℕ × Bool)
-all_of t = map (λ r. (r.0, is_some (at r.0 t.begins))) t.names
+all_of t = all_in t.names t.begins
 
 -- an editor accepted a token; a `begin` of it was sent there; the numbers of the creates that it hasn't answered
 abbrev pub accepted_in : ℕ → Option Part → Bool

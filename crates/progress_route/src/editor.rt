@@ -66,7 +66,7 @@ fn hear(accepted: &mut BTreeMap<u64, bool>, token: u64, kind: Kind)
 
 // Whether a `begin` is among what may be held.
 fn has_begun(waiting: Option<&Waiting>) -> bool
-    ensures { result ≡ begun_of (option_copied waiting) }
+    ensures { result ≡ begun_of (option_copied waiting.entry) }
 {
     match waiting {
         Some(waiting) => waiting.has_begun(),
@@ -94,7 +94,7 @@ impl Editor {
         number: u128,
         begin: Option<&Body>,
     ) -> Result<(), Memory>
-        ensures { OnOk result (self.new ≡ asked token number (option_copied begin) self.old) }
+        ensures { OnOk result (self.new ≡ asked token number (option_copied begin.entry) self.old) }
     {
         let waiting = Waiting::new(alloc, begin)?;
         self.waits.insert(token, waiting)?;

@@ -4,7 +4,7 @@ ghost use Rattle.std.specs.BTreeMap.{is_at};
 ghost use Rattle.std.specs.Map.{remove_entry};
 ghost use Rattle.std.specs.Ordering.{nat_cmp};
 ghost use Rattle.id_rewrite.specs.Forms.{same_form};
-ghost use Rattle.number_index.specs.Numbers.{Changes, Same, numbers_under, with_number, without_number};
+ghost use Rattle.number_index.specs.Numbers.{Changes, Same, listed, numbers_under, with_number, without_number};
 ghost use Rattle.progress_route.specs.Names.{first_number, first_with, passes, print_key, row_at};
 
 use id_rewrite::{fingerprint, same_form};
@@ -65,6 +65,13 @@ fn is_row_under(rows: &BTreeMap<u64, Body>, number: u64, text: &[u8]) -> bool
     }
 }
 
+// The numbers of the texts that have the fingerprint of this one.
+fn numbers_like<'a>(index: &'a Index, text: &[u8]) -> Option<&'a BTreeSet<u64>>
+    ensures { listed result ≡ numbers_under (print_key text.now) index.now }
+{
+    index.get(&print_key(text))
+}
+
 // The first of these numbers whose text stands for what these bytes do.
 fn first_under(rows: &BTreeMap<u64, Body>, numbers: &BTreeSet<u64>, text: &[u8]) -> Option<u64>
     ensures { result ≡ first_number (same_form text.now) rows.now.entries numbers.now.keys }
@@ -95,7 +102,7 @@ impl Names {
     pub fn number_of(&self, text: &[u8]) -> Option<u64>
         ensures { result ≡ first_with (same_form text.now) self.now.rows }
     {
-        match self.index.get(&print_key(text)) {
+        match numbers_like(&self.index, text) {
             Some(numbers) => first_under(&self.rows, numbers, text),
             None => None,
         }

@@ -3,7 +3,7 @@ ghost use Rattle.std.specs.Prelude.{◌≡◌, false, is_some, option_copied, op
 ghost use Rattle.std.specs.Map.{keys_of};
 ghost use Rattle.rpc_message.specs.Message.{Id};
 ghost use Rattle.rpc_message.specs.ValueTexts.{IsIdText};
-ghost use Rattle.progress_route.specs.Tables.{AreIds, accepted_in, accepting, all_of, answered, asked, at, begins_after, begun_in, bodies_of, changed, created, due, edited, given, held_in, left, names_after, nothing, number_as, number_in, numbers_in, put_to, settled, taken, token_at, told, told_each};
+ghost use Rattle.progress_route.specs.Tables.{AreIds, accepted_in, accepting, all_in, all_of, answered, asked, at, begins_after, begun_in, bodies_of, changed, created, due, edited, given, held_in, left, names_after, nothing, number_as, number_in, numbers_in, put_to, settled, taken, token_at, told, told_each};
 
 use crate::editor::Editor;
 use crate::kind::Kind;
@@ -74,7 +74,7 @@ fn ask(
     number: u128,
     begin: Option<&Body>,
 ) -> Result<(), Memory>
-    ensures { OnOk result (editors.new.entries ≡ changed editor (asked token number (option_copied begin)) editors.old.entries) }
+    ensures { OnOk result (editors.new.entries ≡ changed editor (asked token number (option_copied begin.entry)) editors.old.entries) }
 {
     match editors.get_mut(&editor) {
         Some(part) => part.ask(alloc, token, number, begin),
@@ -187,6 +187,21 @@ fn note_begin(
     Ok(())
 }
 
+// The live tokens, each with whether it has begun.
+fn all_in(
+    alloc: Global,
+    names: &BTreeMap<u64, Body>,
+    begins: &BTreeMap<u64, Body>,
+) -> Result<Vec<(u64, bool)>, Memory>
+    ensures { IfOk result (λ all. all.items ≡ all_in names.now.entries begins.now.entries) }
+{
+    let mut all = Vec::new(alloc);
+    for number in names.keys() {
+        all.push((*number, begins.contains_key(number)))?;
+    }
+    Ok(all)
+}
+
 impl Tokens {
     /// No tokens. It takes no memory.
     pub fn new(alloc: Global) -> Tokens
@@ -207,6 +222,13 @@ impl Tokens {
     pub fn number_of(&self, token: &[u8]) -> Option<u64>
         ensures exact { result ≡ number_in token.now self.now.names }
         ensures same { (meaning : _) (i : Id) → IsIdText i token.now → AreIds meaning self.now.names → result ≡ number_as meaning i self.now.names }
+    {
+        self.found(token)
+    }
+
+    // The number of the live token.
+    fn found(&self, token: &[u8]) -> Option<u64>
+        ensures { result ≡ number_in token.now self.now.names }
     {
         self.names.number_of(token)
     }
@@ -310,11 +332,7 @@ impl Tokens {
     pub fn all(&self) -> Result<Vec<(u64, bool)>, Memory>
         ensures { IfOk result (λ all. all.items ≡ all_of self.now) }
     {
-        let mut all = Vec::new(self.alloc);
-        for number in self.names.rows().keys() {
-            all.push((*number, self.begins.contains_key(number)))?;
-        }
-        Ok(all)
+        all_in(self.alloc, self.names.rows(), &self.begins)
     }
 
     /// Whether an editor accepted a token that lives.

@@ -25,7 +25,7 @@ impl Model for Waiting {
 impl Waiting {
     /// A token's first `begin`, where there is one.
     pub fn new(alloc: Global, begin: Option<&Body>) -> Result<Waiting, Memory>
-        ensures { IfOk result (λ waiting. waiting ≡ held_first (option_copied begin)) }
+        ensures { IfOk result (λ waiting. waiting ≡ held_first (option_copied begin.entry)) }
     {
         let mut bodies = Vec::new(alloc);
         match begin {

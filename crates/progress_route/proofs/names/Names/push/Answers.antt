@@ -20,9 +20,3 @@ invariant_of-self-in-Err c =
     subst (λ (rows : List (ℕ × Text)). IsKept rows c.self.inside.next c.remove_text.new.index) (sym c.in-Err.ensures.err)
     (kept_undone c.self.inside.rows.entries c.self.inside.next c.self.inside.index c.self.invariant c.args.text c.add_text.new.index c.remove_text.new.index c.in_ok-add_text.ensures.ok
     (subst (λ (a : Text). Changes (print_key a) (without_number c.self.inside.next) c.add_text.new.index c.remove_text.new.index) (ap (λ p. p.1) c.in-Err.ensures.value_returned) c.remove_text.ensures))
-
-pub invariant_of-self-in-Err-2 : goal.invariant_of-self-in-Err-2
-invariant_of-self-in-Err-2 c =
-    subst (λ (rows : List (ℕ × Text)). IsKept rows c.self.inside.next c.remove_text.new.index) (sym c.in-Err.ensures.err)
-    (kept_undone c.self.inside.rows.entries c.self.inside.next c.self.inside.index c.self.invariant c.args.text c.add_text.new.index c.remove_text.new.index c.in_ok-add_text.ensures.ok
-    (subst (λ (a : Text). Changes (print_key a) (without_number c.self.inside.next) c.add_text.new.index c.remove_text.new.index) (ap (λ p. p.1) c.in-Err.ensures.value_returned) c.remove_text.ensures))

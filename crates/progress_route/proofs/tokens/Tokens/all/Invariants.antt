@@ -1,7 +1,0 @@
-use Rattle.std.proofs.Common.{◌≡◌, ◌++◌}
-use Rattle.std.specs.Prelude.{is_some, map}
-use Rattle.progress_route.specs.Tables.{all_of, at}
-use Rattle.progress_route.proofs.tokens.Tokens.all.Given as goal
-
-abbrev pub invariant-loop-number : goal.invariant-loop-number
-invariant-loop-number l = l.all.items ++ map (λ n. (n, is_some (at n l.self.begins))) l.number-iterator ≡ all_of l.self
