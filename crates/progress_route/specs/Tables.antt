@@ -156,10 +156,8 @@ hear k Other accepted = accepted
 abbrev pub told : ℕ → List ℕ → Kind → Part → Part
 told k body kind part = record { creates = part.creates; waits = hold k body kind (at k part.waits) part.waits; accepted = hear k kind part.accepted }
 
--- one editor after the other
-abbrev pub told_each : ℕ → List ℕ → Kind → List ℕ → List (ℕ × Part) → List (ℕ × Part)
-told_each k body kind [] parts = parts
-told_each k body kind (e ∷ es) parts = told_each k body kind es (edited e (told k body kind) parts)
+abbrev pub told_all : ℕ → List ℕ → Kind → List (ℕ × Part) → List (ℕ × Part)
+told_all k body kind parts = map (λ r. (r.0, told k body kind r.1)) parts
 
 -- the editors that accepted a token, rising
 abbrev pub has_accepted : ℕ → Part → Bool
@@ -181,7 +179,7 @@ names_after k kind names = if is_end kind then less k names else names
 -- a progress message comes for the token of a number
 abbrev pub taken_to : List ℕ → Kind → Option ℕ → Table → Table
 taken_to body kind None t = t
-taken_to body kind (Some k) t = record { names = names_after k kind t.names; next = t.next; begins = begins_after k body kind t.begins; parts = told_each k body kind (keys_of t.parts) t.parts }
+taken_to body kind (Some k) t = record { names = names_after k kind t.names; next = t.next; begins = begins_after k body kind t.begins; parts = told_all k body kind t.parts }
 
 abbrev pub taken : Text → List ℕ → Kind → Table → Table
 taken token body kind t = taken_to body kind (number_in token t.names) t

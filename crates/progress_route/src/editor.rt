@@ -113,7 +113,12 @@ impl Editor {
     }
 
     /// It has answered a create, and holds the token from now on or doesn't. It gives what was held.
-    pub fn settle(&mut self, number: u128, token: u64, holds: bool) -> Result<Option<Waiting>, Memory>
+    pub fn settle(
+        &mut self,
+        number: u128,
+        token: u64,
+        holds: bool,
+    ) -> Result<Option<Waiting>, Memory>
         ensures held { IfOk result (λ held. held ≡ at token self.old.waits) }
         ensures part { OnOk result (self.new ≡ settled number token holds self.old) }
     {

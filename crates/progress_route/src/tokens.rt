@@ -1,9 +1,12 @@
 //! The progress tokens that one start of a server created.
 ghost use Rattle.std.specs.Prelude.{◌≡◌, false, is_some, option_copied, option_map, IfOk, OnOk};
 ghost use Rattle.std.specs.Map.{keys_of};
+ghost use Rattle.std.specs.List.Sorted.{IsStrictlySortedBy};
+ghost use Rattle.std.specs.Ordering.{nat_cmp};
 ghost use Rattle.rpc_message.specs.Message.{Id};
 ghost use Rattle.rpc_message.specs.ValueTexts.{IsIdText};
-ghost use Rattle.progress_route.specs.Tables.{AreIds, accepted_in, accepting, all_in, all_of, answered, asked, at, begins_after, begun_in, bodies_of, changed, created, due, edited, given, held_in, left, names_after, nothing, number_as, number_in, numbers_in, put_to, settled, taken, token_at, told, told_each};
+ghost use Rattle.progress_route.specs.Tables.{AreIds, accepted_in, accepting, all_in, all_of, answered, asked, at, begins_after, begun_in, bodies_of, changed, created, due, edited, given, held_in, left, names_after, nothing, number_as, number_in, numbers_in, put_to, settled, taken, token_at, told, told_all};
+ghost use Rattle.progress_route.specs.Tells.{told_each};
 
 use crate::editor::Editor;
 use crate::kind::Kind;
@@ -124,7 +127,8 @@ fn tell(
 
 // The numbers of all editors, rising.
 fn all_editors(alloc: Global, editors: &BTreeMap<u64, Editor>) -> Result<Vec<u64>, Memory>
-    ensures { IfOk result (λ all. all.items ≡ keys_of editors.now.entries) }
+    ensures all { IfOk result (λ all. all.items ≡ keys_of editors.now.entries) }
+    ensures rising { IsStrictlySortedBy nat_cmp (keys_of editors.now.entries) }
 {
     let mut all = Vec::new(alloc);
     for editor in editors.keys() {
@@ -148,6 +152,20 @@ fn tell_each(
         tell(alloc, editors, *editor, token, body, kind)?;
     }
     Ok(())
+}
+
+// A body comes for a token, at all editors.
+fn tell_all(
+    alloc: Global,
+    editors: &mut BTreeMap<u64, Editor>,
+    token: u64,
+    body: &Body,
+    kind: Kind,
+) -> Result<(), Memory>
+    ensures { OnOk result (editors.new.entries ≡ told_all token body.now kind editors.old.entries) }
+{
+    let all = all_editors(alloc, editors)?;
+    tell_each(alloc, editors, &all, token, body, kind)
 }
 
 // The editors that accepted a token, rising.
@@ -285,7 +303,12 @@ impl Tokens {
     /// An editor answers the create that it was asked under a number. Where it accepts, what was held for it is handed
     /// out, and it has accepted the token from now on, while that lives; where it refuses, what was held is dropped. None
     /// where the editor has no such create to answer, and then nothing changes.
-    pub fn answer(&mut self, editor: u64, number: u128, accepts: bool) -> Result<Option<Handed>, Memory>
+    pub fn answer(
+        &mut self,
+        editor: u64,
+        number: u128,
+        accepts: bool,
+    ) -> Result<Option<Handed>, Memory>
         ensures handed { IfOk result (λ handed. option_map (λ h. (h.token, h.bodies.items)) handed ≡ given editor number accepts self.old) }
         ensures table { OnOk result (self.new ≡ answered editor number accepts self.old) }
     {
@@ -309,8 +332,7 @@ impl Tokens {
             return Ok(None);
         };
         let editors = accepting(self.alloc, &self.editors, number)?;
-        let all = all_editors(self.alloc, &self.editors)?;
-        tell_each(self.alloc, &mut self.editors, &all, number, body, kind)?;
+        tell_all(self.alloc, &mut self.editors, number, body, kind)?;
         note_begin(self.alloc, &mut self.begins, number, body, kind)?;
         if kind == Kind::End {
             self.names.remove(number);

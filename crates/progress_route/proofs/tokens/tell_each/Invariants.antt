@@ -1,5 +1,5 @@
 use Rattle.std.proofs.Common.{◌≡◌, drop}
-use Rattle.progress_route.specs.Tables.{told_each}
+use Rattle.progress_route.specs.Tells.{told_each}
 use Rattle.progress_route.proofs.tokens.tell_each.Given as goal
 
 abbrev pub invariant-loop-editor : goal.invariant-loop-editor
