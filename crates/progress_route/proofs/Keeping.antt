@@ -1,6 +1,6 @@
 -- What is kept stays so: behind a text that comes, and one that goes.
 use Rattle.std.proofs.Common.{◌≡◌, ℕ, ◌+◌, ◌<◌, ◌≤◌, Bool, true, false, cond, List, [], ◌∷◌, ◌++◌, refl, sym, ◌∙◌, ap, ap₂, subst, arith}
-use Rattle.std.specs.Prelude.{Option, Some, None, bytes_eq}
+use Rattle.std.specs.Prelude.{Option, Some, bytes_eq}
 use Rattle.std.specs.List.{AllByRecursion}
 use Rattle.std.specs.Ordering.{nat_cmp, match_ordering}
 use Rattle.std.specs.declared.cmp.Ordering.TheVariants.{Greater}
@@ -10,7 +10,7 @@ use Rattle.std.specs.Map.{remove_entry}
 use Rattle.std.specs.Int.{w128, to_be_bytes}
 use Rattle.std.proofs.lemmas.Slice.Eq.{bytes_eq-Decides}
 use Rattle.number_index.specs.Numbers.{numbers_under, with_number, without_number, Changes, Same}
-use Rattle.rpc_message.specs.Message.{Id, same_id}
+use Rattle.rpc_message.specs.Message.{Id}
 use Rattle.rpc_message.specs.ValueTexts.{IsIdText}
 use Rattle.id_rewrite.specs.Forms.{form, same_form}
 use Rattle.id_rewrite.proofs.Finding.{alike, texts_same}
