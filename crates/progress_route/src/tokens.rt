@@ -5,7 +5,7 @@ ghost use Rattle.std.specs.List.Sorted.{IsStrictlySortedBy};
 ghost use Rattle.std.specs.Ordering.{nat_cmp};
 ghost use Rattle.rpc_message.specs.Message.{Id};
 ghost use Rattle.rpc_message.specs.ValueTexts.{IsIdText};
-ghost use Rattle.progress_route.specs.Tables.{AreIds, accepted_in, accepting, all_in, all_of, answered, asked, at, begins_after, begun_in, bodies_of, changed, created, due, edited, given, held_in, left, names_after, nothing, number_as, number_in, numbers_in, put_to, settled, taken, token_at, told, told_all};
+ghost use Rattle.progress_route.specs.Tables.{AreIds, accepted_in, accepting, all_in, all_of, answered, asked, at, begins_after, begun_in, bodies_of, changed, created, due, edited, given, held_in, left, nothing, number_as, number_in, numbers_in, put_to, settled, taken, token_at, told, told_all};
 ghost use Rattle.progress_route.specs.Tells.{told_each};
 
 use crate::editor::Editor;
