@@ -9,7 +9,7 @@ use Rattle.json_text.specs.declared.kind.Kind.TheVariants as kind
 use Rattle.json_text.specs.Json.{Json, word, number, string, array, object, value, span_of}
 use Rattle.json_text.specs.Named.{named_in}
 use Rattle.json_text.specs.String.{SpellsCharacters}
-use Rattle.json_token.proofs.Scalars.{scalar_characters, utf8_characters}
+use Rattle.json_span.proofs.Scalars.{scalar_characters, utf8_characters}
 use Rattle.json_nodes.specs.At.{At, Found}
 use Rattle.json_nodes.specs.Doc.{Doc}
 use Rattle.json_nodes.specs.Nodes.{kind_of}

@@ -11,9 +11,8 @@ use crate::change::{ContentChange, Extent, Position, Range};
 use crate::doc_text::DocText;
 use crate::fault::ChangeFault;
 use crate::number::unsigned;
-use json_span::Tape;
+use json_span::{Tape, decode};
 use json_text::Kind;
-use json_token::decode;
 use std::alloc::Global;
 
 // The member of a position: a number of lines or of units.

@@ -6,7 +6,7 @@ use Rattle.json_text.specs.Json.{Json, word, number, string, array, object, Item
 use Rattle.json_text.specs.Named.{named, named_in, or_else, if_named}
 use Rattle.json_text.specs.Tree.{tree_of}
 use Rattle.json_text.proofs.Laws.{tree_sound}
-use Rattle.json_token.proofs.Scalars.{scalar_string, utf8_characters}
+use Rattle.rpc_message.proofs.Strings.{scalar_string, utf8_characters}
 use Rattle.doc_text.specs.Changes.{string_text}
 use Rattle.rpc_message.specs.Message.{Id, Message, not_message, notification, message_in, message_of, by_method, called, request_if, notification_if, given, is_null, are_params, id_of, no_name_twice, is_two, answered, response_with, response_id, error_if}
 use Rattle.document_model.specs.Sayings.{member_of, string_at}

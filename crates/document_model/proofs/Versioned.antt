@@ -14,7 +14,7 @@ use Rattle.json_text.proofs.Laws.{tree_sound}
 use Rattle.json_text.proofs.Paths.{path_swaps}
 use Rattle.json_text.proofs.Put.{named_put, named_put_other, some_put}
 use Rattle.json_text.proofs.Swaps.{Swaps, kept, swapped, in_object, SwapsMembers, no_member_swaps, member_swaps, Replaced, replaced}
-use Rattle.json_nodes.specs.Puts.{edit_if, member_edits}
+use Rattle.rpc_message.specs.Values.{edit_if, member_edits}
 use Rattle.rpc_message.specs.Message.{notification, not_message, no_name_twice, is_two, is_integer, are_params, given, notification_if, called, by_method, message_in, message_of}
 use Rattle.std.proofs.lemmas.Slice.Eq.{bytes_eq-Decides}
 use Rattle.rpc_message.proofs.Decimals.{decimal_number, decimal_integer}

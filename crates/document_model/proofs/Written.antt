@@ -17,7 +17,7 @@ use Rattle.json_text.specs.Named.{named}
 use Rattle.json_text.specs.Json.{Json, number, string, array, object, no_items, item, Members, no_members, member, depth, members_depth}
 use Rattle.json_text.proofs.Compact.{all_simple, simple_string, closing_none, closing_member, compact_object, bare_text}
 use Rattle.json_text.proofs.Forms.{says}
-use Rattle.json_span.proofs.Quoted.{spells_text}
+use Rattle.rpc_message.proofs.Strings.{spells_text}
 use Rattle.rpc_message.proofs.Meaning.{message_says}
 use Rattle.rpc_message.proofs.Decimals.{decimal_integer, decimal_number}
 use Rattle.document_model.specs.Bodies.{open_text, full_text, close_text}

@@ -6,3 +6,4 @@ pub mod Orderly
 pub mod Rows
 pub mod Sayings
 pub mod Texts
+pub mod Strings

@@ -6,7 +6,7 @@ use Rattle.std.specs.Option.{option_and_then}
 use Rattle.json_text.specs.Json.{Json, number}
 use Rattle.json_text.specs.Named.{named_in}
 use Rattle.json_text.specs.Replace.{Edit, replace}
-use Rattle.json_nodes.specs.Puts.{put_edits}
+use Rattle.rpc_message.specs.Values.{put_edits}
 use Rattle.rpc_message.specs.Message.{is_integer}
 use Rattle.doc_text.specs.Changes.{string_text}
 

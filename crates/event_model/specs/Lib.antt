@@ -10,3 +10,4 @@ pub mod Row
 pub mod Settings
 pub mod Spawns
 pub mod Stages
+pub mod Messages

@@ -12,3 +12,4 @@ pub mod SyncHeld
 pub mod Touching
 pub mod OwnTexts
 pub mod Versions
+pub mod Following

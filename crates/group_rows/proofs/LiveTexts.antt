@@ -1,11 +1,11 @@
 -- What is registered is written, whatever the events are, and what editors are told of it is requests.
-use Rattle.std.proofs.Common.{◌≡◌, ℕ, suc, ◌^◌, ◌<◌, ◌≤◌, Bool, true, false, not, ◌&&◌, List, [], ◌∷◌, ◌++◌, cond, codes, decimal, encode_utf8_all, filter, map, nat_eq, if◌then◌else◌, Option, Some, None, option_map, refl, sym, ◌∙◌, ap, subst, arith, append_assoc}
-use Rattle.std.specs.Option.{option_and_then}
+use Rattle.std.proofs.Common.{◌≡◌, ℕ, suc, ◌^◌, ◌<◌, ◌≤◌, Bool, true, false, not, ◌&&◌, List, [], ◌∷◌, ◌++◌, cond, codes, decimal, encode_utf8_all, filter, flat_map, map, nat_eq, if◌then◌else◌, Option, Some, None, option_map, refl, sym, ◌∙◌, ap, ap₂, subst, arith, append_assoc}
+use Rattle.std.specs.Option.{option_and_then, option_map_or}
 use Rattle.std.specs.Str.{chars}
-use Rattle.json_text.specs.Bare.{bare, nowhere}
+use Rattle.json_text.specs.Bare.{bare, bare_items, nowhere}
 use Rattle.json_text.specs.declared.span.Span.{Span}
 use Rattle.json_text.specs.Json.{Json, word, number, string, array, object, Items, no_items, item, no_members, member, depth, items_depth, span_of, IsText}
-use Rattle.json_text.specs.Named.{named_in, items_list}
+use Rattle.json_text.specs.Named.{named, named_in, items_list}
 use Rattle.json_text.specs.Paths.{Step, key, index, item_at, value_at}
 use Rattle.json_text.specs.Tree.{tree_of}
 use Rattle.json_text.proofs.Compact.{closing_none, closing_member, compact_object}
@@ -14,7 +14,8 @@ use Rattle.json_text.proofs.Forms.{says, says_more_items}
 use Rattle.json_text.proofs.Inside.{InSpan, value_in_span}
 use Rattle.json_text.proofs.Laws.{tree_sound}
 use Rattle.json_text.proofs.Moves.{Placed, moved, placed}
-use Rattle.json_text.proofs.Put.{depth_bare}
+use Rattle.document_model.specs.Sayings.{string_at}
+use Rattle.json_text.proofs.Put.{named_bare, depth_bare}
 use Rattle.mux_history.specs.declared.cause.Cause.TheVariants.{Joined, FromEditor, EditorGone, Started, StartFailed, FromServer, ServerGone, Drained, Tick}
 use Rattle.lsp_method.specs.Class.{class_of}
 use Rattle.lsp_method.specs.declared.variants.Class.{Class}
@@ -24,17 +25,34 @@ use Rattle.rpc_message.specs.Message.{Message, request, notification, result, er
 use Rattle.rpc_message.specs.ValueTexts.{IsShallowText, IsValueText}
 use Rattle.rpc_message.proofs.Opening.{value_says}
 use Rattle.rpc_message.proofs.Replies.{request_law}
-use Rattle.doc_text.specs.Changes.{string_text}
+use Rattle.document_model.specs.Strings.{string_text}
 use Rattle.capability_meet.specs.Parts.{bracketed, listed}
 use Rattle.capability_meet.proofs.MeetSays.{array_says, first_item, one_more_item}
 use Rattle.event_model.specs.Event.{Event, did, took}
-use Rattle.event_model.specs.Members.{named_of, params_of}
+use Rattle.event_model.specs.Members.{listed as items_of, named_of, params_of}
 use Rattle.event_model.specs.Settings.{Settings}
 use Rattle.group_words.specs.Past.{past}
 use Rattle.registrations.specs.declared.registration.Registration.{Registration}
 use Rattle.registrations.specs.Items.{again, are_distinct, if_distinct, is_among, named_as, others, registered, registration_of, registrations_at, registrations_in, unregistered, with_more}
 use Rattle.group_rows.specs.Live.{is_heard, live_by, live_next, live_of, register_params, register_text, taken_back, unregister_params, unregister_text, unregistration, with_registered, without_these}
 use Rattle.group_rows.specs.LiveTexts.{AreWritten, IsWrittenItem}
+
+-- Members of a value without places
+
+string_bare : (o : Option Json) → option_and_then string_text (option_map bare o) ≡ option_and_then string_text o
+string_bare (Some (string s cs)) = refl
+string_bare (Some (word s w)) = refl
+string_bare (Some (number s ds)) = refl
+string_bare (Some (array s js)) = refl
+string_bare (Some (object s ms)) = refl
+string_bare None = refl
+
+named_same : (cs : List ℕ) (j : Json) → string_at cs (Some (bare j)) ≡ string_at cs (Some j)
+named_same cs (object s ms) = ap (option_and_then string_text) (named_bare cs ms) ∙ string_bare (named cs ms)
+named_same cs (word s w) = refl
+named_same cs (number s ds) = refl
+named_same cs (string s ds) = refl
+named_same cs (array s js) = refl
 
 -- Items of a body
 
@@ -63,7 +81,9 @@ module _ (body name : List ℕ) (root p : Json) (s : Span) (js : Items) (text : 
   strings_written n t a b called named is method id = record {
     tree = bare t;
     item = record { text = standing (key (codes "params") ∷ key name ∷ index n ∷ []) t (at_item n t is); shallow = omega (arith, depth_bare t, shallow n t is) };
+    given = named_same (codes "id") t ∙ ap (option_and_then string_text) id;
     named = named;
+    spelt = refl;
     id = subst (λ o. IsValueText (string nowhere named) (slice_of body (option_map span_of o))) (sym id) (standing (key (codes "params") ∷ key name ∷ index n ∷ key (codes "id") ∷ []) (string b named) (at_member n t (string b named) (codes "id") is id));
     called = called;
     method = subst (λ o. IsValueText (string nowhere called) (slice_of body (option_map span_of o))) (sym method) (standing (key (codes "params") ∷ key name ∷ index n ∷ key (codes "method") ∷ []) (string a called) (at_member n t (string a called) (codes "method") is method));
@@ -257,6 +277,29 @@ ids_low : (r : Registration) (k : IsWrittenItem r) → depth (ids_tree r k) ≤ 
 unfolding ids_tree
 ids_low r k = omega arith
 
+-- the ids that items give
+abbrev pub ids_read : List Json → List (List ℕ)
+ids_read js = flat_map (λ (j : Json). option_map_or (λ (id : List ℕ). id ∷ []) (string_at (codes "id") (Some j)) []) js
+
+ids_bare : (js : Items) → ids_read (items_list (bare_items js)) ≡ ids_read (items_list js)
+ids_bare no_items = refl
+ids_bare (item j js) = ap₂ (λ o xs. option_map_or (λ (id : List ℕ). id ∷ []) o [] ++ xs) (named_same (codes "id") j) (ids_bare js)
+
+module _ (f : (r : Registration) → IsWrittenItem r → Json) (t : Registration → List ℕ) (said : (r : Registration) (k : IsWrittenItem r) → says (f r k) (t r)) (low : (r : Registration) (k : IsWrittenItem r) → depth (f r k) ≤ 1021)
+    (named_so : (r : Registration) (k : IsWrittenItem r) → string_at (codes "id") (Some (f r k)) ≡ Some r.name) where
+  trees_named : (rs : List Registration) (h : AreWritten rs) → ids_read (items_list (trees f t said low rs h)) ≡ map (λ (r : Registration). r.name) rs
+  unfolding trees
+  trees_named [] h = refl
+  trees_named (r ∷ rs) h = ap₂ (λ o xs. option_map_or (λ (id : List ℕ). id ∷ []) o [] ++ xs) (named_so r h.0) (trees_named rs h.1)
+
+ids_named : (r : Registration) (k : IsWrittenItem r) → string_at (codes "id") (Some (ids_tree r k)) ≡ Some r.name
+unfolding ids_tree named
+ids_named r k = ap (λ n. Some n) (sym k.spelt)
+
+item_named : (r : Registration) (k : IsWrittenItem r) → string_at (codes "id") (Some (item_tree r k)) ≡ Some r.name
+unfolding item_tree
+item_named r k = k.given
+
 -- the daemon's own requests
 module _ (rs : List Registration) (h : AreWritten rs) where
   item_trees : Items
@@ -291,4 +334,27 @@ module _ (rs : List Registration) (h : AreWritten rs) where
   unregister_says n small = (
     bare (bare (params_tree (codes "unregisterations") ids_trees)),
     request_law n (codes "client/unregisterCapability") (Some (bare (params_tree (codes "unregisterations") ids_trees))) (Some (unregister_params rs)) small (codes "client/unregisterCapability", (refl, refl)) unregister_value.text refl unregister_value.shallow,
+  )
+
+  -- and what they name
+  pub register_tells : (n : ℕ) → n < 2 ^ 128
+      → (params : Json) × ((message_of (register_text rs n) ≡ request (integer (decimal n)) (codes "client/registerCapability") (Some params)) × (ids_read (items_of (named_of (codes "registrations") (Some params))) ≡ map (λ (r : Registration). r.name) rs))
+  unfolding chars lib.Utf8.encode named item_trees
+  register_tells n small = (
+    bare (bare (params_tree (codes "registrations") item_trees)),
+    (
+      request_law n (codes "client/registerCapability") (Some (bare (params_tree (codes "registrations") item_trees))) (Some (register_params rs)) small (codes "client/registerCapability", (refl, refl)) register_value.text refl register_value.shallow,
+      ids_bare (bare_items item_trees) ∙ ids_bare item_trees ∙ trees_named item_tree (λ (r : Registration). r.item) item_says item_low item_named rs h,
+    ),
+  )
+
+  pub unregister_tells : (n : ℕ) → n < 2 ^ 128
+      → (params : Json) × ((message_of (unregister_text rs n) ≡ request (integer (decimal n)) (codes "client/unregisterCapability") (Some params)) × (ids_read (items_of (named_of (codes "unregisterations") (Some params))) ≡ map (λ (r : Registration). r.name) rs))
+  unfolding chars lib.Utf8.encode named ids_trees
+  unregister_tells n small = (
+    bare (bare (params_tree (codes "unregisterations") ids_trees)),
+    (
+      request_law n (codes "client/unregisterCapability") (Some (bare (params_tree (codes "unregisterations") ids_trees))) (Some (unregister_params rs)) small (codes "client/unregisterCapability", (refl, refl)) unregister_value.text refl unregister_value.shallow,
+      ids_bare (bare_items ids_trees) ∙ ids_bare ids_trees ∙ trees_named ids_tree unregistration ids_says ids_low ids_named rs h,
+    ),
   )

@@ -15,3 +15,10 @@ pub mod Worked
 pub mod Client4Law
 pub mod Client5Law
 pub mod Server5Law
+pub mod Enrolled
+pub mod Registered
+pub mod Tied
+pub mod Changes
+pub mod Told
+pub mod Begins
+pub mod Client7Law

@@ -19,7 +19,7 @@ use Rattle.json_text.proofs.Laws.{tree_complete, tree_sound}
 use Rattle.json_text.proofs.Moves.{Placed, PlacedText, moved, placed, placed_text}
 use Rattle.json_text.proofs.Put.{depth_bare}
 use Rattle.json_token.proofs.Scalars.{scalar_string, utf8_characters}
-use Rattle.json_span.proofs.Quoted.{spells_text}
+use Rattle.rpc_message.proofs.Strings.{spells_text}
 use Rattle.rpc_message.specs.Message.{integer, request, slice_of, message_of}
 use Rattle.rpc_message.specs.Texts.{initialize_params}
 use Rattle.rpc_message.specs.ValueTexts.{IsOptionText, IsShallowText, IsValueText, option_depth}

@@ -20,3 +20,4 @@ pub mod Stuck
 pub mod Tapes
 pub mod Tokens
 pub mod Walks
+pub mod Scalars

@@ -2,3 +2,4 @@ pub mod Classes
 pub mod Machine
 pub mod Views
 pub mod Words
+pub mod Characters

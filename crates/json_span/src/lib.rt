@@ -12,6 +12,7 @@ mod word;
 
 pub use fault::JsonFault;
 pub use json_text::{Change, Kind, Span, splice};
+pub use json_token::{decode, same_characters, spells_text};
 pub use message_body::{Body, Memory};
 pub use string::{append_quoted, quote};
 pub use tape::{Tape, same};

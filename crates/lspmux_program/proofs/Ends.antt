@@ -18,7 +18,7 @@ use Rattle.drive_text.specs.Outs.{outs_text}
 use Rattle.group_facts.specs.OwnTexts.{OwnTexts}
 use Rattle.group_facts.proofs.OwnVersions.{own_versions_hold}
 use Rattle.group_facts.proofs.Switching.{switches_hold}
-use Rattle.group_sessions.proofs.Sessions.{sessions_kept}
+use Rattle.mux_hub.proofs.Sessions.{sessions_kept}
 use Rattle.lspmux_program.specs.Program.{status_of, fault_line, status_line, refused_line, Ran, Drove, JournalTells, words_line, IsUnrefused, Undisturbed}
 use Rattle.lspmux_program.specs.Reports.{Wrote, Reported, said, unsaid}
 use Rattle.lspmux_program.specs.Runs.{built_in, Refused, Outcome, drive_of, IsRunOfRead, PassesFirst, TakesFirst, WroteFront}

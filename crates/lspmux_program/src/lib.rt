@@ -11,6 +11,7 @@ mod step;
 mod stop;
 
 pub use all_lines::drive;
+pub use mux_hub::{Hub, Limits, Server, StepFault};
 pub use program::{Outside, lspmux};
 pub use refusal::Refusal;
 pub use stop::Stop;

@@ -3,3 +3,4 @@ pub mod Counts
 pub mod HubLaw
 pub mod OwnTexts
 pub mod Spawned
+pub mod Sessions

@@ -9,8 +9,8 @@ use Rattle.json_nodes.specs.Doc.{Doc}
 use Rattle.json_nodes.proofs.Spelled.{string_text}
 use Rattle.json_token.proofs.Scalars.{scalar_characters, utf8_characters}
 use Rattle.rpc_message.specs.Message.{is_integer_value, is_string_value}
-use Rattle.document_model.specs.Notices.{integer_text}
-use Rattle.document_model.specs.Sayings.{Saying, nothing, member_of, opening_by, changing_by, closing_by, saying_by}
+use Rattle.mux_model.specs.Sayings.{integer_text}
+use Rattle.mux_model.specs.Sayings.{Saying, nothing, member_of, opening_by, changing_by, closing_by, saying_by}
 use Rattle.event_model.specs.Members.{named_of}
 
 -- a string's characters are a text

@@ -11,9 +11,9 @@ use Rattle.rpc_message.specs.declared.envelope.Envelope.{Envelope}
 use Rattle.rpc_message.specs.declared.envelope.Envelope.TheVariants.{Request, Notification, Outcome, Failure}
 use Rattle.rpc_message.specs.Envelopes.{Tells}
 use Rattle.rpc_message.specs.Message.{Message}
-use Rattle.doc_text.specs.Changes.{string_text}
-use Rattle.document_model.specs.Notices.{integer_text}
-use Rattle.document_model.specs.Sayings.{Saying, nothing, member_of, string_at, integer_at, opening, changing, closing, opening_by, changing_by, closing_by, saying_by, saying_of, speaks}
+use Rattle.mux_model.specs.Sayings.{string_text}
+use Rattle.mux_model.specs.Sayings.{integer_text}
+use Rattle.mux_model.specs.Sayings.{Saying, nothing, member_of, string_at, integer_at, opening, changing, closing, opening_by, changing_by, closing_by, saying_by, saying_of, speaks}
 use Rattle.mux_members.specs.declared.notice.Notice.{Notice}
 use Rattle.mux_members.specs.declared.notice.Notice.TheVariants.{Opens, Changes, Closes, Nothing}
 use Rattle.mux_members.specs.Envelopes.{notification_method, notification_params}

@@ -3,4 +3,5 @@ pub mod Envelopes
 pub mod Finds
 pub mod Notices
 pub mod Results
+pub mod Members
 pub mod Tokens

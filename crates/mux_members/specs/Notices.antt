@@ -1,7 +1,7 @@
 -- What is read of a document in a notification (LSP 3.17, Text Document Synchronization).
 use Rattle.std.specs.Prelude.{◌≡◌, ℕ, Bool, ◌||◌, List, codes, bytes_eq, IsUtf8}
 use Rattle.std.specs.Prelude.{Option, Some, None}
-use Rattle.document_model.specs.Sayings.{Saying, opens, changes, closes, misshapen, nothing}
+use Rattle.mux_model.specs.Sayings.{Saying, opens, changes, closes, misshapen, nothing}
 use Rattle.mux_members.specs.declared.notice.Notice.{Notice}
 use Rattle.mux_members.specs.declared.notice.Notice.TheVariants.{Opens, Changes, Closes, Nothing}
 

@@ -5,7 +5,7 @@ ghost use Rattle.json_text.specs.Json.{Json, string};
 ghost use Rattle.json_nodes.specs.At.{Found};
 ghost use Rattle.rpc_message.specs.Message.{message_of};
 ghost use Rattle.rpc_message.specs.Parsed.{IsRead};
-ghost use Rattle.document_model.specs.Sayings.{changing_by, closing, closing_by, integer_at, opening, opening_by, saying_by, saying_of, speaks, string_at};
+ghost use Rattle.mux_model.specs.Sayings.{changing_by, closing, closing_by, integer_at, opening, opening_by, saying_by, saying_of, speaks, string_at};
 ghost use Rattle.mux_members.specs.Finds.{is_ascii};
 ghost use Rattle.mux_members.specs.Notices.{AreTexts, IsTextIf, Says, is_of_documents};
 

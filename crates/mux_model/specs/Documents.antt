@@ -5,7 +5,7 @@ use Rattle.json_text.specs.Json.{Json}
 use Rattle.json_text.specs.Named.{named_in}
 use Rattle.mux_history.specs.declared.cause.Cause.TheVariants.{FromServer}
 use Rattle.mux_history.specs.declared.out.Out.TheVariants.{ToServer}
-use Rattle.rpc_message.specs.Message.{Message, result, integer}
+use Rattle.event_model.specs.Messages.{Message, result, integer}
 use Rattle.position_codec.specs.declared.Encoding.{Encoding}
 use Rattle.position_codec.specs.declared.Encoding.TheVariants.{Utf8, Utf16, Utf32}
 use Rattle.document_model.specs.Opens.{Open}

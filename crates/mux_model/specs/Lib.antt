@@ -3,3 +3,4 @@ pub mod Documents
 pub mod Fits
 pub mod Methods
 pub mod Rows
+pub mod Sayings

@@ -1,8 +1,8 @@
 -- Rows of the routing table that speak of no group.
 use Rattle.std.specs.Prelude.{ℕ, zero, suc, List, [], ◌∷◌, ◌++◌, codes}
 use Rattle.mux_history.specs.declared.out.Out.TheVariants.{ToEditor, ToServer}
-use Rattle.rpc_message.specs.Message.{Message, not_json}
-use Rattle.rpc_message.specs.Texts.{error_text, Code, parse_error, invalid_request}
+use Rattle.event_model.specs.Messages.{Message, not_json}
+use Rattle.event_model.specs.Messages.{error_text, Code, parse_error, invalid_request}
 use Rattle.event_model.specs.declared.phase.Phase.{Phase}
 use Rattle.event_model.specs.Phases.{is_there}
 use Rattle.event_model.specs.Row.{Row, nothing, send, choose, each}

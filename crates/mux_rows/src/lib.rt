@@ -12,6 +12,8 @@ mod languages;
 #[cfg(test)]
 mod play;
 #[cfg(test)]
+mod registered;
+#[cfg(test)]
 mod statuses;
 #[cfg(test)]
 mod tests;

@@ -1,10 +1,9 @@
 // A session is played: its lines are driven through a hub, and what was written is compared.
 ghost use Rattle.std.specs.Prelude.{◌≡◌, ◌≤◌, IfOk};
 
-use lspmux_program::{Stop, drive};
+use lspmux_program::{Hub, Limits, Server, Stop, drive};
 use message_body::Body;
 use mux_history::MemJournal;
-use mux_hub::{Hub, Limits, Server};
 use outside_io::{MemSink, MemSource};
 use std::alloc::{AllocError, Global};
 use std::process::Abort;

@@ -1,8 +1,7 @@
 use crate::play::{limits, play};
 use crate::statuses::STATUSES;
-use lspmux_program::{Refusal, Stop};
+use lspmux_program::{Hub, Refusal, StepFault, Stop};
 use mux_history::{Cause, Journal, MemJournal};
-use mux_hub::{Hub, StepFault};
 use std::test::Fail;
 
 pub const MOST: u32 = 2_147_483_647;

@@ -4,7 +4,7 @@ use Rattle.std.specs.Prelude.{Option, Some, None, IfOk, Result, Ok, Err, option_
 use Rattle.std.specs.List.{AllByRecursion}
 use Rattle.std.specs.Option.{option_map_or}
 use Rattle.std.proofs.lemmas.Bool.Decides.{nat_tests}
-use Rattle.document_laws.specs.Follows.{texts_in}
+use Rattle.group_laws.specs.Follows.{texts_in}
 use Rattle.document_model.specs.Opens.{Open, is_open_at}
 use Rattle.document_model.specs.Texts.{Texts, found, no_texts}
 use Rattle.event_model.specs.declared.phase.Phase.{Phase}

@@ -12,7 +12,7 @@ use Rattle.document_model.specs.Opens.{Open, is_open_at}
 use Rattle.document_model.specs.Orderly.{AllSpelt, Orderly}
 use Rattle.document_model.specs.Sayings.{Saying, nothing, saying_by, saying_of, speaks}
 use Rattle.document_model.specs.Texts.{Texts}
-use Rattle.document_laws.specs.Follows.{Held, texts_in, told_outs}
+use Rattle.group_laws.specs.Follows.{Held, texts_in, told_outs}
 use Rattle.event_model.specs.declared.stage.Stage.{Stage}
 use Rattle.event_model.specs.declared.stage.Stage.TheVariants.{Ready}
 use Rattle.event_model.specs.Does.{Does}

@@ -16,10 +16,10 @@ use Rattle.document_model.specs.Sayings.{Saying, opens, changes, closes, misshap
 use Rattle.document_model.specs.Texts.{Texts, found, text_after, texts_behind}
 use Rattle.document_model.proofs.Orders.{orderly_behind}
 use Rattle.document_model.proofs.Spelt.{texts_spelt}
-use Rattle.document_laws.specs.Follows.{texts_in}
-use Rattle.document_laws.proofs.Changing.{change_silent, change_stays, change_texts}
-use Rattle.document_laws.proofs.Following.{close_silent, close_stays, close_texts, open_silent, open_stays, open_texts}
-use Rattle.document_laws.proofs.Sends.{Stays}
+use Rattle.group_laws.specs.Follows.{texts_in}
+use Rattle.group_laws.proofs.Following.{change_silent, change_stays, change_texts}
+use Rattle.group_laws.proofs.Following.{close_silent, close_stays, close_texts, open_silent, open_stays, open_texts}
+use Rattle.group_laws.proofs.Following.{Stays}
 use Rattle.event_model.specs.declared.stage.Stage.{Stage}
 use Rattle.event_model.specs.declared.stage.Stage.TheVariants.{Unspawned, Spawning, Initializing, Ready, Stopping, Ending, Ended}
 use Rattle.event_model.specs.Event.{Event, behind, heard, requests}

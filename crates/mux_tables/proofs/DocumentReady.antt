@@ -9,7 +9,7 @@ use Rattle.rpc_message.specs.Message.{Message}
 use Rattle.position_codec.specs.declared.Encoding.{Encoding}
 use Rattle.document_model.specs.Orderly.{AllSpelt, Orderly}
 use Rattle.document_model.specs.Texts.{Texts}
-use Rattle.document_laws.specs.Follows.{told_outs}
+use Rattle.group_laws.specs.Follows.{told_outs}
 use Rattle.event_model.specs.declared.stage.Stage.{Stage}
 use Rattle.event_model.specs.declared.stage.Stage.TheVariants.{Initializing, Ready}
 use Rattle.event_model.specs.Event.{Event, behind, took}

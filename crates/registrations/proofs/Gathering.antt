@@ -5,7 +5,7 @@ use Rattle.json_text.specs.Json.{Json}
 use Rattle.json_nodes.specs.At.{At, Found}
 use Rattle.json_nodes.specs.Doc.{Doc}
 use Rattle.json_nodes.proofs.Members.{Inside, inside_more}
-use Rattle.event_model.specs.Members.{listed}
+use Rattle.mux_members.specs.Members.{listed}
 use Rattle.mux_members.specs.Finds.{Rest}
 use Rattle.mux_members.proofs.Walks.{rest_ends, rest_first}
 use Rattle.registrations.specs.declared.registration.Registration.{Registration}

@@ -2,8 +2,8 @@
 use Rattle.std.proofs.Common.{◌≡◌, ℕ, Bool, true, false, List, [], ◌∷◌, refl, sym, ◌∙◌, ap}
 use Rattle.std.specs.Prelude.{Option, Some, None, codes, if◌then◌else◌}
 use Rattle.std.specs.Option.{option_map}
-use Rattle.document_model.specs.Sayings.{string_at}
-use Rattle.event_model.specs.Members.{listed, named_of}
+use Rattle.mux_members.specs.Members.{string_at}
+use Rattle.mux_members.specs.Members.{listed, named_of}
 use Rattle.json_text.specs.Json.{Json}
 use Rattle.mux_members.specs.Finds.{is_array_value}
 use Rattle.rpc_message.specs.Message.{is_string_value}

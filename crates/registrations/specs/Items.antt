@@ -4,9 +4,9 @@ use Rattle.std.specs.Prelude.{Option, Some, None}
 use Rattle.std.specs.List.{list_all, list_any}
 use Rattle.std.specs.Option.{option_and_then, option_map}
 use Rattle.json_text.specs.Json.{Json, span_of}
-use Rattle.document_model.specs.Sayings.{string_at}
+use Rattle.mux_members.specs.Members.{string_at}
 use Rattle.rpc_message.specs.Message.{is_string_value, slice_of}
-use Rattle.event_model.specs.Members.{listed, named_of, params_of}
+use Rattle.mux_members.specs.Members.{listed, named_of, params_of}
 use Rattle.mux_members.specs.Finds.{is_array_value}
 use Rattle.registrations.specs.declared.registration.Registration.{Registration}
 use Rattle.registrations.specs.Names.{is_named}

@@ -9,10 +9,9 @@ ghost use Rattle.event_model.specs.Members.{has_version};
 ghost use Rattle.response_route.specs.Edits.{action_documents, change_documents, documents_of, in_front, object_documents, versioned, workspace_documents};
 ghost use Rattle.response_route.specs.Reading.{Stand};
 
-use json_span::Tape;
 use json_text::Kind;
 use message_body::Memory;
-use rpc_message::is_integer;
+use rpc_message::{Tape, is_integer};
 use std::alloc::Global;
 
 // Whether a value is there and a string.

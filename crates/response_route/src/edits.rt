@@ -16,10 +16,9 @@ ghost use Rattle.response_route.specs.Versions.{Means};
 use crate::fault::EditFault;
 use crate::mapping::Mapping;
 use json_nodes::Put;
-use json_span::Tape;
 use json_text::{Change, Kind};
 use message_body::{Body, Memory};
-use rpc_message::is_integer;
+use rpc_message::{Tape, is_integer};
 use std::alloc::Global;
 
 // The characters of a value that may be there, where it is a string, in UTF-8.

@@ -16,3 +16,4 @@ pub mod Reading
 pub mod Replies
 pub mod SameIds
 pub mod Standing
+pub mod Strings

@@ -8,3 +8,4 @@ pub mod Parsed
 pub mod Sorts
 pub mod Texts
 pub mod ValueTexts
+pub mod Values

@@ -9,8 +9,8 @@ ghost use Rattle.rpc_message.specs.Message.{are_params, answered, id_of, is_erro
 use crate::id::is_integer;
 use crate::names::names_once;
 use json_nodes::Values;
+use json_span::spells_text;
 use json_text::Kind;
-use json_token::spells_text;
 use message_body::Memory;
 use std::alloc::Global;
 

@@ -1,11 +1,11 @@
 //! Identifiers, by their bytes (JSON-RPC 2.0, section 4; LSP 3.17, Request Message).
 ghost use Rattle.std.specs.Prelude.{◌≡◌, ◌&&◌, ℕ, true, false, List, [], ◌∷◌, ◌++◌, bytes_eq};
-ghost use Rattle.json_token.specs.Characters.{characters_in};
+ghost use Rattle.json_span.specs.Characters.{characters_in};
 ghost use Rattle.rpc_message.specs.Ids.{is_quoted, between_quotes};
 ghost use Rattle.rpc_message.specs.Message.{Id, is_integer, same_id};
 ghost use Rattle.rpc_message.specs.ValueTexts.{IsIdText};
 
-use json_token::same_characters;
+use json_span::same_characters;
 
 /// Whether a number's text has no fraction and no exponent.
 #[tactic(auto, unfolding(crate::specs::Message::is_integer))]

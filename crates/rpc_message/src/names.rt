@@ -9,7 +9,7 @@ ghost use Rattle.rpc_message.specs.Message.{no_name_twice};
 ghost use Rattle.rpc_message.specs.Names.{has_name};
 
 use json_nodes::Values;
-use json_token::decode;
+use json_span::decode;
 use message_body::Memory;
 use std::alloc::Global;
 use std::collections::BTreeSet;

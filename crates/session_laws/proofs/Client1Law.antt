@@ -1,12 +1,12 @@
 -- Nothing goes to an editor whose link ended, or was to be ended.
-use Rattle.std.proofs.Common.{◌≡◌, ℕ, Bool, true, false, not, ◌&&◌, cond, List, [], ◌∷◌, ◌++◌, nat_eq, codes, if◌then◌else◌, refl, sym, ap, subst, subst₂, Option, Some, None, arith}
+use Rattle.std.proofs.Common.{◌≡◌, ℕ, Bool, true, false, not, cond, List, [], ◌∷◌, ◌++◌, nat_eq, codes, if◌then◌else◌, refl, sym, ap, subst, subst₂, Some, None, arith}
 use Rattle.mux_history.specs.declared.cause.Cause.{Cause}
 use Rattle.mux_history.specs.declared.cause.Cause.TheVariants.{FromEditor, Joined, EditorGone}
 use Rattle.mux_history.specs.declared.out.Out.TheVariants.{ToEditor, ToServer, Spawn, CloseEditor, EndServer}
-use Rattle.rpc_message.specs.Message.{Message, result, request, notification, error, not_json, not_message, Id, message_of}
+use Rattle.rpc_message.specs.Message.{Message, result, request, notification, error, not_json, not_message, message_of}
 use Rattle.event_model.specs.declared.phase.Phase.{Phase}
 use Rattle.event_model.specs.declared.phase.Phase.TheVariants.{Absent, New, Waiting, Answered, Running, Down, Closed, Gone}
-use Rattle.event_model.specs.Event.{Event, took, did, requests, heard, said, with_cause}
+use Rattle.event_model.specs.Event.{Event, took, requests, heard, said, with_cause}
 use Rattle.event_model.specs.Phases.{Desk, desk_of, desk_behind, desk_hears, has_id, phase_told, is_there, makes_running, phase_closed, editors_of}
 use Rattle.event_model.specs.Always.{Always}
 use Rattle.event_model.specs.Parts.{editor_part, is_of_editor}

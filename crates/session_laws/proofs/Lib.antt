@@ -11,3 +11,4 @@ pub mod Server8Law
 pub mod SpawnedLaw
 pub mod Client4Law
 pub mod Server5Law
+pub mod Client7Law

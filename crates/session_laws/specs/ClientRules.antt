@@ -1,12 +1,17 @@
 -- What an editor may expect as the one client of a server. Each rule speaks of a body to it, behind the events of its part before that body.
-use Rattle.std.specs.Prelude.{ℕ, ◌+◌, ◌<◌, Bool, true, false, not, ◌&&◌, ◌||◌, List, [], fold, codes, IsTrue, if◌then◌else◌}
+use Rattle.std.specs.Prelude.{ℕ, ◌+◌, ◌<◌, Bool, true, false, not, ◌&&◌, ◌||◌, List, [], ◌∷◌, ◌++◌, bytes_eq, filter, flat_map, fold, codes, IsTrue, if◌then◌else◌}
 use Rattle.std.specs.Prelude.{Some, None}
+use Rattle.std.specs.List.{list_all, list_any}
+use Rattle.std.specs.Option.{option_map_or}
+use Rattle.json_text.specs.Json.{Json}
 use Rattle.mux_history.specs.declared.cause.Cause.TheVariants.{FromEditor, EditorGone}
 use Rattle.mux_history.specs.declared.entry.Entry.{Entry}
 use Rattle.mux_history.specs.declared.out.Out.TheVariants.{ToEditor, CloseEditor}
 use Rattle.rpc_message.specs.Message.{Message, request, notification, result, error, not_json, not_message, Id}
 use Rattle.event_model.specs.Event.{Event, took, did, events_of, requests}
 use Rattle.event_model.specs.Phases.{is_malformed}
+use Rattle.event_model.specs.Members.{listed, named_of}
+use Rattle.document_model.specs.Sayings.{string_at}
 use Rattle.event_model.specs.Requests.{answered_id, open_of, is_open, without, with_request}
 use Rattle.event_model.specs.Always.{Always}
 use Rattle.event_model.specs.Parts.{editor_part}
@@ -122,6 +127,42 @@ abbrev pub ClientRule5 : List Event → Event → Type 0
 ClientRule5 before (did (ToEditor n body) m) = IsTrue (may_cancel (unanswered_of before) m)
 ClientRule5 before other = Unit {0}
 
+-- Rule 7 (LSP 3.17, Register Capability and Unregister Capability): an item of `client/registerCapability` has an id that isn't registered, and one of `client/unregisterCapability` an id that is.
+-- An id is registered, or isn't any more, from the request on, whatever the editor answers; ids are compared by their characters, which are told in UTF-8.
+
+-- the ids of the items of a list
+abbrev pub ids_in : List Json → List (List ℕ)
+ids_in js = flat_map (λ (j : Json). option_map_or (λ (id : List ℕ). id ∷ []) (string_at (codes "id") (Some j)) []) js
+
+-- the list is misspelled so in LSP 3.17
+abbrev pub registered_in : Message → List (List ℕ)
+registered_in (request id method params) = if bytes_eq (codes "client/registerCapability") method then ids_in (listed (named_of (codes "registrations") params)) else []
+registered_in other = []
+
+abbrev pub unregistered_in : Message → List (List ℕ)
+unregistered_in (request id method params) = if bytes_eq (codes "client/unregisterCapability") method then ids_in (listed (named_of (codes "unregisterations") params)) else []
+unregistered_in other = []
+
+abbrev pub has_id : List (List ℕ) → List ℕ → Bool
+has_id ids id = list_any (bytes_eq id) ids
+
+abbrev pub after_told : List (List ℕ) → Message → List (List ℕ)
+after_told ids m = filter (λ id. not (has_id (unregistered_in m) id)) ids ++ registered_in m
+
+abbrev pub registered_behind : List (List ℕ) → Event → List (List ℕ)
+registered_behind ids (did (ToEditor e body) m) = after_told ids m
+registered_behind ids other = ids
+
+abbrev pub registered_of : List Event → List (List ℕ)
+registered_of part = fold registered_behind [] part
+
+abbrev pub may_register : List (List ℕ) → Message → Bool
+may_register ids m = list_all (λ id. not (has_id ids id)) (registered_in m) && list_all (has_id ids) (unregistered_in m)
+
+abbrev pub ClientRule7 : List Event → Event → Type 0
+ClientRule7 before (did (ToEditor n body) m) = IsTrue (may_register (registered_of before) m)
+ClientRule7 before other = Unit {0}
+
 -- the parts of all editors keep the rule
 abbrev pub KeepsClient1 : List Entry → Type 0
 KeepsClient1 history = (e : ℕ) → Always ClientRule1 (editor_part e (events_of history))
@@ -137,3 +178,6 @@ KeepsClient4 history = (e : ℕ) → Always ClientRule4 (editor_part e (events_o
 
 abbrev pub KeepsClient5 : List Entry → Type 0
 KeepsClient5 history = (e : ℕ) → Always ClientRule5 (editor_part e (events_of history))
+
+abbrev pub KeepsClient7 : List Entry → Type 0
+KeepsClient7 history = (e : ℕ) → Always ClientRule7 (editor_part e (events_of history))

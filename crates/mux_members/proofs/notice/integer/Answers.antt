@@ -1,6 +1,6 @@
 use Rattle.std.proofs.Common.{List, ℕ, Option, Some, sym, ◌∙◌, ap}
 use Rattle.std.specs.Option.{option_and_then}
-use Rattle.document_model.specs.Notices.{integer_text}
+use Rattle.mux_model.specs.Sayings.{integer_text}
 use Rattle.json_text.specs.Json.{Json}
 use Rattle.json_nodes.specs.At.{Found}
 use Rattle.event_model.specs.Members.{named_of}

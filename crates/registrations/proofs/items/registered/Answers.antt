@@ -4,7 +4,7 @@ use Rattle.std.proofs.lemmas.Result.{IfOk-weaker}
 use Rattle.json_text.specs.Json.{Json}
 use Rattle.json_nodes.specs.At.{Found}
 use Rattle.json_nodes.specs.Doc.{Doc, Holds}
-use Rattle.event_model.specs.Members.{named_of}
+use Rattle.mux_members.specs.Members.{named_of}
 use Rattle.mux_members.proofs.Roots.{read_params}
 use Rattle.registrations.specs.Items.{if_distinct, registrations_at}
 use Rattle.registrations.proofs.items.registered.Goals as goal

@@ -1,6 +1,6 @@
 use Rattle.std.proofs.Common.{◌∙◌, sym, ap₂}
 use Rattle.std.specs.Prelude.{bytes_eq}
-use Rattle.json_token.specs.Characters.{characters_in}
+use Rattle.json_span.specs.Characters.{characters_in}
 use Rattle.rpc_message.proofs.SameIds.{id_shape, texts_same}
 use Rattle.rpc_message.proofs.id.same_id.Goals as goal
 

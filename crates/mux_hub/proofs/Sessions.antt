@@ -1,0 +1,2 @@
+-- The laws of sessions, for crates that stand on this one.
+pub use Rattle.group_sessions.proofs.Sessions.{sessions_kept}

@@ -1,0 +1,4 @@
+mod Numbering
+mod Keeping
+mod Telling
+mod Worked
