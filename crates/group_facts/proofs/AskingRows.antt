@@ -32,8 +32,8 @@ use Rattle.event_model.specs.Settings.{Settings}
 use Rattle.event_model.specs.Spawns.{group_of, start_of}
 use Rattle.event_model.specs.Stages.{Life, is_initializing, is_ready, life_of, is_first_result, stage_hears}
 use Rattle.event_model.proofs.Frames.{never}
-use Rattle.response_route.specs.Asked.{asked_text, not_applied, refusal_tree}
-use Rattle.response_route.proofs.Asking.{refusal_result, request_asks}
+use Rattle.group_rows.specs.response_route.specs.Asked.{asked_text, not_applied, refusal_tree}
+use Rattle.group_rows.specs.response_route.proofs.Asking.{refusal_result, request_asks}
 use Rattle.mux_facts.specs.Allowed.{is_response}
 use Rattle.mux_facts.proofs.Bodies.{refusal_says}
 use Rattle.mux_facts.proofs.DocumentRow.{ready_is}
@@ -47,8 +47,8 @@ use Rattle.group_words.specs.Rows.{folders_text}
 use Rattle.group_rows.specs.AskRows.{ask, ask_edit, asking_row, broadcast, cancelled_row, current_version, edited, else_first, hand_back, in_focus, is_among, is_edit, notified_row, question_row, response_at, response_row}
 use Rattle.group_rows.specs.Asks.{Ask, Asker, Asking, Parked, asked_next, asker_of, asking_next, asking_of, asks_of, first_in, goes_to_one, has_number, has_running, idle_asking, is_own_work, is_patient, is_seated, is_single, is_taken, is_under, may_wait, next_ask, parks, running_in, serves, unparked, waits_under}
 use Rattle.group_rows.specs.Forwarded.{Forwarded, forwarding_of, names}
-use Rattle.registrations.specs.declared.registration.Registration.{Registration}
-use Rattle.registrations.specs.Items.{again}
+use Rattle.group_rows.specs.registrations.specs.declared.registration.Registration.{Registration}
+use Rattle.group_rows.specs.registrations.specs.Items.{again}
 use Rattle.group_rows.specs.Leaves.{cancel_text}
 use Rattle.group_rows.specs.Tokens.{is_mark, is_told, listens, marked_text, own_token, partial_mark, progress_row, work_mark}
 use Rattle.group_rows.proofs.TokenTexts.{HasTokens, IsTokenText, marked_says, tokens_kept}

@@ -35,7 +35,7 @@ use Rattle.mux_model.specs.Rows.{malformed_row, to_start}
 use Rattle.mux_facts.proofs.Keeps.{behind_both}
 use Rattle.mux_facts.proofs.Reasons.{Because, Reasons, by_nothing, by_send, by_then, by_choose, by_look, by_on}
 use Rattle.mux_facts.proofs.Words.{number_same, same_number}
-use Rattle.response_route.specs.Asked.{asked_text}
+use Rattle.group_rows.specs.response_route.specs.Asked.{asked_text}
 use Rattle.group_words.specs.declared.kept.Kept.{Kept}
 use Rattle.group_words.specs.declared.placed.Placed.{Placed}
 use Rattle.group_words.specs.declared.placed.Placed.TheVariants.{Joins, New as Founds, Evicts, TooMany}
@@ -43,8 +43,8 @@ use Rattle.group_words.specs.Houses.{at_group, declared_for, emptied, groups_hea
 use Rattle.group_words.specs.Placing.{busy, changed, end_where, ended, founded, is_live, with_editor, is_due}
 use Rattle.group_words.specs.Rows.{end_group, end_start, initialize_row, placed_row}
 use Rattle.group_words.proofs.Frames.{changed_length, groups_more, groups_stay, touches_groups}
-use Rattle.registrations.specs.declared.registration.Registration.{Registration}
-use Rattle.registrations.specs.Items.{again}
+use Rattle.group_rows.specs.registrations.specs.declared.registration.Registration.{Registration}
+use Rattle.group_rows.specs.registrations.specs.Items.{again}
 use Rattle.group_rows.specs.Live.{live_of, register_text, unregister_text}
 use Rattle.group_rows.specs.LiveRows.{accept, call, has_some, registering, restore, unregister_any}
 use Rattle.group_rows.specs.Cancelling.{cancelling_at, cancelling_row}

@@ -16,7 +16,7 @@ use Rattle.rpc_message.specs.Changed.{changed_text}
 use Rattle.rpc_message.specs.Message.{Message, Id, id_bytes, integer, message_of, request}
 use Rattle.rpc_message.specs.Texts.{content_modified, error_text}
 use Rattle.rpc_message.specs.ValueTexts.{IsIdText}
-use Rattle.doc_text.specs.Changes.{string_text}
+use Rattle.document_model.specs.doc_text.specs.Changes.{string_text}
 use Rattle.document_model.specs.Helds.{HeldText}
 use Rattle.document_model.specs.Notices.{integer_text, new_version}
 use Rattle.document_model.specs.Opens.{Open}
@@ -27,8 +27,8 @@ use Rattle.event_model.specs.Event.{Event, behind, events_of, said, with_cause}
 use Rattle.event_model.specs.Requests.{answered_id, is_open, is_own, open_of}
 use Rattle.event_model.specs.Settings.{Settings}
 use Rattle.event_model.specs.Stages.{life_of}
-use Rattle.response_route.specs.Asked.{documents_asked}
-use Rattle.response_route.specs.Results.{documents_in}
+use Rattle.group_rows.specs.response_route.specs.Asked.{documents_asked}
+use Rattle.group_rows.specs.response_route.specs.Results.{documents_in}
 use Rattle.mux_facts.specs.Allowed.{is_response}
 use Rattle.mux_model.specs.Documents.{held_at}
 use Rattle.group_rows.specs.Answers.{shared_texts}

@@ -28,14 +28,14 @@ use Rattle.event_model.specs.Requests.{next_number, answered_id, open_of, is_ope
 use Rattle.event_model.specs.Settings.{Settings}
 use Rattle.event_model.specs.Spawns.{group_of, start_of, starts_of}
 use Rattle.event_model.specs.Stages.{is_first_result, is_initializing, is_ready, is_spawning, life_of}
-use Rattle.response_route.specs.Answers.{answer_text}
-use Rattle.response_route.specs.Asked.{asked_text, not_applied}
+use Rattle.group_rows.specs.response_route.specs.Answers.{answer_text}
+use Rattle.group_rows.specs.response_route.specs.Asked.{asked_text, not_applied}
 use Rattle.mux_facts.specs.Allowed.{AllowsSaying, is_response}
 use Rattle.mux_model.specs.Documents.{held_at}
 use Rattle.mux_model.specs.Methods.{goes_on}
 use Rattle.document_model.specs.Helds.{HeldText}
-use Rattle.registrations.specs.declared.registration.Registration.{Registration}
-use Rattle.registrations.specs.Items.{again, registered}
+use Rattle.group_rows.specs.registrations.specs.declared.registration.Registration.{Registration}
+use Rattle.group_rows.specs.registrations.specs.Items.{again, registered}
 use Rattle.group_words.specs.declared.kept.Kept.{Kept}
 use Rattle.group_words.specs.Houses.{groups_of, home_of}
 use Rattle.group_words.specs.Rows.{folders_text}

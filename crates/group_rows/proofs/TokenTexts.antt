@@ -21,8 +21,8 @@ use Rattle.json_text.proofs.Inside.{InSpan, value_in_span}
 use Rattle.json_text.proofs.Laws.{tree_sound}
 use Rattle.json_text.proofs.Moves.{Placed, moved, placed}
 use Rattle.json_text.proofs.Put.{members_depth_bare}
-use Rattle.json_nodes.specs.Puts.{edit_if, member_edits, put_edits, put_members}
-use Rattle.json_nodes.proofs.PutBare.{flat_members}
+use Rattle.response_route.specs.json_nodes.specs.Puts.{edit_if, member_edits, put_edits, put_members}
+use Rattle.response_route.specs.json_nodes.proofs.PutBare.{flat_members}
 use Rattle.mux_history.specs.declared.cause.Cause.TheVariants.{Joined, FromEditor, EditorGone, Started, StartFailed, FromServer, ServerGone, Drained, Tick}
 use Rattle.mux_history.specs.declared.out.Out.TheVariants.{CloseEditor, EndServer, Spawn, ToEditor, ToServer}
 use Rattle.rpc_message.specs.Changed.{changed_text}
@@ -35,7 +35,7 @@ use Rattle.rpc_message.proofs.Bodies.{Envelope, envelope, has_id}
 use Rattle.rpc_message.proofs.Decimals.{decimal_integer, decimal_law}
 use Rattle.rpc_message.proofs.Ids.{answered_no_call, request_with_id}
 use Rattle.rpc_message.proofs.PutLaws.{notification_puts, request_puts}
-use Rattle.document_model.proofs.Bares.{Notice, notice}
+use Rattle.response_route.specs.document_model.proofs.Bares.{Notice, notice}
 use Rattle.event_model.specs.Event.{Event, did, took}
 use Rattle.event_model.specs.Requests.{answered_id, is_own}
 use Rattle.event_model.specs.Members.{bytes_if, has_token, is_token, named_of, params_of}

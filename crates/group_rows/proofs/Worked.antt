@@ -20,7 +20,7 @@ use Rattle.event_model.specs.Event.{Event}
 use Rattle.event_model.specs.Phases.{desk_of}
 use Rattle.group_words.specs.Houses.{home_of}
 use Rattle.group_rows.specs.Rows.{outs_from}
-use Rattle.mux_model.specs.Documents.{held_at}
+use Rattle.registrations.specs.mux_model.specs.Documents.{held_at}
 use Rattle.group_rows.specs.Leaves.{leave_bodies}
 use Rattle.group_rows.specs.Texts.{encoding_of, texts_of}
 

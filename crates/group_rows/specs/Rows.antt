@@ -13,13 +13,13 @@ use Rattle.lsp_method.specs.Class.{class_of}
 use Rattle.lsp_method.specs.declared.variants.Origin.TheVariants.{Editor, Server}
 use Rattle.rpc_message.specs.Message.{Message, request, notification, message_of, id_bytes, result_bytes}
 use Rattle.rpc_message.specs.Texts.{ok_text, error_text, initialized_text, with_id_text, Code, invalid_params, invalid_request, method_not_found, request_failed, server_not_initialized}
-use Rattle.document_model.specs.Bodies.{open_text}
-use Rattle.document_model.specs.Helds.{HeldText}
-use Rattle.document_model.specs.Opens.{Open, holder, holder_beside}
-use Rattle.document_model.specs.Rows.{differing, sent_open, sent_change, sent_close}
-use Rattle.document_model.specs.Sayings.{Saying, opens, changes, closes, misshapen, saying_by}
-use Rattle.document_model.specs.Sayings as saying
-use Rattle.document_model.specs.Texts.{Texts, opened, found, changed}
+use Rattle.response_route.specs.document_model.specs.Bodies.{open_text}
+use Rattle.response_route.specs.document_model.specs.Helds.{HeldText}
+use Rattle.response_route.specs.document_model.specs.Opens.{Open, holder, holder_beside}
+use Rattle.response_route.specs.document_model.specs.Rows.{differing, sent_open, sent_change, sent_close}
+use Rattle.response_route.specs.document_model.specs.Sayings.{Saying, opens, changes, closes, misshapen, saying_by}
+use Rattle.response_route.specs.document_model.specs.Sayings as saying
+use Rattle.response_route.specs.document_model.specs.Texts.{Texts, opened, found, changed}
 use Rattle.event_model.specs.declared.phase.Phase.{Phase}
 use Rattle.event_model.specs.declared.phase.Phase.TheVariants.{New, Waiting, Answered, Running, Down}
 use Rattle.event_model.specs.declared.stage.Stage.{Stage}
@@ -31,9 +31,9 @@ use Rattle.event_model.specs.Row.{Row, nothing, send, choose, look, outs, each, 
 use Rattle.event_model.specs.Settings.{Settings}
 use Rattle.event_model.specs.Spawns.{group_of, start_of}
 use Rattle.event_model.specs.Stages.{life_of, is_ready, is_first_result}
-use Rattle.mux_model.specs.Documents.{held_at}
-use Rattle.mux_model.specs.Methods.{goes_on, is_dollar, is_wrong}
-use Rattle.mux_model.specs.Rows.{malformed_row, to_start}
+use Rattle.registrations.specs.mux_model.specs.Documents.{held_at}
+use Rattle.registrations.specs.mux_model.specs.Methods.{goes_on, is_dollar, is_wrong}
+use Rattle.registrations.specs.mux_model.specs.Rows.{malformed_row, to_start}
 use Rattle.group_words.specs.Houses.{editors_in, groups_of, home_of, is_doubled, is_first_error, is_first_open, server_asked}
 use Rattle.group_words.specs.Rows.{initialize_of, initialize_row, shown_of}
 use Rattle.group_rows.specs.Answers.{answer_row}

@@ -4,7 +4,7 @@ use Rattle.std.specs.Prelude.{Option, Some, None}
 use Rattle.std.specs.Option.{option_and_then, option_map_or}
 use Rattle.json_text.specs.Json.{Json, string}
 use Rattle.json_text.specs.Replace.{Edit, replace}
-use Rattle.json_nodes.specs.Puts.{put_edits}
+use Rattle.response_route.specs.json_nodes.specs.Puts.{put_edits}
 use Rattle.rpc_message.specs.Changed.{changed_text}
 use Rattle.rpc_message.specs.Message.{id_of, same_id}
 use Rattle.mux_history.specs.declared.out.Out.TheVariants.{ToEditor, ToServer}

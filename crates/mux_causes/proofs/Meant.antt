@@ -17,11 +17,11 @@ use Rattle.event_model.specs.Phases.{is_malformed}
 use Rattle.event_model.specs.Settings.{Settings}
 use Rattle.event_model.specs.Stages.{is_first_result}
 use Rattle.group_words.specs.Houses.{groups_of}
-use Rattle.group_facts.specs.Built.{built_early, built_from_editor, built_from_server, built_ready, is_shown_whole, is_left}
-use Rattle.group_facts.specs.Lively.{lives_at}
+use Rattle.mux_turns.specs.group_facts.specs.Built.{built_early, built_from_editor, built_from_server, built_ready, is_shown_whole, is_left}
+use Rattle.mux_turns.specs.group_facts.specs.Lively.{lives_at}
 use Rattle.std.specs.Option.{option_map_or}
-use Rattle.mux_tables.specs.declared.tables.Tables.{Tables}
-use Rattle.mux_tables.specs.Stands.{Stands, is_over}
+use Rattle.mux_turns.specs.mux_tables.specs.declared.tables.Tables.{Tables}
+use Rattle.mux_turns.specs.mux_tables.specs.Stands.{Stands, is_over}
 
 -- what a message of each sort is
 

@@ -18,7 +18,7 @@ use Rattle.event_model.proofs.Frames.{one_more}
 use Rattle.mux_model.specs.Documents.{held_at}
 use Rattle.mux_model.specs.Rows.{to_start}
 use Rattle.mux_model.proofs.DocumentFolds.{outs_to_start}
-use Rattle.group_facts.specs.Why.{IsQuestion}
+use Rattle.mux_turns.specs.group_facts.specs.Why.{IsQuestion}
 use Rattle.group_rows.specs.Forwarded.{Forwarding, forwarding_behind, forwarding_of, sender_of, token_in}
 use Rattle.group_rows.specs.Rows.{forward, sync_bodies, sync_row}
 use Rattle.group_rows.specs.Tokens.{forwarded_text}

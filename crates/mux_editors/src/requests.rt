@@ -1,6 +1,6 @@
 //! E10: an editor's request, sent on or refused.
 ghost use Rattle.std.specs.Prelude.{◌≡◌, ◌<◌, ℕ, List, [], Option, Some, true, false, length, map, IfOk, OnOk, slice_get};
-ghost use Rattle.group_facts.specs.Why.{IsQuestion};
+ghost use Rattle.mux_turns.specs.group_facts.specs.Why.{IsQuestion};
 ghost use Rattle.std.specs.List.{AllByRecursion};
 ghost use Rattle.mux_editors.specs.Running.{running_row};
 ghost use Rattle.event_model.specs.declared.stage.Stage.TheVariants.{Ready};

@@ -17,12 +17,12 @@ use Rattle.event_model.specs.declared.phase.Phase.{Phase}
 use Rattle.event_model.specs.declared.phase.Phase.TheVariants.{Absent, New, Waiting, Answered, Running, Down, Closed, Gone}
 use Rattle.event_model.specs.Event.{Event, requests}
 use Rattle.event_model.specs.Phases.{desk_of, is_served, is_there, needs_server}
-use Rattle.group_facts.specs.Built.{built_from_editor, built_request, is_standard}
-use Rattle.group_facts.specs.Facts.{is_early}
+use Rattle.mux_starts.specs.group_facts.specs.Built.{built_from_editor, built_request, is_standard}
+use Rattle.mux_starts.specs.group_facts.specs.Facts.{is_early}
 use Rattle.group_rows.specs.Rows.{asks_lspmux, names_lspmux}
 use Rattle.group_words.specs.Houses.{is_doubled, stops}
 use Rattle.group_rows.specs.Rows.{is_misplaced}
-use Rattle.mux_tables.specs.Documents.{changes_documents}
+use Rattle.mux_starts.specs.mux_tables.specs.Documents.{changes_documents}
 use Rattle.mux_editors.proofs.Classes.{first_named, is_initialize}
 
 pub second_of : (a b : Bool) → (a && b) ≡ true → b ≡ true

@@ -20,13 +20,13 @@ use Rattle.event_model.specs.Spawns.{group_of}
 use Rattle.event_model.specs.Stages.{life_of}
 use Rattle.event_model.proofs.Frames.{never}
 use Rattle.event_model.proofs.Turns.{alike}
-use Rattle.group_facts.specs.Built.{built_asking, built_from_server, built_ready, built_telling}
-use Rattle.group_facts.specs.Settled.{HasSeat, Settled}
+use Rattle.mux_starts.specs.group_facts.specs.Built.{built_asking, built_from_server, built_ready, built_telling}
+use Rattle.mux_starts.specs.group_facts.specs.Settled.{HasSeat, Settled}
 use Rattle.group_rows.specs.AskRows.{asking_row}
 use Rattle.group_rows.specs.Asks.{Ask, asks_of}
 use Rattle.group_rows.specs.Rows.{from_server}
 use Rattle.group_rows.specs.Rows as rows
-use Rattle.mux_tables.specs.Stands.{is_request}
+use Rattle.mux_starts.specs.mux_tables.specs.Stands.{is_request}
 
 -- classes that aren't built
 pub unbuilt_class : {A : Type 0} (c : Class) → (c ≡ Refresh → ⊥) → (c ≡ Folders → ⊥) → (c ≡ Focused → ⊥) → (c ≡ Lowest → ⊥) → (c ≡ Register → ⊥) → (c ≡ Unregister → ⊥) → built_asking c ≡ true → A

@@ -13,7 +13,7 @@ use Rattle.rpc_message.specs.Message.{Id, Message, error, id_of, integer, intege
 use Rattle.rpc_message.specs.Parsed.{FoundBare}
 use Rattle.rpc_message.specs.ValueTexts.{IsIdText}
 use Rattle.rpc_message.proofs.Meaning.{id_bare}
-use Rattle.event_model.specs.Members.{named_of}
+use Rattle.mux_model.specs.event_model.specs.Members.{named_of}
 use Rattle.mux_members.specs.Cancels.{IsTextOf, may_be_id}
 use Rattle.mux_members.specs.Envelopes.{notification_params}
 use Rattle.mux_members.proofs.Bared.{of_bare}

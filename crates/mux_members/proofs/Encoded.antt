@@ -8,7 +8,7 @@ use Rattle.std.proofs.lemmas.Str.Ascii.{IsAscii-from_all}
 use Rattle.std.specs.List.{All}
 use Rattle.std.proofs.lemmas.List.Sums.{AllPass-from_list_all}
 use lib.Utf8.{encode, encodes}
-use Rattle.json_token.proofs.Encoded.{one, two, three, four}
+use Rattle.json_nodes.specs.json_token.proofs.Encoded.{one, two, three, four}
 use Rattle.lsp_method.specs.Class.{editor_notification, editor_request, goes_nowhere, is_focused, is_refresh, own_notification, own_request, server_notification, server_request}
 use Rattle.lsp_method.specs.declared.variants.Class.TheVariants.{Wrong, Other, Dropped}
 use Rattle.mux_model.specs.Methods.{is_dollar}

@@ -9,7 +9,7 @@ use Rattle.document_model.specs.Sayings.{string_at}
 use Rattle.rpc_message.specs.Envelopes.{not_null}
 use Rattle.rpc_message.specs.Message.{Id, message_of, request}
 use Rattle.rpc_message.specs.Parsed.{FoundBare, IsRead, Parsed, params_in}
-use Rattle.event_model.specs.Members.{bytes_if, is_token, named_of, params_of}
+use Rattle.mux_model.specs.event_model.specs.Members.{bytes_if, is_token, named_of, params_of}
 use Rattle.mux_members.specs.Tokens.{text_of, token_bytes}
 use Rattle.mux_members.proofs.Bared.{of_bare}
 use Rattle.mux_members.proofs.Roots.{read_params}

@@ -3,7 +3,7 @@ ghost use Rattle.std.specs.Prelude.{◌≡◌, ℕ, List, Option, true, codes, o
 ghost use Rattle.std.specs.Option.{option_and_then};
 ghost use Rattle.json_nodes.specs.At.{Found};
 ghost use Rattle.json_text.specs.Json.{Json};
-ghost use Rattle.event_model.specs.Members.{named_of};
+ghost use Rattle.mux_model.specs.event_model.specs.Members.{named_of};
 ghost use Rattle.mux_members.specs.Cancels.{IsTextOf, may_be_id};
 ghost use Rattle.mux_members.specs.Finds.{is_ascii};
 ghost use Rattle.rpc_message.specs.Message.{id_of, message_of, notification};
@@ -11,8 +11,8 @@ ghost use Rattle.rpc_message.specs.Parsed.{IsRead};
 
 use crate::envelope::notification_params;
 use crate::look::{bytes, is_integer, is_text, member};
-use json_span::Tape;
 use rpc_message::Message;
+use rpc_message::json_span::Tape;
 
 // Whether a value is an integer or a string, as an id is (JSON-RPC 2.0, section 4).
 fn is_id(tape: &Tape, node: Option<u32>) -> bool

@@ -18,3 +18,5 @@ pub use method::{
 pub use notice::{Notice, notice_in, speaks, string};
 pub use outcome::{encoding, is_first_result, reads_versions};
 pub use params::{has_token, named_token, text, token};
+pub use rpc_message;
+pub use rpc_message::json_span;

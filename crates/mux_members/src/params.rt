@@ -4,16 +4,16 @@ ghost use Rattle.json_text.specs.Json.{Json};
 ghost use Rattle.json_nodes.specs.At.{Found};
 ghost use Rattle.rpc_message.specs.Message.{Id, message_of, notification, request};
 ghost use Rattle.rpc_message.specs.Parsed.{IsRead};
-ghost use Rattle.event_model.specs.Members.{has_token, is_token, named_of, params_of};
+ghost use Rattle.mux_model.specs.event_model.specs.Members.{has_token, is_token, named_of, params_of};
 ghost use Rattle.mux_members.specs.Finds.{is_ascii};
 ghost use Rattle.mux_members.specs.Tokens.{text_of, token_bytes};
 
 use crate::envelope::request_params;
 use crate::look::{is_integer, is_text, member, member_bytes};
 use crate::notice::string;
-use json_span::Tape;
 use message_body::{Body, Memory};
 use rpc_message::Message;
+use rpc_message::json_span::Tape;
 use std::alloc::Global;
 
 // Whether a value is a progress token (LSP 3.17, ProgressToken).

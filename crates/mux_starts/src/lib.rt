@@ -22,6 +22,8 @@ pub use broadcasts::take_broadcast;
 pub use ends::{take_ending, take_left, take_stopping};
 pub use folders::take_folders;
 pub use hasty::{is_first_error, take_hasty};
+pub use mux_members;
+pub use mux_tables;
 pub use mux_turns::{answered_number, stage_at};
 pub use progress::{Telling, take_progress};
 pub use recalled::take_recall;

@@ -29,16 +29,16 @@ use Rattle.event_model.proofs.Places.{get_set_same}
 use Rattle.focus_switch.specs.Documents.{Documents, version_held}
 use Rattle.focus_switch.specs.Rows.{sync_row}
 use Rattle.focus_switch.specs.Versions.{versions_of}
-use Rattle.mux_model.specs.Documents.{Sent, held_at, sent_of}
-use Rattle.mux_model.specs.Rows.{to_start}
-use Rattle.mux_model.proofs.DocumentFolds.{outs_to_start, sent_encoding}
+use Rattle.group_laws.specs.mux_model.specs.Documents.{Sent, held_at, sent_of}
+use Rattle.group_laws.specs.mux_model.specs.Rows.{to_start}
+use Rattle.group_laws.specs.mux_model.proofs.DocumentFolds.{outs_to_start, sent_encoding}
 use Rattle.group_words.specs.Houses.{home_of, is_home}
-use Rattle.response_route.specs.declared.versions.Stamp.{Stamp}
-use Rattle.group_rows.specs.Answers.{held_version, stamp_at, stamped}
-use Rattle.group_rows.specs.Forwarded.{Forwarding, cancelled_by, forwarding_behind, forwarding_of, forwards, moves_ids}
-use Rattle.group_rows.specs.Rows as rows
-use Rattle.group_rows.specs.Texts.{is_aside, is_synced, texts_of, touch_all, touched_at, worker_behind, worker_of}
-use Rattle.group_rows.proofs.Frames.{encoding_stays, texts_apart, texts_more}
+use Rattle.id_rewrite.specs.response_route.specs.declared.versions.Stamp.{Stamp}
+use Rattle.group_laws.specs.group_rows.specs.Answers.{held_version, stamp_at, stamped}
+use Rattle.group_laws.specs.group_rows.specs.Forwarded.{Forwarding, cancelled_by, forwarding_behind, forwarding_of, forwards, moves_ids}
+use Rattle.group_laws.specs.group_rows.specs.Rows as rows
+use Rattle.group_laws.specs.group_rows.specs.Texts.{is_aside, is_synced, texts_of, touch_all, touched_at, worker_behind, worker_of}
+use Rattle.group_laws.specs.group_rows.proofs.Frames.{encoding_stays, texts_apart, texts_more}
 use Rattle.group_laws.specs.Stands.{HeldStands}
 use Rattle.group_laws.proofs.Asking.{spelt_touched, sync_speaks, touch_orderly}
 use Rattle.group_laws.proofs.Entries.{all_told, encoding_told, first_behind, held_same, known_sent, texts_told}

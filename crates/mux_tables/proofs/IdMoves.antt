@@ -15,7 +15,7 @@ use Rattle.id_rewrite.specs.declared.pending.Pending.{Pending}
 use Rattle.id_rewrite.specs.declared.pending.Numbered.{Numbered}
 use Rattle.id_rewrite.specs.Tables as tables
 use Rattle.id_rewrite.specs.Tables.{Table, IsInOrder, RiseWithin}
-use Rattle.group_rows.specs.Forwarded.{Sender, Forwarded, Forwarding, forwarding_behind, forwarding_of, answered_by, cancelled_by, is_written, is_under, is_of, numbers_of}
+use Rattle.group_laws.specs.group_rows.specs.Forwarded.{Sender, Forwarded, Forwarding, forwarding_behind, forwarding_of, answered_by, cancelled_by, is_written, is_under, is_of, numbers_of}
 use Rattle.mux_tables.specs.Stands.{IdsAt, IdsStand, Names, NamesAt, forwarded_of, forwarded_as}
 use Rattle.mux_tables.proofs.Frames.{itself}
 

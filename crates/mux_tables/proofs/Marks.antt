@@ -14,10 +14,10 @@ use Rattle.event_model.specs.Members.{is_token}
 use Rattle.event_model.specs.Phases.{desk_of}
 use Rattle.event_model.specs.Settings.{Settings}
 use Rattle.event_model.proofs.Frames.{never}
-use Rattle.group_rows.specs.Forwarded.{Forwarded, forwarding_of}
-use Rattle.group_rows.specs.Tokens.{is_told, is_token_of, is_worked, listens, own_token}
-use Rattle.group_rows.proofs.Cancelling.{text_meant}
-use Rattle.group_rows.proofs.TokenTexts.{HasTokens, IsTokenText, tokens_kept}
+use Rattle.group_laws.specs.group_rows.specs.Forwarded.{Forwarded, forwarding_of}
+use Rattle.group_laws.specs.group_rows.specs.Tokens.{is_told, is_token_of, is_worked, listens, own_token}
+use Rattle.group_laws.specs.group_rows.proofs.Cancelling.{text_meant}
+use Rattle.group_laws.specs.group_rows.proofs.TokenTexts.{HasTokens, IsTokenText, tokens_kept}
 use Rattle.id_rewrite.specs.declared.pending.Pending.{Pending}
 use Rattle.id_rewrite.specs.declared.pending.Numbered.{Numbered}
 use Rattle.id_rewrite.specs.Tables as tables

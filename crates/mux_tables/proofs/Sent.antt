@@ -24,12 +24,12 @@ use Rattle.event_model.specs.Members.{named_of}
 use Rattle.restart_replay.specs.Standings.{Standing, moved, stopped}
 use Rattle.mux_tables.specs.declared.tables.Start.{Start}
 use Rattle.mux_tables.specs.declared.tables.Tables.{Tables}
-use Rattle.group_rows.specs.Forwarded.{forwarding_of, is_written, moves_ids}
-use Rattle.group_rows.specs.Ticks.{is_stopping, stop_of}
+use Rattle.group_laws.specs.group_rows.specs.Forwarded.{forwarding_of, is_written, moves_ids}
+use Rattle.group_laws.specs.group_rows.specs.Ticks.{is_stopping, stop_of}
 use Rattle.group_words.specs.Houses.{time_of}
 use Rattle.mux_tables.specs.Stands.{AsksStay, Part, of_life, of_ids, of_shown, of_stop, of_asks, of_parked, of_live, PartStands, Sends, Stands, StopAt, forwarded_of, is_answer, number_in, unstopped}
 use Rattle.event_model.specs.Requests.{answered_id}
-use Rattle.group_rows.specs.Asks.{Ask, Parked, asks_of, is_under, parked_of, waits_under}
+use Rattle.group_laws.specs.group_rows.specs.Asks.{Ask, Parked, asks_of, is_under, parked_of, waits_under}
 use Rattle.mux_tables.proofs.Asking.{none_handed, told_asks, told_parked}
 use Rattle.mux_tables.proofs.Frames.{asks_stay, groups_stand, itself, part_quiet, stop_more}
 use Rattle.mux_tables.proofs.IdMoves.{cancelled_ids, sent_as, sent_ids}

@@ -34,11 +34,11 @@ use Rattle.restart_replay.specs.Standings.{Standing, moved}
 use Rattle.mux_tables.specs.declared.tables.Start.{Start}
 use Rattle.mux_tables.specs.declared.tables.Tables.{Tables}
 use Rattle.mux_tables.specs.Names.{NamesStand}
-use Rattle.group_rows.specs.Asks.{Ask, Parked, asking_next, asking_of, asks_of, is_patient, is_seated, is_under, next_ask, parked_of}
-use Rattle.group_rows.specs.Forwarded.{Forwarded, Forwarding, forwarding_of, names}
-use Rattle.group_rows.specs.Live.{live_next, live_of}
-use Rattle.group_rows.specs.Ticks.{stop_of, stopping_of}
-use Rattle.registrations.specs.declared.registration.Registration.{Registration}
+use Rattle.group_laws.specs.group_rows.specs.Asks.{Ask, Parked, asking_next, asking_of, asks_of, is_patient, is_seated, is_under, next_ask, parked_of}
+use Rattle.group_laws.specs.group_rows.specs.Forwarded.{Forwarded, Forwarding, forwarding_of, names}
+use Rattle.group_laws.specs.group_rows.specs.Live.{live_next, live_of}
+use Rattle.group_laws.specs.group_rows.specs.Ticks.{stop_of, stopping_of}
+use Rattle.group_laws.specs.registrations.specs.declared.registration.Registration.{Registration}
 
 -- the editors: how many joined, and of each its phase, its group, the id of its `initialize`, and before that what it meant by `lspmux/open`
 abbrev pub phase_in : Option Session → Phase

@@ -6,8 +6,8 @@ use Rattle.event_model.specs.Event.{Event}
 use Rattle.event_model.specs.Phases.{desk_of}
 use Rattle.id_rewrite.specs.Forms.{same_form}
 use Rattle.id_rewrite.specs.declared.pending.Pending.{Pending}
-use Rattle.group_rows.specs.Forwarded.{Forwarded}
-use Rattle.group_rows.specs.Tokens.{is_mark, is_told, listens, own_token}
+use Rattle.group_laws.specs.group_rows.specs.Forwarded.{Forwarded}
+use Rattle.group_laws.specs.group_rows.specs.Tokens.{is_mark, is_told, listens, own_token}
 
 -- the number of the daemon's token that this is, where it is one
 abbrev pub MarksAt : Option Json → Option ℕ → Type 0

@@ -20,5 +20,7 @@ mod stops;
 mod tables;
 mod tokens;
 
+pub use ask_route;
+pub use id_rewrite;
 pub use tables::{Origins, Start, Tables};
 pub use tokens::Told;

@@ -3,8 +3,8 @@ ghost use Rattle.std.specs.Prelude.{◌≡◌, ◌<◌, ◌≤◌, ◌^◌, ◌/
 ghost use Rattle.std.specs.Option.{option_and_then};
 ghost use Rattle.event_model.specs.Event.{Event};
 ghost use Rattle.event_model.specs.Settings.{Settings};
-ghost use Rattle.group_rows.specs.Forwarded.{Forwarded, forwarding_of};
-ghost use Rattle.group_rows.specs.Tokens.{is_told, is_worked, listens};
+ghost use Rattle.group_laws.specs.group_rows.specs.Forwarded.{Forwarded, forwarding_of};
+ghost use Rattle.group_laws.specs.group_rows.specs.Tokens.{is_told, is_worked, listens};
 ghost use Rattle.id_rewrite.specs.Tables.{numbers_of, pending_of};
 ghost use Rattle.json_text.specs.Json.{Json};
 ghost use Rattle.rpc_message.specs.Message.{Id, id_of};

@@ -16,10 +16,10 @@ use Rattle.rpc_message.specs.Envelopes.{not_null}
 use Rattle.rpc_message.specs.Message.{Id, message_of, notification, request}
 use Rattle.rpc_message.specs.Parsed.{IsRead, Parsed, params_in}
 use Rattle.event_model.specs.Members.{is_token, named_of, params_of}
-use Rattle.group_rows.specs.Tokens.{begins_as_mark, is_reserved, mark, mark_edits, mark_text, new_mark, partial_mark, token_edits, work_mark}
-use Rattle.mux_members.specs.Tokens.{text_of}
-use Rattle.mux_members.proofs.Encoded.{ascii_fronted}
-use Rattle.mux_members.proofs.Roots.{read_params}
+use Rattle.group_facts.specs.group_rows.specs.Tokens.{begins_as_mark, is_reserved, mark, mark_edits, mark_text, new_mark, partial_mark, token_edits, work_mark}
+use Rattle.group_facts.specs.mux_members.specs.Tokens.{text_of}
+use Rattle.group_facts.specs.mux_members.proofs.Encoded.{ascii_fronted}
+use Rattle.group_facts.specs.mux_members.proofs.Roots.{read_params}
 use Rattle.mux_tables.specs.Tokens.{MarksAt}
 use Rattle.mux_turns.specs.Tokens.{WritesMark, one_token, tokens_for, two_tokens}
 use Rattle.mux_turns.proofs.Numbers.{decimals, tested, unread, unwritten}

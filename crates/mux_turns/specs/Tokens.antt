@@ -1,7 +1,7 @@
 -- Tokens for progress, as they are read and written.
 use Rattle.std.specs.Prelude.{◌≡◌, ℕ, ◌<◌, ◌^◌, Bool, false, ◌&&◌, List, codes, bytes_eq, nat_eq, if◌then◌else◌}
 use Rattle.std.specs.Prelude.{Option, Some, None}
-use Rattle.group_rows.specs.Tokens.{mark, mark_text, partial_mark, work_mark}
+use Rattle.group_facts.specs.group_rows.specs.Tokens.{mark, mark_text, partial_mark, work_mark}
 
 -- these are the characters of the daemon's token of this number, or of none
 abbrev pub WritesMark : List ℕ → Option ℕ → Type 0

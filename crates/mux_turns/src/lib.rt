@@ -18,8 +18,10 @@ pub use calls::{call_registered, call_unregistered, call_unregistered_any};
 pub use doubled::doubles;
 pub use evicting::{evict, replace, stage_at};
 pub use greeting::{add_comma, bytes_of, folders_text, opening, shown_of};
+pub use group_facts::mux_members;
 pub use leaves::{Departure, cancel_request, depart, leaving};
 pub use live_texts::{register_text, unregister_text};
+pub use mux_tables;
 pub use own::asks_lspmux;
 pub use placing::{found, turn_away, waits, welcome};
 pub use refusals::{

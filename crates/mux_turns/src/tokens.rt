@@ -1,7 +1,7 @@
 //! E10, E11 and S13: tokens for progress of editors' requests, and the daemon's own in their place (LSP 3.17, Work Done Progress and
 //! Partial Result Progress).
 ghost use Rattle.std.specs.Prelude.{◌≡◌, ◌<◌, ◌++◌, ℕ, List, true, false, codes, length, IfOk, MatchOption, Option};
-ghost use Rattle.group_rows.specs.Tokens.{begins_as_mark, forwarded_text, is_reserved, mark_edits, mark_text, marked_text, reserves};
+ghost use Rattle.group_facts.specs.group_rows.specs.Tokens.{begins_as_mark, forwarded_text, is_reserved, mark_edits, mark_text, marked_text, reserves};
 ghost use Rattle.std.specs.Str.{chars};
 ghost use Rattle.event_model.specs.Members.{named_of, params_of};
 ghost use Rattle.json_nodes.specs.At.{At, Found};
@@ -9,19 +9,19 @@ ghost use Rattle.json_nodes.specs.Puts.{put_edits};
 ghost use Rattle.json_text.specs.Changes.{edits_of};
 ghost use Rattle.json_text.specs.Json.{Json};
 ghost use Rattle.json_text.specs.Replace.{Rise};
-ghost use Rattle.mux_members.specs.Finds.{is_ascii};
+ghost use Rattle.group_facts.specs.mux_members.specs.Finds.{is_ascii};
 ghost use Rattle.mux_tables.specs.Tokens.{MarksAt};
 ghost use Rattle.mux_turns.specs.Tokens.{WritesMark, one_token, tokens_for, two_tokens};
 ghost use Rattle.rpc_message.specs.Message.{Id, message_of, notification, request};
 ghost use Rattle.rpc_message.specs.Parsed.{IsRead};
 
 use crate::answered::{read, writes};
+use group_facts::mux_members::{named_token, text};
 use itoa::Buffer;
 use json_nodes::Put;
 use json_span::Tape;
 use json_text::Change;
 use message_body::{Body, Memory};
-use mux_members::{named_token, text};
 use rpc_message::Message;
 use std::alloc::Global;
 

@@ -18,7 +18,7 @@ use Rattle.mux_facts.proofs.Folds.{desk_more}
 use Rattle.mux_facts.proofs.Rules.{rule_more, word_more}
 use Rattle.mux_facts.proofs.Words.{number_same, same_id_itself}
 use Rattle.mux_history.specs.declared.cause.Cause.{Cause}
-use Rattle.mux_model.specs.Fits.{fits_behind}
+use Rattle.mux_facts.specs.mux_model.specs.Fits.{fits_behind}
 use Rattle.mux_facts.proofs.Editors.{Editors}
 
 -- no `initialize` is open, and none got a result

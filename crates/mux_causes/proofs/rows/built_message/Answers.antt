@@ -2,7 +2,7 @@
 use Rattle.std.proofs.Common.{ap, sym, ◌∙◌}
 use Rattle.std.specs.Prelude.{Some}
 use Rattle.rpc_message.specs.Message.{message_of}
-use Rattle.group_facts.specs.Built.{built_from_editor}
+use Rattle.mux_turns.specs.group_facts.specs.Built.{built_from_editor}
 use Rattle.mux_causes.proofs.Meant.{is_request, unasked_built}
 use Rattle.mux_causes.proofs.rows.built_message.Goals as goal
 

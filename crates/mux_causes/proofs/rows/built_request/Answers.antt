@@ -2,8 +2,8 @@
 use Rattle.std.proofs.Common.{false, sym, ◌∙◌}
 use Rattle.lsp_method.specs.Class.{class_of}
 use Rattle.lsp_method.specs.declared.variants.Origin.TheVariants.{Editor}
-use Rattle.group_rows.specs.Rows.{names_lspmux}
-use Rattle.group_facts.specs.Built.{is_standard}
+use Rattle.mux_turns.specs.group_rows.specs.Rows.{names_lspmux}
+use Rattle.mux_turns.specs.group_facts.specs.Built.{is_standard}
 use Rattle.mux_causes.proofs.Meant.{or_first, or_second}
 use Rattle.mux_causes.proofs.rows.built_request.Goals as goal
 

@@ -1,11 +1,11 @@
 -- A request under an id that is open.
 use Rattle.std.proofs.Common.{◌≡◌, ◌&&◌, false, ap, sym, ◌∙◌}
 use Rattle.event_model.specs.Phases.{desk_of, is_begun}
-use Rattle.group_facts.specs.Built.{built_from_editor}
+use Rattle.mux_starts.specs.group_facts.specs.Built.{built_from_editor}
 use Rattle.group_rows.specs.Rows.{asks_lspmux, names_lspmux}
 use Rattle.group_words.specs.Houses.{is_doubled}
 use Rattle.rpc_message.specs.Message.{message_of}
-use Rattle.mux_tables.specs.Documents.{AllStand}
+use Rattle.mux_starts.specs.mux_tables.specs.Documents.{AllStand}
 use Rattle.mux_entries.proofs.EditorBuilt.{first_of, standard_built}
 use Rattle.mux_entries.proofs.EditorRows.{asks_doubled, closes, done_alike, read_well}
 use Rattle.mux_entries.proofs.editors.from_doubled.Goals as goal

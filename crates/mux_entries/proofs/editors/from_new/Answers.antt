@@ -2,10 +2,10 @@
 use Rattle.std.proofs.Common.{◌≡◌, true, false, ap, codes, sym, ◌∙◌}
 use Rattle.event_model.specs.Event.{requests}
 use Rattle.event_model.specs.Phases.{desk_of, is_served, is_there}
-use Rattle.group_facts.specs.Facts.{is_early}
+use Rattle.mux_starts.specs.group_facts.specs.Facts.{is_early}
 use Rattle.group_words.specs.Houses.{places}
 use Rattle.rpc_message.specs.Message.{message_of}
-use Rattle.mux_tables.specs.Documents.{AllStand}
+use Rattle.mux_starts.specs.mux_tables.specs.Documents.{AllStand}
 use Rattle.mux_entries.proofs.EditorAsks.{asked_none}
 use Rattle.mux_entries.proofs.EditorBuilt.{built_stays, unasked_there}
 use Rattle.mux_entries.proofs.EditorRows.{asks_by_name, begins, done_alike, early_new, read_well}

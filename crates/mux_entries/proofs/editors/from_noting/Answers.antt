@@ -8,7 +8,7 @@ use Rattle.lsp_method.specs.Class.{class_of}
 use Rattle.lsp_method.specs.declared.variants.Origin.TheVariants.{Editor}
 use Rattle.mux_model.specs.Methods.{goes_on}
 use Rattle.rpc_message.specs.Message.{message_of, notification}
-use Rattle.mux_tables.specs.Documents.{AllStand}
+use Rattle.mux_starts.specs.mux_tables.specs.Documents.{AllStand}
 use Rattle.mux_editors.proofs.Runs.{aside_row, exit_stays}
 use Rattle.mux_editors.proofs.Turns.{is_first, is_second}
 use Rattle.mux_entries.proofs.EditorBuilt.{served_needs}

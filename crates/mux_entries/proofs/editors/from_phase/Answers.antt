@@ -3,10 +3,10 @@ use Rattle.std.proofs.Common.{◌≡◌, false, ◌&&◌, ap, refl, sym, ◌∙�
 use Rattle.event_model.specs.declared.phase.Phase.TheVariants.{Closed, Down, Waiting}
 use Rattle.group_rows.specs.Rows.{asks_lspmux}
 use Rattle.event_model.specs.Phases.{desk_of, is_begun, is_linked, is_served, is_there}
-use Rattle.group_facts.specs.Facts.{is_early}
+use Rattle.mux_starts.specs.group_facts.specs.Facts.{is_early}
 use Rattle.group_words.specs.Houses.{is_doubled, places}
 use Rattle.rpc_message.specs.Message.{message_of}
-use Rattle.mux_tables.specs.Documents.{AllStand}
+use Rattle.mux_starts.specs.mux_tables.specs.Documents.{AllStand}
 use Rattle.mux_entries.proofs.EditorAsks.{asked_none}
 use Rattle.mux_entries.proofs.EditorBuilt.{built_stays, unasked_there}
 use Rattle.mux_entries.proofs.EditorRows.{closed_one, done_alike, done_quietly, read_well, served_one, taken}

@@ -2,9 +2,9 @@
 use Rattle.std.proofs.Common.{ap, sym, ◌∙◌}
 use Rattle.std.specs.Prelude.{Some}
 use Rattle.event_model.specs.Phases.{desk_of}
-use Rattle.group_facts.specs.Built.{built_from_editor}
+use Rattle.mux_starts.specs.group_facts.specs.Built.{built_from_editor}
 use Rattle.rpc_message.specs.Message.{message_of, notification, request}
-use Rattle.mux_tables.specs.Documents.{AllStand}
+use Rattle.mux_starts.specs.mux_tables.specs.Documents.{AllStand}
 use Rattle.mux_entries.proofs.EditorAsks.{asked_by_one, ended_unasked}
 use Rattle.mux_entries.proofs.EditorBuilt.{served_needs, served_there, standard_built, unasked_when}
 use Rattle.mux_entries.proofs.EditorRows.{answered, asks_by_sort, done_alike, is_answer, notes_by_sort, read_well, served, unasking, unnoting}

@@ -1,9 +1,9 @@
 -- A notification of a start that is ready.
 use Rattle.std.proofs.Common.{◌≡◌, ap, sym, ◌∙◌}
 use Rattle.event_model.proofs.Turns.{alike}
-use Rattle.group_facts.specs.Built.{built_telling}
+use Rattle.mux_starts.specs.group_facts.specs.Built.{built_telling}
 use Rattle.group_rows.specs.AskRows.{notified_row}
-use Rattle.mux_tables.specs.Documents.{AllStand}
+use Rattle.mux_starts.specs.mux_tables.specs.Documents.{AllStand}
 use Rattle.mux_entries.proofs.EditorRows.{done_alike}
 use Rattle.mux_entries.proofs.Questions.{all_run, broadcasts}
 use Rattle.mux_entries.proofs.servers.take_telling.Goals as goal

@@ -1,6 +1,6 @@
 -- What a cancel names.
 use Rattle.std.proofs.Common.{sym, ◌∙◌}
-use Rattle.event_model.specs.Members.{named_of}
+use Rattle.mux_model.specs.event_model.specs.Members.{named_of}
 use Rattle.rpc_message.specs.Message.{message_of}
 use Rattle.rpc_message.specs.Parsed.{FoundBare}
 use Rattle.mux_members.proofs.Cancelled.{names_id, names_nothing, told_notified}

@@ -1,7 +1,7 @@
 -- A token of a request's params.
 use Rattle.std.proofs.Common.{ap, sym, subst, ◌∙◌}
 use Rattle.json_nodes.specs.At.{Found}
-use Rattle.event_model.specs.Members.{bytes_if}
+use Rattle.mux_model.specs.event_model.specs.Members.{bytes_if}
 use Rattle.rpc_message.specs.Message.{message_of}
 use Rattle.rpc_message.specs.Parsed.{params_in}
 use Rattle.mux_members.proofs.Tokens.{no_token, token_there}

@@ -8,7 +8,7 @@ use Rattle.rpc_message.specs.Message.{message_of}
 use Rattle.rpc_message.specs.Parsed.{params_in}
 use Rattle.rpc_message.proofs.Alone.{alone_text}
 use Rattle.rpc_message.proofs.PutLaws.{params_rise}
-use Rattle.group_rows.specs.Tokens.{token_edits}
+use Rattle.group_facts.specs.group_rows.specs.Tokens.{token_edits}
 use Rattle.mux_turns.specs.Tokens.{tokens_for}
 use Rattle.mux_turns.proofs.Marks.{found_none, found_some, params_tokens, tokens_given}
 use Rattle.mux_turns.proofs.tokens.forwarded_text.Goals as goal

@@ -4,7 +4,7 @@ use Rattle.std.specs.Prelude.{IfOk}
 use Rattle.std.specs.Str.{chars}
 use Rattle.json_text.specs.Changes.{edits_of}
 use Rattle.json_nodes.specs.Puts.{put_edits}
-use Rattle.group_rows.specs.Tokens.{mark_text}
+use Rattle.group_facts.specs.group_rows.specs.Tokens.{mark_text}
 use Rattle.mux_turns.specs.Tokens.{one_token, tokens_for, two_tokens}
 use Rattle.mux_turns.proofs.Marks.{both_put, none_put, partial_put, work_put}
 use Rattle.mux_turns.proofs.tokens.put_marks.Goals as goal

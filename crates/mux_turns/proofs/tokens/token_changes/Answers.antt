@@ -4,7 +4,7 @@ use Rattle.std.specs.Prelude.{IfOk, Some}
 use Rattle.json_text.specs.Changes.{edits_of}
 use Rattle.json_text.specs.Json.{Json}
 use Rattle.json_nodes.specs.At.{At, Found}
-use Rattle.group_rows.specs.Tokens.{mark_edits}
+use Rattle.group_facts.specs.group_rows.specs.Tokens.{mark_edits}
 use Rattle.mux_turns.proofs.Marks.{found_some, token_put}
 use Rattle.mux_turns.proofs.tokens.token_changes.Goals as goal
 

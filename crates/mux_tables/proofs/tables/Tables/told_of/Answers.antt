@@ -2,8 +2,8 @@
 use Rattle.std.proofs.Common.{◌≡◌, arith, ap, sym, subst, ◌∙◌}
 use Rattle.std.specs.Prelude.{None, MatchOption, find}
 use Rattle.event_model.proofs.Places.{item_at}
-use Rattle.group_rows.specs.Forwarded.{forwarding_of}
-use Rattle.group_rows.specs.Tokens.{is_told, listens}
+use Rattle.group_laws.specs.group_rows.specs.Forwarded.{forwarding_of}
+use Rattle.group_laws.specs.group_rows.specs.Tokens.{is_told, listens}
 use Rattle.mux_tables.specs.Tokens.{IsTold, MarksAt}
 use Rattle.mux_tables.proofs.Marks.{away, past, told, unmarked, unopened, unowned}
 use Rattle.mux_tables.proofs.Seen.{phase_inside, phase_past}
