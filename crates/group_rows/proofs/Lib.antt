@@ -16,3 +16,4 @@ pub mod WorkedLive
 pub mod LiveTexts
 pub mod TokenTexts
 pub mod WorkedTokens
+pub mod WorkedCreated
