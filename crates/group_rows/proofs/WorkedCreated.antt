@@ -12,7 +12,7 @@ use Rattle.rpc_message.specs.Message.{message_of, no_name_twice, is_integer, mem
 use Rattle.rpc_message.specs.Texts.{with_id_text}
 use Rattle.group_words.specs.Example.{with_groups}
 use Rattle.group_rows.specs.AsksExample.{none_runs, played}
-use Rattle.group_rows.specs.CreatedExample.{asked_later, asked_later_outs, created_again, created_again_outs, created_early, created_early_outs, one_token_thrice, one_token_thrice_outs, refused_tokens, refused_tokens_outs, taken_by_one, taken_by_one_outs, takers_leave, takers_leave_outs, work_cancelled, work_cancelled_outs}
+use Rattle.group_rows.specs.CreatedExample.{asked_later, asked_later_outs, created_again, created_again_outs, created_early, created_early_outs, much_held, much_held_outs, one_token_thrice, one_token_thrice_outs, refused_tokens, refused_tokens_outs, reported, taken_by_one, taken_by_one_outs, takers_leave, takers_leave_outs, work_cancelled, work_cancelled_outs}
 use Rattle.group_rows.specs.Example.{events_behind}
 use Rattle.group_rows.specs.Rows.{outs_from}
 
@@ -47,3 +47,11 @@ who_leaves_hears_no_more = refl
 asked_as_it_begins_to_run : outs_from (with_groups 8) (events_behind (with_groups 8) [] none_runs) created_early ≡ created_early_outs
 unfolding computes url_on_literals message_of named no_name_twice is_integer member_bytes with_id_text id_edits escape_byte digits own_request own_notification goes_nowhere editor_request editor_notification is_focused is_refresh server_notification server_request chars
 asked_as_it_begins_to_run = refl
+
+all_is_held : outs_from (with_groups 8) (reported 2) much_held ≡ much_held_outs 2
+unfolding computes url_on_literals message_of named no_name_twice is_integer member_bytes with_id_text id_edits escape_byte digits own_request own_notification goes_nowhere editor_request editor_notification is_focused is_refresh server_notification server_request chars
+all_is_held = refl
+
+no_more_is_held : outs_from (with_groups 8) (reported 1030) much_held ≡ much_held_outs 1023
+unfolding computes url_on_literals message_of named no_name_twice is_integer member_bytes with_id_text id_edits escape_byte digits own_request own_notification goes_nowhere editor_request editor_notification is_focused is_refresh server_notification server_request chars
+no_more_is_held = refl

@@ -87,8 +87,8 @@ token_of k id text = record { number = k; id = id; text = text; begin = None }
 abbrev pub if_new : List ℕ → Created → Id → Option Token
 if_new body x id = if is_some (token_called (Some id) x) then None else option_map (token_of x.next id) (token_in (codes "token") body)
 
-abbrev pub new_token : List ℕ → Created → Option Token
-new_token body x = if is_reserved (named_of (codes "token") (params_of body)) then None else option_and_then (if_new body x) (named_token (params_of body))
+abbrev pub created_token : List ℕ → Created → Option Token
+created_token body x = if is_reserved (named_of (codes "token") (params_of body)) then None else option_and_then (if_new body x) (named_token (params_of body))
 
 abbrev pub with_token : Option Token → Created → Created
 with_token None x = x
@@ -198,7 +198,7 @@ is_progress method = names_progress (class_of method Server true)
 
 -- a token lives from its create until its end, or until the start's program ends; an editor takes it from its own body on
 abbrev pub created_next : Settings → ℕ → List Event → Created → Event → Created
-created_next settings s before x (took (FromServer n body) (request id method params)) = if nat_eq n s && (is_creating method && is_heard settings s before id) then with_token (new_token body x) x else x
+created_next settings s before x (took (FromServer n body) (request id method params)) = if nat_eq n s && (is_creating method && is_heard settings s before id) then with_token (created_token body x) x else x
 created_next settings s before x (took (FromServer n body) (notification method params)) = if nat_eq n s && (is_progress method && is_ready (life_of s before).stage) then progressed body params (token_called (named_token params) x) x else x
 created_next settings s before x (took (FromEditor e body) m) = spoken e m x
 created_next settings s before x (took (EditorGone e why) m) = left e x

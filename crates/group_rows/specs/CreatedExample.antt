@@ -1,9 +1,13 @@
 -- Worked histories of tokens for progress that a start creates, and of what two editors are asked and told of them.
-use Rattle.std.specs.Prelude.{List, [], ◌∷◌, codes}
+use Rattle.std.specs.Prelude.{ℕ, List, [], ◌∷◌, ◌++◌, codes, replicate}
 use Rattle.mux_history.specs.declared.cause.Cause.{Cause}
 use Rattle.mux_history.specs.declared.cause.Cause.TheVariants.{Joined, FromEditor, FromServer}
 use Rattle.mux_history.specs.declared.out.Out.{Out}
 use Rattle.mux_history.specs.declared.out.Out.TheVariants.{CloseEditor, ToEditor, ToServer}
+use Rattle.event_model.specs.Event.{Event, heard}
+use Rattle.group_words.specs.Example.{with_groups}
+use Rattle.group_rows.specs.AsksExample.{two_run}
+use Rattle.group_rows.specs.Example.{events_behind}
 
 -- one editor accepts and gets what was held, the other refuses and gets nothing, then or later
 abbrev pub taken_by_one : List Cause
@@ -221,4 +225,36 @@ takers_leave_outs =
     ∷ (ToEditor 1 (codes "{\"jsonrpc\":\"2.0\",\"method\":\"$/progress\",\"params\":{\"token\":\"lspmux:0:1\",\"value\":1}}") ∷ [])
     ∷ (CloseEditor 1 ∷ [])
     ∷ []
+    ∷ []
+
+-- behind a create and a `begin`, the start reports so often; that gives nothing, since no editor has answered
+abbrev pub one_begins : List Cause
+one_begins =
+    FromServer 0 (codes "{\"jsonrpc\":\"2.0\",\"id\":5,\"method\":\"window/workDoneProgress/create\",\"params\":{\"token\":\"p\"}}")
+    ∷ FromServer 0 (codes "{\"jsonrpc\":\"2.0\",\"method\":\"$/progress\",\"params\":{\"token\":\"p\",\"value\":{\"kind\":\"begin\",\"title\":\"x\"}}}")
+    ∷ []
+
+abbrev pub report : Event
+report = heard (FromServer 0 (codes "{\"jsonrpc\":\"2.0\",\"method\":\"$/progress\",\"params\":{\"token\":\"p\",\"value\":{\"kind\":\"report\"}}}"))
+
+abbrev pub reported : ℕ → List Event
+reported n = events_behind (with_groups 8) two_run one_begins ++ replicate n report
+
+-- then the token ends, and an editor accepts: it gets the `begin` and the reports that were held, and behind them the end
+abbrev pub much_held : List Cause
+much_held =
+    FromServer 0 (codes "{\"jsonrpc\":\"2.0\",\"method\":\"$/progress\",\"params\":{\"token\":\"p\",\"value\":{\"kind\":\"end\"}}}")
+    ∷ FromEditor 0 (codes "{\"jsonrpc\":\"2.0\",\"id\":1,\"result\":null}")
+    ∷ []
+
+abbrev pub reports_out : ℕ → List Out
+reports_out n = replicate n (ToEditor 0 (codes "{\"jsonrpc\":\"2.0\",\"method\":\"$/progress\",\"params\":{\"token\":\"lspmux:0:1\",\"value\":{\"kind\":\"report\"}}}"))
+
+abbrev pub much_held_outs : ℕ → List (List Out)
+much_held_outs n =
+    []
+    ∷ (ToEditor 0 (codes "{\"jsonrpc\":\"2.0\",\"method\":\"$/progress\",\"params\":{\"token\":\"lspmux:0:1\",\"value\":{\"kind\":\"begin\",\"title\":\"x\"}}}")
+    ∷ reports_out n
+    ++ ToEditor 0 (codes "{\"jsonrpc\":\"2.0\",\"method\":\"$/progress\",\"params\":{\"token\":\"lspmux:0:1\",\"value\":{\"kind\":\"end\"}}}")
+    ∷ [])
     ∷ []

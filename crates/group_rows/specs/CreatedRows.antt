@@ -14,7 +14,7 @@ use Rattle.event_model.specs.Spawns.{group_of, start_of}
 use Rattle.event_model.specs.Stages.{life_of, is_ready}
 use Rattle.group_words.specs.Houses.{home_of}
 use Rattle.group_rows.specs.Asks.{running_in}
-use Rattle.group_rows.specs.Created.{Taking, Token, accepts, created_of, created_text, has_accepted, is_answered, named_token, new_token, token_called, token_marked}
+use Rattle.group_rows.specs.Created.{Taking, Token, accepts, created_of, created_text, has_accepted, is_answered, named_token, created_token, token_called, token_marked}
 use Rattle.group_rows.specs.Forwarded.{forwarding_of}
 use Rattle.group_rows.specs.LiveRows.{accept, call, decline}
 use Rattle.group_rows.specs.Tokens.{cancel_work, is_told, is_worked, marked_text, tell_progress}
@@ -31,7 +31,7 @@ offer s e t = call (create_text s t.number) e
 
 -- S8: each editor that runs is asked to take what the start creates
 abbrev pub create_row : Settings → List Event → ℕ → ℕ → List ℕ → Row
-create_row settings before g s body = on (new_token body (created_of settings s before)) (decline s body)
+create_row settings before g s body = on (created_token body (created_of settings s before)) (decline s body)
     (λ t. accept s body ⨾ each (λ e. offer s e t) (running_in settings g before))
 
 -- L2: an editor that begins to run is asked to take each token that lives, in the order of creation
