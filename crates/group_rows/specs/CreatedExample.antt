@@ -1,12 +1,15 @@
 -- Worked histories of tokens for progress that a start creates, and of what two editors are asked and told of them.
-use Rattle.std.specs.Prelude.{ℕ, List, [], ◌∷◌, ◌++◌, codes, replicate}
+use Rattle.std.specs.Prelude.{ℕ, true, false, List, [], ◌∷◌, ◌++◌, codes, replicate}
+use Rattle.std.specs.Prelude.{Some, None}
 use Rattle.mux_history.specs.declared.cause.Cause.{Cause}
 use Rattle.mux_history.specs.declared.cause.Cause.TheVariants.{Joined, FromEditor, FromServer}
 use Rattle.mux_history.specs.declared.out.Out.{Out}
 use Rattle.mux_history.specs.declared.out.Out.TheVariants.{CloseEditor, ToEditor, ToServer}
+use Rattle.rpc_message.specs.Message.{integer, text}
 use Rattle.event_model.specs.Event.{Event, heard}
 use Rattle.group_words.specs.Example.{with_groups}
 use Rattle.group_rows.specs.AsksExample.{two_run}
+use Rattle.group_rows.specs.Created.{Created}
 use Rattle.group_rows.specs.Example.{events_behind}
 
 -- one editor accepts and gets what was held, the other refuses and gets nothing, then or later
@@ -258,3 +261,23 @@ much_held_outs n =
     ++ ToEditor 0 (codes "{\"jsonrpc\":\"2.0\",\"method\":\"$/progress\",\"params\":{\"token\":\"lspmux:0:1\",\"value\":{\"kind\":\"end\"}}}")
     ∷ [])
     ∷ []
+
+-- what is kept: of two tokens the first has begun; the first editor accepted it and was sent its `begin`, the second one hasn't answered, nor has any of the other token
+abbrev pub two_created : List Cause
+two_created =
+    FromServer 0 (codes "{\"jsonrpc\":\"2.0\",\"id\":5,\"method\":\"window/workDoneProgress/create\",\"params\":{\"token\":\"p\"}}")
+    ∷ FromEditor 0 (codes "{\"jsonrpc\":\"2.0\",\"id\":1,\"result\":null}")
+    ∷ FromServer 0 (codes "{\"jsonrpc\":\"2.0\",\"method\":\"$/progress\",\"params\":{\"token\":\"p\",\"value\":{\"kind\":\"begin\",\"title\":\"x\"}}}")
+    ∷ FromServer 0 (codes "{\"jsonrpc\":\"2.0\",\"id\":6,\"method\":\"window/workDoneProgress/create\",\"params\":{\"token\":7}}")
+    ∷ []
+
+abbrev pub two_kept : Created
+two_kept = record {
+  next = 3;
+  tokens = record { number = 1; id = text (codes "p"); text = codes "\"p\""; begin = Some (codes "{\"jsonrpc\":\"2.0\",\"method\":\"$/progress\",\"params\":{\"token\":\"p\",\"value\":{\"kind\":\"begin\",\"title\":\"x\"}}}") } ∷ record { number = 2; id = integer (codes "7"); text = codes "7"; begin = None } ∷ [];
+  takings = record { editor = 0; number = 1; token = 1; accepted = true; held = []; begun = true }
+      ∷ record { editor = 1; number = 1; token = 1; accepted = false; held = (codes "{\"jsonrpc\":\"2.0\",\"method\":\"$/progress\",\"params\":{\"token\":\"p\",\"value\":{\"kind\":\"begin\",\"title\":\"x\"}}}") ∷ []; begun = true }
+      ∷ record { editor = 0; number = 2; token = 2; accepted = false; held = []; begun = false }
+      ∷ record { editor = 1; number = 2; token = 2; accepted = false; held = []; begun = false }
+      ∷ [];
+}
