@@ -9,7 +9,7 @@ use Rattle.mux_history.specs.declared.cause.Cause.{Cause}
 use Rattle.mux_history.specs.declared.cause.Cause.TheVariants.{Started, FromServer, FromEditor}
 use Rattle.lsp_method.specs.Class.{class_of}
 use Rattle.lsp_method.specs.declared.variants.Class.{Class}
-use Rattle.lsp_method.specs.declared.variants.Class.TheVariants.{Broadcast, Cancel, Focused, Folders, Progress, Refresh, Register, Unregister}
+use Rattle.lsp_method.specs.declared.variants.Class.TheVariants.{Broadcast, Cancel, Create, Focused, Folders, Progress, Refresh, Register, Unregister}
 use Rattle.lsp_method.specs.declared.variants.Origin.TheVariants.{Editor, Server}
 use Rattle.mux_history.specs.declared.entry.Entry.{Entry}
 use Rattle.mux_history.specs.declared.out.Out.{Out}
@@ -43,6 +43,8 @@ use Rattle.group_rows.specs.Answers.{own_version}
 use Rattle.group_rows.specs.AskRows.{current_version, is_edit}
 use Rattle.group_rows.specs.Asks.{Ask, Parked, asker_of, asking_of, asks_of, has_number, has_running, is_patient, is_seated, is_single, is_taken, is_under, next_ask, parked_of, serves}
 use Rattle.group_rows.specs.Cancelling.{number_named, numbered_text}
+use Rattle.group_rows.specs.Created.{Taking, Token, accepts, created_of, created_text, created_token, has_accepted, is_answered, is_creating, named_token, token_called, token_marked}
+use Rattle.group_rows.specs.CreatedRows.{create_text}
 use Rattle.group_rows.specs.Ends.{answers_shutdown}
 use Rattle.group_rows.specs.Forwarded.{Forwarded, Sender, answered_by, forwarding_of}
 use Rattle.group_rows.specs.Leaves.{cancel_text}
@@ -213,6 +215,23 @@ pub record IsWorkCancel (before : List Event) (cause : Cause) (events : List Eve
   pub bytes : body ≡ marked_text (mark_text (work_mark request.number)) asked
   pub says : message_of body ≡ notification (codes "window/workDoneProgress/cancel") params
 
+-- such an editor cancels the work of a token that it accepted, which it names as the daemon does: its message goes on with the start's own bytes
+pub record IsTokenCancel (settings : Settings) (before : List Event) (cause : Cause) (events : List Event) (s : ℕ) (body : List ℕ) : Type 0 where
+  pub editor : ℕ
+  pub asked : List ℕ
+  pub given : Option Json
+  pub token : Token
+  pub params : Option Json
+  pub from : cause ≡ FromEditor editor asked
+  pub served : is_served (desk_of editor before).phase ≡ true
+  pub notified : message_of asked ≡ notification (codes "window/workDoneProgress/cancel") given
+  pub meant : token_marked s given (created_of settings s before) ≡ Some token
+  pub accepted : has_accepted editor token.number (created_of settings s before) ≡ true
+  pub ready : (life_of s events).stage ≡ Ready
+  pub stays : moves before cause s ≡ false
+  pub bytes : body ≡ marked_text token.text asked
+  pub says : message_of body ≡ notification (codes "window/workDoneProgress/cancel") params
+
 -- a request of s, which gave no result yet, is answered at once
 pub record IsReply (before : List Event) (cause : Cause) (events : List Event) (s : ℕ) (body : List ℕ) : Type 0 where
   pub id : Id
@@ -222,7 +241,7 @@ pub record IsReply (before : List Event) (cause : Cause) (events : List Event) (
   pub stays : moves before cause s ≡ false
   pub response : is_response (message_of body) ≡ true
 
--- what answers it: the response of the editor that was asked (E19), a refusal since that editor left (L1), null since each editor is asked (S9), the folders of the group (S10), a refusal since none runs (S11), that an edit wasn't applied, since a version in it stands for no text that the editor in focus has (V3), null since its items are registered (S6) or taken back (S7), or a refusal of them
+-- what answers it: the response of the editor that was asked (E19), a refusal since that editor left (L1), null since each editor is asked (S9), the folders of the group (S10), a refusal since none runs (S11), that an edit wasn't applied, since a version in it stands for no text that the editor in focus has (V3), null since its items are registered (S6) or taken back (S7), or a refusal of them, null since it creates a token (S8), or a refusal of that
 pub data Resolution (settings : Settings) (before : List Event) (cause : Cause) (s : ℕ) (id : Id) (body : List ℕ) : Type 0 where
   handed_back : (e : ℕ) (answer : List ℕ) (a : Ask) → cause ≡ FromEditor e answer → find (is_seated e (answered_id (message_of answer))) (asks_of settings s before) ≡ Some a → a.id ≡ id → body ≡ with_id_text answer a.bytes → Resolution settings before cause s id body
   refused_for : (a : Ask) → list_any (is_under (Some id)) (asks_of settings s before) ≡ true → a.id ≡ id → body ≡ error_text a.bytes request_failed → Resolution settings before cause s id body
@@ -233,6 +252,8 @@ pub data Resolution (settings : Settings) (before : List Event) (cause : Cause) 
   unenrolled : (asked method : List ℕ) (params : Option Json) → cause ≡ FromServer s asked → message_of asked ≡ request id method params → class_of method Server false ≡ Register → registered asked ≡ None → body ≡ error_text (id_bytes asked) invalid_params → Resolution settings before cause s id body
   released : (asked method : List ℕ) (params : Option Json) (items : List Registration) → cause ≡ FromServer s asked → message_of asked ≡ request id method params → class_of method Server false ≡ Unregister → taken_back asked (live_of settings s before) ≡ Some items → body ≡ ok_text (id_bytes asked) (codes "null") → Resolution settings before cause s id body
   unreleased : (asked method : List ℕ) (params : Option Json) → cause ≡ FromServer s asked → message_of asked ≡ request id method params → class_of method Server false ≡ Unregister → taken_back asked (live_of settings s before) ≡ None → body ≡ error_text (id_bytes asked) invalid_params → Resolution settings before cause s id body
+  created : (asked method : List ℕ) (params : Option Json) (token : Token) → cause ≡ FromServer s asked → message_of asked ≡ request id method params → class_of method Server false ≡ Create → created_token asked (created_of settings s before) ≡ Some token → body ≡ ok_text (id_bytes asked) (codes "null") → Resolution settings before cause s id body
+  uncreated : (asked method : List ℕ) (params : Option Json) → cause ≡ FromServer s asked → message_of asked ≡ request id method params → class_of method Server false ≡ Create → created_token asked (created_of settings s before) ≡ None → body ≡ error_text (id_bytes asked) invalid_params → Resolution settings before cause s id body
   unapplied : (asked method number : List ℕ) (params : Option Json) (e : ℕ) → cause ≡ FromServer s asked → message_of asked ≡ request id method params → is_edit method ≡ true → asked_text (current_version settings before s e) asked number ≡ None → body ≡ ok_text (id_bytes asked) not_applied → Resolution settings before cause s id body
 
 -- an open request of s, which is ready, is answered
@@ -264,6 +285,7 @@ pub data WhyToServer (settings : Settings) (before : List Event) (cause : Cause)
   shuts : IsShutting settings before cause events s body → WhyToServer settings before cause events s body
   cancels : IsCancel before cause events s body → WhyToServer settings before cause events s body
   cancels_work : IsWorkCancel before cause events s body → WhyToServer settings before cause events s body
+  cancels_token : IsTokenCancel settings before cause events s body → WhyToServer settings before cause events s body
   responds : IsReply before cause events s body → WhyToServer settings before cause events s body
   resolves : IsResolving settings before cause events s body → WhyToServer settings before cause events s body
   exits : IsExit before cause events s body → WhyToServer settings before cause events s body
@@ -399,7 +421,7 @@ pub record IsResumed (settings : Settings) (before : List Event) (cause : Cause)
   pub bytes : body ≡ with_id_text first.body (decimal (next_ask e events))
   pub says : message_of body ≡ request (integer (decimal (next_ask e events))) method params
 
--- registrations are changed by this request of s, to whose group e belongs, which runs
+-- registrations are changed, or a token is created, by this request of s, to whose group e belongs, which runs
 pub record IsChange (settings : Settings) (before : List Event) (cause : Cause) (e s : ℕ) (asked : List ℕ) (class : Class) : Type 0 where
   pub from : cause ≡ FromServer s asked
   pub id : Id
@@ -492,6 +514,61 @@ pub record IsProgress (before : List Event) (cause : Cause) (events : List Event
   pub bytes : body ≡ marked_text token asked
   pub says : message_of body ≡ notification method params
 
+-- the token that the start creates (S8), and each that lives, in the order of creation, as the editor begins to run (L2)
+pub data Offering (settings : Settings) (before : List Event) (cause : Cause) (e s n : ℕ) (body : List ℕ) : Type 0 where
+  creates : (asked : List ℕ) (token : Token) → IsChange settings before cause e s asked Create → created_token asked (created_of settings s before) ≡ Some token → body ≡ create_text s token.number n → Offering settings before cause e s n body
+  revives : (token : Token) (earlier later : List Token) → IsRestoring settings before cause e s → (created_of settings s before).tokens ≡ earlier ++ token ∷ later → body ≡ create_text s token.number n → Offering settings before cause e s n body
+
+-- the daemon's own request to take a token of a ready start, to an editor that runs, under its next number
+pub record IsOffering (settings : Settings) (before : List Event) (cause : Cause) (events : List Event) (e : ℕ) (body : List ℕ) : Type 0 where
+  pub start : ℕ
+  pub told : Offering settings before cause e start (next_ask e events) body
+  pub ready : (life_of start before).stage ≡ Ready
+  pub running : (desk_of e events).phase ≡ Running
+  pub idle : (s : ℕ) → (asking_of settings s events).asker ≡ None
+  pub room : has_number e events ≡ true
+  pub method : List ℕ
+  pub params : Option Json
+  pub named : is_creating method ≡ true
+  pub says : message_of body ≡ request (integer (decimal (next_ask e events))) method params
+
+-- what the start tells of a token that it created and that lives, to an editor that runs and accepted it, under the daemon's own token (S13)
+pub record IsTokenProgress (settings : Settings) (before : List Event) (cause : Cause) (events : List Event) (e : ℕ) (body : List ℕ) : Type 0 where
+  pub start : ℕ
+  pub asked : List ℕ
+  pub method : List ℕ
+  pub given : Option Json
+  pub token : Token
+  pub params : Option Json
+  pub source : IsFromStart settings before cause events e start asked
+  pub asks : message_of asked ≡ notification method given
+  pub class : class_of method Server true ≡ Progress
+  pub found : token_called (named_token given) (created_of settings start before) ≡ Some token
+  pub accepted : has_accepted e token.number (created_of settings start before) ≡ true
+  pub bytes : body ≡ marked_text (created_text start token.number) asked
+  pub says : message_of body ≡ notification method params
+
+-- what was held of a token for an editor that runs, and that accepts it by this message, behind all that was held before it (E19)
+pub record IsHandedOut (settings : Settings) (before : List Event) (cause : Cause) (events : List Event) (e : ℕ) (body : List ℕ) : Type 0 where
+  pub start : ℕ
+  pub answer : List ℕ
+  pub taking : Taking
+  pub earlier : List (List ℕ)
+  pub held : List ℕ
+  pub later : List (List ℕ)
+  pub method : List ℕ
+  pub params : Option Json
+  pub from : cause ≡ FromEditor e answer
+  pub found : find (is_answered e (answered_id (message_of answer))) (created_of settings start before).takings ≡ Some taking
+  pub accepted : accepts (message_of answer) ≡ true
+  pub order : taking.held ≡ earlier ++ held ∷ later
+  pub place : events ≡ behind (with_cause before cause) (map (λ other. ToEditor e (marked_text (created_text start taking.token) other)) earlier)
+  pub ready : (life_of start before).stage ≡ Ready
+  pub running : (desk_of e events).phase ≡ Running
+  pub class : class_of method Server true ≡ Progress
+  pub bytes : body ≡ marked_text (created_text start taking.token) held
+  pub says : message_of body ≡ notification method params
+
 pub data WhyToEditor (settings : Settings) (before : List Event) (cause : Cause) (events : List Event) (e : ℕ) (body : List ℕ) : Type 0 where
   rejects : IsRejection before cause events e body → WhyToEditor settings before cause events e body
   refuses : IsRefusal events e body → WhyToEditor settings before cause events e body
@@ -502,9 +579,12 @@ pub data WhyToEditor (settings : Settings) (before : List Event) (cause : Cause)
   asks : IsAsk settings before cause events e body → WhyToEditor settings before cause events e body
   resumes : IsResumed settings before cause events e body → WhyToEditor settings before cause events e body
   registers : IsRegistering settings before cause events e body → WhyToEditor settings before cause events e body
+  offers : IsOffering settings before cause events e body → WhyToEditor settings before cause events e body
   spreads : IsSpread settings before cause events e body → WhyToEditor settings before cause events e body
   recalls : IsRecall settings before cause events e body → WhyToEditor settings before cause events e body
   progresses : IsProgress before cause events e body → WhyToEditor settings before cause events e body
+  follows : IsTokenProgress settings before cause events e body → WhyToEditor settings before cause events e body
+  hands_out : IsHandedOut settings before cause events e body → WhyToEditor settings before cause events e body
 
 -- its program is to begin, or gave no result yet
 abbrev pub is_starting : Stage → Bool
