@@ -1,5 +1,5 @@
 -- The tokens for progress that a start creates, and what editors are asked of them (LSP 3.17, Work Done Progress, Server Initiated Progress, `window/workDoneProgress/create` and `$/progress`).
-use Rattle.std.specs.Prelude.{ℕ, ◌+◌, Bool, true, false, not, ◌&&◌, ◌||◌, List, [], ◌∷◌, ◌++◌, codes, decimal, filter, find, flat_map, is_some, length, map, nat_eq, nat_lt, bytes_eq, if◌then◌else◌}
+use Rattle.std.specs.Prelude.{ℕ, ◌+◌, ◌^◌, Bool, true, false, not, ◌&&◌, ◌||◌, List, [], ◌∷◌, ◌++◌, codes, decimal, filter, find, flat_map, is_some, length, map, nat_eq, nat_lt, bytes_eq, if◌then◌else◌}
 use Rattle.std.specs.Prelude.{Option, Some, None}
 use Rattle.std.specs.List.{list_any}
 use Rattle.std.specs.Option.{option_and_then, option_map, option_map_or}
@@ -80,15 +80,18 @@ is_marked s token t = option_map_or (bytes_eq (created_mark s t.number)) (string
 abbrev pub token_marked : ℕ → Option Json → Created → Option Token
 token_marked s params x = find (is_marked s (named_of (codes "token") params)) x.tokens
 
--- S8: what a request creates: an integer or a string that doesn't begin as the daemon's own tokens do, and that doesn't live
+-- S8: what a request creates: an integer or a string that doesn't begin as the daemon's own tokens do, and that doesn't live; numbers are below 2^64
 abbrev pub token_of : ℕ → Id → List ℕ → Token
 token_of k id text = record { number = k; id = id; text = text; begin = None }
 
 abbrev pub if_new : List ℕ → Created → Id → Option Token
 if_new body x id = if is_some (token_called (Some id) x) then None else option_map (token_of x.next id) (token_in (codes "token") body)
 
+abbrev pub may_create : List ℕ → Created → Bool
+may_create body x = nat_lt x.next (2 ^ 64) && not (is_reserved (named_of (codes "token") (params_of body)))
+
 abbrev pub created_token : List ℕ → Created → Option Token
-created_token body x = if is_reserved (named_of (codes "token") (params_of body)) then None else option_and_then (if_new body x) (named_token (params_of body))
+created_token body x = if may_create body x then option_and_then (if_new body x) (named_token (params_of body)) else None
 
 abbrev pub with_token : Option Token → Created → Created
 with_token None x = x

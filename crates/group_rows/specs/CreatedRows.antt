@@ -7,6 +7,7 @@ use Rattle.rpc_message.specs.Message.{Message}
 use Rattle.rpc_message.specs.Texts.{request_text}
 use Rattle.event_model.specs.Event.{Event}
 use Rattle.event_model.specs.Members.{named_of}
+use Rattle.event_model.specs.Phases.{desk_of, is_running}
 use Rattle.event_model.specs.Requests.{answered_id}
 use Rattle.event_model.specs.Row.{Row, nothing, send, choose, each, on, ◌⨾◌}
 use Rattle.event_model.specs.Settings.{Settings}
@@ -58,11 +59,12 @@ progress_row settings s before body params = on (find (is_told before (named_of 
     (created_row settings s before body params) (tell_progress body (named_of (codes "token") params))
 
 -- E19: an editor that accepts a token gets what was held for it, in order
-abbrev pub hand_out : ℕ → Message → Taking → Row
-hand_out s m c = choose (accepts m) (each (tell s c.token c.editor) c.held) nothing
+abbrev pub hand_out : ℕ → ℕ → Message → Taking → Row
+hand_out s e m c = choose (accepts m) (each (tell s c.token e) c.held) nothing
 
+-- a message by which an editor begins to run answers nothing of what it is asked then
 abbrev pub taking_row : Settings → List Event → ℕ → Message → ℕ → Row
-taking_row settings before e m s = on (find (is_answered e (answered_id m)) (created_of settings s before).takings) nothing (hand_out s m)
+taking_row settings before e m s = choose (is_running (desk_of e before).phase) (on (find (is_answered e (answered_id m)) (created_of settings s before).takings) nothing (hand_out s e m)) nothing
 
 -- E11: an editor cancels the work of a token that it accepted, which goes on with the start's own bytes (LSP 3.17, Work Done Progress, Cancelling)
 abbrev pub cancel_created : Settings → List Event → ℕ → List ℕ → ℕ → Token → Row
