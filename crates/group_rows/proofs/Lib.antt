@@ -17,3 +17,4 @@ pub mod LiveTexts
 pub mod TokenTexts
 pub mod WorkedTokens
 pub mod WorkedCreated
+pub mod CreatedTexts
