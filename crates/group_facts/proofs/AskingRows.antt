@@ -59,7 +59,7 @@ use Rattle.group_rows.proofs.Versions.{AllMeant, current_flat}
 use Rattle.group_rows.proofs.Cancels.{cancel_says, params_tree}
 use Rattle.group_facts.specs.Built.{built_asking}
 use Rattle.group_facts.specs.Facts.{Asks, IsAsked, IsWritten, Written, asked_by}
-use Rattle.group_facts.specs.Why.{IsChange, IsRecall, IsRegistering, Registering, Resolution, Why, asks, denied, displaces, enrolled, enrols, granted, handed_back, listed, moves, recalls, registers, released, releases, resolves, spreads, unapplied, unenrolled, unreleased, IsProgress, progresses}
+use Rattle.group_facts.specs.Why.{IsChange, IsRecall, IsCall, Calling, Resolution, Why, asks, denied, displaces, enrolled, enrols, granted, handed_back, listed, moves, recalls, calls, released, releases, resolves, spreads, unapplied, unenrolled, unreleased, IsProgress, progresses}
 use Rattle.group_facts.proofs.Asks.{asked_by_more, asked_of_more, asking_more}
 use Rattle.group_facts.proofs.Forwards.{get_all, zip_all}
 use Rattle.group_facts.proofs.Nulls.{null_said}
@@ -525,15 +525,15 @@ module _ (settings : Settings) (before : List Event) (s : ℕ) (body : List ℕ)
 
       -- one of the daemon's own requests
       record Calls (text : ℕ → List ℕ) : Type 0 where
-        told : (e : ℕ) → IsIn settings before g e → (n : ℕ) → Registering settings before (FromServer s body) e s n (text n)
+        told : (e : ℕ) → IsIn settings before g e → (n : ℕ) → Calling settings before (FromServer s body) e s n (text n)
         name : List ℕ
         named : is_registering name ≡ true
         writes : (n : ℕ) → n < 2 ^ 128 → (ps : Json) × (message_of (text n) ≡ request (integer (decimal n)) name (Some ps))
 
       call_why : (text : ℕ → List ℕ) → Calls text → (e : ℕ) (es : List ℕ) (events : List Event) → IsIn settings before g e → Turning (e ∷ es) events → Because R events (call text e)
-      call_why text k e es events seat h = by_look (by_choose (λ room. by_send (registers (made room))) (λ none. by_nothing))
+      call_why text k e es events seat h = by_look (by_choose (λ room. by_send (calls (made room))) (λ none. by_nothing))
         where
-          made : has_number e events ≡ true → IsRegistering settings before (FromServer s body) events e (text (next_ask e events))
+          made : has_number e events ≡ true → IsCall settings before (FromServer s body) events e (text (next_ask e events))
           made room =
               let small : next_ask e events < 2 ^ 64 = ltb-true (next_ask e events) (2 ^ 64) room in
               let is = k.writes (next_ask e events) (omega (arith, small)) in

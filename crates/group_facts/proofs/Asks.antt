@@ -30,7 +30,7 @@ use Rattle.lsp_method.specs.declared.variants.Class.{Class}
 use Rattle.lsp_method.specs.declared.variants.Class.TheVariants.{Register, Unregister}
 use Rattle.lsp_method.specs.declared.variants.Origin.TheVariants.{Server}
 use Rattle.group_facts.specs.Facts.{AllApart, AllDiffer, AreAsks, Asks, IsAsked, IsParked, asked_by, asked_of, editor_behind, server_behind}
-use Rattle.group_facts.specs.Why.{IsAsk, IsRegistering, IsResumed, WhyToEditor, answers, asks, passes, recalls, refuses, registers, rejects, resumes, spreads, turns_away, welcomes, progresses}
+use Rattle.group_facts.specs.Why.{IsAsk, IsCall, IsResumed, WhyToEditor, answers, asks, passes, recalls, refuses, calls, rejects, resumes, spreads, turns_away, welcomes, progresses}
 
 -- One event more
 
@@ -529,7 +529,7 @@ module _ (settings : Settings) (events : List Event) (e : ℕ) (body : List ℕ)
             stay settings s events event (h s) (told_one s) (told_waits s) (ap (λ (x : Asking). x.asks) same) (ap (λ (x : Asking). x.parked) same)
 
   -- the daemon's own request
-  module _ (before : List Event) (cause : Cause) (k : IsRegistering settings before cause events e body) where
+  module _ (before : List Event) (cause : Cause) (k : IsCall settings before cause events e body) where
     and_off : (a : Bool) → (a && false) ≡ false
     and_off true = refl
     and_off false = refl
@@ -551,7 +551,7 @@ module _ (settings : Settings) (events : List Event) (e : ℕ) (body : List ℕ)
   asks_told before cause (passes k) h = no_question (message_of body) refl (response_asks_none (message_of body) k.response) h
   asks_told before cause (asks k) h = question before cause k h
   asks_told before cause (resumes k) h = resumed before cause k h
-  asks_told before cause (registers k) h = registering before cause k h
+  asks_told before cause (calls k) h = registering before cause k h
   asks_told before cause (spreads k) h = no_question (notification k.method k.params) k.says refl h
   asks_told before cause (recalls k) h = no_question (notification (codes "$/cancelRequest") (Some k.params)) k.says refl h
   asks_told before cause (progresses k) h = no_question (notification k.method k.params) k.says refl h

@@ -28,7 +28,7 @@ use Rattle.group_rows.specs.Forwarded.{Forwarded, Forwarding}
 use Rattle.group_facts.specs.Facts.{IsAlone, IsWaiting, is_early}
 use Rattle.group_facts.specs.Lively.{lives_at}
 use Rattle.group_rows.specs.Tokens.{forwarded_text}
-use Rattle.group_facts.specs.Why.{IsBehindSync, IsBeside, IsQuestion, Turn, Why, WhyToEditor, WhyToServer, answers, asks, asks_something, begins, cancels, exits, forwarded, greeted, greets, is_uncancelled, notes, passes, recalls, refuses, registers, rejects, resolves, responds, resumes, shuts, spreads, stays, tells, turns_away, versions_at, welcomes, cancels_work, progresses}
+use Rattle.group_facts.specs.Why.{IsBehindSync, IsBeside, IsQuestion, Turn, Why, WhyToEditor, WhyToServer, answers, asks, asks_something, begins, cancels, exits, forwarded, greeted, greets, is_uncancelled, notes, passes, recalls, refuses, calls, rejects, resolves, responds, resumes, shuts, spreads, stays, tells, turns_away, versions_at, welcomes, cancels_work, progresses}
 use Rattle.group_facts.proofs.Same.{IsBody, Same, same_behind, same_held, same_questions}
 use Rattle.group_facts.proofs.Still.{Goes, Still, goes_body}
 
@@ -231,7 +231,7 @@ module _ (settings : Settings) (before : List Event) (e : ℕ) (body : List ℕ)
     editor_moved n b goes (spreads k) = none_from k.start b (k.source).from
     editor_moved n b goes (recalls k) = none_from k.start k.asked (k.source).from
     editor_moved n b goes (progresses k) = none_from k.start k.asked k.from
-    editor_moved n b goes (registers k) = no_question b (integer (decimal (next_ask n x))) k.method k.params goes k.says
+    editor_moved n b goes (calls k) = no_question b (integer (decimal (next_ask n x))) k.method k.params goes k.says
     editor_moved n b goes (resumes k) = no_question b (integer (decimal (next_ask n x))) k.method k.params goes k.says
 
     out_moved : (out : Out) → Goes out → Why settings before cause x out → Why settings before cause y out

@@ -32,7 +32,7 @@ use Rattle.group_rows.specs.LiveRows.{call, has_some, restore}
 use Rattle.group_rows.proofs.LiveTexts.{live_written, register_says}
 use Rattle.json_text.specs.Json.{Json}
 use Rattle.group_facts.specs.Facts.{Asks, IsParked, is_too_many, leaves, turned_away}
-use Rattle.group_facts.specs.Why.{IsQuestion, IsRegistering, IsResumed, Why, asks_something, registers, restores, resumes}
+use Rattle.group_facts.specs.Why.{IsQuestion, IsCall, IsResumed, Why, asks_something, calls, restores, resumes}
 use Rattle.group_facts.proofs.Asks.{asking_more, registering_made, resumed_here}
 use Rattle.group_facts.proofs.AskingRows.{registers_all, still_runs, work_told}
 use Rattle.group_facts.proofs.Begun.{start_did, start_took}
@@ -147,7 +147,7 @@ module _ (settings : Settings) (before : List Event) (e : ℕ) (body : List ℕ)
       all_says : (params : Json) × (message_of all_text ≡ request (integer (decimal (next_ask e events))) (codes "client/registerCapability") (Some params))
       all_says = register_says live (live_written settings s before) (next_ask e events) (let small : next_ask e events < 2 ^ 64 = ltb-true (next_ask e events) (2 ^ 64) room in omega (arith, small))
 
-      abbrev restored : IsRegistering settings before (FromEditor e body) events e all_text
+      abbrev restored : IsCall settings before (FromEditor e body) events e all_text
       restored = record {
         start = s;
         told = restores (record { text = body; from = refl; began = began; waited = waited; group = g; home = home; last = last }) refl;
@@ -174,7 +174,7 @@ module _ (settings : Settings) (before : List Event) (e : ℕ) (body : List ℕ)
           }
 
     call_why : (events : List Event) (ps : List Parked) → Resumes events ps → Because R events (call (register_text live) e)
-    call_why events ps k = by_look (by_choose (λ room. by_send (registers (restored events ps k room), (refl, ap asks_something (all_says events ps k room).1))) (λ none. by_nothing))
+    call_why events ps k = by_look (by_choose (λ room. by_send (calls (restored events ps k room), (refl, ap asks_something (all_says events ps k room).1))) (λ none. by_nothing))
 
     restore_why : (events : List Event) (ps : List Parked) → Resumes events ps → Because R events (restore settings before e s)
     restore_why events ps k = by_choose (λ some. call_why events ps k) (λ none. by_nothing)

@@ -1,5 +1,5 @@
 -- Why each out of the routing table over several editors and groups is sent, with what is known at its place: `before` are the events before the entry, `events` those before the out.
-use Rattle.std.specs.Prelude.{◌≡◌, ℕ, ◌<◌, Bool, true, false, not, ◌&&◌, List, [], ◌∷◌, ◌++◌, find, if◌then◌else◌, length, map, nat_eq, nat_lt, codes, decimal}
+use Rattle.std.specs.Prelude.{◌≡◌, ℕ, ◌<◌, Bool, true, false, not, ◌&&◌, ◌||◌, List, [], ◌∷◌, ◌++◌, find, if◌then◌else◌, length, map, nat_eq, nat_lt, codes, decimal}
 use Rattle.std.specs.Prelude.{Option, Some, None, slice_get}
 use Rattle.std.specs.List.{AllByRecursion, list_any}
 use Rattle.std.specs.Option.{option_and_then, option_map}
@@ -199,37 +199,25 @@ pub record IsCancel (before : List Event) (cause : Cause) (events : List Event) 
   pub text : CancelText before cause s number body
   pub says : message_of body ≡ notification (codes "$/cancelRequest") (Some params)
 
--- an editor that is served cancels the work of an open request of its own, which it names by its token: its message goes on with the daemon's token to s, which is ready (LSP 3.17, Work Done Progress)
-pub record IsWorkCancel (before : List Event) (cause : Cause) (events : List Event) (s : ℕ) (body : List ℕ) : Type 0 where
-  pub editor : ℕ
-  pub asked : List ℕ
-  pub given : Option Json
-  pub request : Forwarded
-  pub params : Option Json
-  pub from : cause ≡ FromEditor editor asked
-  pub served : is_served (desk_of editor before).phase ≡ true
-  pub notified : message_of asked ≡ notification (codes "window/workDoneProgress/cancel") given
-  pub meant : find (is_worked editor (named_of (codes "token") given)) (forwarding_of s before).open_requests ≡ Some request
-  pub ready : (life_of s events).stage ≡ Ready
-  pub stays : moves before cause s ≡ false
-  pub bytes : body ≡ marked_text (mark_text (work_mark request.number)) asked
-  pub says : message_of body ≡ notification (codes "window/workDoneProgress/cancel") params
+-- what an editor names by a token: an open request of its own, of which the start knows the daemon's token, or a token that it accepted, of which the start gets its own bytes
+pub data WorkMeant (settings : Settings) (before : List Event) (s editor : ℕ) (given : Option Json) (text : List ℕ) : Type 0 where
+  of_request : (request : Forwarded) → find (is_worked editor (named_of (codes "token") given)) (forwarding_of s before).open_requests ≡ Some request → text ≡ mark_text (work_mark request.number) → WorkMeant settings before s editor given text
+  of_token : (token : Token) → token_marked s given (created_of settings s before) ≡ Some token → has_accepted editor token.number (created_of settings s before) ≡ true → text ≡ token.text → WorkMeant settings before s editor given text
 
--- such an editor cancels the work of a token that it accepted, which it names as the daemon does: its message goes on with the start's own bytes
-pub record IsTokenCancel (settings : Settings) (before : List Event) (cause : Cause) (events : List Event) (s : ℕ) (body : List ℕ) : Type 0 where
+-- an editor that is served cancels work, which it names by its token: its message goes on with the start's to s, which is ready (LSP 3.17, Work Done Progress)
+pub record IsWorkCancel (settings : Settings) (before : List Event) (cause : Cause) (events : List Event) (s : ℕ) (body : List ℕ) : Type 0 where
   pub editor : ℕ
   pub asked : List ℕ
   pub given : Option Json
-  pub token : Token
+  pub text : List ℕ
   pub params : Option Json
   pub from : cause ≡ FromEditor editor asked
   pub served : is_served (desk_of editor before).phase ≡ true
   pub notified : message_of asked ≡ notification (codes "window/workDoneProgress/cancel") given
-  pub meant : token_marked s given (created_of settings s before) ≡ Some token
-  pub accepted : has_accepted editor token.number (created_of settings s before) ≡ true
+  pub meant : WorkMeant settings before s editor given text
   pub ready : (life_of s events).stage ≡ Ready
   pub stays : moves before cause s ≡ false
-  pub bytes : body ≡ marked_text token.text asked
+  pub bytes : body ≡ marked_text text asked
   pub says : message_of body ≡ notification (codes "window/workDoneProgress/cancel") params
 
 -- a request of s, which gave no result yet, is answered at once
@@ -284,8 +272,7 @@ pub data WhyToServer (settings : Settings) (before : List Event) (cause : Cause)
   tells : IsTelling before cause events s body → WhyToServer settings before cause events s body
   shuts : IsShutting settings before cause events s body → WhyToServer settings before cause events s body
   cancels : IsCancel before cause events s body → WhyToServer settings before cause events s body
-  cancels_work : IsWorkCancel before cause events s body → WhyToServer settings before cause events s body
-  cancels_token : IsTokenCancel settings before cause events s body → WhyToServer settings before cause events s body
+  cancels_work : IsWorkCancel settings before cause events s body → WhyToServer settings before cause events s body
   responds : IsReply before cause events s body → WhyToServer settings before cause events s body
   resolves : IsResolving settings before cause events s body → WhyToServer settings before cause events s body
   exits : IsExit before cause events s body → WhyToServer settings before cause events s body
@@ -445,24 +432,30 @@ pub record IsRestoring (settings : Settings) (before : List Event) (cause : Caus
   pub home : home_of settings e before ≡ Some group
   pub last : start_of group before ≡ Some s
 
--- what is taken back since its ids come again, and what is registered (S6), what is taken back (S7), and all that is live (L2)
-pub data Registering (settings : Settings) (before : List Event) (cause : Cause) (e s n : ℕ) (body : List ℕ) : Type 0 where
-  displaces : (asked : List ℕ) (items : List Registration) → IsChange settings before cause e s asked Register → registered asked ≡ Some items → body ≡ unregister_text (again items (live_of settings s before)) n → Registering settings before cause e s n body
-  enrols : (asked : List ℕ) (items : List Registration) → IsChange settings before cause e s asked Register → registered asked ≡ Some items → body ≡ register_text items n → Registering settings before cause e s n body
-  releases : (asked : List ℕ) (items : List Registration) → IsChange settings before cause e s asked Unregister → taken_back asked (live_of settings s before) ≡ Some items → body ≡ unregister_text (again items (live_of settings s before)) n → Registering settings before cause e s n body
-  restores : IsRestoring settings before cause e s → body ≡ register_text (live_of settings s before) n → Registering settings before cause e s n body
+-- what is taken back since its ids come again, and what is registered (S6), what is taken back (S7), and all that is live (L2); a token that the start creates (S8), and each that lives, in the order of creation (L2)
+pub data Calling (settings : Settings) (before : List Event) (cause : Cause) (e s n : ℕ) (body : List ℕ) : Type 0 where
+  displaces : (asked : List ℕ) (items : List Registration) → IsChange settings before cause e s asked Register → registered asked ≡ Some items → body ≡ unregister_text (again items (live_of settings s before)) n → Calling settings before cause e s n body
+  enrols : (asked : List ℕ) (items : List Registration) → IsChange settings before cause e s asked Register → registered asked ≡ Some items → body ≡ register_text items n → Calling settings before cause e s n body
+  releases : (asked : List ℕ) (items : List Registration) → IsChange settings before cause e s asked Unregister → taken_back asked (live_of settings s before) ≡ Some items → body ≡ unregister_text (again items (live_of settings s before)) n → Calling settings before cause e s n body
+  restores : IsRestoring settings before cause e s → body ≡ register_text (live_of settings s before) n → Calling settings before cause e s n body
+  creates : (asked : List ℕ) (token : Token) → IsChange settings before cause e s asked Create → created_token asked (created_of settings s before) ≡ Some token → body ≡ create_text s token.number n → Calling settings before cause e s n body
+  revives : (token : Token) (earlier later : List Token) → IsRestoring settings before cause e s → (created_of settings s before).tokens ≡ earlier ++ token ∷ later → body ≡ create_text s token.number n → Calling settings before cause e s n body
 
--- the daemon's own request about registrations at a ready start, to an editor that runs, under its next number
-pub record IsRegistering (settings : Settings) (before : List Event) (cause : Cause) (events : List Event) (e : ℕ) (body : List ℕ) : Type 0 where
+-- the daemon's own request is about registrations, or that the editor take a token
+abbrev pub is_call : List ℕ → Bool
+is_call method = is_registering method || is_creating method
+
+-- such a request at a ready start, to an editor that runs, under its next number
+pub record IsCall (settings : Settings) (before : List Event) (cause : Cause) (events : List Event) (e : ℕ) (body : List ℕ) : Type 0 where
   pub start : ℕ
-  pub told : Registering settings before cause e start (next_ask e events) body
+  pub told : Calling settings before cause e start (next_ask e events) body
   pub ready : (life_of start before).stage ≡ Ready
   pub running : (desk_of e events).phase ≡ Running
   pub idle : (s : ℕ) → (asking_of settings s events).asker ≡ None
   pub room : has_number e events ≡ true
   pub method : List ℕ
   pub params : Option Json
-  pub named : is_registering method ≡ true
+  pub named : is_call method ≡ true
   pub says : message_of body ≡ request (integer (decimal (next_ask e events))) method params
 
 -- a notification of the start without a row of its own, as it came
@@ -494,79 +487,39 @@ pub record IsRecall (settings : Settings) (before : List Event) (cause : Cause) 
   pub id : id_of value ≡ Some (integer (decimal ask.number))
   pub says : message_of body ≡ notification (codes "$/cancelRequest") (Some params)
 
--- what the start tells of an open request of the editor, which runs or is down, with the editor's own token (S13)
-pub record IsProgress (before : List Event) (cause : Cause) (events : List Event) (e : ℕ) (body : List ℕ) : Type 0 where
-  pub start : ℕ
-  pub asked : List ℕ
+-- a notification of the start, which is ready
+pub record IsNotified (before : List Event) (cause : Cause) (s : ℕ) (asked : List ℕ) (given : Option Json) : Type 0 where
   pub method : List ℕ
-  pub given : Option Json
-  pub request : Forwarded
-  pub token : List ℕ
-  pub params : Option Json
-  pub from : cause ≡ FromServer start asked
-  pub ready : (life_of start before).stage ≡ Ready
+  pub from : cause ≡ FromServer s asked
+  pub ready : (life_of s before).stage ≡ Ready
   pub asks : message_of asked ≡ notification method given
   pub class : class_of method Server true ≡ Progress
-  pub found : find (is_told before (named_of (codes "token") given)) (forwarding_of start before).open_requests ≡ Some request
-  pub own : own_token (named_of (codes "token") given) request ≡ Some token
-  pub editor : request.editor ≡ e
-  pub hears : listens (desk_of e events).phase ≡ true
-  pub bytes : body ≡ marked_text token asked
-  pub says : message_of body ≡ notification method params
 
--- the token that the start creates (S8), and each that lives, in the order of creation, as the editor begins to run (L2)
-pub data Offering (settings : Settings) (before : List Event) (cause : Cause) (e s n : ℕ) (body : List ℕ) : Type 0 where
-  creates : (asked : List ℕ) (token : Token) → IsChange settings before cause e s asked Create → created_token asked (created_of settings s before) ≡ Some token → body ≡ create_text s token.number n → Offering settings before cause e s n body
-  revives : (token : Token) (earlier later : List Token) → IsRestoring settings before cause e s → (created_of settings s before).tokens ≡ earlier ++ token ∷ later → body ≡ create_text s token.number n → Offering settings before cause e s n body
-
--- the daemon's own request to take a token of a ready start, to an editor that runs, under its next number
-pub record IsOffering (settings : Settings) (before : List Event) (cause : Cause) (events : List Event) (e : ℕ) (body : List ℕ) : Type 0 where
-  pub start : ℕ
-  pub told : Offering settings before cause e start (next_ask e events) body
-  pub ready : (life_of start before).stage ≡ Ready
-  pub running : (desk_of e events).phase ≡ Running
-  pub idle : (s : ℕ) → (asking_of settings s events).asker ≡ None
-  pub room : has_number e events ≡ true
-  pub method : List ℕ
-  pub params : Option Json
-  pub named : is_creating method ≡ true
-  pub says : message_of body ≡ request (integer (decimal (next_ask e events))) method params
-
--- what the start tells of a token that it created and that lives, to an editor that runs and accepted it, under the daemon's own token (S13)
-pub record IsTokenProgress (settings : Settings) (before : List Event) (cause : Cause) (events : List Event) (e : ℕ) (body : List ℕ) : Type 0 where
-  pub start : ℕ
-  pub asked : List ℕ
-  pub method : List ℕ
-  pub given : Option Json
-  pub token : Token
-  pub params : Option Json
-  pub source : IsFromStart settings before cause events e start asked
-  pub asks : message_of asked ≡ notification method given
-  pub class : class_of method Server true ≡ Progress
-  pub found : token_called (named_token given) (created_of settings start before) ≡ Some token
-  pub accepted : has_accepted e token.number (created_of settings start before) ≡ true
-  pub bytes : body ≡ marked_text (created_text start token.number) asked
-  pub says : message_of body ≡ notification method params
-
--- what was held of a token for an editor that runs, and that accepts it by this message, behind all that was held before it (E19)
-pub record IsHandedOut (settings : Settings) (before : List Event) (cause : Cause) (events : List Event) (e : ℕ) (body : List ℕ) : Type 0 where
-  pub start : ℕ
+-- a response of the editor, which runs, to a create of the start
+pub record IsTaken (settings : Settings) (before : List Event) (cause : Cause) (e s : ℕ) (taking : Taking) : Type 0 where
   pub answer : List ℕ
-  pub taking : Taking
-  pub earlier : List (List ℕ)
-  pub held : List ℕ
-  pub later : List (List ℕ)
+  pub from : cause ≡ FromEditor e answer
+  pub ran : (desk_of e before).phase ≡ Running
+  pub ready : (life_of s before).stage ≡ Ready
+  pub found : find (is_answered e (answered_id (message_of answer))) (created_of settings s before).takings ≡ Some taking
+  pub accepted : accepts (message_of answer) ≡ true
+
+-- what is told: of an open request of the editor, with the editor's own token, and of a token that it accepted, with the daemon's (S13); and what was held of a token that it accepts, behind what was held before it (E19)
+pub data Telling (settings : Settings) (before : List Event) (cause : Cause) (events : List Event) (e : ℕ) (body : List ℕ) : Type 0 where
+  of_request : (s : ℕ) (asked : List ℕ) (given : Option Json) (request : Forwarded) (token : List ℕ) → IsNotified before cause s asked given → find (is_told before (named_of (codes "token") given)) (forwarding_of s before).open_requests ≡ Some request
+      → own_token (named_of (codes "token") given) request ≡ Some token → request.editor ≡ e → body ≡ marked_text token asked → Telling settings before cause events e body
+  of_token : (s : ℕ) (asked : List ℕ) (given : Option Json) (token : Token) → IsNotified before cause s asked given → token_called (named_token given) (created_of settings s before) ≡ Some token
+      → has_accepted e token.number (created_of settings s before) ≡ true → body ≡ marked_text (created_text s token.number) asked → Telling settings before cause events e body
+  of_held : (s : ℕ) (taking : Taking) (earlier : List (List ℕ)) (held : List ℕ) (later : List (List ℕ)) → IsTaken settings before cause e s taking → taking.held ≡ earlier ++ held ∷ later
+      → events ≡ behind (with_cause before cause) (map (λ other. ToEditor e (marked_text (created_text s taking.token) other)) earlier) → body ≡ marked_text (created_text s taking.token) held → Telling settings before cause events e body
+
+-- progress is told to an editor that runs or is down
+pub record IsProgress (settings : Settings) (before : List Event) (cause : Cause) (events : List Event) (e : ℕ) (body : List ℕ) : Type 0 where
+  pub told : Telling settings before cause events e body
   pub method : List ℕ
   pub params : Option Json
-  pub from : cause ≡ FromEditor e answer
-  pub found : find (is_answered e (answered_id (message_of answer))) (created_of settings start before).takings ≡ Some taking
-  pub accepted : accepts (message_of answer) ≡ true
-  pub order : taking.held ≡ earlier ++ held ∷ later
-  pub place : events ≡ behind (with_cause before cause) (map (λ other. ToEditor e (marked_text (created_text start taking.token) other)) earlier)
-  pub ready : (life_of start before).stage ≡ Ready
-  pub running : (desk_of e events).phase ≡ Running
   pub class : class_of method Server true ≡ Progress
-  pub bytes : body ≡ marked_text (created_text start taking.token) held
+  pub hears : listens (desk_of e events).phase ≡ true
   pub says : message_of body ≡ notification method params
 
 pub data WhyToEditor (settings : Settings) (before : List Event) (cause : Cause) (events : List Event) (e : ℕ) (body : List ℕ) : Type 0 where
@@ -578,13 +531,10 @@ pub data WhyToEditor (settings : Settings) (before : List Event) (cause : Cause)
   passes : IsPassing settings before cause events e body → WhyToEditor settings before cause events e body
   asks : IsAsk settings before cause events e body → WhyToEditor settings before cause events e body
   resumes : IsResumed settings before cause events e body → WhyToEditor settings before cause events e body
-  registers : IsRegistering settings before cause events e body → WhyToEditor settings before cause events e body
-  offers : IsOffering settings before cause events e body → WhyToEditor settings before cause events e body
+  calls : IsCall settings before cause events e body → WhyToEditor settings before cause events e body
   spreads : IsSpread settings before cause events e body → WhyToEditor settings before cause events e body
   recalls : IsRecall settings before cause events e body → WhyToEditor settings before cause events e body
-  progresses : IsProgress before cause events e body → WhyToEditor settings before cause events e body
-  follows : IsTokenProgress settings before cause events e body → WhyToEditor settings before cause events e body
-  hands_out : IsHandedOut settings before cause events e body → WhyToEditor settings before cause events e body
+  progresses : IsProgress settings before cause events e body → WhyToEditor settings before cause events e body
 
 -- its program is to begin, or gave no result yet
 abbrev pub is_starting : Stage → Bool

@@ -18,3 +18,4 @@ pub mod TokenTexts
 pub mod WorkedTokens
 pub mod WorkedCreated
 pub mod CreatedTexts
+pub mod CreatedKept

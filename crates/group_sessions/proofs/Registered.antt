@@ -28,7 +28,7 @@ use Rattle.session_laws.proofs.Client7Law.{free_7}
 use Rattle.group_rows.specs.Live.{changes_live, is_registering}
 use Rattle.group_rows.specs.Rows.{outs_of}
 use Rattle.group_facts.specs.Built.{built_behind}
-use Rattle.group_facts.specs.Why.{IsAsk, IsChange, IsResumed, Registering, Why, WhyToEditor, answers, asks, displaces, enrols, passes, recalls, refuses, registers, rejects, releases, restores, resumes, spreads, turns_away, welcomes}
+use Rattle.group_facts.specs.Why.{IsAsk, IsChange, IsResumed, Calling, Why, WhyToEditor, answers, asks, displaces, enrols, passes, recalls, refuses, calls, rejects, releases, restores, resumes, spreads, turns_away, welcomes}
 use Rattle.group_facts.proofs.Asks.{registering_hurried}
 use Rattle.group_facts.proofs.Facts.{Facts}
 use Rattle.group_facts.proofs.Table.{reasons}
@@ -125,7 +125,7 @@ module _ (settings : Settings) (before : List Event) (cause : Cause) (same : is_
     no_change : (s : ℕ) (asked : List ℕ) (c : Class) → (life_of s before).stage ≡ Ready → changes_live c ≡ true → IsChange settings before cause n s asked c → is_about (message_of body) ≡ false
     no_change s asked c ready kind k = never (sym (ap (is_change before) k.from ∙ ap (λ b. b && is_about (message_of asked)) (ap is_ready ready) ∙ ap is_about k.asks ∙ ap changes_live k.kind ∙ kind) ∙ same)
 
-    registers_plain : (s m : ℕ) → (life_of s before).stage ≡ Ready → Registering settings before cause n s m body → is_about (message_of body) ≡ false
+    registers_plain : (s m : ℕ) → (life_of s before).stage ≡ Ready → Calling settings before cause n s m body → is_about (message_of body) ≡ false
     registers_plain s m ready (displaces asked items k found is) = no_change s asked Register ready refl k
     registers_plain s m ready (enrols asked items k found is) = no_change s asked Register ready refl k
     registers_plain s m ready (releases asked items k found is) = no_change s asked Unregister ready refl k
@@ -140,7 +140,7 @@ module _ (settings : Settings) (before : List Event) (cause : Cause) (same : is_
     plain (passes k) = response_plain (message_of body) k.response
     plain (asks k) = asked_plain k
     plain (resumes k) = resumed_plain k
-    plain (registers k) = registers_plain k.start _ k.ready k.told
+    plain (calls k) = registers_plain k.start _ k.ready k.told
     plain (spreads k) = ap is_about k.says
     plain (recalls k) = ap is_about k.says
 
