@@ -27,10 +27,11 @@ use Rattle.group_rows.specs.Forwarded.{names}
 use Rattle.group_rows.specs.Live.{changes_live, is_registering}
 use Rattle.lsp_method.specs.Class.{class_of}
 use Rattle.lsp_method.specs.declared.variants.Class.{Class}
-use Rattle.lsp_method.specs.declared.variants.Class.TheVariants.{Register, Unregister}
+use Rattle.lsp_method.specs.declared.variants.Class.TheVariants.{Create, Register, Unregister}
 use Rattle.lsp_method.specs.declared.variants.Origin.TheVariants.{Server}
 use Rattle.group_facts.specs.Facts.{AllApart, AllDiffer, AreAsks, Asks, IsAsked, IsParked, asked_by, asked_of, editor_behind, server_behind}
-use Rattle.group_facts.specs.Why.{IsAsk, IsCall, IsResumed, WhyToEditor, answers, asks, passes, recalls, refuses, calls, rejects, resumes, spreads, turns_away, welcomes, progresses}
+use Rattle.group_rows.specs.Created.{names_create}
+use Rattle.group_facts.specs.Why.{IsAsk, IsCall, is_call, IsResumed, WhyToEditor, answers, asks, passes, recalls, refuses, calls, rejects, resumes, spreads, turns_away, welcomes, progresses}
 
 -- One event more
 
@@ -354,14 +355,15 @@ serves_one (Some n) s t h other = go (nat_eq t n) refl
     go false e = refl
     go true e = never (sym (ap (nat_eq s) (number_same t n e) ∙ h) ∙ other)
 
--- a request about registrations waits for no editor
-changing_hurried : (c : Class) → changes_live c ≡ true → may_wait c ≡ false
+-- the daemon's own request waits for no editor
+changing_hurried : (c : Class) → (changes_live c || names_create c) ≡ true → may_wait c ≡ false
 changing_hurried Register h = refl
 changing_hurried Unregister h = refl
+changing_hurried Create h = refl
 changing_hurried _ h = never (sym h)
 
-pub registering_hurried : (method : List ℕ) → is_registering method ≡ true → is_patient method ≡ false
-registering_hurried method h = changing_hurried (class_of method Server false) h
+pub call_hurried : (method : List ℕ) → is_call method ≡ true → is_patient method ≡ false
+call_hurried method h = changing_hurried (class_of method Server false) h
 
 module _ (settings : Settings) (events : List Event) (e : ℕ) (body : List ℕ) where
   abbrev told : List Event
@@ -536,7 +538,7 @@ module _ (settings : Settings) (events : List Event) (e : ℕ) (body : List ℕ)
 
     pub registering_made : (s : ℕ) → made s ≡ asking_of settings s events
     registering_made s = made_by s (integer (decimal number)) k.method k.params None k.says (k.idle s)
-        ∙ ap (λ b. asked_next (is_own_work e (asking_of settings s events).runs && (b && serves settings events s e)) e number (asking_of settings s events) None) (registering_hurried k.method k.named)
+        ∙ ap (λ b. asked_next (is_own_work e (asking_of settings s events).runs && (b && serves settings events s e)) e number (asking_of settings s events) None) (call_hurried k.method k.named)
         ∙ ap (λ c. asked_next c e number (asking_of settings s events) None) (and_off (is_own_work e (asking_of settings s events).runs))
 
     registering : Asks settings events → Asks settings told

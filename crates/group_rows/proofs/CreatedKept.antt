@@ -20,6 +20,7 @@ use Rattle.group_rows.specs.Forwarded.{token_in}
 use Rattle.group_rows.specs.Live.{is_heard}
 use Rattle.group_rows.specs.Tokens.{is_reserved}
 use Rattle.group_rows.proofs.TokenTexts.{IsTokenText, token_written}
+use Rattle.group_rows.proofs.Versions.{AllMeant, IsMeant}
 
 -- Lists
 
@@ -43,7 +44,7 @@ all_flat : {A : Type 0} (P : A → Type 0) (f : A → List A) → ((x : A) → P
 all_flat P f k [] h = tt
 all_flat P f k (x ∷ xs) h = all_more P (f x) (flat_map f xs) (k x h.0) (all_flat P f k xs h.1)
 
-found_one : {A : Type 0} (P : A → Type 0) (test : A → Bool) (x : A) (xs : List A) → AllByRecursion P xs → find test xs ≡ Some x → P x
+pub found_one : {A : Type 0} (P : A → Type 0) (test : A → Bool) (x : A) (xs : List A) → AllByRecursion P xs → find test xs ≡ Some x → P x
 found_one P test x [] h at = absurd (cc)
 found_one P test x (y ∷ ys) h at = go (test y) (λ k. found_one P test x ys h.1 k) at
   where
@@ -113,11 +114,6 @@ pub tokens_written : (settings : Settings) (s : ℕ) (events : List Event) → A
 tokens_written settings s events = all_written settings s [] no_created events tt
 
 -- What is held
-
--- a body of a start says what the event has
-abbrev pub IsSaid : Event → Type 0
-IsSaid (took (FromServer n body) m) = message_of body ≡ m
-IsSaid other = Unit {0}
 
 -- a notification of progress
 pub record IsTelling (body : List ℕ) : Type 0 where
@@ -224,7 +220,7 @@ if_held : (b : Bool) (x y : Created) → HaveHeld x → HaveHeld y → HaveHeld 
 if_held true x y h k = h
 if_held false x y h k = k
 
-step_held : (settings : Settings) (s : ℕ) (before : List Event) (x : Created) (event : Event) → IsSaid event → HaveHeld x → HaveHeld (created_next settings s before x event)
+step_held : (settings : Settings) (s : ℕ) (before : List Event) (x : Created) (event : Event) → IsMeant event → HaveHeld x → HaveHeld (created_next settings s before x event)
 step_held settings s before x (took (FromServer n body) (request id method params)) says h =
     if_held (nat_eq n s && (is_creating method && is_heard settings s before id)) (with_token (created_token body x) x) x (new_held (created_token body x) x (is_new body x) h) h
 step_held settings s before x (took (FromServer n body) (notification method params)) says h = go (nat_eq n s) (is_progress method) refl (is_ready (life_of s before).stage)
@@ -233,7 +229,7 @@ step_held settings s before x (took (FromServer n body) (notification method par
     y = progressed body params (token_called (named_token params) x) x
 
     go : (a b : Bool) → is_progress method ≡ b → (c : Bool) → HaveHeld (if a && (b && c) then y else x)
-    go true true class true = progressed_held body params (record { method = method; params = params; says = says; class = class }) (token_called (named_token params) x) x h
+    go true true class true = progressed_held body params (record { method = method; params = params; says = sym says; class = class }) (token_called (named_token params) x) x h
     go true true class false = h
     go true false class c = h
     go false b class c = h
@@ -245,9 +241,9 @@ step_held settings s before x (did (ToEditor e body) (request id method params))
 step_held settings s before x (did (CloseEditor e) m) says h = left_held e x h
 step_held settings s before x other says h = h
 
-all_held : (settings : Settings) (s : ℕ) (before : List Event) (x : Created) (events : List Event) → AllByRecursion IsSaid events → HaveHeld x → HaveHeld (past (created_next settings s) before x events)
+all_held : (settings : Settings) (s : ℕ) (before : List Event) (x : Created) (events : List Event) → AllMeant events → HaveHeld x → HaveHeld (past (created_next settings s) before x events)
 all_held settings s before x [] says h = h
 all_held settings s before x (event ∷ events) says h = all_held settings s (before ++ event ∷ []) (created_next settings s before x event) events says.1 (step_held settings s before x event says.0 h)
 
-pub held_told : (settings : Settings) (s : ℕ) (events : List Event) → AllByRecursion IsSaid events → AllByRecursion (λ (c : Taking). AreTellings c.held) (created_of settings s events).takings
+pub held_told : (settings : Settings) (s : ℕ) (events : List Event) → AllMeant events → AllByRecursion (λ (c : Taking). AreTellings c.held) (created_of settings s events).takings
 held_told settings s events says = (all_held settings s [] no_created events says (record { begins = tt; held = tt })).held
