@@ -63,7 +63,7 @@ use Rattle.group_rows.proofs.Versions.{AllMeant, current_flat}
 use Rattle.group_rows.proofs.Cancels.{cancel_says, params_tree}
 use Rattle.group_facts.specs.Built.{built_asking}
 use Rattle.group_facts.specs.Facts.{Asks, IsAsked, IsWritten, Written, asked_by}
-use Rattle.group_facts.specs.Why.{IsChange, IsRecall, IsCall, Calling, Resolution, Why, asks, denied, displaces, enrolled, enrols, created, creates, uncreated, IsNotified, IsTaken, Telling, of_held, of_request, of_token, is_call, granted, handed_back, listed, moves, recalls, calls, released, releases, resolves, spreads, unapplied, unenrolled, unreleased, IsProgress, progresses}
+use Rattle.group_facts.specs.Why.{IsChange, IsRecall, IsCall, Calling, Resolution, Why, asks, denied, displaces, enrolled, enrols, created, creates, uncreated, IsNotified, IsTaken, of_held, of_request, of_token, is_call, granted, handed_back, listed, moves, recalls, calls, released, releases, resolves, spreads, unapplied, unenrolled, unreleased, IsProgress, progresses}
 use Rattle.group_facts.proofs.Asks.{asked_by_more, asked_of_more, asking_more}
 use Rattle.group_facts.proofs.Forwards.{get_all, zip_all}
 use Rattle.group_facts.proofs.Nulls.{null_said}

@@ -24,7 +24,7 @@ use Rattle.group_words.specs.Houses.{home_of}
 use Rattle.group_words.proofs.Frames.{past_more}
 use Rattle.group_rows.specs.Asks.{Ask, Asker, Asking, Parked, asked_next, asker_of, asking_next, asking_of, asks_of, has_running, idle_asking, is_own_work, is_patient, is_seated, is_single, is_taken, is_under, may_wait, next_ask, no_asking, parked_of, parks, put, serves, unparked, waits_under}
 use Rattle.group_rows.specs.Forwarded.{names}
-use Rattle.group_rows.specs.Live.{changes_live, is_registering}
+use Rattle.group_rows.specs.Live.{changes_live}
 use Rattle.lsp_method.specs.Class.{class_of}
 use Rattle.lsp_method.specs.declared.variants.Class.{Class}
 use Rattle.lsp_method.specs.declared.variants.Class.TheVariants.{Create, Register, Unregister}

@@ -60,7 +60,7 @@ use Rattle.group_facts.specs.Facts.{turned_away}
 use Rattle.group_facts.specs.Why.{IsForward, IsQuestion}
 use Rattle.group_facts.specs.Settled.{is_answered}
 use Rattle.group_facts.proofs.Apart.{alone_by}
-use Rattle.group_facts.proofs.Begun.{NoSpawn, all_outs, bodies_by, handed_by, leave_by, quiet_bodies, start_did, start_took, starts_stay}
+use Rattle.group_facts.proofs.Begun.{NoSpawn, all_outs, bodies_by, leave_by, quiet_bodies, start_did, start_took, starts_stay}
 use Rattle.group_facts.proofs.Facts.{Facts}
 use Rattle.group_facts.proofs.Forwards.{more_requests}
 use Rattle.group_facts.proofs.Numbers.{forwarding_sent}

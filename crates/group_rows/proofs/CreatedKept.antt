@@ -1,13 +1,13 @@
 -- What is kept of the tokens that a start creates: whatever the events are, their bytes are texts of integers and strings; and what is held was told by the start.
-use Rattle.std.proofs.Common.{◌≡◌, ℕ, ◌+◌, ◌^◌, ◌<◌, Bool, true, false, not, ◌&&◌, ◌||◌, List, [], ◌∷◌, ◌++◌, cond, codes, filter, find, flat_map, map, nat_eq, nat_lt, if◌then◌else◌, Option, Some, None, is_some, refl, sym, ap, subst, ltb-true, arith}
+use Rattle.std.proofs.Common.{◌≡◌, ℕ, ◌^◌, ◌<◌, Bool, true, false, not, ◌&&◌, ◌||◌, List, [], ◌∷◌, ◌++◌, cond, codes, filter, find, flat_map, map, nat_eq, nat_lt, if◌then◌else◌, Option, Some, None, is_some, refl, sym, subst, ltb-true}
 use Rattle.std.specs.Prelude.{MatchOption}
 use Rattle.std.specs.List.{AllByRecursion}
 use Rattle.std.specs.Option.{option_and_then, option_map}
 use Rattle.std.proofs.lemmas.Bool.{and_parts}
 use Rattle.json_text.specs.Json.{Json}
-use Rattle.mux_history.specs.declared.cause.Cause.TheVariants.{Joined, FromEditor, EditorGone, Started, StartFailed, FromServer, ServerGone, Drained, Tick}
-use Rattle.mux_history.specs.declared.out.Out.TheVariants.{CloseEditor, EndServer, Spawn, ToEditor, ToServer}
-use Rattle.rpc_message.specs.Message.{Id, Message, request, notification, result, error, not_json, not_message, message_of}
+use Rattle.mux_history.specs.declared.cause.Cause.TheVariants.{FromEditor, EditorGone, StartFailed, FromServer, ServerGone}
+use Rattle.mux_history.specs.declared.out.Out.TheVariants.{CloseEditor, ToEditor}
+use Rattle.rpc_message.specs.Message.{Id, Message, request, notification, message_of}
 use Rattle.event_model.specs.Event.{Event, did, requests, took}
 use Rattle.event_model.specs.Members.{named_of, params_of}
 use Rattle.event_model.specs.Requests.{answered_id}
@@ -15,7 +15,7 @@ use Rattle.event_model.specs.Settings.{Settings}
 use Rattle.event_model.specs.Stages.{life_of, is_ready}
 use Rattle.group_words.specs.Past.{past}
 use Rattle.group_rows.specs.Asks.{next_ask}
-use Rattle.group_rows.specs.Created.{Created, Taking, Token, accepts, answered, asked, begun_by, created_next, created_of, created_token, first_begin, held_first, held_more, if_new, is_answered, is_at, is_begin, is_creating, is_ended_by, is_marked, is_numbered, is_over, is_progress, left, lives, may_create, may_hold, named_token, no_created, progressed, settled, spoken, token_called, token_marked, token_of, told, told_more, with_asked, with_token}
+use Rattle.group_rows.specs.Created.{Created, Taking, Token, accepts, answered, asked, begun_by, created_next, created_of, created_token, first_begin, held_first, held_more, if_new, is_answered, is_at, is_begin, is_creating, is_ended_by, is_marked, is_numbered, is_over, is_progress, left, lives, may_create, may_hold, named_token, no_created, progressed, settled, token_called, token_marked, token_of, told, with_asked, with_token}
 use Rattle.group_rows.specs.Forwarded.{token_in}
 use Rattle.group_rows.specs.Live.{is_heard}
 use Rattle.group_rows.specs.Tokens.{is_reserved}
