@@ -5,7 +5,7 @@ use Rattle.json_text.specs.Json.{Json, word, number, string, array, object}
 use Rattle.json_text.specs.declared.kind.Word.TheVariants.{Null, False, True}
 use Rattle.json_text.specs.Named.{named_in}
 use Rattle.json_nodes.specs.Doc.{Doc}
-use Rattle.document_model.specs.Sayings.{string_at}
+use Rattle.mux_model.specs.document_model.specs.Sayings.{string_at}
 use Rattle.rpc_message.specs.Envelopes.{not_null}
 use Rattle.rpc_message.specs.Message.{Id, message_of, request}
 use Rattle.rpc_message.specs.Parsed.{FoundBare, IsRead, Parsed, params_in}

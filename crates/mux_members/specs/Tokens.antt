@@ -3,7 +3,7 @@ use Rattle.std.specs.Prelude.{ℕ, List, if◌then◌else◌}
 use Rattle.std.specs.Prelude.{Option, None}
 use Rattle.std.specs.Option.{option_and_then}
 use Rattle.json_text.specs.Json.{Json}
-use Rattle.doc_text.specs.Changes.{string_text}
+use Rattle.mux_model.specs.doc_text.specs.Changes.{string_text}
 use Rattle.mux_model.specs.event_model.specs.Members.{bytes_if, is_token, named_of, params_of}
 
 -- the bytes of the last member of this name of a body's params, where it is a token
