@@ -40,6 +40,7 @@ module _ (first : Posted) (limit : ℕ) (began ended : Session) (posts posts' : 
       front = written.front;
       all = written.all;
       items = λ _. refl;
+      failing = written.failing;
       fault = written.fault;
       ends = written.ends;
       no_body = written.no_body;
