@@ -1,5 +1,5 @@
 -- What each event of the history came of, by the sessions of the links and the starts of the berths.
-use Rattle.std.proofs.Common.{◌≡◌, ◌≢◌, ℕ, zero, suc, ◌<◌, ◌+◌, ◌==◌, ◌⊎◌, inl, inr, Bool, true, false, List, [], ◌∷◌, ◌++◌, length, map, slice_get, refl, ap, sym, ◌∙◌, subst, arith, append_assoc, append-nil, ⊎_elim}
+use Rattle.std.proofs.Common.{◌≡◌, ◌≢◌, ℕ, zero, suc, ◌<◌, ◌≤◌, ◌+◌, ◌==◌, ◌⊎◌, inl, inr, Bool, true, false, List, [], ◌∷◌, ◌++◌, length, map, slice_get, refl, ap, sym, ◌∙◌, subst, arith, append_assoc, append-nil, ⊎_elim}
 use Rattle.std.specs.Prelude.{Option, Some}
 use Rattle.outside_io.specs.Sessions.{Session}
 use Rattle.outside_io.specs.Told.{append_to, prepend_to}
@@ -23,7 +23,7 @@ use Rattle.session_io.specs.declared.part.End.TheVariants as end
 use Rattle.session_io.specs.declared.read.Stop.{Stop}
 use Rattle.session_io.specs.declared.read.Stop.TheVariants as stop
 use Rattle.session_io.specs.Reads.{StoppedBy}
-use Rattle.mux_lanes.specs.Lanes.{Turn}
+use Rattle.mux_lanes.specs.Lanes.{Turn, all_rises}
 use Rattle.mux_lanes.specs.Runs.{IsRun, IsWholeRun, Run, order_of}
 use Rattle.mux_daemon.specs.declared.open.Lanes.{Lanes}
 use Rattle.mux_daemon.specs.declared.serve.Answer.{Answer}
@@ -96,10 +96,16 @@ module _ {P : Type 0} (limit : ℕ) (s : Story) (went : Bool) (i : ℕ) (back le
   said_came : went ≡ true → (k e bytes : ℕ) (what : Side)
       → slice_get (answers (sides s.editors s.servers (lane.Editor i) s.deeds) (tagged (sessions s.editors s.servers (lane.Editor i) s.deeds) (orders s.editors s.servers (lane.Editor i) s.deeds))) k ≡ Some ((e, bytes), what)
       → (came : EditorCame limit (history s) went back left old new e) × SaidIn came.run bytes what
+  unfolding editor_came
   said_came w k e bytes what at =
       let t = f.said w k e bytes what at in
       let r = f.served t.place e t.of in
       (editor_came t.place e t.of, subst (λ run. SaidIn run bytes what) (same_item t.run r.0 (sym t.at ∙ r.1)) t.said)
+
+rises_at : (turns : List Turn) (k : ℕ) (turn : Turn) → slice_get turns k ≡ Some turn → turn.rises ≤ all_rises turns
+rises_at [] k turn at = absurd cc
+rises_at (t ∷ turns) zero turn at = let same = ap (λ (t : Turn). t.rises) (same_item t turn at) in omega (arith, same)
+rises_at (t ∷ turns) (suc k) turn at = let more = rises_at turns k turn at in omega (arith, more)
 
 abbrev ran_as : (A W : Type 0) (limit servers : ℕ) (history : List Entry) (start : ℕ) (turn : Turn) → (W → A) → StartRan A limit servers history start turn → StartRan W limit servers history start turn
 ran_as A W limit servers history start turn f r = record { run = r.run; is = r.is; is_run = r.is_run; whole = λ w. r.whole (f w); read = r.read; written = r.written }
@@ -143,7 +149,7 @@ module _ {B : Type 0} (limit : ℕ) (s : Story) (went : Bool) (i : ℕ) (runs le
   failure_came k x turn at did = record {
     turn = turn;
     did = failed_as (k < length f.turns) (went ≡ true) s.servers (history s) x turn (not_cut k turn at) did;
-    rose = f.rose k turn at (ap (λ (t : Turn). t.rises) did.is);
+    rose = (let one = ap (λ (t : Turn). t.rises) did.is in let least = rises_at (f.turns ++ f.last) k turn at in let by = f.rose in omega (arith, one, least, by));
   }
 
 module _ {P B C : Type 0} (links_back links : P → Option (List Session)) (runs left : B → Option (List Session)) (misses : B → ℕ) (given moments : C → Option (List ℕ)) (limit : ℕ) (s : Story) (x : Answer) (old new : Lanes P B C)

@@ -85,7 +85,7 @@ wrote_first n (w ∷ whole) [] unsaid rest owed p a e at = absurd cc
 wrote_first n (w ∷ whole) (side.Broke ∷ said) unsaid rest owed p a e at = absurd cc
 wrote_first n (w ∷ whole) (side.Wrote ∷ said) unsaid rest owed zero a e at = inl (record { place = 0; body = w; at = refl; is = sym (same_item ((n, length w), side.Wrote) a at) })
 wrote_first n (w ∷ whole) (side.Wrote ∷ said) unsaid rest owed (suc p) a e at =
-    ⊎_elim (λ t. inl (record { place = suc t.place; body = t.body; at = t.at; is = t.is })) (λ t. inr t) (wrote_first n whole said unsaid rest owed p a cc at)
+    ⊎_elim (λ t. inl (record { place = suc t.place; body = t.body; at = t.at; is = t.is })) (λ t. inr t) (wrote_first n whole said unsaid rest owed p a (cc) at)
 
 broke_first : (n : ℕ) (body : List ℕ) (others : List (List ℕ)) (said unsaid rest : List Side) (owed : List (ℕ × ℕ)) (p : ℕ) (a : Answer) → Off n owed → said ++ unsaid ≡ side.Broke ∷ rest
     → slice_get (answers said (tags n (body ∷ others) ++ owed)) p ≡ Some a → (a ≡ ((n, length body), side.Broke)) ⊎ Behind unsaid rest owed a
