@@ -136,8 +136,15 @@ fn links_fail_at_each_call(rt: HostRuntime) -> Result<(), Fail> {
     let ports = vec![in alloc; lane(alloc, links)]?;
     let left = serve(&rt, alloc, ports, Vec::new(alloc), &meter, 0, &meter)?;
     hold(left.answer == Answer::PortsClosed, "another answer")?;
-    hold(left.core.joined() == calls.len() as u64 + 1, "another number of editors")?;
-    written(left.lanes.ports.as_slice(), bytes.as_slice(), calls.as_slice())
+    hold(
+        left.core.joined() == calls.len() as u64 + 1,
+        "another number of editors",
+    )?;
+    written(
+        left.lanes.ports.as_slice(),
+        bytes.as_slice(),
+        calls.as_slice(),
+    )
 }
 
 #[test]
@@ -181,13 +188,32 @@ fn a_peer_that_stops_reading_stops_no_other(rt: HostRuntime) -> Result<(), Fail>
         lane(alloc, vec![in alloc; (source, slow)]?),
         lane(alloc, vec![in alloc; other]?),
     ]?;
-    let left = serve(&rt, alloc, ports, vec![in alloc; program]?, &others, until, &own)?;
+    let left = serve(
+        &rt,
+        alloc,
+        ports,
+        vec![in alloc; program]?,
+        &others,
+        until,
+        &own,
+    )?;
     hold(left.answer == Answer::PortsClosed, "another answer")?;
-    for (job, bytes) in left.lanes.ports.iter().zip(&[HOVER.len(), 100 * HOVER.len()]) {
-        hold(job.outside.written(0) == Some(*bytes), "an editor was written something else")?;
+    for (job, bytes) in left
+        .lanes
+        .ports
+        .iter()
+        .zip(&[HOVER.len(), 100 * HOVER.len()])
+    {
+        hold(
+            job.outside.written(0) == Some(*bytes),
+            "an editor was written something else",
+        )?;
     }
     for job in &left.lanes.berths {
-        hold(job.outside.written(0) == Some(HOVER.len()), "the program was written something else")?;
+        hold(
+            job.outside.written(0) == Some(HOVER.len()),
+            "the program was written something else",
+        )?;
     }
     Ok(())
 }

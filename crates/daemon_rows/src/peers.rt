@@ -1,7 +1,9 @@
 // Links and programs for tests: their bytes come and go one at a time, and a write may wait.
 ghost use Rattle.std.specs.Prelude.{◌≡◌, None};
 
-use outside_io::{Arrival, Berth, MemSink, MemSource, Port, ReadFault, Sink, Source, StartFault, WriteFault};
+use outside_io::{
+    Arrival, Berth, MemSink, MemSource, Port, ReadFault, Sink, Source, StartFault, WriteFault,
+};
 use std::alloc::Global;
 use std::collections::VecDeque;
 

@@ -290,7 +290,16 @@ pub fn take_turn<K: Steps, R: Wait>(
         Meaning::Stray => Turned::over(None),
         Meaning::Means(cause) => {
             let is_last = last_behind(counts, seats, lane, kind_of(&cause), *last);
-            let turned = act(rt, counts, core, ends, seats, Taken { lane, mark }, cause, woken);
+            let turned = act(
+                rt,
+                counts,
+                core,
+                ends,
+                seats,
+                Taken { lane, mark },
+                cause,
+                woken,
+            );
             *last = turned.took && is_last;
             turned
         }

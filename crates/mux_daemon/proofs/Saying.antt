@@ -14,7 +14,7 @@ use Rattle.session_io.specs.declared.part.End.{End}
 use Rattle.session_io.specs.declared.part.End.TheVariants as end
 use Rattle.session_io.specs.Writes.{body_orders, broken, end_orders}
 use Rattle.mux_lanes.specs.Runs.{IsRun, IsWholeRun, Run, order_of}
-use Rattle.mux_daemon.specs.Sessions.{BodyWritten, SaidBy, SaidIn}
+use Rattle.mux_daemon.specs.Sessions.{SaidBy, SaidIn}
 use Rattle.mux_daemon.proofs.Places.{same_item}
 use Rattle.mux_daemon.proofs.Reading.{AllWholeRuns}
 use Rattle.mux_daemon.proofs.Rising.{Rise}

@@ -1,5 +1,5 @@
 -- The starts of a berth's lane, by what the lane did and what the deck took of it.
-use Rattle.std.proofs.Common.{◌≡◌, ℕ, zero, suc, ◌<◌, ◌⊎◌, inl, inr, Bool, List, [], ◌∷◌, ◌++◌, length, map, slice_get, ap, sym, ◌∙◌, append_assoc, append-nil, subst, refl}
+use Rattle.std.proofs.Common.{◌≡◌, ℕ, zero, suc, ◌<◌, ◌⊎◌, inl, inr, Bool, List, [], ◌∷◌, ◌++◌, length, map, slice_get, ap, sym, ◌∙◌, append_assoc, append-nil, subst}
 use Rattle.std.specs.Prelude.{Option, Some}
 use Rattle.outside_io.specs.Sessions.{Session}
 use Rattle.mux_history.specs.declared.entry.Entry.{Entry}

@@ -1,5 +1,5 @@
 -- What a start adds.
-use Rattle.std.proofs.Common.{◌≡◌, ℕ, ◌≤◌, List, [], ◌∷◌, ◌++◌, Bool, true, false, inl, inr, refl, sym, ap, ap₂, ◌∙◌, arith, append_assoc, append-nil}
+use Rattle.std.proofs.Common.{◌≡◌, ℕ, ◌≤◌, List, [], ◌∷◌, ◌++◌, Bool, false, inl, inr, refl, sym, ap, ap₂, ◌∙◌, arith, append_assoc, append-nil}
 use Rattle.outside_io.specs.Faults.{Rose}
 use Rattle.outside_io.specs.Told.{append_to}
 use Rattle.lane_lists.specs.declared.item.Order.{Order}
