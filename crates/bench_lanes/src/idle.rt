@@ -79,7 +79,7 @@ impl Port for Quiet {
 }
 
 // A berth in which nothing is started.
-fn berths(alloc: Global, count: u64) -> Option<Vec<LaneJob<MemBerth>>> {
+pub fn berths(alloc: Global, count: u64) -> Option<Vec<LaneJob<MemBerth>>> {
     let mut lanes = Vec::new(alloc);
     for _ in 0..count {
         let berth = MemBerth::new(alloc, Vec::new(alloc), Vec::new(alloc));

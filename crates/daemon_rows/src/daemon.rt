@@ -295,7 +295,7 @@ fn editors_and_starts_are_there_at_once(rt: HostRuntime) -> Result<(), Fail> {
     let alloc = rt.alloc();
     let all = Meter::new(alloc)?;
     let own = Meter::new(alloc)?;
-    let until = 48 * HOVER.len();
+    let until = HOVER.len().saturating_mul(48);
     let mut first = HOVER.to_vec(alloc)?;
     first.extend_from_slice(times(alloc, START, 16)?.as_slice())?;
     let mut ports = Vec::new(alloc);

@@ -94,7 +94,10 @@ const WHOLE: usize = 26;
 // What is written to a peer that says these bytes, one call of which fails: of whole bodies read, or up to the failed write.
 fn wanted(bytes: &[u8], fails: Fails) -> usize {
     match fails {
-        Fails::Read(number) => (number as usize).min(bytes.len()) / WHOLE * WHOLE,
+        Fails::Read(number) => {
+            let count = (number as usize).min(bytes.len());
+            count.saturating_sub(count % WHOLE)
+        }
         Fails::Write(number) => (number as usize).min(bytes.len()),
     }
 }
@@ -106,7 +109,7 @@ fn all_calls(alloc: Global, bytes: &[u8]) -> Result<Vec<Fails>, Fail> {
         all.push(Fails::Read(number as u64))?;
         all.push(Fails::Write(number as u64))?;
     }
-    all.push(Fails::Read(bytes.len() as u64 + 1))?;
+    all.push(Fails::Read((bytes.len() as u64).saturating_add(1)))?;
     Ok(all)
 }
 
@@ -137,7 +140,7 @@ fn links_fail_at_each_call(rt: HostRuntime) -> Result<(), Fail> {
     let left = serve(&rt, alloc, ports, Vec::new(alloc), &meter, 0, &meter)?;
     hold(left.answer == Answer::PortsClosed, "another answer")?;
     hold(
-        left.core.joined() == calls.len() as u64 + 1,
+        left.core.joined() == (calls.len() as u64).saturating_add(1),
         "another number of editors",
     )?;
     written(
@@ -175,14 +178,14 @@ fn a_peer_that_stops_reading_stops_no_other(rt: HostRuntime) -> Result<(), Fail>
     let begun = Meter::new(alloc)?;
     let others = Meter::new(alloc)?;
     let own = Meter::new(alloc)?;
-    let until = 101 * HOVER.len();
+    let until = HOVER.len().saturating_mul(101);
     let (source, mut slow) = peer(alloc, HOVER, None, None, &own)?;
     slow.says = MemSink::new(alloc, Vec::new(alloc), Some(begun.share()?));
     slow.waits = MemSource::new(Vec::new(alloc), Vec::new(alloc), gate(0, &others, until)?);
     let mut bytes = START.to_vec(alloc)?;
     bytes.extend_from_slice(times(alloc, HOVER, 100)?.as_slice())?;
     let other = peer(alloc, bytes.as_slice(), None, gate(0, &begun, 1)?, &others)?;
-    let stop = gate(HOVER.len(), &own, HOVER.len() + STOP.len())?;
+    let stop = gate(HOVER.len(), &own, HOVER.len().saturating_add(STOP.len()))?;
     let program = peer(alloc, HOVER, None, stop, &others)?;
     let ports = vec![in alloc;
         lane(alloc, vec![in alloc; (source, slow)]?),
@@ -202,7 +205,7 @@ fn a_peer_that_stops_reading_stops_no_other(rt: HostRuntime) -> Result<(), Fail>
         .lanes
         .ports
         .iter()
-        .zip(&[HOVER.len(), 100 * HOVER.len()])
+        .zip(&[HOVER.len(), HOVER.len().saturating_mul(100)])
     {
         hold(
             job.outside.written(0) == Some(*bytes),
