@@ -52,7 +52,9 @@ pub struct Taker {
 
 impl Taker {
     // What one write takes; none where it fails, or takes nothing of a piece that isn't empty.
-    fn take(&mut self, bytes: &[u8]) -> Option<usize> {
+    fn take(&mut self, bytes: &[u8]) -> Option<usize>
+        ensures { self.new.faults ≡ self.old.faults }
+    {
         let mut one = [0u8; 1];
         let most = bytes.len().min(self.most);
         self.says.write(&one).ok()?;
